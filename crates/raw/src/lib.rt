@@ -1,0 +1,109 @@
+// Little-endian numbers in byte slices, at any position. Reading past the end sees zeros; a write without room changes
+// no byte and says so.
+ghost use mathlib.Core.Path.{_≡_};
+ghost use Prim.Native.Nat.{_+_, _≤_};
+ghost use lib.ListN.{length};
+ghost use Rattle.types.specs.Table.{answer};
+ghost use Rattle.raw.specs.Bytes.{le, numberAt, overwrite, write, outcomeOf};
+
+// What a write answers: the position behind what was written, or refusal 20.
+pub enum Write {
+    Next(usize),
+    OutTooShort,
+}
+
+// The number in the bytes from pos on, at most `width` of them.
+fn read_le(buf: &[u8], pos: usize, width: usize) -> u64
+    requires { ⌜ width ≤ 8 ⌝ }
+    ensures { λ r. ⌜ r ≡ numberAt width pos (now (buf .entry)) ⌝ }
+{
+    let len = buf.len();
+    if len <= pos {
+        return 0;
+    }
+    let mut i = len;
+    if width < len - pos {
+        i = pos + width;
+    }
+    let mut x: u64 = 0;
+    while pos < i {
+        i -= 1;
+        x = x * 256 + buf[i] as u64;
+    }
+    x
+}
+
+pub fn read_u16(buf: &[u8], pos: usize) -> u16
+    ensures { λ r. ⌜ r ≡ numberAt 2 pos (now (buf .entry)) ⌝ }
+{
+    read_le(buf, pos, 2) as u16
+}
+
+pub fn read_u32(buf: &[u8], pos: usize) -> u32
+    ensures { λ r. ⌜ r ≡ numberAt 4 pos (now (buf .entry)) ⌝ }
+{
+    read_le(buf, pos, 4) as u32
+}
+
+pub fn read_u64(buf: &[u8], pos: usize) -> u64
+    ensures { λ r. ⌜ r ≡ numberAt 8 pos (now (buf .entry)) ⌝ }
+{
+    read_le(buf, pos, 8)
+}
+
+// The low `width` bytes of x from pos on.
+fn write_le(buf: &mut [u8], pos: usize, width: usize, x: u64) -> Write
+    ensures { λ r. ⌜ answer (outcomeOf r) (now (buf .exit)) ≡ write pos (le width x) (now (buf .entry)) ⌝ }
+{
+    if buf.len() < pos {
+        return Write::OutTooShort;
+    }
+    if buf.len() - pos < width {
+        return Write::OutTooShort;
+    }
+    let mut rest = x;
+    let mut i: usize = 0;
+    while i < width {
+        buf[pos + i] = (rest % 256) as u8;
+        rest = rest / 256;
+        i += 1;
+    }
+    Write::Next(pos + width)
+}
+
+pub fn write_u16(buf: &mut [u8], pos: usize, x: u16) -> Write
+    ensures { λ r. ⌜ answer (outcomeOf r) (now (buf .exit)) ≡ write pos (le 2 x) (now (buf .entry)) ⌝ }
+{
+    write_le(buf, pos, 2, x as u64)
+}
+
+pub fn write_u32(buf: &mut [u8], pos: usize, x: u32) -> Write
+    ensures { λ r. ⌜ answer (outcomeOf r) (now (buf .exit)) ≡ write pos (le 4 x) (now (buf .entry)) ⌝ }
+{
+    write_le(buf, pos, 4, x as u64)
+}
+
+pub fn write_u64(buf: &mut [u8], pos: usize, x: u64) -> Write
+    ensures { λ r. ⌜ answer (outcomeOf r) (now (buf .exit)) ≡ write pos (le 8 x) (now (buf .entry)) ⌝ }
+{
+    write_le(buf, pos, 8, x)
+}
+
+// A copy of bytes from pos on.
+pub fn write_bytes(buf: &mut [u8], pos: usize, bytes: &[u8]) -> Write
+    ensures { λ r. ⌜ answer (outcomeOf r) (now (buf .exit)) ≡ write pos (now (bytes .entry)) (now (buf .entry)) ⌝ }
+{
+    let n = bytes.len();
+    if buf.len() < pos {
+        return Write::OutTooShort;
+    }
+    if buf.len() - pos < n {
+        return Write::OutTooShort;
+    }
+    let mut i: usize = 0;
+    while i < n {
+        buf[pos + i] = bytes[i];
+        i += 1;
+    }
+    Write::Next(pos + n)
+}

@@ -1,0 +1,120 @@
+-- Laws of keyed lists: what a look-up finds after each operation, that they stay sorted, and how long they are.
+-- Assumes nothing.
+use Prim.Native.Nat.{ℕ, suc, _≤_, _<_}
+use native.Mathlib.Omega.{arith}
+use mathlib.Core.Path.{_≡_, refl, sym, ap, _∙_}
+use mathlib.Core.Bool.{Bool, true, false, cond, true≢false}
+use mathlib.Core.List.{List, [], _∷_}
+use mathlib.Core.Option.{Option, none, some, Option·none-ne-some}
+use lib.Dec.{ltb, eqb}
+use lib.ListN.{length}
+use borrow.Author.Tests.{ltb-true, ltb-false, eqb-true, eqb-false, eq-eqb, ne-eqb}
+use Rattle.types.specs.Keyed.{Entry, entry, lookup, put, delete, dropBelow, anyBelow, Rising, All}
+use Rattle.types.proofs.Cases.{split}
+
+eqb-move : (j k x : ℕ) → eqb j k ≡ false → eqb k x ≡ true → eqb j x ≡ false
+eqb-move j k x n q = rw (eqb-true k x q) at n
+
+module _ {A : Type 0} where
+  pub lookup-put-same : (k : ℕ) (v : A) (l : List (Entry A)) → lookup k (put k v l) ≡ some v
+  lookup-put-same k v [] = rw (eq-eqb k k refl)
+  lookup-put-same k v (e ∷ l) = split (ltb k (e .key))
+      (λ p. rw (p, eq-eqb k k refl))
+      (λ p. split (eqb k (e .key)) (λ q. rw (p, q, eq-eqb k k refl)) (λ q. rw (p, q, q) (lookup-put-same k v l)))
+
+  pub lookup-put-other : (j k : ℕ) (v : A) (l : List (Entry A)) → eqb j k ≡ false → lookup j (put k v l) ≡ lookup j l
+  lookup-put-other j k v [] n = rw n
+  lookup-put-other j k v (e ∷ l) n = split (ltb k (e .key))
+      (λ p. rw (p, n))
+      (λ p. split (eqb k (e .key))
+      (λ q. rw (p, q, n, eqb-move j k (e .key) n q))
+      (λ q. rw (p, q) (ap (cond (eqb j (e .key)) (some (e .value))) (lookup-put-other j k v l n))))
+
+  pub lookup-delete-same : (k : ℕ) (l : List (Entry A)) → lookup k (delete k l) ≡ none
+  lookup-delete-same k [] = refl
+  lookup-delete-same k (e ∷ l) = split (eqb k (e .key)) (λ q. rw q (lookup-delete-same k l)) (λ q. rw (q, q) (lookup-delete-same k l))
+
+  pub lookup-delete-other : (j k : ℕ) (l : List (Entry A)) → eqb j k ≡ false → lookup j (delete k l) ≡ lookup j l
+  lookup-delete-other j k [] n = refl
+  lookup-delete-other j k (e ∷ l) n = split (eqb k (e .key))
+      (λ q. rw (q, eqb-move j k (e .key) n q) (lookup-delete-other j k l n))
+      (λ q. rw q (ap (cond (eqb j (e .key)) (some (e .value))) (lookup-delete-other j k l n)))
+
+  pub lookup-drop-below : (j b : ℕ) (l : List (Entry A)) → ltb j b ≡ true → lookup j (dropBelow b l) ≡ none
+  lookup-drop-below j b [] n = refl
+  lookup-drop-below j b (e ∷ l) n = split (ltb (e .key) b) (λ q. rw q (lookup-drop-below j b l n))
+      (λ q. rw (q, ne-eqb j (e .key) (λ r. omega (arith, ltb-true j b n, ltb-false (e .key) b q))) (lookup-drop-below j b l n))
+
+  pub lookup-keep-above : (j b : ℕ) (l : List (Entry A)) → ltb j b ≡ false → lookup j (dropBelow b l) ≡ lookup j l
+  lookup-keep-above j b [] n = refl
+  lookup-keep-above j b (e ∷ l) n = split (ltb (e .key) b)
+      (λ q. rw (q, ne-eqb j (e .key) (λ r. omega (arith, ltb-false j b n, ltb-true (e .key) b q))) (lookup-keep-above j b l n))
+      (λ q. rw q (ap (cond (eqb j (e .key)) (some (e .value))) (lookup-keep-above j b l n)))
+
+  pub lookup-none-below : (j b : ℕ) (l : List (Entry A)) → anyBelow b l ≡ false → ltb j b ≡ true → lookup j l ≡ none
+  lookup-none-below j b [] a n = refl
+  lookup-none-below j b (e ∷ l) a n = split (ltb (e .key) b)
+      (λ q. absurd (true≢false (rw q at a)))
+      (λ q. rw (ne-eqb j (e .key) (λ r. omega (arith, ltb-true j b n, ltb-false (e .key) b q))) (lookup-none-below j b l (rw q at a) n))
+
+  pub rising-weaken : (a b : ℕ) (l : List (Entry A)) → a ≤ b → Rising b l → Rising a l
+  rising-weaken a b [] h r = tt
+  rising-weaken a b (e ∷ l) h r = (omega arith, r .1)
+
+  pub rising-put : (lo k : ℕ) (v : A) (l : List (Entry A)) → lo ≤ k → Rising lo l → Rising lo (put k v l)
+  rising-put lo k v [] h r = (h, tt)
+  rising-put lo k v (e ∷ l) h r = split (ltb k (e .key))
+      (λ p. rw p (h, (ltb-true k (e .key) p, r .1)))
+      (λ p. split (eqb k (e .key))
+      (λ q. rw (p, q) (h, rw (← eqb-true k (e .key) q) at (r .1)))
+      (λ q. rw (p, q) (r .0, rising-put (suc (e .key)) k v l (omega (arith, ltb-false k (e .key) p, eqb-false k (e .key) q)) (r .1))))
+
+  pub length-put : (k : ℕ) (v : A) (l : List (Entry A)) → length (put k v l) ≤ suc (length l)
+  length-put k v [] = omega arith
+  length-put k v (e ∷ l) = split (ltb k (e .key)) (λ p. rw p (omega arith))
+      (λ p. split (eqb k (e .key)) (λ q. rw (p, q) (omega arith)) (λ q. rw (p, q) (omega (arith, length-put k v l))))
+
+  pub lookup-under : (lo k : ℕ) (l : List (Entry A)) → Rising lo l → k < lo → lookup k l ≡ none
+  lookup-under lo k [] r h = refl
+  lookup-under lo k (e ∷ l) r h = rw (ne-eqb k (e .key) (λ q. omega arith)) (lookup-under (suc (e .key)) k l (r .1) (omega arith))
+
+  -- a key that is there keeps its place
+  pub length-put-old : (lo k : ℕ) (v w : A) (l : List (Entry A)) → Rising lo l → lookup k l ≡ some w → length (put k v l) ≡ length l
+  length-put-old lo k v w [] r h = absurd (Option·none-ne-some w h)
+  length-put-old lo k v w (e ∷ l) r h = split (ltb k (e .key)) (λ p. absurd (Option·none-ne-some w (sym (lookup-under (e .key) k (e ∷ l) (omega arith, r .1) (ltb-true k (e .key) p)) ∙ h)))
+      (λ p. split (eqb k (e .key)) (λ q. rw (p, q)) (λ q. rw (p, q) (ap suc (length-put-old (suc (e .key)) k v w l (r .1) (rw q at h)))))
+
+  pub rising-delete : (lo k : ℕ) (l : List (Entry A)) → Rising lo l → Rising lo (delete k l)
+  rising-delete lo k [] r = tt
+  rising-delete lo k (e ∷ l) r = split (eqb k (e .key))
+      (λ q. rw q (rising-weaken lo (suc (e .key)) (delete k l) (omega arith) (rising-delete (suc (e .key)) k l (r .1))))
+      (λ q. rw q (r .0, rising-delete (suc (e .key)) k l (r .1)))
+
+  pub length-delete : (k : ℕ) (l : List (Entry A)) → length (delete k l) ≤ length l
+  length-delete k [] = omega arith
+  length-delete k (e ∷ l) = split (eqb k (e .key)) (λ q. rw q (omega (arith, length-delete k l))) (λ q. rw q (omega (arith, length-delete k l)))
+
+  pub length-delete-old : (k : ℕ) (v : A) (l : List (Entry A)) → lookup k l ≡ some v → length (delete k l) < length l
+  length-delete-old k v [] h = absurd (Option·none-ne-some v h)
+  length-delete-old k v (e ∷ l) h = split (eqb k (e .key)) (λ q. rw q (omega (arith, length-delete k l)))
+      (λ q. rw q (omega (arith, length-delete-old k v l (rw q at h))))
+
+  pub rising-dropBelow : (lo b : ℕ) (l : List (Entry A)) → Rising lo l → Rising lo (dropBelow b l)
+  rising-dropBelow lo b [] r = tt
+  rising-dropBelow lo b (e ∷ l) r = split (ltb (e .key) b)
+      (λ q. rw q (rising-weaken lo (suc (e .key)) (dropBelow b l) (omega arith) (rising-dropBelow (suc (e .key)) b l (r .1))))
+      (λ q. rw q (r .0, rising-dropBelow (suc (e .key)) b l (r .1)))
+
+  pub length-dropBelow : (b : ℕ) (l : List (Entry A)) → length (dropBelow b l) ≤ length l
+  length-dropBelow b [] = omega arith
+  length-dropBelow b (e ∷ l) = split (ltb (e .key) b) (λ q. rw q (omega (arith, length-dropBelow b l))) (λ q. rw q (omega (arith, length-dropBelow b l)))
+
+  -- what holds of all that is found holds of every entry
+  pub all-of-lookup : (P : ℕ → A → Type 0) (lo : ℕ) (l : List (Entry A)) → Rising lo l → ((o : ℕ) (v : A) → lookup o l ≡ some v → P o v) → All P l
+  all-of-lookup P lo [] r h = tt
+  all-of-lookup P lo (e ∷ l) r h = (
+    h (e .key) (e .value) (rw (eq-eqb (e .key) (e .key) refl)),
+    all-of-lookup P (suc (e .key)) l (r .1) (λ o v q. h o v (split (eqb o (e .key))
+        (λ t. absurd (Option·none-ne-some v (sym (lookup-under (suc (e .key)) o l (r .1) (omega (arith, eqb-true o (e .key) t))) ∙ q)))
+        (λ t. rw t q))),
+  )

@@ -1,0 +1,4 @@
+pub mod Cases
+pub mod Table
+pub mod Keyed
+pub mod Shift

@@ -1,0 +1,43 @@
+-- Laws of refusal tables: the first test that holds is answered, and where none is, every test failed.
+-- Assumes nothing.
+use mathlib.Core.Path.{_≡_, refl, sym}
+use mathlib.Core.Bool.{Bool, true, false}
+use mathlib.Core.List.{List, [], _∷_, _++_}
+use mathlib.Core.Option.{Option, none, some, Option·none-ne-some}
+use Rattle.types.specs.Refusal.{Refusal, Result, refused, done}
+use Rattle.types.specs.Table.{Row, _⇒_, first, Passed, Answer, answer, checked, guarded, unlessKept}
+use Rattle.types.proofs.Cases.{split}
+
+pub first-none : (ws : List Row) → first ws ≡ none → Passed ws
+first-none [] e = tt
+first-none (w ∷ ws) e =
+    split (w .test)
+    (λ q. absurd (Option·none-ne-some (w .refusal) (sym (rw q at e))))
+    (λ q. (q, first-none ws (rw q at e)))
+
+pub passed-none : (ws : List Row) → Passed ws → first ws ≡ none
+passed-none [] p = refl
+passed-none (w ∷ ws) p = rw (p .0) (passed-none ws (p .1))
+
+-- a test that holds behind tests that failed is the one answered
+pub first-met : (ws vs : List Row) (w : Row) → Passed ws → w .test ≡ true → first (ws ++ w ∷ vs) ≡ some (w .refusal)
+first-met [] vs w p t = rw t
+first-met (u ∷ ws) vs w p t = rw (p .0) (first-met ws vs w (p .1) t)
+
+module _ {A S : Type 0} (ws : List Row) (s : S) (a : Answer A S) where
+  pub guarded-passed : Passed ws → guarded ws s a ≡ a
+  guarded-passed p = rw (passed-none ws p)
+
+  pub guarded-refused : (r : Refusal) → first ws ≡ some r → guarded ws s a ≡ answer (refused r) s
+  guarded-refused r e = rw e
+
+  -- every answer of a guarded operation: a refusal that keeps the state, or the effect with every test failed
+  pub guarded-cases : (P : Answer A S → Type 0) → ((r : Refusal) → first ws ≡ some r → P (answer (refused r) s)) → (Passed ws → P a) → P (guarded ws s a)
+  guarded-cases P r p = go (first ws) refl
+    where
+      go : (o : Option Refusal) → first ws ≡ o → P (unlessKept o s a)
+      go none e = p (first-none ws e)
+      go (some q) e = r q e
+
+pub checked-passed : {A : Type 0} (ws : List Row) (a : Result A) → Passed ws → checked ws a ≡ a
+checked-passed ws a p = rw (passed-none ws p)

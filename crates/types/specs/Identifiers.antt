@@ -1,0 +1,20 @@
+-- Offsets: the number that each wraps, and the one behind it (types.rs, `checked_next`).
+use Prim.Native.Nat.{ℕ, _+_}
+use mathlib.Core.Bool.{cond}
+use mathlib.Core.Option.{Option, none, some}
+use lib.Dec.{eqb}
+use Rattle.types.specs.Limits.{MAX}
+use Rattle.types.specs.declared.Offset.{Offset}
+use Rattle.types.specs.declared.NextOffset.{NextOffset}
+use Rattle.types.specs.declared.NextOffset.the-variants.{Some, None}
+
+abbrev pub offset : ℕ → Offset
+offset n = record { 0 = n }
+
+-- the next number, where it is a u64
+abbrev pub checkedNext : ℕ → Option ℕ
+checkedNext n = cond (eqb n MAX) none (some (n + 1))
+
+abbrev pub nextOf : NextOffset → Option ℕ
+nextOf (Some o) = some (o .0)
+nextOf None = none

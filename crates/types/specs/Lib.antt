@@ -1,0 +1,5 @@
+pub mod Limits
+pub mod Identifiers
+pub mod Refusal
+pub mod Table
+pub mod Keyed

@@ -1,0 +1,47 @@
+// The identifiers that the log and the lease table hand out, each a type of its own so that none is taken for another.
+ghost use mathlib.Core.Path.{_≡_};
+ghost use Rattle.types.specs.Identifiers.{offset, checkedNext, nextOf};
+
+// A position in the log: it names a message.
+#[repr(C)]
+pub struct Offset(pub u64);
+
+// Names one hand-out of a message.
+#[repr(C)]
+pub struct Generation(pub u64);
+
+// The offset behind another one, if there is one.
+pub enum NextOffset {
+    Some(Offset),
+    None,
+}
+
+impl Offset {
+    // The first offset in a log.
+    pub const ZERO: Offset = Offset(0);
+
+    // Wraps a raw number.
+    pub fn new(value: u64) -> Offset
+        ensures { λ r. ⌜ r ≡ offset value ⌝ }
+    {
+        Offset(value)
+    }
+
+    // The raw number.
+    pub fn get(self) -> u64
+        ensures { λ r. ⌜ r ≡ self .0 ⌝ }
+    {
+        self.0
+    }
+
+    // The next offset, or None behind the last: offsets are never used again, so there is no way round.
+    pub fn checked_next(self) -> NextOffset
+        ensures { λ r. ⌜ nextOf r ≡ checkedNext (self .0) ⌝ }
+    {
+        let value = self.0;
+        if value == 18446744073709551615 {
+            return NextOffset::None;
+        }
+        NextOffset::Some(Offset(value + 1))
+    }
+}
