@@ -1,2 +1,3 @@
 pub mod Crc32c
 pub mod Seal
+pub mod Examples
