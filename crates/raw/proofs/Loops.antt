@@ -12,7 +12,7 @@ use lib.Seq.{sets, drop-cons, take-all, take-nil}
 use Rattle.types.specs.Refusal.{refused, done}
 use Rattle.types.specs.Refusal as refusal
 use Rattle.types.specs.Table.{answer}
-use Rattle.raw.specs.Bytes.{le, numberAt, NumberAt, write}
+use Rattle.raw.specs.Bytes.{le, numberAt, ReadIs, write}
 use Rattle.raw.proofs.Bytes.{overwrite-sets, write-room, write-short}
 
 -- `bs` came from `before`, where `new` is being written from `pos` on: i bytes are there and `left` is not
@@ -53,15 +53,15 @@ pub drop-next : (i : ℕ) (bs : List ℕ) → i < length bs → drop i bs ≡ ge
 drop-next i bs h = rw (add-one, drop-cons bs i 0)
 
 module _ (bs : List ℕ) where
-  pub number-past : (k pos : ℕ) → length bs ≤ pos → NumberAt k pos bs 0
+  pub number-past : (k pos : ℕ) → length bs ≤ pos → ReadIs k pos bs 0
   number-past k pos h = record { is = rw (drop-of-length-le bs h, take-nil); below = omega (arith, one-le-pow k 256 (omega arith)) }
 
-  pub number-none : (i e : ℕ) → i ≡ e → NumberAt (e - i) i bs 0
+  pub number-none : (i e : ℕ) → i ≡ e → ReadIs (e - i) i bs 0
   number-none i e h =
       let q : e - i ≡ 0 = omega arith in
       record { is = rw q; below = rw q (omega arith) }
 
-  pub number-more : (i e x : ℕ) → 0 < i → i ≤ e → e ≤ length bs → getD bs (i - 1) 0 < 256 → NumberAt (e - i) i bs x → NumberAt (e - (i - 1)) (i - 1) bs (x * 256 + getD bs (i - 1) 0)
+  pub number-more : (i e x : ℕ) → 0 < i → i ≤ e → e ≤ length bs → getD bs (i - 1) 0 < 256 → ReadIs (e - i) i bs x → ReadIs (e - (i - 1)) (i - 1) bs (x * 256 + getD bs (i - 1) 0)
   number-more i e x p h r b n =
       let q : e - (i - 1) ≡ suc (e - i) = omega arith in
       let j : i - 1 + 1 ≡ i = omega arith in
@@ -71,7 +71,7 @@ module _ (bs : List ℕ) where
         below = rw (q, pow-succ' 256 (e - i)) (omega (arith, n .below));
       }
 
-  pub number-end : (k pos i e x : ℕ) → i ≡ pos → i ≤ e → e ≡ min (pos + k) (length bs) → NumberAt (e - i) i bs x → NumberAt k pos bs x
+  pub number-end : (k pos i e x : ℕ) → i ≡ pos → i ≤ e → e ≡ min (pos + k) (length bs) → ReadIs (e - i) i bs x → ReadIs k pos bs x
   number-end k pos i e x q h m n =
       let p : 256 ^ (e - i) ≤ 256 ^ k = pow-le-pow-right (omega arith) (omega arith) in
       record { is = n .is ∙ rw q (same (decLt (length bs) (pos + k))); below = omega (arith, n .below) }

@@ -5,11 +5,16 @@ use mathlib.Core.Path.{_≡_}
 use mathlib.Core.List.{List, [], _∷_, _++_}
 use lib.Dec.{ltb}
 use lib.ListN.{length, take, drop}
-use Rattle.types.specs.Refusal.{Refusal, Result, refused, done}
+use Rattle.types.specs.Refusal.{Result, refused, done}
 use Rattle.types.specs.Refusal as refusal
 use Rattle.types.specs.Table.{_⇒_, Answer, answer, guarded}
 use Rattle.raw.specs.declared.Write.{Write}
 use Rattle.raw.specs.declared.Write.the-variants.{Next, OutTooShort}
+
+-- each is a byte
+abbrev pub IsBytes : List ℕ → Type 0
+IsBytes [] = Unit {0}
+IsBytes (b ∷ bs) = (b < 256) × IsBytes bs
 
 -- the low k bytes of n, the lowest first
 abbrev pub le : ℕ → ℕ → List ℕ
@@ -25,8 +30,8 @@ unle (b ∷ bs) = b + 256 * unle bs
 abbrev pub numberAt : ℕ → ℕ → List ℕ → ℕ
 numberAt k pos bs = unle (take k (drop pos bs))
 
--- r is that number, and has k bytes itself
-pub record NumberAt (k pos : ℕ) (bs : List ℕ) (r : ℕ) : Type 0 where
+-- what a read answers: that number, which has k bytes itself
+pub record ReadIs (k pos : ℕ) (bs : List ℕ) (r : ℕ) : Type 0 where
   pub is : r ≡ numberAt k pos bs
   pub below : r < 256 ^ k
 

@@ -3,7 +3,7 @@
 ghost use mathlib.Core.Path.{_≡_};
 ghost use Prim.Native.Nat.{_≤_};
 ghost use Rattle.types.specs.Table.{answer};
-ghost use Rattle.raw.specs.Bytes.{le, numberAt, NumberAt, write, outcomeOf};
+ghost use Rattle.raw.specs.Bytes.{le, numberAt, ReadIs, write, outcomeOf};
 
 // What a write answers: the position behind what was written, or refusal 20.
 pub enum Write {
@@ -14,7 +14,7 @@ pub enum Write {
 // The number in the bytes from pos on, at most `width` of them.
 fn read_le(buf: &[u8], pos: usize, width: usize) -> u64
     requires { ⌜ width ≤ 8 ⌝ }
-    ensures { λ r. ⌜ NumberAt width pos (now (buf .entry)) r ⌝ }
+    ensures { λ r. ⌜ ReadIs width pos (now (buf .entry)) r ⌝ }
 {
     let len = buf.len();
     if len <= pos {

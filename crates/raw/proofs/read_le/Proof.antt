@@ -5,13 +5,13 @@ use native.Mathlib.Omega.{arith}
 use mathlib.Core.Path.{_≡_, refl}
 use mathlib.Core.Logic.{⊎-elim}
 use lib.ListN.{length}
-use Rattle.raw.specs.Bytes.{NumberAt}
+use Rattle.raw.specs.Bytes.{ReadIs}
 use Rattle.raw.proofs.Loops.{number-past, number-none, number-more, number-end, small}
 use Rattle.raw.proofs.read_le.Statement.{statement}
 use Rattle.raw.proofs.read_le.Tie as tie
 
 abbrev Inv-loop : tie.InvT-loop
-Inv-loop buf pos width len i₀ x₀ i x = (pos ≤ i) × (i ≤ i₀) × (i₀ ≡ min (pos + width) (length buf)) × NumberAt (i₀ - i) i buf x
+Inv-loop buf pos width len i₀ x₀ i x = (pos ≤ i) × (i ≤ i₀) × (i₀ ≡ min (pos + width) (length buf)) × ReadIs (i₀ - i) i buf x
 
 abbrev μ-loop : tie.MeasureT-loop
 μ-loop buf pos width len i₀ x₀ i x = i
