@@ -1,5 +1,5 @@
--- The byte table's rule: entry k is the register after the eight bits of k, from a register of zeros. The test computes
--- it for the whole table at once; `at` carries it to each entry. Assumes nothing.
+-- The byte table. `tabulated` carries one computed test, that a table equals its rule written out 256 times, to each
+-- entry; `by-entry` is what an entry that follows the rule is good for. Assumes nothing.
 use Prim.Native.Nat.{ℕ, zero, suc, _+_, _/_, _%_, _^_, _<_}
 use native.Mathlib.Omega.{arith}
 use native.Mathlib.Nat.{zero-add, add-zero, add-suc, suc-add}
@@ -9,6 +9,7 @@ use mathlib.Core.List.{List, [], _∷_}
 use lib.Bits.{bitXor}
 use lib.ListN.{getD}
 use Rattle.crc.specs.Crc32c.{bits, unbits, xors, feedBits}
+use Rattle.crc.specs.Table.{remainder, Remainders}
 use Rattle.crc.proofs.Bits.{bits-unbits, bits-xor}
 use Rattle.crc.proofs.Register.{zeros, length-feedBits, byte-step}
 
@@ -17,23 +18,23 @@ abbrev pub tabulate : (ℕ → ℕ) → ℕ → ℕ → List ℕ
 tabulate f i zero = []
 tabulate f i (suc n) = f i ∷ tabulate f (suc i) n
 
-pub at : (f : ℕ → ℕ) (i n k : ℕ) → k < n → getD (tabulate f i n) k 0 ≡ f (i + k)
-at f i zero k h = absurd (omega arith)
-at f i (suc n) zero h = ap f (sym (add-zero i))
-at f i (suc n) (suc k) h = at f (suc i) n k (omega arith) ∙ ap f (suc-add i k ∙ sym (add-suc i k))
+entry : (f : ℕ → ℕ) (i n k : ℕ) → k < n → getD (tabulate f i n) k 0 ≡ f (i + k)
+entry f i zero k h = absurd (omega arith)
+entry f i (suc n) zero h = ap f (sym (add-zero i))
+entry f i (suc n) (suc k) h = entry f (suc i) n k (omega arith) ∙ ap f (suc-add i k ∙ sym (add-suc i k))
 
-unfoldable pub rule : ℕ → ℕ
-rule k = unbits (feedBits zeros (bits 8 k))
+pub tabulated : Remainders (tabulate remainder 0 256)
+tabulated k h = entry remainder 0 256 k h ∙ ap remainder (zero-add k)
 
-pub entry : (k : ℕ) → k < 256 → getD (tabulate rule 0 256) k 0 ≡ rule k
-entry k h = at rule 0 256 k h ∙ ap rule (zero-add k)
+bits-remainder : (k : ℕ) → bits 32 (remainder k) ≡ feedBits zeros (bits 8 k)
+unfolding remainder zeros
+bits-remainder k =
+    subst (λ (n : ℕ). bits n (remainder k) ≡ feedBits zeros (bits 8 k)) (length-feedBits (bits 8 k) zeros)
+    (bits-unbits (feedBits zeros (bits 8 k)))
 
-bits-rule : (k : ℕ) → bits 32 (rule k) ≡ feedBits zeros (bits 8 k)
-unfolding rule zeros
-bits-rule k = subst (λ (n : ℕ). bits n (rule k) ≡ feedBits zeros (bits 8 k)) (length-feedBits (bits 8 k) zeros) (bits-unbits (feedBits zeros (bits 8 k)))
-
--- the register after a byte, by an entry that has the rule
-pub by-entry : (n b e : ℕ) → n < 2 ^ 32 → e ≡ rule (bitXor n b % 256) → bits 32 (bitXor e (n / 256)) ≡ feedBits (bits 32 n) (bits 8 b)
+-- the register after a byte, by an entry that follows the rule
+pub by-entry : (n b e : ℕ) → n < 2 ^ 32 → e ≡ remainder (bitXor n b % 256) → bits 32 (bitXor e (n / 256)) ≡ feedBits (bits 32 n) (bits 8 b)
 by-entry n b e h r =
-    bits-xor 32 e (n / 256) ∙ ap (λ (l : List Bool). xors l (bits 32 (n / 256))) (ap (bits 32) r ∙ bits-rule (bitXor n b % 256))
+    bits-xor 32 e (n / 256)
+    ∙ ap (λ (l : List Bool). xors l (bits 32 (n / 256))) (ap (bits 32) r ∙ bits-remainder (bitXor n b % 256))
     ∙ sym (byte-step n b h)
