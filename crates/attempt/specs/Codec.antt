@@ -20,14 +20,14 @@ use Rattle.attempt.specs.declared.Decoded.{Decoded}
 abbrev pub entryOf : Pair → Entry ℕ
 entryOf p = entry (p .offset) (p .attempt)
 
-abbrev pub entries : List Pair → List (Entry ℕ)
-entries = map entryOf
+abbrev pub entriesOf : List Pair → List (Entry ℕ)
+entriesOf = map entryOf
 
 -- an array without pairs
 abbrev pub nil : Pair
 nil = record { offset = 0; attempt = 0 }
 
-abbrev pub blank : List Pair
+unfoldable pub blank : List Pair
 blank = replicate 128 nil
 
 -- 01's answers for the cases of each enum
@@ -50,7 +50,7 @@ decodeOf OutTooShort = refused refusal.OutTooShort
 -- encoding the first n pairs of an array of 128: over 128 is 19
 abbrev pub encodeFirst : ℕ → List Pair → ℕ → List ℕ → Answer ℕ (List ℕ)
 encodeFirst n pairs at out =
-    guarded (ltb PAIRS n ⇒ refusal.TooManyPairs ∷ []) out (encodeInto (entries (take n pairs)) at out)
+    guarded (ltb PAIRS n ⇒ refusal.TooManyPairs ∷ []) out (encodeInto (entriesOf (take n pairs)) at out)
 
 -- how many pairs an answer has
 abbrev pub counted : Result ℕ → ℕ
@@ -59,7 +59,7 @@ counted (done n) = n
 
 -- decoding into an array without pairs
 pub record DecodedIs (b : List ℕ) (r : Decoded) : Type 0 where
-  pub is : answer (decodeOf (r .outcome)) (entries (r .pairs)) ≡ decodeInto b (entries blank)
+  pub is : answer (decodeOf (r .outcome)) (entriesOf (r .pairs)) ≡ decodeInto b (entriesOf blank)
   pub count : r .count ≡ counted (decodeOf (r .outcome))
 
 -- a refusal

@@ -68,14 +68,20 @@ abbrev pub orderTable : List (Entry ℕ) → List Row
 orderTable [] = []
 orderTable (p ∷ l) = orderAfter (p .key) l
 
--- 19, after all the bytes
+-- 19
 abbrev pub limitTable : List (Entry ℕ) → List Row
 limitTable l = ltb PAIRS (length l) ⇒ refusal.TooManyPairs ∷ []
 
+-- 18 for all the pairs, then 19
+abbrev pub pairsTable : List (Entry ℕ) → List Row
+pairsTable l = orderTable l ++ limitTable l
+
+abbrev pub decodeTable : List ℕ → List Row
+decodeTable b = frameTable b ++ pairsTable (pairsIn b)
+
 -- the pairs that bytes hold
 unfoldable pub decodeAttempts : List ℕ → Result (List (Entry ℕ))
-decodeAttempts b =
-    checked (frameTable b ++ (orderTable (pairsIn b) ++ limitTable (pairsIn b))) (done (pairsIn b))
+decodeAttempts b = checked (decodeTable b) (done (pairsIn b))
 
 -- put at the front of a lent list, whose other places stay; 20 where it is too short
 abbrev pub fill : Result (List (Entry ℕ)) → List (Entry ℕ) → Answer ℕ (List (Entry ℕ))

@@ -7,8 +7,8 @@ ghost use lib.ListN.{length, take, drop};
 ghost use Rattle.types.specs.Refusal.{done};
 ghost use Rattle.types.specs.Table.{answer, checked};
 ghost use Rattle.raw.specs.Bytes.{overwrite};
-ghost use Rattle.attempt.specs.Snapshot.{pairBytes, pairsBytes, bodyBytes, readPairs, pairCount, frameTable, orderTable};
-ghost use Rattle.attempt.specs.Codec.{entryOf, entries, blank, encodeOf, decodeOf, encodeFirst, DecodedIs, RefusedIs};
+ghost use Rattle.attempt.specs.Snapshot.{pairBytes, pairsBytes, bodyBytes, readPairs, pairCount, pairsTable, decodeTable};
+ghost use Rattle.attempt.specs.Codec.{entryOf, entriesOf, blank, encodeOf, decodeOf, encodeFirst, DecodedIs, RefusedIs};
 
 // The length of a snapshot without pairs: version, count and check.
 pub const ATTEMPT_SNAPSHOT_MIN_LEN: usize = 9;
@@ -64,7 +64,7 @@ fn put_pair(out: &mut [u8], pos: usize, pair: Pair)
 // Writes the first `count` pairs from a position on.
 fn put_pairs(pairs: [Pair; 128], count: usize, out: &mut [u8], at: usize)
     requires { ⌜ (count ≤ 128) × (at + 12 * count ≤ length (now out)) ⌝ }
-    ensures { λ _. ⌜ now (out .exit) ≡ overwrite at (pairsBytes (entries (take count pairs))) (now (out .entry)) ⌝ }
+    ensures { λ _. ⌜ now (out .exit) ≡ overwrite at (pairsBytes (entriesOf (take count pairs))) (now (out .entry)) ⌝ }
 {
     let mut pos = at;
     let mut i: usize = 0;
@@ -78,7 +78,7 @@ fn put_pairs(pairs: [Pair; 128], count: usize, out: &mut [u8], at: usize)
 // Writes all but the check.
 fn put_body(pairs: [Pair; 128], count: usize, out: &mut [u8], at: usize)
     requires { ⌜ (count ≤ 128) × (at + (5 + 12 * count) ≤ length (now out)) ⌝ }
-    ensures { λ _. ⌜ now (out .exit) ≡ overwrite at (bodyBytes (entries (take count pairs))) (now (out .entry)) ⌝ }
+    ensures { λ _. ⌜ now (out .exit) ≡ overwrite at (bodyBytes (entriesOf (take count pairs))) (now (out .entry)) ⌝ }
 {
     out[at] = SNAPSHOT_VERSION;
     raw::write_u32(out, at + 1, count as u32);
@@ -107,40 +107,10 @@ pub fn encode_pairs(pairs: [Pair; 128], count: usize, out: &mut [u8], at: usize)
     Encode::Next(at + len)
 }
 
-// Refusals 13 to 17, or the number of pairs.
-fn check_frame(input: &[u8]) -> Decode
-    ensures { λ r. ⌜ decodeOf r ≡ checked (frameTable (now (input .entry))) (done (pairCount (now (input .entry)))) ⌝ }
-{
-    let len = input.len();
-    if len < ATTEMPT_SNAPSHOT_MIN_LEN {
-        return Decode::Truncated;
-    }
-    let version = input[0];
-    if version != SNAPSHOT_VERSION {
-        return Decode::UnsupportedVersion(version);
-    }
-    let pairs_bytes = len - ATTEMPT_SNAPSHOT_MIN_LEN;
-    if pairs_bytes % PAIR_LEN != 0 {
-        return Decode::BadLength { len: len };
-    }
-    let declared = raw::read_u32(input, 1);
-    let actual = (pairs_bytes / PAIR_LEN) as u64;
-    if declared as u64 != actual {
-        return Decode::CountMismatch {
-            declared: declared,
-            actual: actual,
-        };
-    }
-    if !crc::is_sealed(input) {
-        return Decode::BadCrc;
-    }
-    Decode::Pairs(pairs_bytes / PAIR_LEN)
-}
-
-// Refusal 18 for the first offset that is not above the one before, or the number of pairs.
-fn check_order(input: &[u8], count: usize) -> Decode
+// Refusals 18 and 19, or the number of pairs.
+fn check_pairs(input: &[u8], count: usize) -> Decode
     requires { ⌜ 5 + 12 * count ≤ length (now input) ⌝ }
-    ensures { λ r. ⌜ decodeOf r ≡ checked (orderTable (readPairs count 5 (now (input .entry)))) (done count) ⌝ }
+    ensures { λ r. ⌜ decodeOf r ≡ checked (pairsTable (readPairs count 5 (now (input .entry)))) (done count) ⌝ }
 {
     let mut prev = raw::read_u64(input, 5);
     let mut pos: usize = 17;
@@ -157,15 +127,51 @@ fn check_order(input: &[u8], count: usize) -> Decode
         pos += PAIR_LEN;
         i += 1;
     }
+    if 128 < count {
+        return Decode::TooManyPairs;
+    }
     Decode::Pairs(count)
+}
+
+// Refusals 13 to 19, or the number of pairs.
+fn check(input: &[u8]) -> Decode
+    ensures { λ r. ⌜ decodeOf r ≡ checked (decodeTable (now (input .entry))) (done (pairCount (now (input .entry)))) ⌝ }
+{
+    let len = input.len();
+    if len < ATTEMPT_SNAPSHOT_MIN_LEN {
+        return Decode::Truncated;
+    }
+    let version = input[0];
+    if version != SNAPSHOT_VERSION {
+        return Decode::UnsupportedVersion(version);
+    }
+    let pairs_bytes = len - ATTEMPT_SNAPSHOT_MIN_LEN;
+    if pairs_bytes % PAIR_LEN != 0 {
+        return Decode::BadLength { len: len };
+    }
+    let declared = raw::read_u32(input, 1);
+    let actual = pairs_bytes / PAIR_LEN;
+    if declared as usize != actual {
+        return Decode::CountMismatch {
+            declared: declared,
+            actual: actual as u64,
+        };
+    }
+    if !crc::is_sealed(input) {
+        return Decode::BadCrc;
+    }
+    check_pairs(input, actual)
 }
 
 // The pairs at the front of an array.
 fn get_pairs(input: &[u8], count: usize) -> [Pair; 128]
     requires { ⌜ (count ≤ 128) × (5 + 12 * count ≤ length (now input)) ⌝ }
-    ensures { λ r. ⌜ entries r ≡ readPairs count 5 (now (input .entry)) ++ drop count (entries blank) ⌝ }
+    ensures { λ r. ⌜ entriesOf r ≡ readPairs count 5 (now (input .entry)) ++ drop count (entriesOf blank) ⌝ }
 {
-    let mut pairs = [Pair { offset: 0, attempt: 0 }; 128];
+    let mut pairs = [Pair {
+        offset: 0,
+        attempt: 0,
+    }; 128];
     let mut pos: usize = 5;
     let mut i: usize = 0;
     while i < count {
@@ -185,7 +191,10 @@ fn get_pairs(input: &[u8], count: usize) -> [Pair; 128]
 fn refused(outcome: Decode) -> Decoded
     ensures { λ r. ⌜ RefusedIs outcome r ⌝ }
 {
-    let pairs = [Pair { offset: 0, attempt: 0 }; 128];
+    let pairs = [Pair {
+        offset: 0,
+        attempt: 0,
+    }; 128];
     Decoded {
         outcome: outcome,
         pairs: pairs,
@@ -198,20 +207,13 @@ fn refused(outcome: Decode) -> Decoded
 pub fn decode_pairs(input: &[u8]) -> Decoded
     ensures { λ r. ⌜ DecodedIs (now (input .entry)) r ⌝ }
 {
-    let framed = check_frame(input);
-    let Decode::Pairs(count) = framed else {
-        return refused(framed);
+    let outcome = check(input);
+    let Decode::Pairs(count) = outcome else {
+        return refused(outcome);
     };
-    let ordered = check_order(input, count);
-    let Decode::Pairs(_) = ordered else {
-        return refused(ordered);
-    };
-    if 128 < count {
-        return refused(Decode::TooManyPairs);
-    }
     let pairs = get_pairs(input, count);
     Decoded {
-        outcome: Decode::Pairs(count),
+        outcome: outcome,
         pairs: pairs,
         count: count,
     }

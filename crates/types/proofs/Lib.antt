@@ -2,3 +2,4 @@ pub mod Cases
 pub mod Table
 pub mod Keyed
 pub mod Shift
+pub mod Scan
