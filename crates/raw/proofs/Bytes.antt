@@ -9,24 +9,9 @@ use mathlib.Core.List.{List, [], _∷_, _++_, append-assoc}
 use mir.Syntax.{w8}
 use mir.Val.{Fits}
 use lib.ListN.{length, take, drop, getD, set, length-append, length-take, length-drop, take-append-drop, drop-of-length-le}
-use lib.Seq.{
-  sets,
-  sets-eq,
-  set-comm,
-  length-take-le,
-  take-at,
-  take-nil,
-  take-take,
-  take-append-le,
-  take-append-seam,
-  drop-at,
-  drop-nil,
-  drop-drop,
-  drop-append-le,
-  drop-append-add,
-  getD-take,
-  getD-drop,
-}
+use lib.Seq.{sets, sets-eq, set-comm, length-take-le, getD-take, getD-drop}
+use lib.Seq.{take-at, take-nil, take-take, take-append-le, take-append-seam}
+use lib.Seq.{drop-at, drop-nil, drop-drop, drop-append-le, drop-append-add}
 use borrow.Author.Tests.{lt-ltb, le-ltb}
 use Rattle.types.specs.Refusal.{Result, refused, done}
 use Rattle.types.specs.Refusal as refusal
