@@ -1,7 +1,8 @@
 // Little-endian numbers in byte slices, at any position. Reading past the end sees zeros; a write without room changes
 // no byte and says so.
 ghost use mathlib.Core.Path.{_≡_};
-ghost use Prim.Native.Nat.{_≤_};
+ghost use Prim.Native.Nat.{_+_, _≤_};
+ghost use lib.Dec.{ltb};
 ghost use Rattle.types.specs.Table.{answer};
 ghost use Rattle.raw.specs.Bytes.{le, numberAt, ReadIs, write, outcomeOf};
 
@@ -50,14 +51,24 @@ pub fn read_u64(buf: &[u8], pos: usize) -> u64
     read_le(buf, pos, 8)
 }
 
+// Whether n bytes from pos on would pass the end of `len` bytes.
+pub fn too_short(len: usize, pos: usize, n: usize) -> bool
+    ensures { λ r. ⌜ r ≡ ltb len (pos + n) ⌝ }
+{
+    if len < pos {
+        return true;
+    }
+    if len - pos < n {
+        return true;
+    }
+    false
+}
+
 // The low `width` bytes of x from pos on.
 fn write_le(buf: &mut [u8], pos: usize, width: usize, x: u64) -> Write
     ensures { λ r. ⌜ answer (outcomeOf r) (now (buf .exit)) ≡ write pos (le width x) (now (buf .entry)) ⌝ }
 {
-    if buf.len() < pos {
-        return Write::OutTooShort;
-    }
-    if buf.len() - pos < width {
+    if too_short(buf.len(), pos, width) {
         return Write::OutTooShort;
     }
     let mut rest = x;
@@ -93,10 +104,7 @@ pub fn write_bytes(buf: &mut [u8], pos: usize, bytes: &[u8]) -> Write
     ensures { λ r. ⌜ answer (outcomeOf r) (now (buf .exit)) ≡ write pos (now (bytes .entry)) (now (buf .entry)) ⌝ }
 {
     let n = bytes.len();
-    if buf.len() < pos {
-        return Write::OutTooShort;
-    }
-    if buf.len() - pos < n {
+    if too_short(buf.len(), pos, n) {
         return Write::OutTooShort;
     }
     let mut i: usize = 0;

@@ -1,34 +1,30 @@
--- `write_bytes` meets its contract. The loop's invariant: storing the bytes that are left from `pos + i` on gives what
--- storing all of them from `pos` on gave at the start. Assumes nothing.
-use Prim.Native.Nat.{_+_, _-_, _≤_}
+-- `write_bytes` meets its contract. The loop's invariant: the bytes that are left, stored from `pos + i` on, give what all
+-- of them gave at the start. Assumes nothing.
+use Prim.Native.Nat.{_-_, _≤_}
 use native.Mathlib.Omega.{arith}
 use mathlib.Core.Path.{refl}
+use borrow.Author.Needs.{needs}
 use lib.ListN.{length, drop, drop-of-length-le}
-use Rattle.raw.proofs.Loops.{Storing, storing-none, storing-more, stored, short, drop-next}
+use Rattle.raw.proofs.Loops.{Storing, refused-short, storing-none, storing-more, stored, drop-next}
 use Rattle.raw.proofs.write_bytes.Statement.{statement}
 use Rattle.raw.proofs.write_bytes.Tie as tie
 
 abbrev Inv-loop : tie.InvT-loop
-Inv-loop buf₀ pos bytes n i₀ buf i = (i ≤ length bytes) × Storing buf₀ pos bytes buf i (drop i bytes)
+Inv-loop buf₀ pos bytes n i₀ buf i = (i ≤ length bytes) × Storing buf₀ pos (length bytes) bytes buf i (drop i bytes)
 
 abbrev μ-loop : tie.MeasureT-loop
 μ-loop buf₀ pos bytes n i₀ buf i = length bytes - i
 
+too-short-requires : tie.Need-too-short-requires Inv-loop μ-loop
+too-short-requires c κs = search needs
+
 returns : tie.Need-returns Inv-loop μ-loop
 returns c =
-    let a = c .before .args in
-    short (a .buf .now) (a .pos) (a .bytes .now) _ refl (omega arith)
-
-sub-if2 : tie.Need-sub-if2 Inv-loop μ-loop
-sub-if2 c = omega arith
-
-returns-2 : tie.Need-returns-2 Inv-loop μ-loop
-returns-2 c =
-    let a = c .before .before .args in
-    short (a .buf .now) (a .pos) (a .bytes .now) _ refl (omega arith)
+    let a = c .before .before .before .before .args in
+    refused-short _ _ _ (a .bytes .now) refl (c .before .too-short .ensures) (c .if1 .taken)
 
 loop-holds : tie.Need-loop-holds Inv-loop μ-loop
-loop-holds c = (omega arith, storing-none _ _ _)
+loop-holds c = (omega arith, storing-none _ _ _ _ refl (c .before .too-short .ensures) (c .if1 .left))
 
 shared-slice-read-buf : tie.Need-shared-slice-read-buf Inv-loop μ-loop
 shared-slice-read-buf c = omega arith
@@ -46,16 +42,19 @@ loop-less : tie.Need-loop-less Inv-loop μ-loop
 loop-less c = omega arith
 
 loop-again : tie.Need-loop-again Inv-loop μ-loop
-loop-again c = (omega arith, storing-more _ _ _ _ _ _ _ _ (drop-next _ _ (c .before .loop-test .taken)) (c .before .before .loop .inv .1))
+loop-again c = (
+  omega arith,
+  storing-more _ _ _ _ _ _ _ (c .before .before .loop .inv .1) _ _ (drop-next _ _ (c .before .loop-test .taken)),
+)
 
-add-t6 : tie.Need-add-t6 Inv-loop μ-loop
-add-t6 c = omega arith
+add-t7 : tie.Need-add-t7 Inv-loop μ-loop
+add-t7 c = omega arith
 
 same-length : tie.Need-same-length Inv-loop μ-loop
 same-length c = c .before .loop .inv .1 .same
 
-returns-3 : tie.Need-returns-3 Inv-loop μ-loop
-returns-3 c = stored _ _ _ _ refl _ _ _ (omega arith) (drop-of-length-le _ (c .loop-test .left)) (c .before .loop .inv .1)
+returns-2 : tie.Need-returns-2 Inv-loop μ-loop
+returns-2 c = stored _ _ _ _ _ _ _ (c .before .loop .inv .1) (drop-of-length-le _ (c .loop-test .left))
 
 pub write-bytes-spec : {M : Type 1} → statement M
 write-bytes-spec =
@@ -63,9 +62,8 @@ write-bytes-spec =
     (tie.spec
     Inv-loop
     μ-loop
+    too-short-requires
     returns
-    sub-if2
-    returns-2
     loop-holds
     shared-slice-read-buf
     add-buf
@@ -73,6 +71,6 @@ write-bytes-spec =
     add-i
     loop-less
     loop-again
-    add-t6
+    add-t7
     same-length
-    returns-3)
+    returns-2)
