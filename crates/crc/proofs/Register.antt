@@ -9,7 +9,7 @@ use lib.Bits.{bitXor}
 use lib.ListN.{length, replicate, length-append}
 use lib.Seq.{append-snoc}
 use Rattle.types.proofs.Cases.{split}
-use Rattle.crc.specs.Crc32c.{bits, xors, shift, feedBits, feed}
+use Rattle.crc.specs.Crc32c.{bits, xors, polynomial, shift, feedBits, feed}
 use Rattle.crc.proofs.Bits.{length-bits, bits-split, bits-xor, bits-low}
 
 xor-comm : (a b : Bool) → xor a b ≡ xor b a
@@ -72,7 +72,7 @@ sum-shift : (s r : List Bool) (a x d : Bool) → length s ≡ length r
     → shift (xors (a ∷ s) (x ∷ r)) d ≡ xors (shift (a ∷ s) (xor x d)) (r ++ false ∷ [])
 sum-shift s r a x d e =
     rw (xor-assoc, xors-snoc s r e)
-    (split (xor a (xor x d)) (λ t. rw (t, xors-swap)) (λ t. rw t))
+    (split (xor a (xor x d)) (λ t. rw t (xors-swap (s ++ false ∷ []) (r ++ false ∷ []) polynomial)) (λ t. rw t))
 
 -- the same for as many bits as x has
 sum-feed : (x d y s : List Bool) → length d ≡ length x → length s ≡ length (x ++ y)
