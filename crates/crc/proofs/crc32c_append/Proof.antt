@@ -1,6 +1,6 @@
 -- `crc::crc32c_append` meets its contract. The loop's invariant: the table is its rule taken at 0 to 255, and feeding the
 -- bytes that are left to the register as it is gives what feeding all of them to the first register gives. The first
--- `refl` of `loop-holds` is the table's test, which computes all of its entries. Assumes nothing.
+-- `refl` of `loop-holds` is the table's test, which computes all its entries. Assumes nothing.
 use Prim.Native.Nat.{_≤_, _<_, _-_, _^_}
 use native.Mathlib.Omega.{arith}
 use mathlib.Core.Path.{_≡_, refl, _∙_}
@@ -26,8 +26,8 @@ abbrev μ-loop : tie.MeasureT-loop
 loop-holds : tie.Need-loop-holds Inv-loop μ-loop
 unfolding remainder bits unbits polynomial xor
 loop-holds c =
-    let b = c .before .args .before in
-    (refl, omega arith, xor-lt 32 b _ (c .before .fits .before .fits) (lit< tt), refl)
+    let a = c .before .args .before in
+    (refl, omega arith, xor-lt 32 a _ (c .before .fits .before .fits) (lit< tt), refl)
 
 shared-slice-read-after-byte : tie.Need-shared-slice-read-after-byte Inv-loop μ-loop
 shared-slice-read-after-byte c = omega arith
