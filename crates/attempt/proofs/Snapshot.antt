@@ -1,23 +1,23 @@
 -- Laws of the attempt snapshot. Above this crate two are needed: its length, and that decoding gives the pairs back.
 -- Assumes nothing.
-use Prim.Native.Nat.{ℕ, zero, suc, _+_, _-_, _*_, _/_, _%_, _^_, _<_, _≤_}
+use Prim.Native.Nat.{ℕ, zero, suc, _+_, _-_, _*_, _%_, _^_, _<_, _≤_}
 use native.Mathlib.Omega.{arith}
 use native.Mathlib.Nat.{add-assoc}
 use mathlib.Core.Path.{_≡_, refl, sym, ap, _∙_}
 use mathlib.Core.Bool.{true, false, not}
 use mathlib.Core.List.{List, [], _∷_, _++_}
-use lib.ListN.{length, take, drop, getD, length-append, length-take, length-drop}
+use lib.ListN.{length, take, drop, getD}
 use lib.Seq.{drop-drop, take-add}
 use lib.Dec.{eqb}
 use borrow.Author.Tests.{ltb-false, leb-false, eqb-true, not-false, lt-ltb, le-ltb, lt-leb, eq-eqb}
-use Rattle.types.specs.Limits.{MAX, MAX32, PAIRS}
+use Rattle.types.specs.Limits.{PAIRS}
 use Rattle.types.specs.Refusal.{refused, done}
 use Rattle.types.specs.Refusal as refusal
 use Rattle.types.specs.Table.{Passed, checked, answer}
-use Rattle.types.specs.Keyed.{Entry, entry, Rising}
+use Rattle.types.specs.Keyed.{Entry, Rising}
 use Rattle.types.proofs.Table.{checked-append, checked-done, checked-passed, passed-append, append-passed}
-use Rattle.raw.specs.Bytes.{IsBytes, le, unle, numberAt}
-use Rattle.raw.proofs.Bytes.{bytes-append, bytes-take, bytes-drop, bytes-le, unle-le, le-unle, number-lt}
+use Rattle.raw.specs.Bytes.{IsBytes, le, numberAt}
+use Rattle.raw.proofs.Bytes.{bytes-append, bytes-le, unle-le, number-lt, le-number}
 use Rattle.crc.specs.Seal.{sealed, isSealed}
 use Rattle.crc.proofs.Seal.{length-sealed, bytes-sealed, sealed-ok, sealed-of}
 use Rattle.attempt.specs.Snapshot.{PairsFit, pairBytes, pairsBytes, bodyBytes, encodeAttempts1, readPairs, pairCount, pairsIn, frameTable, orderAfter, orderTable, limitTable, pairsTable, decodeTable, decodeAttempts, fill}
@@ -158,12 +158,6 @@ pairs-fit (suc n) pos b h =
     let o = number-lt 8 pos b h in
     let a = number-lt 4 (pos + 8) b h in
     ((omega arith, omega arith), pairs-fit n (pos + 12) b h)
-
-le-number : (k pos : ℕ) (b : List ℕ) → IsBytes b → pos + k ≤ length b → le k (numberAt k pos b) ≡ take k (drop pos b)
-le-number k pos b h room =
-    let part : List ℕ = take k (drop pos b) in
-    let size : length part ≡ k = simp (length-take, length-drop) (omega arith) in
-    rw size at (le-unle part (bytes-take k (drop pos b) (bytes-drop pos b h)))
 
 joined : {x u y v z w : List ℕ} → x ≡ u → y ≡ v → z ≡ w → x ++ (y ++ z) ≡ u ++ (v ++ w)
 joined p q r = rw (p, q, r)

@@ -1,12 +1,10 @@
 -- What the encoder's functions write, over plain values. Assumes nothing.
 use Prim.Native.Nat.{ℕ, _+_, _*_, _<_, _≤_}
 use native.Mathlib.Omega.{arith}
-use native.Mathlib.Numerals.{add-one}
-use native.Mathlib.Nat.{add-zero}
 use mathlib.Core.Path.{_≡_, refl, sym, _∙_}
 use mathlib.Core.List.{List, [], _∷_}
-use lib.ListN.{length, take, drop, getD, set, length-map, take-append-drop}
-use lib.Seq.{set-split, length-take-le}
+use lib.ListN.{length, take, drop, getD, set, length-map}
+use lib.Seq.{length-take-le}
 use borrow.Author.Tests.{lt-ltb, le-ltb}
 use Rattle.types.specs.Limits.{PAIRS}
 use Rattle.types.specs.Refusal.{Result, refused, done}
@@ -15,20 +13,13 @@ use Rattle.types.specs.Table.{answer}
 use Rattle.types.specs.Keyed.{Entry}
 use Rattle.types.proofs.Scan.{scan-more, scan-end}
 use Rattle.raw.specs.Bytes.{le, overwrite, write}
-use Rattle.raw.proofs.Bytes.{overwritten, overwrite-append, write-room, write-short, wrote-behind}
+use Rattle.raw.proofs.Bytes.{overwrite-none, overwrite-byte, overwrite-append, write-room, write-short, wrote-behind}
 use Rattle.crc.specs.Crc32c.{crc}
-use Rattle.crc.specs.Seal.{sealed}
+use Rattle.crc.proofs.Seal.{sealed-put}
 use Rattle.attempt.specs.Snapshot.{pairBytes, pairsBytes, bodyBytes, encodeAttempts1}
 use Rattle.attempt.specs.Codec.{entryOf, entriesOf, nil, encodeFirst}
 use Rattle.attempt.specs.declared.Pair.{Pair}
 use Rattle.attempt.proofs.Snapshot.{length-body, attempts-length}
-
--- nothing written, and one byte
-pub overwrite-none : (pos : ℕ) (bs : List ℕ) → overwrite pos [] bs ≡ bs
-overwrite-none pos bs = rw (add-zero, take-append-drop)
-
-pub overwrite-byte : (pos b : ℕ) (bs : List ℕ) → pos < length bs → set bs pos b ≡ overwrite pos (b ∷ []) bs
-overwrite-byte pos b bs h = rw (set-split bs pos b h, add-one)
 
 -- the loop of `put_pairs`: the pairs that are left, written from the next place on, give what all of them gave at the start
 module _ (pairs : List Pair) (n i : ℕ) (fits : n ≤ length pairs) where
@@ -57,16 +48,6 @@ body-put l n at bs o₁ o₂ size room count pairs =
     let byte : set bs at 1 ≡ overwrite at (1 ∷ []) bs = overwrite-byte at 1 bs (omega arith) in
     let head : o₁ ≡ overwrite at (1 ∷ le 4 n) bs = wrote-behind (at + 1) (le 4 n) (set bs at 1) count at (1 ∷ []) bs refl byte (omega arith) in
     pairs ∙ rw (head, size) (overwrite-append at (1 ∷ le 4 n) (pairsBytes l) bs (omega arith))
-
--- the check of what was written, behind it
-pub sealed-put : (body : List ℕ) (n at : ℕ) (bs o₁ o₂ : List ℕ) (check : ℕ) {o : Result ℕ} → length body ≡ n → at + (n + 4) ≤ length bs
-    → o₁ ≡ overwrite at body bs
-    → check ≡ crc (take n (drop at o₁))
-    → answer o o₂ ≡ write (at + n) (le 4 check) o₁
-    → o₂ ≡ overwrite at (sealed body) bs
-sealed-put body n at bs o₁ o₂ check size room put sum seal =
-    let there : take n (drop at o₁) ≡ body = rw (put, ← size) (overwritten at body bs (omega arith)) in
-    wrote-behind (at + n) (le 4 check) o₁ seal at body bs (rw size) put (omega arith) ∙ rw (sum, there)
 
 -- ---- what `encode_pairs` answers, test by test
 same : {p q : ℕ} {x y : List ℕ} → p ≡ q → x ≡ y → answer (done p) x ≡ answer (done q) y

@@ -150,8 +150,9 @@ fn check(input: &[u8]) -> Decode
         return Decode::BadLength { len: len };
     }
     let declared = raw::read_u32(input, 1);
+    let count = declared as usize;
     let actual = pairs_bytes / PAIR_LEN;
-    if declared as usize != actual {
+    if count != actual {
         return Decode::CountMismatch {
             declared: declared,
             actual: actual as u64,

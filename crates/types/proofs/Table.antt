@@ -3,11 +3,11 @@
 use Prim.Native.Nat.{ℕ}
 use native.Mathlib.Omega.{arith}
 use mathlib.Core.Path.{_≡_, refl, sym}
-use mathlib.Core.Bool.{Bool, true, false}
+use mathlib.Core.Bool.{true}
 use mathlib.Core.List.{List, [], _∷_, _++_}
 use mathlib.Core.Option.{Option, none, some, Option·none-ne-some}
 use Rattle.types.specs.Refusal.{Refusal, Result, refused, done}
-use Rattle.types.specs.Table.{Row, _⇒_, first, Passed, Answer, answer, checked, guarded, unlessKept}
+use Rattle.types.specs.Table.{Row, first, Passed, Answer, answer, checked, guarded, unlessKept}
 use Rattle.types.proofs.Cases.{split}
 
 pub first-none : (ws : List Row) → first ws ≡ none → Passed ws

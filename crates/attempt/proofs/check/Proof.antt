@@ -46,8 +46,8 @@ returns-3 c =
 read-u32-requires : tie.Need-read-u32-requires
 read-u32-requires c κs = search needs
 
-cast-if4 : tie.Need-cast-if4
-cast-if4 c = search needs
+cast-count : tie.Need-cast-count
+cast-count c = search needs
 
 returns-4 : tie.Need-returns-4
 returns-4 c =
@@ -83,7 +83,7 @@ check-spec =
     returns-2
     returns-3
     read-u32-requires
-    cast-if4
+    cast-count
     returns-4
     is-sealed-requires
     returns-5

@@ -1,6 +1,6 @@
 -- `check_pairs` meets its contract. The loop's invariant: what the pairs that are left answer behind the last offset is
 -- what all of them answer. Assumes nothing.
-use Prim.Native.Nat.{_+_, _-_, _*_, _≤_}
+use Prim.Native.Nat.{_+_, _-_, _*_}
 use native.Mathlib.Omega.{arith}
 use mathlib.Core.Path.{_≡_, refl, sym, _∙_}
 use mathlib.Core.List.{List, _++_}

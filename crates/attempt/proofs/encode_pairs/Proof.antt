@@ -1,7 +1,7 @@
 -- `encode_pairs` meets its contract: each return is a law of what the encoder writes. Assumes nothing.
 use Prim.Native.Nat.{_+_, _-_, _*_}
 use native.Mathlib.Omega.{arith}
-use mathlib.Core.Path.{_≡_, refl}
+use mathlib.Core.Path.{_≡_}
 use lib.ListN.{length, take}
 use borrow.Author.Needs.{needs}
 use Rattle.types.proofs.Scan.{length-mapped}
