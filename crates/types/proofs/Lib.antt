@@ -1,4 +1,5 @@
 pub mod Cases
 pub mod Table
 pub mod Keyed
+pub mod Columns
 pub mod Shift

@@ -3,3 +3,4 @@ pub mod Identifiers
 pub mod Refusal
 pub mod Table
 pub mod Keyed
+pub mod Columns

@@ -1,0 +1,4 @@
+pub mod Ranges
+pub mod Cursor
+pub mod View
+pub mod Place
