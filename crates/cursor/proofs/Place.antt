@@ -11,7 +11,7 @@ use lib.Dec.{ltb, leb, eqb, leb·suc-suc}
 use lib.ListN.{length, drop, set}
 use borrow.Author.Tests.{ltb-true, ltb-false, leb-true, leb-false, eqb-true, eqb-false, eq-eqb, ne-eqb, lt-ltb, le-ltb, le-leb, lt-leb}
 use Rattle.types.specs.Limits.{MAX}
-use Rattle.types.specs.Columns.{inserted, removed}
+use Rattle.types.specs.Zipped.{inserted, removed}
 use Rattle.types.proofs.Cases.{split}
 use Rattle.cursor.specs.Ranges.{range, Above, inside, touches, joined, insert}
 use Rattle.cursor.specs.Cursor.{Cursor, cursor, settled, advanced, recorded, committedTo}

@@ -9,8 +9,9 @@ use lib.Dec.{ltb, eqb}
 use lib.ListN.{length, take, drop, getD}
 use lib.Seq.{length-take-le}
 use Rattle.types.specs.Limits.{MAX}
-use Rattle.types.specs.Columns.{removed, Sorted, upTo}
-use Rattle.types.proofs.Columns.{upTo-most}
+use Rattle.types.specs.Zipped.{removed}
+use Rattle.types.specs.Search.{Sorted, upTo}
+use Rattle.types.proofs.Search.{upTo-most}
 use Rattle.cursor.specs.Ranges.{Above, offsets}
 use Rattle.cursor.specs.Cursor.{Cursor, cursor, settled, committedTo}
 use Rattle.cursor.specs.View.{ackCursor, view, Whole}

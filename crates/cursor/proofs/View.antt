@@ -12,9 +12,10 @@ use lib.ListN.{length, take, drop, getD, set, drop-of-length-le}
 use lib.Seq.{drop-cons, length-take-le, getD-take, take-set-lt}
 use borrow.Author.Tests.{ltb-true}
 use Rattle.types.specs.Limits.{RANGES}
-use Rattle.types.specs.Columns.{zipped, inserted, removed, Sorted, upTo}
+use Rattle.types.specs.Zipped.{zipped, inserted, removed}
+use Rattle.types.specs.Search.{Sorted, upTo}
 use Rattle.types.proofs.Cases.{split}
-use Rattle.types.proofs.Columns.{zipped-length, zipped-getD, zipped-set-left, zipped-set-right, zipped-inserted, zipped-removed}
+use Rattle.types.proofs.Zipped.{zipped-length, zipped-getD, zipped-set-left, zipped-set-right, zipped-inserted, zipped-removed}
 use Rattle.cursor.specs.Ranges.{range, Above}
 use Rattle.cursor.specs.Cursor.{Cursor, cursor}
 use Rattle.cursor.specs.View.{ackCursor, view}

@@ -7,7 +7,7 @@ use mathlib.Core.List.{List, [], _∷_}
 use lib.Dec.{leb, eqb}
 use lib.ListN.{length, getD, set}
 use Rattle.types.specs.Limits.{MAX}
-use Rattle.types.specs.Columns.{inserted, removed}
+use Rattle.types.specs.Zipped.{inserted, removed}
 use Rattle.cursor.specs.Ranges.{range, touches}
 use Rattle.cursor.specs.Cursor.{Cursor, cursor, settled, recorded}
 use Rattle.cursor.specs.declared.Range.{Range}

@@ -8,7 +8,7 @@ use Rattle.types.specs.Limits.{RANGES}
 use Rattle.types.specs.Refusal.{Result, refused, done}
 use Rattle.types.specs.Refusal as refusal
 use Rattle.types.specs.Table.{Answer, answer}
-use Rattle.types.specs.Columns.{zipped}
+use Rattle.types.specs.Zipped.{zipped}
 use Rattle.cursor.specs.Ranges.{range}
 use Rattle.cursor.specs.Cursor.{Cursor, cursor, Valid, resume}
 use Rattle.cursor.specs.declared.AckCursor.{AckCursor}

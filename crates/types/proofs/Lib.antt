@@ -1,5 +1,6 @@
 pub mod Cases
 pub mod Table
 pub mod Keyed
-pub mod Columns
+pub mod Zipped
+pub mod Search
 pub mod Shift

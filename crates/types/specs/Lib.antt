@@ -3,4 +3,5 @@ pub mod Identifiers
 pub mod Refusal
 pub mod Table
 pub mod Keyed
-pub mod Columns
+pub mod Zipped
+pub mod Search

@@ -1,6 +1,6 @@
 -- `end_before` meets its contract. Assumes nothing.
 use borrow.Author.Needs.{needs}
-use Rattle.types.proofs.Columns.{getD-behind}
+use Rattle.types.proofs.Zipped.{getD-behind}
 use Rattle.cursor.proofs.end_before.Statement.{statement}
 use Rattle.cursor.proofs.end_before.Tie as tie
 

@@ -4,7 +4,7 @@ use Prim.Native.Nat.{ℕ, _+_, _-_, _≤_}
 use native.Mathlib.Omega.{arith}
 use mathlib.Core.Path.{_≡_, refl, sym, ap, _∙_}
 use lib.ListN.{length, take, set, length-set}
-use Rattle.types.specs.Columns.{inserted}
+use Rattle.types.specs.Zipped.{inserted}
 use Rattle.types.proofs.Shift.{carry-more, carry-end}
 use Rattle.cursor.proofs.insert_at.Statement.{statement}
 use Rattle.cursor.proofs.insert_at.Tie as tie

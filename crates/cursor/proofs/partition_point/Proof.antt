@@ -4,8 +4,8 @@ use Prim.Native.Nat.{_≤_, _-_}
 use native.Mathlib.Omega.{arith}
 use lib.ListN.{take}
 use lib.Seq.{length-take-le}
-use Rattle.types.specs.Columns.{upTo}
-use Rattle.types.proofs.Columns.{upTo-most, halve-up, halve-down}
+use Rattle.types.specs.Search.{upTo}
+use Rattle.types.proofs.Search.{upTo-most, halve-up, halve-down}
 use Rattle.cursor.proofs.partition_point.Statement.{statement}
 use Rattle.cursor.proofs.partition_point.Tie as tie
 

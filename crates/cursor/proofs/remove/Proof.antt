@@ -6,7 +6,7 @@ use mathlib.Core.Path.{_≡_, refl, sym, _∙_}
 use mathlib.Core.List.{_++_}
 use lib.ListN.{length, take, drop, length-set}
 use lib.Seq.{take-take}
-use Rattle.types.specs.Columns.{removed}
+use Rattle.types.specs.Zipped.{removed}
 use Rattle.types.proofs.Shift.{down-more, down-end}
 use Rattle.cursor.proofs.remove.Statement.{statement}
 use Rattle.cursor.proofs.remove.Tie as tie

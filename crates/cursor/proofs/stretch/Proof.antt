@@ -1,6 +1,6 @@
 -- `stretch` meets its contract. Assumes nothing.
 use borrow.Author.Needs.{needs}
-use Rattle.types.proofs.Columns.{set-behind}
+use Rattle.types.proofs.Zipped.{set-behind}
 use Rattle.cursor.proofs.stretch.Statement.{statement}
 use Rattle.cursor.proofs.stretch.Tie as tie
 
