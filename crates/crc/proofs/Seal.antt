@@ -1,4 +1,4 @@
--- Laws of sealed bytes: they pass their test, and whatever passes it is sealed. Assumes nothing.
+-- Laws of sealed bytes: they pass their test, whatever passes it is sealed, and how they are written. Assumes nothing.
 use Prim.Native.Nat.{ℕ, _+_, _-_, _<_, _≤_}
 use native.Mathlib.Omega.{arith}
 use mathlib.Core.Path.{_≡_, refl, sym, _∙_}
@@ -8,9 +8,11 @@ use lib.Dec.{leb, eqb}
 use lib.ListN.{length, take, drop, length-append, length-drop, drop-of-length-le}
 use lib.Seq.{take-all, take-at, drop-at}
 use borrow.Author.Tests.{le-leb, lt-leb, leb-true, leb-false, eqb-true, eq-eqb}
+use Rattle.types.specs.Refusal.{Result}
+use Rattle.types.specs.Table.{answer}
 use Rattle.types.proofs.Cases.{split}
-use Rattle.raw.specs.Bytes.{IsBytes, le, numberAt}
-use Rattle.raw.proofs.Bytes.{bytes-append, bytes-le, unle-le, written-read}
+use Rattle.raw.specs.Bytes.{IsBytes, le, numberAt, overwrite, write}
+use Rattle.raw.proofs.Bytes.{bytes-append, bytes-le, unle-le, written-read, overwritten, wrote-behind}
 use Rattle.crc.specs.Crc32c.{crc}
 use Rattle.crc.specs.Seal.{sealed, isSealed}
 use Rattle.crc.proofs.Crc.{crc-lt}
@@ -51,3 +53,11 @@ sealed-of b h t =
     let end : drop (n + 4) b ≡ [] = drop-of-length-le b {i = n + 4} (omega arith) in
     sym (written-read 4 n b h (omega arith)) ∙ rw (check, end))
     (λ q. absurd (false≢true (sym (unsealed-short b (leb-false 4 (length b) q)) ∙ t)))
+
+-- the check of bytes that were written, put behind them
+pub sealed-put : (body : List ℕ) (n at : ℕ) (bs o₁ o₂ : List ℕ) (check : ℕ) {o : Result ℕ} → length body ≡ n
+    → at + (n + 4) ≤ length bs → o₁ ≡ overwrite at body bs → check ≡ crc (take n (drop at o₁))
+    → answer o o₂ ≡ write (at + n) (le 4 check) o₁ → o₂ ≡ overwrite at (sealed body) bs
+sealed-put body n at bs o₁ o₂ check size room put sum seal =
+    let there : take n (drop at o₁) ≡ body = rw (put, ← size) (overwritten at body bs (omega arith)) in
+    wrote-behind (at + n) (le 4 check) o₁ seal at body bs (rw size) put (omega arith) ∙ rw (sum, there)

@@ -2,6 +2,7 @@
 -- Assumes nothing.
 use Prim.Native.Nat.{ℕ, zero, suc, _+_, _-_, _*_, _/_, _%_, _^_, _<_, _≤_}
 use native.Mathlib.Omega.{arith}
+use native.Mathlib.Numerals.{add-one}
 use native.Mathlib.Nat.{zero-add, suc-add, add-zero, add-assoc, pow-succ', pow-le-pow-right}
 use mathlib.Core.Path.{_≡_, refl, sym, ap, _∙_}
 use mathlib.Core.Logic.{_⊎_, ⊎-elim}
@@ -9,7 +10,7 @@ use mathlib.Core.List.{List, [], _∷_, _++_, append-assoc}
 use mir.Syntax.{w8}
 use mir.Val.{Fits}
 use lib.ListN.{length, take, drop, getD, set, length-append, length-take, length-drop, take-append-drop, drop-of-length-le}
-use lib.Seq.{sets, sets-eq, set-comm, length-take-le, getD-take, getD-drop}
+use lib.Seq.{sets, sets-eq, set-comm, set-split, length-take-le, getD-take, getD-drop}
 use lib.Seq.{take-at, take-nil, take-take, take-append-le, take-append-seam}
 use lib.Seq.{drop-at, drop-nil, drop-drop, drop-append-le, drop-append-add}
 use borrow.Author.Tests.{lt-ltb, le-ltb}
@@ -104,6 +105,13 @@ number-lt k pos bs p =
     let few : length part ≤ k = simp length-take (omega arith) in
     let most : 256 ^ length part ≤ 256 ^ k = pow-le-pow-right (omega arith) few in
     omega (arith, unle-lt part (bytes-take k (drop pos bs) (bytes-drop pos bs p)))
+
+-- bytes that are there are those of their number
+pub le-number : (k pos : ℕ) (bs : List ℕ) → IsBytes bs → pos + k ≤ length bs → le k (numberAt k pos bs) ≡ take k (drop pos bs)
+le-number k pos bs p room =
+    let part : List ℕ = take k (drop pos bs) in
+    let size : length part ≡ k = simp (length-take, length-drop) (omega arith) in
+    rw size at (le-unle part (bytes-take k (drop pos bs) (bytes-drop pos bs p)))
 
 pub number-past : (k pos : ℕ) (bs : List ℕ) → length bs ≤ pos → numberAt k pos bs ≡ 0
 number-past k pos bs h = rw (drop-of-length-le bs h, take-nil)
@@ -209,11 +217,15 @@ read-written k n pos bs h room =
 pub written-read : (k pos : ℕ) (bs : List ℕ) → IsBytes bs → pos + k ≤ length bs
     → overwrite pos (le k (numberAt k pos bs)) bs ≡ bs
 written-read k pos bs p room =
-    let part : List ℕ = take k (drop pos bs) in
-    let size : length part ≡ k = simp (length-take, length-drop) (omega arith) in
-    let bytes : IsBytes part = bytes-take k (drop pos bs) (bytes-drop pos bs p) in
-    let same : le k (unle part) ≡ part = rw size at (le-unle part bytes) in
-    rw (same, size, ← drop-drop, take-append-drop, take-append-drop)
+    let size : length (take k (drop pos bs)) ≡ k = simp (length-take, length-drop) (omega arith) in
+    rw (le-number k pos bs p room, size, ← drop-drop, take-append-drop, take-append-drop)
+
+-- no byte, one byte, and two runs of bytes
+pub overwrite-none : (pos : ℕ) (bs : List ℕ) → overwrite pos [] bs ≡ bs
+overwrite-none pos bs = rw (add-zero, take-append-drop)
+
+pub overwrite-byte : (pos b : ℕ) (bs : List ℕ) → pos < length bs → set bs pos b ≡ overwrite pos (b ∷ []) bs
+overwrite-byte pos b bs h = rw (set-split bs pos b h, add-one)
 
 pub overwrite-append : (pos : ℕ) (a b bs : List ℕ) → pos + length a ≤ length bs
     → overwrite (pos + length a) b (overwrite pos a bs) ≡ overwrite pos (a ++ b) bs

@@ -4,3 +4,4 @@ pub mod Keyed
 pub mod Zipped
 pub mod Search
 pub mod Shift
+pub mod Scan

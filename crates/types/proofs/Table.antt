@@ -1,11 +1,13 @@
 -- Laws of refusal tables: the first test that holds is answered, and where none is, every test failed.
 -- Assumes nothing.
+use Prim.Native.Nat.{ℕ}
+use native.Mathlib.Omega.{arith}
 use mathlib.Core.Path.{_≡_, refl, sym}
-use mathlib.Core.Bool.{Bool, true, false}
+use mathlib.Core.Bool.{true}
 use mathlib.Core.List.{List, [], _∷_, _++_}
 use mathlib.Core.Option.{Option, none, some, Option·none-ne-some}
 use Rattle.types.specs.Refusal.{Refusal, Result, refused, done}
-use Rattle.types.specs.Table.{Row, _⇒_, first, Passed, Answer, answer, checked, guarded, unlessKept}
+use Rattle.types.specs.Table.{Row, first, Passed, Answer, answer, checked, guarded, unlessKept}
 use Rattle.types.proofs.Cases.{split}
 
 pub first-none : (ws : List Row) → first ws ≡ none → Passed ws
@@ -41,3 +43,41 @@ module _ {A S : Type 0} (ws : List Row) (s : S) (a : Answer A S) where
 
 pub checked-passed : {A : Type 0} (ws : List Row) (a : Result A) → Passed ws → checked ws a ≡ a
 checked-passed ws a p = rw (passed-none ws p)
+
+-- one table behind another
+pub passed-append : (ws vs : List Row) → Passed (ws ++ vs) → Passed ws × Passed vs
+passed-append [] vs p = (tt, p)
+passed-append (w ∷ ws) vs p =
+    let rest = passed-append ws vs (p .1) in
+    ((p .0, rest .0), rest .1)
+
+pub append-passed : (ws vs : List Row) → Passed ws → Passed vs → Passed (ws ++ vs)
+append-passed [] vs p q = q
+append-passed (w ∷ ws) vs p q = (p .0, append-passed ws vs (p .1) q)
+
+pub checked-append : {A : Type 0} (ws vs : List Row) (a : Result A) → checked (ws ++ vs) a ≡ checked ws (checked vs a)
+checked-append [] vs a = refl
+checked-append (w ∷ ws) vs a = split (w .test) (λ q. rw q) (λ q. rw q (checked-append ws vs a))
+
+-- a table that let a value through, and one that did not
+pub checked-done : {A : Type 0} (ws : List Row) (a b : A) → checked ws (done a) ≡ done b → Passed ws × (a ≡ b)
+checked-done {A} ws a b e = go (first ws) refl
+  where
+    go : (o : Option Refusal) → first ws ≡ o → Passed ws × (a ≡ b)
+    go none q = let d : done a ≡ done b = rw q at e in (first-none ws q, cc)
+    go (some r) q =
+        let d : _≡_ {A = Result A} (refused r) (done b) = rw q at e in
+        absurd (let z : _≡_ {A = ℕ} 0 1 = cc in omega arith)
+
+pub checked-refused : {A B : Type 0} (ws : List Row) (a : A) (b : Result B) (r : Refusal)
+    → checked ws (done a) ≡ refused r → checked ws b ≡ refused r
+checked-refused {A} ws a b r e = go (first ws) refl
+  where
+    go : (o : Option Refusal) → first ws ≡ o → checked ws b ≡ refused r
+    go none q =
+        let d : done a ≡ refused r = rw q at e in
+        absurd (let z : _≡_ {A = ℕ} 0 1 = cc in omega arith)
+    go (some s) q =
+        let d : _≡_ {A = Result A} (refused s) (refused r) = rw q at e in
+        let t : s ≡ r = cc in
+        rw (q, t)

@@ -1,0 +1,3 @@
+pub mod Snapshot
+mod Writing
+mod Reading

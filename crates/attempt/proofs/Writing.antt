@@ -1,0 +1,81 @@
+-- What the encoder's functions write, over plain values. Assumes nothing.
+use Prim.Native.Nat.{ℕ, _+_, _*_, _<_, _≤_}
+use native.Mathlib.Omega.{arith}
+use mathlib.Core.Path.{_≡_, refl, sym, _∙_}
+use mathlib.Core.List.{List, [], _∷_}
+use lib.ListN.{length, take, drop, getD, set, length-map}
+use lib.Seq.{length-take-le}
+use borrow.Author.Tests.{lt-ltb, le-ltb}
+use Rattle.types.specs.Limits.{PAIRS}
+use Rattle.types.specs.Refusal.{Result, refused, done}
+use Rattle.types.specs.Refusal as refusal
+use Rattle.types.specs.Table.{answer}
+use Rattle.types.specs.Keyed.{Entry}
+use Rattle.types.proofs.Scan.{scan-more, scan-end}
+use Rattle.raw.specs.Bytes.{le, overwrite, write}
+use Rattle.raw.proofs.Bytes.{overwrite-none, overwrite-byte, overwrite-append, write-room, write-short, wrote-behind}
+use Rattle.crc.specs.Crc32c.{crc}
+use Rattle.crc.proofs.Seal.{sealed-put}
+use Rattle.attempt.specs.Snapshot.{pairBytes, pairsBytes, bodyBytes, encodeAttempts1}
+use Rattle.attempt.specs.Codec.{entryOf, entriesOf, nil, encodeFirst}
+use Rattle.attempt.specs.declared.Pair.{Pair}
+use Rattle.attempt.proofs.Snapshot.{length-body, attempts-length}
+
+-- the loop of `put_pairs`: the pairs that are left, written from the next place on, give what all of them gave at the start
+module _ (pairs : List Pair) (n i : ℕ) (fits : n ≤ length pairs) where
+  abbrev left : ℕ → List ℕ
+  left k = pairsBytes (entriesOf (drop k (take n pairs)))
+
+  pub put-more : (out after : List ℕ) (pos : ℕ) → i < n → pos + 12 ≤ length out
+      → after ≡ overwrite pos (pairBytes (entryOf (getD pairs i nil))) out
+      → overwrite (pos + 12) (left (i + 1)) after ≡ overwrite pos (left i) out
+  put-more out after pos h room e =
+      rw (e, scan-more nil pairs n i fits h)
+      (overwrite-append pos (pairBytes (entryOf (getD pairs i nil))) (left (i + 1)) out room)
+
+  pub put-end : (out : List ℕ) (pos : ℕ) → n ≤ i → overwrite pos (left i) out ≡ out
+  put-end out pos h = rw (scan-end nil pairs n i fits h) (overwrite-none pos out)
+
+pub count-entries : (pairs : List Pair) (n : ℕ) → n ≤ length pairs → length (entriesOf (take n pairs)) ≡ n
+count-entries pairs n fits = length-map (take n pairs) entryOf ∙ length-take-le n pairs fits
+
+-- `put_body`: the version, then the count, then the pairs
+pub body-put : (l : List (Entry ℕ)) (n at : ℕ) (bs o₁ o₂ : List ℕ) {o : Result ℕ} → length l ≡ n → at + (5 + 12 * n) ≤ length bs
+    → answer o o₁ ≡ write (at + 1) (le 4 n) (set bs at 1)
+    → o₂ ≡ overwrite (at + 5) (pairsBytes l) o₁
+    → o₂ ≡ overwrite at (bodyBytes l) bs
+body-put l n at bs o₁ o₂ size room count pairs =
+    let byte : set bs at 1 ≡ overwrite at (1 ∷ []) bs = overwrite-byte at 1 bs (omega arith) in
+    let head : o₁ ≡ overwrite at (1 ∷ le 4 n) bs = wrote-behind (at + 1) (le 4 n) (set bs at 1) count at (1 ∷ []) bs refl byte (omega arith) in
+    pairs ∙ rw (head, size) (overwrite-append at (1 ∷ le 4 n) (pairsBytes l) bs (omega arith))
+
+-- ---- what `encode_pairs` answers, test by test
+same : {p q : ℕ} {x y : List ℕ} → p ≡ q → x ≡ y → answer (done p) x ≡ answer (done q) y
+same e f = rw (e, f)
+
+module _ (pairs : List Pair) (n at : ℕ) (bs : List ℕ) where
+  pub too-many : PAIRS < n → answer (refused refusal.TooManyPairs) bs ≡ encodeFirst n pairs at bs
+  too-many h = rw (lt-ltb PAIRS n h)
+
+  module _ (fits : length (entriesOf (take n pairs)) ≡ n) (few : n ≤ PAIRS) where
+    abbrev list : List (Entry ℕ)
+    list = entriesOf (take n pairs)
+
+    within : encodeFirst n pairs at bs ≡ write at (encodeAttempts1 list) bs
+    within = rw (le-ltb PAIRS n few, fits, le-ltb PAIRS n few)
+
+    pub too-short : length bs < at + (9 + 12 * n) → answer (refused refusal.OutTooShort) bs ≡ encodeFirst n pairs at bs
+    too-short h = sym (within ∙ write-short at (encodeAttempts1 list) bs (omega (arith, attempts-length list)))
+
+    pub encoded : (o₁ o₂ : List ℕ) (check k : ℕ) {o : Result ℕ} → at + (9 + 12 * n) ≤ length bs → k ≡ 5 + 12 * n
+        → o₁ ≡ overwrite at (bodyBytes list) bs
+        → check ≡ crc (take k (drop at o₁))
+        → answer o o₂ ≡ write (at + (5 + 12 * n)) (le 4 check) o₁
+        → answer (done (at + (9 + 12 * n))) o₂ ≡ encodeFirst n pairs at bs
+    unfolding encodeAttempts1
+    encoded o₁ o₂ check k room part body sum seal =
+        let size : length (bodyBytes list) ≡ 5 + 12 * n = omega (arith, length-body list) in
+        let whole = attempts-length list in
+        let e : o₂ ≡ overwrite at (encodeAttempts1 list) bs = sealed-put (bodyBytes list) (5 + 12 * n) at bs o₁ o₂ check size (omega arith) body (rw part at sum) seal in
+        let end : at + length (encodeAttempts1 list) ≡ at + (9 + 12 * n) = omega arith in
+        sym (within ∙ write-room at (encodeAttempts1 list) bs (omega arith) ∙ same end (sym e))

@@ -1,0 +1,69 @@
+-- How the code's types stand for pairs and for 01's answers, and the parts of the contracts.
+use Prim.Native.Nat.{ℕ}
+use mathlib.Core.Path.{_≡_}
+use mathlib.Core.List.{List, [], _∷_, map}
+use lib.Dec.{ltb}
+use lib.ListN.{take, replicate}
+use Rattle.types.specs.Limits.{PAIRS}
+use Rattle.types.specs.Refusal.{Result, refused, done}
+use Rattle.types.specs.Refusal as refusal
+use Rattle.types.specs.Table.{_⇒_, Answer, answer, guarded}
+use Rattle.types.specs.Keyed.{Entry, entry}
+use Rattle.attempt.specs.Snapshot.{encodeInto, decodeInto}
+use Rattle.attempt.specs.declared.Pair.{Pair}
+use Rattle.attempt.specs.declared.Encode.{Encode}
+use Rattle.attempt.specs.declared.Encode.the-variants as encodes
+use Rattle.attempt.specs.declared.Decode.{Decode}
+use Rattle.attempt.specs.declared.Decode.the-variants.{Pairs, Truncated, UnsupportedVersion, BadLength, CountMismatch, BadCrc, NotSorted, TooManyPairs, OutTooShort}
+use Rattle.attempt.specs.declared.Decoded.{Decoded}
+
+abbrev pub entryOf : Pair → Entry ℕ
+entryOf p = entry (p .offset) (p .attempt)
+
+abbrev pub entriesOf : List Pair → List (Entry ℕ)
+entriesOf = map entryOf
+
+-- an array without pairs
+abbrev pub nil : Pair
+nil = record { offset = 0; attempt = 0 }
+
+unfoldable pub blank : List Pair
+blank = replicate 128 nil
+
+-- 01's answers for the cases of each enum
+abbrev pub encodeOf : Encode → Result ℕ
+encodeOf (encodes.Next pos) = done pos
+encodeOf encodes.TooManyPairs = refused refusal.TooManyPairs
+encodeOf encodes.OutTooShort = refused refusal.OutTooShort
+
+abbrev pub decodeOf : Decode → Result ℕ
+decodeOf (Pairs count) = done count
+decodeOf Truncated = refused refusal.AttemptTruncated
+decodeOf (UnsupportedVersion version) = refused (refusal.AttemptUnsupportedVersion version)
+decodeOf (BadLength len) = refused (refusal.AttemptBadLength len)
+decodeOf (CountMismatch declared actual) = refused (refusal.CountMismatch declared actual)
+decodeOf BadCrc = refused refusal.AttemptBadCrc
+decodeOf (NotSorted offset prev) = refused (refusal.NotSorted offset prev)
+decodeOf TooManyPairs = refused refusal.TooManyPairs
+decodeOf OutTooShort = refused refusal.OutTooShort
+
+-- encoding the first n pairs of an array of 128: over 128 is 19
+abbrev pub encodeFirst : ℕ → List Pair → ℕ → List ℕ → Answer ℕ (List ℕ)
+encodeFirst n pairs at out =
+    guarded (ltb PAIRS n ⇒ refusal.TooManyPairs ∷ []) out (encodeInto (entriesOf (take n pairs)) at out)
+
+-- how many pairs an answer has
+abbrev pub counted : Result ℕ → ℕ
+counted (refused r) = 0
+counted (done n) = n
+
+-- decoding into an array without pairs
+pub record DecodedIs (b : List ℕ) (r : Decoded) : Type 0 where
+  pub is : answer (decodeOf (r .outcome)) (entriesOf (r .pairs)) ≡ decodeInto b (entriesOf blank)
+  pub count : r .count ≡ counted (decodeOf (r .outcome))
+
+-- a refusal
+pub record RefusedIs (outcome : Decode) (r : Decoded) : Type 0 where
+  pub outcome-is : r .outcome ≡ outcome
+  pub pairs : r .pairs ≡ blank
+  pub count : r .count ≡ 0

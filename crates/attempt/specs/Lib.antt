@@ -1,0 +1,3 @@
+pub mod Snapshot
+pub mod Codec
+pub mod Examples

@@ -1,0 +1,221 @@
+// The attempt snapshot: delivery counts as bytes that outlast a restart, closed by a check. Its version and the layout of a
+// pair are known here alone.
+ghost use mathlib.Core.Path.{_≡_};
+ghost use mathlib.Core.List.{_++_};
+ghost use Prim.Native.Nat.{_+_, _*_, _≤_};
+ghost use lib.ListN.{length, take, drop};
+ghost use Rattle.types.specs.Refusal.{done};
+ghost use Rattle.types.specs.Table.{answer, checked};
+ghost use Rattle.raw.specs.Bytes.{overwrite};
+ghost use Rattle.attempt.specs.Snapshot.{pairBytes, pairsBytes, bodyBytes, readPairs, pairCount, pairsTable, decodeTable};
+ghost use Rattle.attempt.specs.Codec.{entryOf, entriesOf, blank, encodeOf, decodeOf, encodeFirst, DecodedIs, RefusedIs};
+
+// The length of a snapshot without pairs: version, count and check.
+pub const ATTEMPT_SNAPSHOT_MIN_LEN: usize = 9;
+
+const SNAPSHOT_VERSION: u8 = 1;
+
+// The length of a pair: its offset and its attempt count.
+const PAIR_LEN: usize = 12;
+
+// An offset with its attempt count.
+#[repr(C)]
+pub struct Pair {
+    pub offset: u64,
+    pub attempt: u32,
+}
+
+// What encoding answers: the position behind the snapshot, or refusal 19 or 20.
+pub enum Encode {
+    Next(usize),
+    TooManyPairs,
+    OutTooShort,
+}
+
+// What decoding answers: the number of pairs, or a refusal, 13 to 20.
+pub enum Decode {
+    Pairs(usize),
+    Truncated,
+    UnsupportedVersion(u8),
+    BadLength { len: usize },
+    CountMismatch { declared: u32, actual: u64 },
+    BadCrc,
+    NotSorted { offset: u64, prev_offset: u64 },
+    TooManyPairs,
+    OutTooShort,
+}
+
+// The pairs are the first `count` of the array; a refusal has none.
+pub struct Decoded {
+    pub outcome: Decode,
+    pub pairs: [Pair; 128],
+    pub count: usize,
+}
+
+// Writes a pair at a position.
+fn put_pair(out: &mut [u8], pos: usize, pair: Pair)
+    requires { ⌜ pos + 12 ≤ length (now out) ⌝ }
+    ensures { λ _. ⌜ now (out .exit) ≡ overwrite pos (pairBytes (entryOf pair)) (now (out .entry)) ⌝ }
+{
+    raw::write_u64(out, pos, pair.offset);
+    raw::write_u32(out, pos + 8, pair.attempt);
+}
+
+// Writes the first `count` pairs from a position on.
+fn put_pairs(pairs: [Pair; 128], count: usize, out: &mut [u8], at: usize)
+    requires { ⌜ (count ≤ 128) × (at + 12 * count ≤ length (now out)) ⌝ }
+    ensures { λ _. ⌜ now (out .exit) ≡ overwrite at (pairsBytes (entriesOf (take count pairs))) (now (out .entry)) ⌝ }
+{
+    let mut pos = at;
+    let mut i: usize = 0;
+    while i < count {
+        put_pair(out, pos, pairs[i]);
+        pos += PAIR_LEN;
+        i += 1;
+    }
+}
+
+// Writes all but the check.
+fn put_body(pairs: [Pair; 128], count: usize, out: &mut [u8], at: usize)
+    requires { ⌜ (count ≤ 128) × (at + (5 + 12 * count) ≤ length (now out)) ⌝ }
+    ensures { λ _. ⌜ now (out .exit) ≡ overwrite at (bodyBytes (entriesOf (take count pairs))) (now (out .entry)) ⌝ }
+{
+    out[at] = SNAPSHOT_VERSION;
+    raw::write_u32(out, at + 1, count as u32);
+    put_pairs(pairs, count, out, at + 5);
+}
+
+// Writes the snapshot of the first `count` pairs from a position on, in their order. Over 128 pairs are refused (19), then a
+// snapshot without room (20).
+pub fn encode_pairs(pairs: [Pair; 128], count: usize, out: &mut [u8], at: usize) -> Encode
+    ensures { λ r. ⌜ answer (encodeOf r) (now (out .exit)) ≡ encodeFirst count pairs at (now (out .entry)) ⌝ }
+{
+    if 128 < count {
+        return Encode::TooManyPairs;
+    }
+    let len = ATTEMPT_SNAPSHOT_MIN_LEN + PAIR_LEN * count;
+    if out.len() < len {
+        return Encode::OutTooShort;
+    }
+    if out.len() - len < at {
+        return Encode::OutTooShort;
+    }
+    put_body(pairs, count, out, at);
+    let end = at + (5 + PAIR_LEN * count);
+    let check = crc::crc32c(&out[at..end]);
+    raw::write_u32(out, end, check);
+    Encode::Next(at + len)
+}
+
+// Refusals 18 and 19, or the number of pairs.
+fn check_pairs(input: &[u8], count: usize) -> Decode
+    requires { ⌜ 5 + 12 * count ≤ length (now input) ⌝ }
+    ensures { λ r. ⌜ decodeOf r ≡ checked (pairsTable (readPairs count 5 (now (input .entry)))) (done count) ⌝ }
+{
+    let mut prev = raw::read_u64(input, 5);
+    let mut pos: usize = 17;
+    let mut i: usize = 1;
+    while i < count {
+        let offset = raw::read_u64(input, pos);
+        if offset <= prev {
+            return Decode::NotSorted {
+                offset: offset,
+                prev_offset: prev,
+            };
+        }
+        prev = offset;
+        pos += PAIR_LEN;
+        i += 1;
+    }
+    if 128 < count {
+        return Decode::TooManyPairs;
+    }
+    Decode::Pairs(count)
+}
+
+// Refusals 13 to 19, or the number of pairs.
+fn check(input: &[u8]) -> Decode
+    ensures { λ r. ⌜ decodeOf r ≡ checked (decodeTable (now (input .entry))) (done (pairCount (now (input .entry)))) ⌝ }
+{
+    let len = input.len();
+    if len < ATTEMPT_SNAPSHOT_MIN_LEN {
+        return Decode::Truncated;
+    }
+    let version = input[0];
+    if version != SNAPSHOT_VERSION {
+        return Decode::UnsupportedVersion(version);
+    }
+    let pairs_bytes = len - ATTEMPT_SNAPSHOT_MIN_LEN;
+    if pairs_bytes % PAIR_LEN != 0 {
+        return Decode::BadLength { len: len };
+    }
+    let declared = raw::read_u32(input, 1);
+    let count = declared as usize;
+    let actual = pairs_bytes / PAIR_LEN;
+    if count != actual {
+        return Decode::CountMismatch {
+            declared: declared,
+            actual: actual as u64,
+        };
+    }
+    if !crc::is_sealed(input) {
+        return Decode::BadCrc;
+    }
+    check_pairs(input, actual)
+}
+
+// The pairs at the front of an array.
+fn get_pairs(input: &[u8], count: usize) -> [Pair; 128]
+    requires { ⌜ (count ≤ 128) × (5 + 12 * count ≤ length (now input)) ⌝ }
+    ensures { λ r. ⌜ entriesOf r ≡ readPairs count 5 (now (input .entry)) ++ drop count (entriesOf blank) ⌝ }
+{
+    let mut pairs = [Pair {
+        offset: 0,
+        attempt: 0,
+    }; 128];
+    let mut pos: usize = 5;
+    let mut i: usize = 0;
+    while i < count {
+        let offset = raw::read_u64(input, pos);
+        let attempt = raw::read_u32(input, pos + 8);
+        pairs[i] = Pair {
+            offset: offset,
+            attempt: attempt,
+        };
+        pos += PAIR_LEN;
+        i += 1;
+    }
+    pairs
+}
+
+// The answer of a refusal.
+fn refused(outcome: Decode) -> Decoded
+    ensures { λ r. ⌜ RefusedIs outcome r ⌝ }
+{
+    let pairs = [Pair {
+        offset: 0,
+        attempt: 0,
+    }; 128];
+    Decoded {
+        outcome: outcome,
+        pairs: pairs,
+        count: 0,
+    }
+}
+
+// The pairs of a snapshot. Refused in this order: too short (13), another version (14), no whole number of pairs (15), another
+// number than declared (16), a wrong check (17), an offset not above the one before (18), over 128 pairs (19).
+pub fn decode_pairs(input: &[u8]) -> Decoded
+    ensures { λ r. ⌜ DecodedIs (now (input .entry)) r ⌝ }
+{
+    let outcome = check(input);
+    let Decode::Pairs(count) = outcome else {
+        return refused(outcome);
+    };
+    let pairs = get_pairs(input, count);
+    Decoded {
+        outcome: outcome,
+        pairs: pairs,
+        count: count,
+    }
+}

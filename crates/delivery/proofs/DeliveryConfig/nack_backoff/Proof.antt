@@ -1,0 +1,34 @@
+-- `DeliveryConfig::nack_backoff` meets its contract. Assumes nothing.
+use native.Mathlib.Omega.{arith}
+use mathlib.Core.Path.{_≡_}
+use lib.ListN.{length}
+use borrow.Author.Needs.{needs}
+use Rattle.delivery.proofs.Policy.{backoff-at}
+use Rattle.delivery.proofs.DeliveryConfig.nack_backoff.Statement.{statement}
+use Rattle.delivery.proofs.DeliveryConfig.nack_backoff.Tie as tie
+
+returns : tie.Need-returns
+returns c = search needs
+
+sub-place : tie.Need-sub-place
+sub-place c = search needs
+
+place-requires : tie.Need-place-requires
+place-requires c κs = search needs
+
+mul-result : tie.Need-mul-result
+mul-result c = search needs
+
+element-copy-out-result : tie.Need-element-copy-out-result
+element-copy-out-result c = search needs
+
+returns-2 : tie.Need-returns-2
+returns-2 c =
+    let s = c .before .before .before in
+    let full : length (s .args .t1 .«backoff_nanos») ≡ 16 = search needs in
+    backoff-at (s .args .t1) (s .args .attempt) (c .before .place .result) (omega (arith, s .pre .few)) (c .before .before .if1 .left) (c .before .place .ensures)
+
+pub nack-backoff-spec : {M : Type 1} → statement M
+nack-backoff-spec =
+    tie.close
+    (tie.spec returns sub-place place-requires mul-result element-copy-out-result returns-2)

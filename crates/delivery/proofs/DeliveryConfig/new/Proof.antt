@@ -1,0 +1,48 @@
+-- `DeliveryConfig::new` meets its contract: each return is a law of the policy. Assumes nothing.
+use mathlib.Core.Path.{sym, _∙_}
+use borrow.Author.Needs.{needs}
+use Rattle.delivery.proofs.Policy.{not-allowed, too-many, built}
+use Rattle.delivery.proofs.DeliveryConfig.new.Statement.{statement}
+use Rattle.delivery.proofs.DeliveryConfig.new.Tie as tie
+
+lacks-opt-in-requires : tie.Need-lacks-opt-in-requires
+lacks-opt-in-requires c κs = search needs
+
+refused-requires : tie.Need-refused-requires
+refused-requires c κs = search needs
+
+returns : tie.Need-returns
+returns c =
+    let a = c .before .before .before .before .args in
+    let asked = c .before .before .lacks-opt-in .ensures in
+    not-allowed (a .max-deliver) (a .allow-unlimited) (a .backoff-nanos .now) (c .refused .result) (sym asked ∙ c .before .if1 .taken) (c .refused .ensures)
+
+refused-requires-2 : tie.Need-refused-requires-2
+refused-requires-2 c κs = search needs
+
+returns-2 : tie.Need-returns-2
+returns-2 c =
+    let a = c .before .before .before .before .before .args in
+    let asked = c .before .before .before .lacks-opt-in .ensures in
+    too-many (a .max-deliver) (a .allow-unlimited) (a .backoff-nanos .now) (sym asked ∙ c .before .before .if1 .left) (c .refused2 .result) (c .before .if2 .taken) (c .refused2 .ensures)
+
+steps-requires : tie.Need-steps-requires
+steps-requires c κs = search needs
+
+returns-3 : tie.Need-returns-3
+returns-3 c =
+    let a = c .before .before .before .before .before .args in
+    let asked = c .before .before .before .lacks-opt-in .ensures in
+    built (a .max-deliver) (a .allow-unlimited) (a .backoff-nanos .now) (sym asked ∙ c .before .before .if1 .left) (c .steps .result) (c .before .if2 .left) (c .steps .ensures)
+
+pub new-spec : {M : Type 1} → statement M
+new-spec =
+    tie.close
+    (tie.spec
+    lacks-opt-in-requires
+    refused-requires
+    returns
+    refused-requires-2
+    returns-2
+    steps-requires
+    returns-3)

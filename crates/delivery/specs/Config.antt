@@ -1,0 +1,69 @@
+-- How the code's types stand for the policy and for 01's answers, and the parts of the contracts.
+use Prim.Native.Nat.{ℕ, _≤_}
+use mathlib.Core.Path.{_≡_}
+use mathlib.Core.Bool.{Bool, false}
+use mathlib.Core.List.{List}
+use mathlib.Core.Option.{Option, none, some}
+use lib.ListN.{take, replicate}
+use Rattle.types.specs.Refusal.{Result, refused, done}
+use Rattle.types.specs.Refusal as refusal
+use Rattle.types.specs.Table.{Kept}
+use Rattle.delivery.specs.Policy.{Policy, policy, newPolicy, DEFAULT_MAX_DELIVER, DEFAULT_ATTEMPTS_FLUSH_REDELIVERIES, Destination}
+use Rattle.delivery.specs.Policy as policies
+use Rattle.delivery.specs.declared.DeliveryConfig.{DeliveryConfig}
+use Rattle.delivery.specs.declared.Configured.{Configured}
+use Rattle.delivery.specs.declared.ConfigOutcome.{ConfigOutcome}
+use Rattle.delivery.specs.declared.ConfigOutcome.the-variants.{Built, UnlimitedDeliverNotAllowed, TooManySteps}
+use Rattle.delivery.specs.declared.Disposition.{Disposition}
+use Rattle.delivery.specs.declared.Disposition.the-variants.{Deliver, DeadLetter}
+use Rattle.delivery.specs.declared.Delay.{Delay}
+use Rattle.delivery.specs.declared.Delay.the-variants.{Explicit, Schedule}
+
+abbrev pub view : DeliveryConfig → Policy
+view c = policy (c .«max_deliver») (c .«allow_unlimited») (take (c .«backoff_len») (c .«backoff_nanos»)) (c .«attempts_flush_redeliveries»)
+
+-- the backoffs lie within the array
+pub record Sound (c : DeliveryConfig) : Type 0 where
+  pub few : c .«backoff_len» ≤ 16
+
+-- 01's answers for the cases of each enum
+abbrev pub outcomeOf : ConfigOutcome → Policy → Result Policy
+outcomeOf Built p = done p
+outcomeOf UnlimitedDeliverNotAllowed p = refused refusal.UnlimitedDeliverNotAllowed
+outcomeOf TooManySteps p = refused refusal.TooManySteps
+
+abbrev pub configuredOf : Configured → Result Policy
+configuredOf r = outcomeOf (r .outcome) (view (r .config))
+
+abbrev pub dispositionOf : Disposition → Result Destination
+dispositionOf Deliver = done policies.Deliver
+dispositionOf DeadLetter = done policies.DeadLetter
+
+abbrev pub delayOf : Delay → Option ℕ
+delayOf (Explicit nanos) = some nanos
+delayOf Schedule = none
+
+-- the config that stands beside a refusal
+abbrev pub defaults : DeliveryConfig
+defaults = record {
+  «max_deliver» = DEFAULT_MAX_DELIVER;
+  «allow_unlimited» = false;
+  «backoff_nanos» = replicate 16 0;
+  «backoff_len» = 0;
+  «attempts_flush_redeliveries» = DEFAULT_ATTEMPTS_FLUSH_REDELIVERIES;
+}
+
+-- making a config
+pub record ConfiguredIs (maxDeliver : ℕ) (allowUnlimited : Bool) (backoff : List ℕ) (r : Configured) : Type 0 where
+  pub is : configuredOf r ≡ newPolicy maxDeliver allowUnlimited backoff
+  pub sound : Sound (r .config)
+  pub kept : Kept (configuredOf r) defaults (r .config)
+
+pub record RefusedIs (o : ConfigOutcome) (r : Configured) : Type 0 where
+  pub outcome : r .outcome ≡ o
+  pub config : r .config ≡ defaults
+
+-- a config after a change: what it is seen as, and that it stays sound
+pub record ChangedIs (before : DeliveryConfig) (p : Policy) (after : DeliveryConfig) : Type 0 where
+  pub is : view after ≡ p
+  pub sound : Sound before → Sound after

@@ -1,0 +1,3 @@
+pub mod Policy
+pub mod Config
+pub mod Examples
