@@ -15,7 +15,7 @@ ghost use Rattle.raw.specs.Bytes.{overwrite, write, outcomeOf};
 ghost use Rattle.types.specs.Zipped.{zipped, inserted, removed};
 ghost use Rattle.types.specs.Search.{Sorted, upTo};
 ghost use Rattle.cursor.specs.Ranges.{range, offsets};
-ghost use Rattle.cursor.specs.Snapshot.{rangesBytes, encodeCursor, readRanges, decodeTable};
+ghost use Rattle.cursor.specs.Snapshot.{rangesBytes, bodyBytes, encodeCursor, readRanges, decodeTable};
 ghost use Rattle.cursor.specs.Cursor.{settled, ackBounded, commitUpTo, rangeTable, resumeTable};
 ghost use Rattle.cursor.specs.View.{ackCursor, view, Sound, Whole, Fresh};
 ghost use Rattle.cursor.specs.Answers.{ackOf, Updated, resumeFault, decodeFault, DecodedIs};
@@ -452,6 +452,23 @@ fn write_ranges<'a>(
     }
 }
 
+// Writes all of a snapshot but its check.
+fn write_body<'a>(
+    committed: u64,
+    starts: &'a [u64; 128],
+    ends: &'a [u64; 128],
+    n: usize,
+    out: &mut [u8],
+    at: usize,
+)
+    requires { ⌜ (n ≤ 128) × (length (now starts) ≡ 128) × (length (now ends) ≡ 128) × (at + (9 + 16 * n) ≤ length (now out)) ⌝ }
+    ensures { λ _. ⌜ now (out .exit) ≡ overwrite at (bodyBytes (view (ackCursor committed (now (starts .entry)) (now (ends .entry)) n))) (now (out .entry)) ⌝ }
+{
+    out[at] = SNAPSHOT_VERSION;
+    raw::write_u64(out, at + 1, committed);
+    write_ranges(starts, ends, n, out, at + 9);
+}
+
 impl AckCursor {
     // The length of a snapshot without ranges: version, committed and check.
     pub const SNAPSHOT_MIN_LEN: usize = 1 + 8 + 4;
@@ -481,14 +498,12 @@ impl AckCursor {
         ensures { λ r. ⌜ answer (outcomeOf r) (now (out .exit)) ≡ write at (encodeCursor (view self)) (now (out .entry)) ⌝ }
     {
         let runs = self.runs;
-        let body = AckCursor::SNAPSHOT_MIN_LEN - 4 + RANGE_LEN * runs;
-        if raw::too_short(out.len(), at, body + 4) {
+        let len = AckCursor::SNAPSHOT_MIN_LEN + RANGE_LEN * runs;
+        if raw::too_short(out.len(), at, len) {
             return Write::OutTooShort;
         }
-        out[at] = SNAPSHOT_VERSION;
-        raw::write_u64(out, at + 1, self.committed);
-        write_ranges(&self.starts, &self.ends, runs, out, at + 9);
-        let end = at + body;
+        write_body(self.committed, &self.starts, &self.ends, runs, out, at);
+        let end = at + (len - 4);
         let check = crc::crc32c(&out[at..end]);
         raw::write_u32(out, end, check)
     }

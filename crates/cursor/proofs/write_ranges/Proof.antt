@@ -63,8 +63,7 @@ loop-again c =
     let p = v .before .before .before .before in
     let l = p .loop in
     let s = p .before .before in
-    let a = s .args in
-    (
+    let a = s .args in (
       omega arith,
       omega arith,
       w .write-u642 .kept .0 ∙ v .write-u64 .kept .0 ∙ l .inv .2,
