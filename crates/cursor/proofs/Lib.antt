@@ -7,3 +7,4 @@ pub mod Answers
 pub mod Snapshot
 pub mod Reading
 pub mod Writing
+pub mod Taking

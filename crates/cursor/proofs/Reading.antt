@@ -7,15 +7,15 @@ use mathlib.Core.Bool.{true, false}
 use mathlib.Core.List.{List, [], _∷_, _++_, append-nil}
 use mathlib.Core.Option.{Option, none, some}
 use lib.Dec.{ltb}
-use lib.ListN.{length, take, getD, set, length-take}
-use lib.Seq.{take-suc-set, append-snoc}
+use lib.ListN.{length, take, getD, set}
+use lib.Seq.{append-snoc}
 use borrow.Author.Tests.{lt-ltb, le-ltb, eq-eqb, ne-eqb}
 use Rattle.types.specs.Limits.{RANGES}
 use Rattle.types.specs.Refusal.{Refusal, TooManyRuns, CursorTruncated, CursorBadLength, CursorUnsupportedVersion, CursorBadCrc}
 use Rattle.types.specs.Table.{Row, _⇒_, first}
 use Rattle.types.specs.Zipped.{zipped}
 use Rattle.types.proofs.Table.{first-none, first-met-before, first-none-before}
-use Rattle.types.proofs.Zipped.{zipped-append}
+use Rattle.types.proofs.Zipped.{zipped-more}
 use Rattle.raw.specs.Bytes.{IsBytes, numberAt}
 use Rattle.crc.specs.Seal.{isSealed}
 use Rattle.cursor.specs.Ranges.{range}
@@ -75,8 +75,7 @@ module _ (bytes : List ℕ) (n i pos : ℕ) (starts ends : List ℕ) where
       → zipped range (take (i + 1) (set starts i start)) (take (i + 1) (set ends i end)) ++ readRanges (n - (i + 1)) (pos + 16) bytes ≡ filled
   filled-more h hs he start end s e =
       let k : n - i ≡ suc (n - suc i) = omega arith in
-      let even : length (take i starts) ≡ length (take i ends) = simp length-take (omega arith) in
-      rw (add-one i, take-suc-set starts i start hs, take-suc-set ends i end he, zipped-append range (take i starts) (start ∷ []) (take i ends) (end ∷ []) even, append-snoc, k, s, e)
+      rw (add-one i, zipped-more range i start end starts ends hs he, append-snoc, k, s, e)
 
   pub filled-all : n ≤ i → i ≤ n → filled ≡ zipped range (take n starts) (take n ends)
   filled-all h g =

@@ -21,6 +21,7 @@ use Rattle.crc.proofs.Seal.{length-sealed, bytes-sealed, sealed-ok, sealed-of}
 use Rattle.cursor.specs.Ranges.{Above}
 use Rattle.cursor.specs.Cursor.{Cursor, cursor, Valid, rangeTable, rangesTable, resumeTable, resumeWithAhead}
 use Rattle.cursor.specs.Snapshot.{rangeBytes, rangesBytes, bodyBytes, encodeCursor, readRanges, rangeCount, cursorIn, frameTable, decodeTable, decodeCursor}
+use Rattle.cursor.specs.Taking.{EndsFit}
 use Rattle.cursor.specs.declared.Range.{Range}
 
 -- ## lengths
@@ -42,11 +43,6 @@ length-read (suc n) pos bytes = ap suc (length-read n (pos + 16) bytes)
 
 -- ## ranges that a table let through
 
--- each end is a u64
-abbrev pub EndsFit : List Range → Type 0
-EndsFit [] = Unit {0}
-EndsFit (r ∷ rs) = (r .end ≤ MAX) × EndsFit rs
-
 above-passed : (n : ℕ) (l : List Range) → EndsFit l → Passed (rangesTable n l) → Above n l
 above-passed n [] f p = tt
 above-passed n (r ∷ rs) f p =
@@ -57,7 +53,7 @@ passed-above n [] a = tt
 passed-above n (r ∷ rs) a = (lt-leb (r .end) (r .start) (a .1), (lt-leb (r .start) n (a .0), passed-above (r .end) rs (a .3)))
 
 module _ (n : ℕ) (l : List Range) where
-  passed-valid : n ≤ MAX → EndsFit l → Passed (resumeTable n l) → Valid (cursor n l)
+  pub passed-valid : n ≤ MAX → EndsFit l → Passed (resumeTable n l) → Valid (cursor n l)
   passed-valid m f p =
       let q = passed-append (rangesTable n l) (ltb RANGES (length l) ⇒ TooManyRuns ∷ []) p in
       record { fits = m; above = above-passed n l f (q .0); few = ltb-false RANGES (length l) (q .1 .0) }

@@ -7,7 +7,7 @@ use mathlib.Core.Option.{Option, none, some}
 use Rattle.types.specs.Refusal.{Refusal, Result, refused, done}
 use Rattle.types.specs.Refusal as refusal
 use Rattle.types.specs.Table.{Answer, answer, unless, Kept}
-use Rattle.cursor.specs.Cursor.{Cursor}
+use Rattle.cursor.specs.Cursor.{Cursor, resumeWithAhead}
 use Rattle.cursor.specs.Snapshot.{decodeCursor}
 use Rattle.cursor.specs.View.{view, Sound, empty}
 use Rattle.cursor.specs.declared.AckCursor.{AckCursor}
@@ -19,6 +19,10 @@ use Rattle.cursor.specs.declared.SnapshotError.{SnapshotError}
 use Rattle.cursor.specs.declared.SnapshotError.the-variants.{Truncated, BadLength, UnsupportedVersion, BadCrc, Ranges}
 use Rattle.cursor.specs.declared.Resume.{Resume}
 use Rattle.cursor.specs.declared.Resume.the-variants as resumes
+use Rattle.cursor.specs.declared.Resumed.{Resumed}
+use Rattle.cursor.specs.declared.Range.{Range}
+use Rattle.cursor.specs.declared.Listed.{Listed}
+use Rattle.cursor.specs.declared.Listed.the-variants as lists
 use Rattle.cursor.specs.declared.Decode.{Decode}
 use Rattle.cursor.specs.declared.Decode.the-variants as decodes
 use Rattle.cursor.specs.declared.Decoded.{Decoded}
@@ -62,11 +66,29 @@ decodeFault decodes.Restored = none
 decodeFault (decodes.Refused error) = some (snapshotError error)
 
 -- the answer, with the cursor that stands beside it
+abbrev pub resumeOf : Resume → Cursor → Result Cursor
+resumeOf r c = unless (resumeFault r) (done c)
+
 abbrev pub decodeOf : Decode → Cursor → Result Cursor
 decodeOf d c = unless (decodeFault d) (done c)
+
+-- ranges are resumed as the definition says; beside a refusal stands the cursor that `new` gives
+pub record ResumedIs (committed : ℕ) (ahead : List Range) (r : Resumed) : Type 0 where
+  pub is : resumeOf (r .outcome) (view (r .cursor)) ≡ resumeWithAhead committed ahead
+  pub sound : Sound (r .cursor)
+  pub kept : Kept (resumeOf (r .outcome) (view (r .cursor))) (empty 0) (r .cursor)
 
 -- a snapshot is decoded as the definition says; beside a refusal stands the cursor that `new` gives
 pub record DecodedIs (bytes : List ℕ) (r : Decoded) : Type 0 where
   pub is : decodeOf (r .outcome) (view (r .cursor)) ≡ decodeCursor bytes
   pub sound : Sound (r .cursor)
   pub kept : Kept (decodeOf (r .outcome) (view (r .cursor))) (empty 0) (r .cursor)
+
+abbrev pub listedOf : Listed → Result ℕ
+listedOf (lists.Ranges n) = done n
+listedOf lists.OutTooShort = refused refusal.OutTooShort
+
+-- how many places an answer fills
+abbrev pub counted : Result ℕ → ℕ
+counted (refused r) = 0
+counted (done n) = n

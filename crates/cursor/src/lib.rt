@@ -3,14 +3,14 @@
 // An ack at committed moves it over the range that begins there. No function keeps anything elsewhere: a cursor goes in
 // by value and comes back.
 ghost use mathlib.Core.Path.{_≡_};
-ghost use Prim.Native.Nat.{_+_, _-_, _*_, _≤_, _<_, max};
+ghost use Prim.Native.Nat.{ℕ, _+_, _-_, _*_, _≤_, _<_, min, max};
 ghost use mathlib.Core.Bool.{_&&_};
-ghost use mathlib.Core.List.{_∷_};
+ghost use mathlib.Core.List.{List, [], _∷_, _++_};
 ghost use lib.Dec.{ltb, eqb};
 ghost use lib.ListN.{length, take, getD, set};
 ghost use Rattle.types.specs.Identifiers.{offset};
-ghost use Rattle.types.specs.Refusal.{done};
-ghost use Rattle.types.specs.Table.{answer, first};
+ghost use Rattle.types.specs.Refusal.{done, OutTooShort};
+ghost use Rattle.types.specs.Table.{_⇒_, answer, checked, first};
 ghost use Rattle.raw.specs.Bytes.{overwrite, write, outcomeOf};
 ghost use Rattle.types.specs.Zipped.{zipped, inserted, removed};
 ghost use Rattle.types.specs.Search.{Sorted, upTo};
@@ -18,7 +18,9 @@ ghost use Rattle.cursor.specs.Ranges.{range, offsets};
 ghost use Rattle.cursor.specs.Snapshot.{rangesBytes, bodyBytes, encodeCursor, readRanges, decodeTable};
 ghost use Rattle.cursor.specs.Cursor.{settled, ackBounded, commitUpTo, rangeTable, resumeTable};
 ghost use Rattle.cursor.specs.View.{ackCursor, view, Sound, Whole, Fresh};
-ghost use Rattle.cursor.specs.Answers.{ackOf, Updated, resumeFault, decodeFault, DecodedIs};
+ghost use Rattle.cursor.specs.Answers.{ackOf, Updated, resumeFault, ResumedIs, listedOf, counted, decodeFault, DecodedIs};
+ghost use Rattle.cursor.specs.Taking.{Taken};
+ghost use Rattle.cursor.specs.declared.Range.{Range};
 ghost use Rattle.cursor.specs.Place.{Spotted, joinedAt};
 use raw::Write;
 use types::Offset;
@@ -94,6 +96,18 @@ pub enum Resume {
     Refused(AckCursorError),
 }
 
+// Beside a refusal stands the cursor that `new` gives.
+pub struct Resumed {
+    pub outcome: Resume,
+    pub cursor: AckCursor,
+}
+
+// How many ranges a lent list was filled with, or refusal 20.
+pub enum Listed {
+    Ranges(usize),
+    OutTooShort,
+}
+
 // Whether bytes are a snapshot.
 pub enum Decode {
     Restored,
@@ -118,6 +132,17 @@ struct Moved {
     advanced: bool,
     committed: u64,
     runs: usize,
+}
+
+// A resumption under way: whether the ranges so far are those of a cursor, the first 128 of them, how many they are, up to
+// 129, and their last end, which is committed before the first.
+struct Resuming {
+    outcome: Resume,
+    committed: u64,
+    starts: [u64; 128],
+    ends: [u64; 128],
+    taken: usize,
+    last: u64,
 }
 
 // Where an offset stands. Places count from 0, and committed is the end before place 0.
@@ -365,6 +390,112 @@ fn check_range(prev_end: u64, start: u64, end: u64) -> Resume
     Resume::Resumed
 }
 
+// Puts a range at a place of the columns, if they have that place. Answers how many there are then, up to 129.
+fn note_range(
+    starts: &mut [u64; 128],
+    ends: &mut [u64; 128],
+    at: usize,
+    start: u64,
+    end: u64,
+) -> usize
+    requires { ⌜ (length (now starts) ≡ 128) × (length (now ends) ≡ 128) ⌝ }
+    ensures { λ r. ⌜ (r ≡ min (at + 1) 129) × (now (starts .exit) ≡ set (now (starts .entry)) at start) × (now (ends .exit) ≡ set (now (ends .entry)) at end) ⌝ }
+{
+    if at < 128 {
+        starts[at] = start;
+        ends[at] = end;
+        return at + 1;
+    }
+    129
+}
+
+// A resumption that has taken no range yet.
+fn begin(committed: u64) -> Resuming
+    ensures { λ r. ⌜ Taken committed [] r ⌝ }
+{
+    Resuming {
+        outcome: Resume::Resumed,
+        committed,
+        starts: [0; 128],
+        ends: [0; 128],
+        taken: 0,
+        last: committed,
+    }
+}
+
+// Takes one range more.
+fn take_range(under_way: Resuming, start: u64, end: u64) -> Resuming
+    ensures { λ r. ⌜ ((n : ℕ) (ranges : List Range) → Taken n ranges «under_way» → Taken n (ranges ++ range start end ∷ []) r) ⌝ }
+{
+    let outcome = under_way.outcome;
+    let Resume::Resumed = outcome else {
+        return under_way;
+    };
+    let checked = check_range(under_way.last, start, end);
+    let mut starts = under_way.starts;
+    let mut ends = under_way.ends;
+    let taken = note_range(&mut starts, &mut ends, under_way.taken, start, end);
+    Resuming {
+        outcome: checked,
+        committed: under_way.committed,
+        starts,
+        ends,
+        taken,
+        last: end,
+    }
+}
+
+// The cursor of the ranges that were taken, or the first refusal.
+fn finish(all: Resuming) -> Resumed
+    ensures { λ r. ⌜ ((n : ℕ) (ranges : List Range) → Taken n ranges all → ResumedIs n ranges r) ⌝ }
+{
+    let outcome = all.outcome;
+    let taken = all.taken;
+    let Resume::Resumed = outcome else {
+        return Resumed {
+            outcome,
+            cursor: AckCursor::new(),
+        };
+    };
+    if 128 < taken {
+        return Resumed {
+            outcome: Resume::Refused(AckCursorError::TooManyRuns),
+            cursor: AckCursor::new(),
+        };
+    }
+    let starts = all.starts;
+    let ends = all.ends;
+    Resumed {
+        outcome,
+        cursor: AckCursor {
+            committed: all.committed,
+            starts,
+            ends,
+            runs: taken,
+        },
+    }
+}
+
+// Whether a lent list of a length has room for the ranges.
+fn room_for(runs: usize, len: usize) -> Listed
+    ensures { λ r. ⌜ listedOf r ≡ checked (ltb len runs ⇒ OutTooShort ∷ []) (done runs) ⌝ }
+{
+    if len < runs {
+        return Listed::OutTooShort;
+    }
+    Listed::Ranges(runs)
+}
+
+// How many places of the list are filled.
+fn count_of(listed: Listed) -> usize
+    ensures { λ r. ⌜ r ≡ counted (listedOf listed) ⌝ }
+{
+    match listed {
+        Listed::Ranges(n) => n,
+        Listed::OutTooShort => 0,
+    }
+}
+
 // Whether the n ranges of a snapshot may stand ahead of committed: all of them are tested before their number is.
 fn check_ranges(input: &[u8], committed: u64, n: usize) -> Resume
     requires { ⌜ 9 + 16 * n ≤ length (now input) ⌝ }
@@ -489,6 +620,17 @@ impl AckCursor {
             starts: [0; 128],
             ends: [0; 128],
             runs: 0,
+        }
+    }
+
+    // The range at a place.
+    fn range_at(self, at: usize) -> Range
+        requires { ⌜ at < 128 ⌝ }
+        ensures { λ r. ⌜ r ≡ range (getD (self .starts) at 0) (getD (self .ends) at 0) ⌝ }
+    {
+        Range {
+            start: self.starts[at],
+            end: self.ends[at],
         }
     }
 

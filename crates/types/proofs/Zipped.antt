@@ -1,12 +1,12 @@
 -- Laws of two columns: what is done to a place of both columns, or of one, is done to that place of their elements.
 -- Assumes nothing.
-use Prim.Native.Nat.{ℕ, zero, suc, _-_, min}
+use Prim.Native.Nat.{ℕ, zero, suc, _-_, _<_, min}
 use native.Mathlib.Omega.{arith}
 use native.Mathlib.Nat.{suc-inj}
 use mathlib.Core.Path.{_≡_, refl, sym, ap, _∙_}
 use mathlib.Core.List.{List, [], _∷_, _++_}
 use lib.ListN.{length, take, drop, getD, set, length-take}
-use lib.Seq.{set-getD}
+use lib.Seq.{set-getD, take-suc-set}
 use Rattle.types.specs.Zipped.{zipped, inserted, removed}
 
 module _ {A B C : Type 0} (f : A → B → C) where
@@ -57,6 +57,13 @@ module _ {A B C : Type 0} (f : A → B → C) where
   zipped-append [] xs′ (b ∷ ys) ys′ h = absurd (omega arith)
   zipped-append (a ∷ xs) xs′ [] ys′ h = absurd (omega arith)
   zipped-append (a ∷ xs) xs′ (b ∷ ys) ys′ h = ap (λ (l : List C). f a b ∷ l) (zipped-append xs xs′ ys ys′ (suc-inj h))
+
+  -- the first elements, and one more that is stored in both columns
+  pub zipped-more : (k : ℕ) (a : A) (b : B) (xs : List A) (ys : List B) → k < length xs → k < length ys
+      → zipped f (take (suc k) (set xs k a)) (take (suc k) (set ys k b)) ≡ zipped f (take k xs) (take k ys) ++ f a b ∷ []
+  zipped-more k a b xs ys hx hy =
+      let even : length (take k xs) ≡ length (take k ys) = simp length-take (omega arith) in
+      rw (take-suc-set xs k a hx, take-suc-set ys k b hy) (zipped-append (take k xs) (a ∷ []) (take k ys) (b ∷ []) even)
 
   module _ (xs : List A) (ys : List B) (h : length xs ≡ length ys) where
     fronts : (k : ℕ) → length (take k xs) ≡ length (take k ys)

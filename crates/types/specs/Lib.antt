@@ -5,3 +5,4 @@ pub mod Table
 pub mod Keyed
 pub mod Zipped
 pub mod Search
+pub mod Lists

@@ -106,7 +106,7 @@ insert-at-requires : tie.Need-insert-at-requires
 insert-at-requires c κs =
     let p = c .before .before .before .before in
     let s = start (p .before .before) in
-    (s .pre .starts, c .before .if2 .taken, omega (arith, told-apart p .0, size s))
+    (s .pre .starts, omega arith, omega (arith, told-apart p .0, size s))
 
 add-insert-at : tie.Need-add-insert-at
 add-insert-at c =
@@ -117,7 +117,7 @@ insert-at-requires-2 : tie.Need-insert-at-requires-2
 insert-at-requires-2 c κs =
     let p = c .before .before .before .before .before .before in
     let s = start (p .before .before) in
-    (s .pre .ends, c .before .before .before .if2 .taken, omega (arith, told-apart p .0, size s))
+    (s .pre .ends, omega arith, omega (arith, told-apart p .0, size s))
 
 add-recorded : tie.Need-add-recorded
 add-recorded c = search needs
