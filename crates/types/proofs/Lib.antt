@@ -1,5 +1,7 @@
 pub mod Cases
 pub mod Table
 pub mod Keyed
+pub mod Zipped
+pub mod Search
 pub mod Shift
 pub mod Scan

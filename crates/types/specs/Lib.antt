@@ -3,3 +3,6 @@ pub mod Identifiers
 pub mod Refusal
 pub mod Table
 pub mod Keyed
+pub mod Zipped
+pub mod Search
+pub mod Lists

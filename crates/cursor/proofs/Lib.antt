@@ -1,0 +1,10 @@
+pub mod Ranges
+pub mod Cursor
+pub mod Place
+pub mod View
+pub mod Search
+pub mod Answers
+pub mod Snapshot
+pub mod Reading
+pub mod Writing
+pub mod Taking

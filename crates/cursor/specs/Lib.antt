@@ -1,0 +1,8 @@
+pub mod Ranges
+pub mod Cursor
+pub mod Snapshot
+pub mod View
+pub mod Answers
+pub mod Taking
+pub mod Place
+pub mod Examples

@@ -1,0 +1,776 @@
+// The commit cursor of a work group: how one shared cursor advances under acks that come out of order. `committed` is
+// the offset below which all are acked; what is acked ahead of it is kept as ranges, in order and apart from each other.
+// An ack at committed moves it over the range that begins there. No function keeps anything elsewhere: a cursor goes in
+// by value and comes back.
+ghost use mathlib.Core.Path.{_≡_};
+ghost use Prim.Native.Nat.{ℕ, _+_, _-_, _*_, _≤_, _<_, min, max};
+ghost use mathlib.Core.Bool.{_&&_};
+ghost use mathlib.Core.List.{List, [], _∷_, _++_};
+ghost use lib.Dec.{ltb, eqb};
+ghost use lib.ListN.{length, take, getD, set};
+ghost use Rattle.types.specs.Identifiers.{offset};
+ghost use Rattle.types.specs.Refusal.{done, OutTooShort};
+ghost use Rattle.types.specs.Table.{_⇒_, answer, checked, first};
+ghost use Rattle.raw.specs.Bytes.{overwrite, write, outcomeOf};
+ghost use Rattle.types.specs.Zipped.{zipped, inserted, removed};
+ghost use Rattle.types.specs.Search.{Sorted, upTo};
+ghost use Rattle.cursor.specs.Ranges.{range, offsets};
+ghost use Rattle.cursor.specs.Snapshot.{rangesBytes, bodyBytes, encodeCursor, readRanges, decodeTable};
+ghost use Rattle.cursor.specs.Cursor.{settled, ackBounded, commitUpTo, rangeTable, resumeTable};
+ghost use Rattle.cursor.specs.View.{ackCursor, view, Sound, Whole, Fresh};
+ghost use Rattle.cursor.specs.Answers.{ackOf, Updated, resumeFault, ResumedIs, listedOf, counted, decodeFault, DecodedIs};
+ghost use Rattle.cursor.specs.Taking.{Taken};
+ghost use Rattle.cursor.specs.declared.Range.{Range};
+ghost use Rattle.cursor.specs.Place.{Spotted, joinedAt};
+use raw::Write;
+use types::Offset;
+
+const SNAPSHOT_VERSION: u8 = 1;
+
+// The bytes of a range in a snapshot.
+const RANGE_LEN: usize = 16;
+
+// The offsets from start up to, and not including, end.
+#[repr(C)]
+pub struct Range {
+    pub start: u64,
+    pub end: u64,
+}
+
+// The ranges ahead are [starts[i], ends[i]) for i below runs, each nonempty and starting above the end before it, the
+// first above committed.
+#[repr(C)]
+pub struct AckCursor {
+    pub committed: u64,
+    pub starts: [u64; 128],
+    pub ends: [u64; 128],
+    pub runs: usize,
+}
+
+// What a bounded ack answers. Recorded: it was new. Duplicate: the offset was acked before, or is the last of all, which
+// is never acked. Shed, refusal 29: it would have made a range more than the limit; the offset still reads as unacked
+// and comes again later.
+pub enum BoundedAck {
+    Recorded,
+    Duplicate,
+    Shed,
+}
+
+pub struct Acked {
+    pub outcome: BoundedAck,
+    pub cursor: AckCursor,
+}
+
+// Whether the bound was above committed.
+pub struct Committed {
+    pub advanced: bool,
+    pub cursor: AckCursor,
+}
+
+// Ranges that no cursor has: refusals 10, 11 and 12.
+pub enum AckCursorError {
+    // start is not below end.
+    EmptyRange { start: u64, end: u64 },
+    // start is not above the end before it, which is committed for the first range.
+    NotSortedDisjointAndAboveCommitted { start: u64, prev_end: u64 },
+    // Over 128 ranges.
+    TooManyRuns,
+}
+
+// Bytes that are no snapshot: refusals 6 to 9, and those of the ranges.
+pub enum SnapshotError {
+    // Shorter than a snapshot without ranges.
+    Truncated,
+    // No whole number of ranges.
+    BadLength { len: usize },
+    // Another version than 1.
+    UnsupportedVersion(u8),
+    // The check is not that of the bytes before it.
+    BadCrc,
+    Ranges(AckCursorError),
+}
+
+// Whether ranges are those of a cursor.
+pub enum Resume {
+    Resumed,
+    Refused(AckCursorError),
+}
+
+// Beside a refusal stands the cursor that `new` gives.
+pub struct Resumed {
+    pub outcome: Resume,
+    pub cursor: AckCursor,
+}
+
+// How many ranges a lent list was filled with, or refusal 20.
+pub enum Listed {
+    Ranges(usize),
+    OutTooShort,
+}
+
+// Whether bytes are a snapshot.
+pub enum Decode {
+    Restored,
+    Refused(SnapshotError),
+}
+
+// Beside a refusal stands the cursor that `new` gives.
+pub struct Decoded {
+    pub outcome: Decode,
+    pub cursor: AckCursor,
+}
+
+// What an ack in place answers, beside the columns.
+struct Noted {
+    outcome: BoundedAck,
+    committed: u64,
+    runs: usize,
+}
+
+// What a commit in place answers, beside the columns.
+struct Moved {
+    advanced: bool,
+    committed: u64,
+    runs: usize,
+}
+
+// A resumption under way: whether the ranges so far are those of a cursor, the first 128 of them, how many they are, up to
+// 129, and their last end, which is committed before the first.
+struct Resuming {
+    outcome: Resume,
+    committed: u64,
+    starts: [u64; 128],
+    ends: [u64; 128],
+    taken: usize,
+    last: u64,
+}
+
+// Where an offset stands. Places count from 0, and committed is the end before place 0.
+enum Spot {
+    // Acked before, or the last offset of all.
+    Settled,
+    // At the end before this place.
+    Behind(usize),
+    // At the end before this place, and the range at it starts right behind.
+    Between(usize),
+    // Right before the range at this place.
+    Before(usize),
+    // Next to nothing, and this is its place.
+    Apart(usize),
+}
+
+// How many of the first n numbers of a column, which rise, are at most x.
+fn partition_point(column: &[u64; 128], n: usize, x: u64) -> usize
+    requires { ⌜ (length (now column) ≡ 128) × (n ≤ 128) × Sorted 0 (take n (now column)) ⌝ }
+    ensures { λ r. ⌜ r ≡ upTo x (take n (now (column .entry))) ⌝ }
+{
+    let mut low: usize = 0;
+    let mut high = n;
+    while low < high {
+        let middle = low + (high - low) / 2;
+        if column[middle] <= x {
+            low = middle + 1;
+        } else {
+            high = middle;
+        }
+    }
+    low
+}
+
+// Puts x in at a place of the first n numbers of a column.
+fn insert_at(column: &mut [u64; 128], n: usize, at: usize, x: u64)
+    requires { ⌜ (length (now column) ≡ 128) × (n < 128) × (at ≤ n) ⌝ }
+    ensures { λ _. ⌜ take (n + 1) (now (column .exit)) ≡ inserted at x (take n (now (column .entry))) ⌝ }
+{
+    let mut held = x;
+    let mut i = at;
+    while i < n {
+        let next = column[i];
+        column[i] = held;
+        held = next;
+        i += 1;
+    }
+    column[i] = held;
+}
+
+// Takes the places from `from` up to `to` out of the first n numbers of a column.
+fn remove(column: &mut [u64; 128], n: usize, from: usize, to: usize)
+    requires { ⌜ (length (now column) ≡ 128) × (n ≤ 128) × (from ≤ to) × (to ≤ n) ⌝ }
+    ensures { λ _. ⌜ (length (now (column .exit)) ≡ 128) × (take (n - (to - from)) (now (column .exit)) ≡ removed from to (take n (now (column .entry)))) ⌝ }
+{
+    let mut i = from;
+    let mut j = to;
+    while j < n {
+        column[i] = column[j];
+        i += 1;
+        j += 1;
+    }
+}
+
+// Whether x stands at a place of the first n numbers of a column.
+fn stands_at(column: &[u64; 128], n: usize, at: usize, x: u64) -> bool
+    requires { ⌜ n ≤ 128 ⌝ }
+    ensures { λ r. ⌜ r ≡ (ltb at n && eqb (getD (now (column .entry)) at 0) x) ⌝ }
+{
+    if at < n {
+        return column[at] == x;
+    }
+    false
+}
+
+// The end before a place, which is committed at the first place.
+fn end_before(committed: u64, ends: &[u64; 128], at: usize) -> u64
+    requires { ⌜ at ≤ 128 ⌝ }
+    ensures { λ r. ⌜ r ≡ getD (committed ∷ now (ends .entry)) at 0 ⌝ }
+{
+    if at == 0 {
+        return committed;
+    }
+    let k = at - 1;
+    ends[k]
+}
+
+// Moves the end before a place, which is committed at the first place. Answers committed.
+fn stretch(committed: u64, ends: &mut [u64; 128], at: usize, end: u64) -> u64
+    requires { ⌜ at ≤ 128 ⌝ }
+    ensures { λ r. ⌜ r ∷ now (ends .exit) ≡ set (committed ∷ now (ends .entry)) at end ⌝ }
+{
+    if at == 0 {
+        return end;
+    }
+    let k = at - 1;
+    ends[k] = end;
+    committed
+}
+
+// Where offset x stands.
+fn locate(committed: u64, starts: &[u64; 128], ends: &[u64; 128], runs: usize, x: u64) -> Spot
+    requires { ⌜ Whole (ackCursor committed (now starts) (now ends) runs) ⌝ }
+    ensures { λ r. ⌜ Spotted (view (ackCursor committed (now (starts .entry)) (now (ends .entry)) runs)) x r ⌝ }
+{
+    if x == 18446744073709551615 {
+        return Spot::Settled;
+    }
+    let i = partition_point(starts, runs, x);
+    let end = end_before(committed, ends, i);
+    if x < end {
+        return Spot::Settled;
+    }
+    let next = stands_at(starts, runs, i, x + 1);
+    if end == x {
+        if next {
+            return Spot::Between(i);
+        }
+        return Spot::Behind(i);
+    }
+    if next {
+        return Spot::Before(i);
+    }
+    Spot::Apart(i)
+}
+
+// The range at a place becomes part of what ends before it, which is committed at the first place. Answers committed.
+fn join(
+    committed: u64,
+    starts: &mut [u64; 128],
+    ends: &mut [u64; 128],
+    runs: usize,
+    at: usize,
+) -> u64
+    requires { ⌜ Whole (ackCursor committed (now starts) (now ends) runs) × (at < runs) ⌝ }
+    ensures { λ r. ⌜ view (ackCursor r (now (starts .exit)) (now (ends .exit)) (runs - 1)) ≡ joinedAt at (view (ackCursor committed (now (starts .entry)) (now (ends .entry)) runs)) ⌝ }
+{
+    let end = ends[at];
+    remove(starts, runs, at, at + 1);
+    remove(ends, runs, at, at + 1);
+    stretch(committed, ends, at, end)
+}
+
+// A new answer to an ack.
+fn recorded(committed: u64, runs: usize) -> Noted
+    ensures { λ r. ⌜ r ≡ record { outcome = BoundedAck.Recorded; committed = committed; runs = runs } ⌝ }
+{
+    Noted {
+        outcome: BoundedAck::Recorded,
+        committed,
+        runs,
+    }
+}
+
+// An ack in place: what `ack_bounded` does to the parts of a cursor.
+fn ack_in_place(
+    committed: u64,
+    starts: &mut [u64; 128],
+    ends: &mut [u64; 128],
+    runs: usize,
+    x: u64,
+    max_runs: usize,
+) -> Noted
+    requires { ⌜ Whole (ackCursor committed (now starts) (now ends) runs) ⌝ }
+    ensures { λ r. ⌜ Updated (ackCursor committed (now (starts .entry)) (now (ends .entry)) runs) (ackOf (r .outcome)) (ackCursor (r .committed) (now (starts .exit)) (now (ends .exit)) (r .runs)) (ackBounded (view (ackCursor committed (now (starts .entry)) (now (ends .entry)) runs)) x «max_runs») ⌝ }
+{
+    let spot = locate(committed, starts, ends, runs, x);
+    match spot {
+        Spot::Settled => Noted {
+            outcome: BoundedAck::Duplicate,
+            committed,
+            runs,
+        },
+        Spot::Behind(i) => recorded(stretch(committed, ends, i, x + 1), runs),
+        Spot::Between(i) => recorded(join(committed, starts, ends, runs, i), runs - 1),
+        Spot::Before(i) => {
+            starts[i] = x;
+            recorded(committed, runs)
+        }
+        Spot::Apart(i) => {
+            if runs < max_runs {
+                if runs < 128 {
+                    insert_at(starts, runs, i, x);
+                    insert_at(ends, runs, i, x + 1);
+                    return recorded(committed, runs + 1);
+                }
+            }
+            Noted {
+                outcome: BoundedAck::Shed,
+                committed,
+                runs,
+            }
+        }
+    }
+}
+
+fn larger(a: u64, b: u64) -> u64
+    ensures { λ r. ⌜ r ≡ max a b ⌝ }
+{
+    if a < b { b } else { a }
+}
+
+// A commit in place: what `commit_up_to` does to the parts of a cursor.
+fn commit_in_place(
+    committed: u64,
+    starts: &mut [u64; 128],
+    ends: &mut [u64; 128],
+    runs: usize,
+    bound: u64,
+) -> Moved
+    requires { ⌜ Whole (ackCursor committed (now starts) (now ends) runs) ⌝ }
+    ensures { λ r. ⌜ Updated (ackCursor committed (now (starts .entry)) (now (ends .entry)) runs) (done (r .advanced)) (ackCursor (r .committed) (now (starts .exit)) (now (ends .exit)) (r .runs)) (commitUpTo (view (ackCursor committed (now (starts .entry)) (now (ends .entry)) runs)) bound) ⌝ }
+{
+    if bound <= committed {
+        return Moved {
+            advanced: false,
+            committed,
+            runs,
+        };
+    }
+    let k = partition_point(starts, runs, bound);
+    let end = end_before(committed, ends, k);
+    remove(starts, runs, 0, k);
+    remove(ends, runs, 0, k);
+    Moved {
+        advanced: true,
+        committed: larger(bound, end),
+        runs: runs - k,
+    }
+}
+
+// Whether a range may stand behind an end.
+fn check_range(prev_end: u64, start: u64, end: u64) -> Resume
+    ensures { λ r. ⌜ resumeFault r ≡ first (rangeTable «prev_end» (range start end)) ⌝ }
+{
+    if end <= start {
+        return Resume::Refused(AckCursorError::EmptyRange { start, end });
+    }
+    if start <= prev_end {
+        return Resume::Refused(AckCursorError::NotSortedDisjointAndAboveCommitted {
+            start,
+            prev_end,
+        });
+    }
+    Resume::Resumed
+}
+
+// Puts a range at a place of the columns, if they have that place. Answers how many there are then, up to 129.
+fn note_range(
+    starts: &mut [u64; 128],
+    ends: &mut [u64; 128],
+    at: usize,
+    start: u64,
+    end: u64,
+) -> usize
+    requires { ⌜ (length (now starts) ≡ 128) × (length (now ends) ≡ 128) ⌝ }
+    ensures { λ r. ⌜ (r ≡ min (at + 1) 129) × (now (starts .exit) ≡ set (now (starts .entry)) at start) × (now (ends .exit) ≡ set (now (ends .entry)) at end) ⌝ }
+{
+    if at < 128 {
+        starts[at] = start;
+        ends[at] = end;
+        return at + 1;
+    }
+    129
+}
+
+// A resumption that has taken no range yet.
+fn begin(committed: u64) -> Resuming
+    ensures { λ r. ⌜ Taken committed [] r ⌝ }
+{
+    Resuming {
+        outcome: Resume::Resumed,
+        committed,
+        starts: [0; 128],
+        ends: [0; 128],
+        taken: 0,
+        last: committed,
+    }
+}
+
+// Takes one range more.
+fn take_range(under_way: Resuming, start: u64, end: u64) -> Resuming
+    ensures { λ r. ⌜ ((n : ℕ) (ranges : List Range) → Taken n ranges «under_way» → Taken n (ranges ++ range start end ∷ []) r) ⌝ }
+{
+    let outcome = under_way.outcome;
+    let Resume::Resumed = outcome else {
+        return under_way;
+    };
+    let checked = check_range(under_way.last, start, end);
+    let mut starts = under_way.starts;
+    let mut ends = under_way.ends;
+    let taken = note_range(&mut starts, &mut ends, under_way.taken, start, end);
+    Resuming {
+        outcome: checked,
+        committed: under_way.committed,
+        starts,
+        ends,
+        taken,
+        last: end,
+    }
+}
+
+// The cursor of the ranges that were taken, or the first refusal.
+fn finish(all: Resuming) -> Resumed
+    ensures { λ r. ⌜ ((n : ℕ) (ranges : List Range) → Taken n ranges all → ResumedIs n ranges r) ⌝ }
+{
+    let outcome = all.outcome;
+    let taken = all.taken;
+    let Resume::Resumed = outcome else {
+        return Resumed {
+            outcome,
+            cursor: AckCursor::new(),
+        };
+    };
+    if 128 < taken {
+        return Resumed {
+            outcome: Resume::Refused(AckCursorError::TooManyRuns),
+            cursor: AckCursor::new(),
+        };
+    }
+    let starts = all.starts;
+    let ends = all.ends;
+    Resumed {
+        outcome,
+        cursor: AckCursor {
+            committed: all.committed,
+            starts,
+            ends,
+            runs: taken,
+        },
+    }
+}
+
+// Whether a lent list of a length has room for the ranges.
+fn room_for(runs: usize, len: usize) -> Listed
+    ensures { λ r. ⌜ listedOf r ≡ checked (ltb len runs ⇒ OutTooShort ∷ []) (done runs) ⌝ }
+{
+    if len < runs {
+        return Listed::OutTooShort;
+    }
+    Listed::Ranges(runs)
+}
+
+// How many places of the list are filled.
+fn count_of(listed: Listed) -> usize
+    ensures { λ r. ⌜ r ≡ counted (listedOf listed) ⌝ }
+{
+    match listed {
+        Listed::Ranges(n) => n,
+        Listed::OutTooShort => 0,
+    }
+}
+
+// Whether the n ranges of a snapshot may stand ahead of committed: all of them are tested before their number is.
+fn check_ranges(input: &[u8], committed: u64, n: usize) -> Resume
+    requires { ⌜ 9 + 16 * n ≤ length (now input) ⌝ }
+    ensures { λ r. ⌜ resumeFault r ≡ first (resumeTable committed (readRanges n 9 (now (input .entry)))) ⌝ }
+{
+    let mut prev_end = committed;
+    let mut pos: usize = 9;
+    let mut i: usize = 0;
+    while i < n {
+        let start = raw::read_u64(input, pos);
+        let end = raw::read_u64(input, pos + 8);
+        let checked = check_range(prev_end, start, end);
+        let Resume::Resumed = checked else {
+            return checked;
+        };
+        prev_end = end;
+        pos += RANGE_LEN;
+        i += 1;
+    }
+    if 128 < n {
+        return Resume::Refused(AckCursorError::TooManyRuns);
+    }
+    Resume::Resumed
+}
+
+// Whether bytes are a snapshot.
+fn check_snapshot(input: &[u8]) -> Decode
+    ensures { λ r. ⌜ decodeFault r ≡ first (decodeTable (now (input .entry))) ⌝ }
+{
+    let len = input.len();
+    if len < AckCursor::SNAPSHOT_MIN_LEN {
+        return Decode::Refused(SnapshotError::Truncated);
+    }
+    let ranges_len = len - AckCursor::SNAPSHOT_MIN_LEN;
+    if ranges_len % RANGE_LEN != 0 {
+        return Decode::Refused(SnapshotError::BadLength { len });
+    }
+    let version = input[0];
+    if version != SNAPSHOT_VERSION {
+        return Decode::Refused(SnapshotError::UnsupportedVersion(version));
+    }
+    if !crc::is_sealed(input) {
+        return Decode::Refused(SnapshotError::BadCrc);
+    }
+    let committed = raw::read_u64(input, 1);
+    match check_ranges(input, committed, ranges_len / RANGE_LEN) {
+        Resume::Resumed => Decode::Restored,
+        Resume::Refused(error) => Decode::Refused(SnapshotError::Ranges(error)),
+    }
+}
+
+// Reads the n ranges of a snapshot into columns.
+fn read_ranges(input: &[u8], n: usize, starts: &mut [u64; 128], ends: &mut [u64; 128])
+    requires { ⌜ (9 + 16 * n ≤ length (now input)) × (n ≤ 128) × (length (now starts) ≡ 128) × (length (now ends) ≡ 128) ⌝ }
+    ensures { λ _. ⌜ zipped range (take n (now (starts .exit))) (take n (now (ends .exit))) ≡ readRanges n 9 (now (input .entry)) ⌝ }
+{
+    let mut pos: usize = 9;
+    let mut i: usize = 0;
+    while i < n {
+        starts[i] = raw::read_u64(input, pos);
+        ends[i] = raw::read_u64(input, pos + 8);
+        pos += RANGE_LEN;
+        i += 1;
+    }
+}
+
+// Writes the first n ranges of columns from a position on.
+fn write_ranges<'a>(
+    starts: &'a [u64; 128],
+    ends: &'a [u64; 128],
+    n: usize,
+    out: &mut [u8],
+    at: usize,
+)
+    requires { ⌜ (n ≤ 128) × (length (now starts) ≡ 128) × (length (now ends) ≡ 128) × (at + 16 * n ≤ length (now out)) ⌝ }
+    ensures { λ _. ⌜ now (out .exit) ≡ overwrite at (rangesBytes (zipped range (take n (now (starts .entry))) (take n (now (ends .entry))))) (now (out .entry)) ⌝ }
+{
+    let mut pos = at;
+    let mut i: usize = 0;
+    while i < n {
+        raw::write_u64(out, pos, starts[i]);
+        raw::write_u64(out, pos + 8, ends[i]);
+        pos += RANGE_LEN;
+        i += 1;
+    }
+}
+
+// Writes all of a snapshot but its check.
+fn write_body<'a>(
+    committed: u64,
+    starts: &'a [u64; 128],
+    ends: &'a [u64; 128],
+    n: usize,
+    out: &mut [u8],
+    at: usize,
+)
+    requires { ⌜ (n ≤ 128) × (length (now starts) ≡ 128) × (length (now ends) ≡ 128) × (at + (9 + 16 * n) ≤ length (now out)) ⌝ }
+    ensures { λ _. ⌜ now (out .exit) ≡ overwrite at (bodyBytes (view (ackCursor committed (now (starts .entry)) (now (ends .entry)) n))) (now (out .entry)) ⌝ }
+{
+    out[at] = SNAPSHOT_VERSION;
+    raw::write_u64(out, at + 1, committed);
+    write_ranges(starts, ends, n, out, at + 9);
+}
+
+impl AckCursor {
+    // The length of a snapshot without ranges: version, committed and check.
+    pub const SNAPSHOT_MIN_LEN: usize = 1 + 8 + 4;
+
+    // A cursor at offset zero with nothing acked.
+    pub fn new() -> AckCursor
+        ensures { λ r. ⌜ Fresh 0 r ⌝ }
+    {
+        AckCursor::resume(Offset(0))
+    }
+
+    // A cursor at a committed offset with nothing acked ahead of it.
+    pub fn resume(committed: Offset) -> AckCursor
+        ensures { λ r. ⌜ Fresh (committed .0) r ⌝ }
+    {
+        AckCursor {
+            committed: committed.0,
+            starts: [0; 128],
+            ends: [0; 128],
+            runs: 0,
+        }
+    }
+
+    // The range at a place.
+    fn range_at(self, at: usize) -> Range
+        requires { ⌜ at < 128 ⌝ }
+        ensures { λ r. ⌜ r ≡ range (getD (self .starts) at 0) (getD (self .ends) at 0) ⌝ }
+    {
+        Range {
+            start: self.starts[at],
+            end: self.ends[at],
+        }
+    }
+
+    // Writes the snapshot from a position on, and answers the position behind it. Refused without room (20).
+    pub fn encode_snapshot(self, out: &mut [u8], at: usize) -> Write
+        requires { ⌜ Sound self ⌝ }
+        ensures { λ r. ⌜ answer (outcomeOf r) (now (out .exit)) ≡ write at (encodeCursor (view self)) (now (out .entry)) ⌝ }
+    {
+        let runs = self.runs;
+        let len = AckCursor::SNAPSHOT_MIN_LEN + RANGE_LEN * runs;
+        if raw::too_short(out.len(), at, len) {
+            return Write::OutTooShort;
+        }
+        write_body(self.committed, &self.starts, &self.ends, runs, out, at);
+        let end = at + (len - 4);
+        let check = crc::crc32c(&out[at..end]);
+        raw::write_u32(out, end, check)
+    }
+
+    // The cursor of a snapshot. Refused in this order: too short (6), no whole number of ranges (7), another version (8), a
+    // wrong check (9), range by range an empty one (10) or one not above the end before it (11), over 128 ranges (12).
+    pub fn decode_snapshot(input: &[u8]) -> Decoded
+        ensures { λ r. ⌜ DecodedIs (now (input .entry)) r ⌝ }
+    {
+        let outcome = check_snapshot(input);
+        let Decode::Restored = outcome else {
+            return Decoded {
+                outcome,
+                cursor: AckCursor::new(),
+            };
+        };
+        let n = (input.len() - AckCursor::SNAPSHOT_MIN_LEN) / RANGE_LEN;
+        let mut starts = [0; 128];
+        let mut ends = [0; 128];
+        read_ranges(input, n, &mut starts, &mut ends);
+        Decoded {
+            outcome,
+            cursor: AckCursor {
+                committed: raw::read_u64(input, 1),
+                starts,
+                ends,
+                runs: n,
+            },
+        }
+    }
+
+    // The offset below which all are acked.
+    pub fn committed(self) -> Offset
+        ensures { λ r. ⌜ r ≡ offset (view self .committed) ⌝ }
+    {
+        Offset(self.committed)
+    }
+
+    // Whether an offset is acked.
+    pub fn is_acked(self, offset: Offset) -> bool
+        requires { ⌜ Sound self ⌝ }
+        ensures { λ r. ⌜ r ≡ settled (view self) (offset .0) ⌝ }
+    {
+        let x = offset.0;
+        let i = partition_point(&self.starts, self.runs, x);
+        x < end_before(self.committed, &self.ends, i)
+    }
+
+    // How many offsets are acked ahead of committed.
+    pub fn ahead_len(self) -> u64
+        requires { ⌜ Sound self ⌝ }
+        ensures { λ r. ⌜ r ≡ offsets (view self .ahead) ⌝ }
+    {
+        let runs = self.runs;
+        let mut sum: u64 = 0;
+        let mut i: usize = 0;
+        while i < runs {
+            sum += self.ends[i] - self.starts[i];
+            i += 1;
+        }
+        sum
+    }
+
+    // How many ranges are ahead of committed.
+    pub fn ahead_runs(self) -> usize
+        requires { ⌜ Sound self ⌝ }
+        ensures { λ r. ⌜ r ≡ length (view self .ahead) ⌝ }
+    {
+        self.runs
+    }
+
+    // `ack_bounded` at the limit of 128 ranges that every cursor has.
+    pub fn ack(self, offset: Offset) -> Acked
+        requires { ⌜ Sound self ⌝ }
+        ensures { λ r. ⌜ Updated self (ackOf (r .outcome)) (r .cursor) (ackBounded (view self) (offset .0) 128) ⌝ }
+    {
+        self.ack_bounded(offset, 128)
+    }
+
+    // Records an ack, and moves committed over what it completes. One that is next to no range and not at committed
+    // makes a range more; where there are max_runs already, or 128, it is shed and nothing changes. An ack at committed
+    // and one that joins a range make none, and are never shed: what fills the gaps towards committed always lands.
+    pub fn ack_bounded(self, offset: Offset, max_runs: usize) -> Acked
+        requires { ⌜ Sound self ⌝ }
+        ensures { λ r. ⌜ Updated self (ackOf (r .outcome)) (r .cursor) (ackBounded (view self) (offset .0) «max_runs») ⌝ }
+    {
+        let mut starts = self.starts;
+        let mut ends = self.ends;
+        let noted = ack_in_place(
+            self.committed,
+            &mut starts,
+            &mut ends,
+            self.runs,
+            offset.0,
+            max_runs,
+        );
+        let outcome = noted.outcome;
+        Acked {
+            outcome,
+            cursor: AckCursor {
+                committed: noted.committed,
+                starts,
+                ends,
+                runs: noted.runs,
+            },
+        }
+    }
+
+    // Settles every offset below a bound. A range that the bound lies in, or touches, is swallowed whole. A bound at or
+    // below committed changes nothing: committed never moves back.
+    pub fn commit_up_to(self, up_to: Offset) -> Committed
+        requires { ⌜ Sound self ⌝ }
+        ensures { λ r. ⌜ Updated self (done (r .advanced)) (r .cursor) (commitUpTo (view self) («up_to» .0)) ⌝ }
+    {
+        let mut starts = self.starts;
+        let mut ends = self.ends;
+        let moved = commit_in_place(self.committed, &mut starts, &mut ends, self.runs, up_to.0);
+        Committed {
+            advanced: moved.advanced,
+            cursor: AckCursor {
+                committed: moved.committed,
+                starts,
+                ends,
+                runs: moved.runs,
+            },
+        }
+    }
+}
