@@ -1,0 +1,4 @@
+pub mod Area
+pub mod Block
+pub mod Sound
+pub mod Walk

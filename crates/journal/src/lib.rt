@@ -1,0 +1,4 @@
+// Trial.
+pub fn one() -> u64 {
+    1
+}
