@@ -1,14 +1,20 @@
 -- Little-endian numbers in lists of bytes: reading sees zeros past the end, writing changes its place alone and is
 -- refused, 20, where it would pass the end.
-use Prim.Native.Nat.{ℕ, zero, suc, _+_, _*_, _/_, _%_}
+use Prim.Native.Nat.{ℕ, zero, suc, _+_, _*_, _/_, _%_, _^_, _<_}
+use mathlib.Core.Path.{_≡_}
 use mathlib.Core.List.{List, [], _∷_, _++_}
 use lib.Dec.{ltb}
 use lib.ListN.{length, take, drop}
-use Rattle.types.specs.Refusal.{Refusal, Result, refused, done}
+use Rattle.types.specs.Refusal.{Result, refused, done}
 use Rattle.types.specs.Refusal as refusal
 use Rattle.types.specs.Table.{_⇒_, Answer, answer, guarded}
 use Rattle.raw.specs.declared.Write.{Write}
 use Rattle.raw.specs.declared.Write.the-variants.{Next, OutTooShort}
+
+-- each is a byte
+abbrev pub IsBytes : List ℕ → Type 0
+IsBytes [] = Unit {0}
+IsBytes (b ∷ bs) = (b < 256) × IsBytes bs
 
 -- the low k bytes of n, the lowest first
 abbrev pub le : ℕ → ℕ → List ℕ
@@ -23,6 +29,11 @@ unle (b ∷ bs) = b + 256 * unle bs
 -- the number in the k bytes from place pos on, those past the end being 0
 abbrev pub numberAt : ℕ → ℕ → List ℕ → ℕ
 numberAt k pos bs = unle (take k (drop pos bs))
+
+-- what a read answers: that number, which has k bytes itself
+pub record ReadIs (k pos : ℕ) (bs : List ℕ) (r : ℕ) : Type 0 where
+  pub is : r ≡ numberAt k pos bs
+  pub below : r < 256 ^ k
 
 -- new bytes from place pos on; all others stay
 abbrev pub overwrite : ℕ → List ℕ → List ℕ → List ℕ

@@ -2,9 +2,9 @@
 // no byte and says so.
 ghost use mathlib.Core.Path.{_≡_};
 ghost use Prim.Native.Nat.{_+_, _≤_};
-ghost use lib.ListN.{length};
+ghost use lib.Dec.{ltb};
 ghost use Rattle.types.specs.Table.{answer};
-ghost use Rattle.raw.specs.Bytes.{le, numberAt, overwrite, write, outcomeOf};
+ghost use Rattle.raw.specs.Bytes.{le, numberAt, ReadIs, write, outcomeOf};
 
 // What a write answers: the position behind what was written, or refusal 20.
 pub enum Write {
@@ -15,7 +15,7 @@ pub enum Write {
 // The number in the bytes from pos on, at most `width` of them.
 fn read_le(buf: &[u8], pos: usize, width: usize) -> u64
     requires { ⌜ width ≤ 8 ⌝ }
-    ensures { λ r. ⌜ r ≡ numberAt width pos (now (buf .entry)) ⌝ }
+    ensures { λ r. ⌜ ReadIs width pos (now (buf .entry)) r ⌝ }
 {
     let len = buf.len();
     if len <= pos {
@@ -51,14 +51,24 @@ pub fn read_u64(buf: &[u8], pos: usize) -> u64
     read_le(buf, pos, 8)
 }
 
+// Whether n bytes from pos on would pass the end of `len` bytes.
+pub fn too_short(len: usize, pos: usize, n: usize) -> bool
+    ensures { λ r. ⌜ r ≡ ltb len (pos + n) ⌝ }
+{
+    if len < pos {
+        return true;
+    }
+    if len - pos < n {
+        return true;
+    }
+    false
+}
+
 // The low `width` bytes of x from pos on.
 fn write_le(buf: &mut [u8], pos: usize, width: usize, x: u64) -> Write
     ensures { λ r. ⌜ answer (outcomeOf r) (now (buf .exit)) ≡ write pos (le width x) (now (buf .entry)) ⌝ }
 {
-    if buf.len() < pos {
-        return Write::OutTooShort;
-    }
-    if buf.len() - pos < width {
+    if too_short(buf.len(), pos, width) {
         return Write::OutTooShort;
     }
     let mut rest = x;
@@ -94,10 +104,7 @@ pub fn write_bytes(buf: &mut [u8], pos: usize, bytes: &[u8]) -> Write
     ensures { λ r. ⌜ answer (outcomeOf r) (now (buf .exit)) ≡ write pos (now (bytes .entry)) (now (buf .entry)) ⌝ }
 {
     let n = bytes.len();
-    if buf.len() < pos {
-        return Write::OutTooShort;
-    }
-    if buf.len() - pos < n {
+    if too_short(buf.len(), pos, n) {
         return Write::OutTooShort;
     }
     let mut i: usize = 0;
