@@ -1,18 +1,18 @@
 -- CRC32C as RFC 3720, 12.1, has it, bit by bit: a register of 32 bits that starts with all ones, each byte fed with its
--- lowest bit first, the result complemented. The register is a list of bits with its lowest, which holds the highest power,
--- first.
+-- lowest bit first, the result complemented. The register is a list of bits, the highest power of the polynomial first;
+-- read as a number, its first bit is the lowest.
 use Prim.Native.Nat.{ℕ, zero, suc, _+_, _*_, _/_, _%_}
 use mathlib.Core.Bool.{Bool, true, false, cond, not, xor}
-use mathlib.Core.List.{List, [], _∷_, _++_, map}
+use mathlib.Core.List.{List, [], _∷_, _++_, map, reverse}
 use lib.Dec.{eqb}
 use lib.ListN.{replicate}
 
 -- the low k bits of n, the lowest first, and the number that bits are
-abbrev pub bits : ℕ → ℕ → List Bool
+unfoldable pub bits : ℕ → ℕ → List Bool
 bits zero n = []
 bits (suc k) n = eqb (n % 2) 1 ∷ bits k (n / 2)
 
-abbrev pub unbits : List Bool → ℕ
+unfoldable pub unbits : List Bool → ℕ
 unbits [] = 0
 unbits (b ∷ bs) = cond b 1 0 + 2 * unbits bs
 
@@ -22,9 +22,9 @@ xors [] bs = []
 xors (a ∷ r) [] = a ∷ r
 xors (a ∷ r) (b ∷ bs) = xor a b ∷ xors r bs
 
--- the polynomial 1EDC6F41, reflected: 82F63B78
-abbrev pub polynomial : List Bool
-polynomial = bits 32 2197175160
+-- x^32 is congruent to the polynomial 1EDC6F41, here with its highest power first
+unfoldable pub polynomial : List Bool
+polynomial = reverse (bits 32 0x1EDC6F41)
 
 -- the register moves by one place; where the bit that falls out differs from the one fed in, the polynomial is added
 abbrev pub shift : List Bool → Bool → List Bool

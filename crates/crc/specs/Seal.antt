@@ -12,6 +12,6 @@ abbrev pub sealed : List ℕ → List ℕ
 sealed bytes = bytes ++ le 4 (crc bytes)
 
 -- the last four bytes are the check of those before
-abbrev pub isSealed : List ℕ → Bool
+unfoldable pub isSealed : List ℕ → Bool
 isSealed bytes =
     leb 4 (length bytes) && eqb (unle (drop (length bytes - 4) bytes)) (crc (take (length bytes - 4) bytes))

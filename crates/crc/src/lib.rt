@@ -1,6 +1,7 @@
 // CRC32C, the one checksum of snapshots and journal blocks (RFC 3720, 12.1), a byte at a time by a table.
 ghost use mathlib.Core.Path.{_≡_};
-ghost use Rattle.crc.specs.Crc32c.{crc, crcFrom};
+ghost use Rattle.crc.specs.Crc32c.{bits, feedBits, crc, crcFrom};
+ghost use Rattle.crc.specs.Table.{Remainders};
 ghost use Rattle.crc.specs.Seal.{isSealed};
 
 // The register after each byte has passed through it, from a register of zeros.
@@ -274,19 +275,23 @@ pub fn crc32c(bytes: &[u8]) -> u32
 pub fn crc32c_append(before: u32, bytes: &[u8]) -> u32
     ensures { λ r. ⌜ r ≡ crcFrom before (now (bytes .entry)) ⌝ }
 {
+    let table = TABLE;
     let mut register = before ^ 0xffff_ffff;
     let mut i: usize = 0;
     while i < bytes.len() {
-        register = after_byte(register, bytes[i]);
+        register = after_byte(&table, register, bytes[i]);
         i += 1;
     }
     register ^ 0xffff_ffff
 }
 
 // The register after one byte more.
-fn after_byte(register: u32, byte: u8) -> u32 {
+fn after_byte(table: &[u32; 256], register: u32, byte: u8) -> u32
+    requires { ⌜ Remainders (now table) ⌝ }
+    ensures { λ r. ⌜ bits 32 r ≡ feedBits (bits 32 register) (bits 8 byte) ⌝ }
+{
     let low = (register ^ (byte as u32)) % 256;
-    TABLE[low as usize] ^ (register >> 8)
+    table[low as usize] ^ (register >> 8)
 }
 
 // Whether the last four bytes are the check of those before.
@@ -297,5 +302,5 @@ pub fn is_sealed(bytes: &[u8]) -> bool
         return false;
     }
     let n = bytes.len() - 4;
-    crc32c(&bytes[..n]) == raw::read_u32(bytes, n)
+    raw::read_u32(bytes, n) == crc32c(&bytes[..n])
 }

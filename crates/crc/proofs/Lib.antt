@@ -1,0 +1,5 @@
+pub mod Bits
+pub mod Register
+pub mod Table
+pub mod Crc
+pub mod Seal
