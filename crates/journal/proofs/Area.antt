@@ -1,13 +1,57 @@
 -- An area is a memory of blocks: a write changes its block alone, and the block reads back. Assumes nothing.
-use Prim.Native.Nat.{ℕ, _+_, _*_, _-_, _≤_, _<_}
+use Prim.Native.Nat.{ℕ, _+_, _*_, _-_, _/_, _%_, _≤_, _<_}
 use native.Mathlib.Omega.{arith}
 use native.Mathlib.Decide.{decLt}
-use mathlib.Core.Path.{_≡_, sym, ap, _∙_}
+use mathlib.Core.Path.{_≡_, refl, sym, ap, _∙_}
+use mathlib.Core.Bool.{Bool, true, false, not, _||_, true≢false}
 use mathlib.Core.List.{List, _++_, append-assoc}
+use lib.Dec.{leb, ltb, eqb}
 use lib.ListN.{length, take, drop, length-append, length-take, length-drop, take-append-drop}
 use lib.Seq.{length-take-le, take-at, drop-at, take-append-le, drop-append-le, drop-append-add, drop-drop}
-use Rattle.journal.specs.Area.{blockAt, writeAt, Same}
+use borrow.Author.Tests.{leb-false, ltb-false, eqb-true, eqb-false, not-false, eq-eqb, ne-eqb, le-ltb, lt-leb}
+use Rattle.journal.specs.Area.{badLength, outside, blockAt, writeAt, Same}
 
+neither : (p q : Bool) → (p || q) ≡ false → (p ≡ false) × (q ≡ false)
+neither true q e = absurd (true≢false e)
+neither false q e = (refl, e)
+
+-- ## The length
+pub record Whole (n : ℕ) : Type 0 where
+  pub some-block : 0 < n
+  pub whole : n % 512 ≡ 0
+  pub most : n ≤ 65536
+
+pub whole-says : (n : ℕ) → badLength n ≡ false → Whole n
+whole-says n e =
+    let a = neither (eqb n 0 || not (eqb (n % 512) 0)) (ltb 65536 n) e in
+    let b = neither (eqb n 0) (not (eqb (n % 512) 0)) (a .0) in
+    record {
+      some-block = positive n (eqb-false n 0 (b .0));
+      whole = eqb-true (n % 512) 0 (not-false (eqb (n % 512) 0) (b .1));
+      most = ltb-false 65536 n (a .1);
+    }
+  where
+    positive : (n : ℕ) → (n ≡ 0 → ⊥) → 0 < n
+    positive n h = omega arith
+
+pub says-whole : (n : ℕ) → Whole n → badLength n ≡ false
+says-whole n w =
+    rw (ne-eqb n 0 (λ e. omega (arith, w .some-block)), eq-eqb (n % 512) 0 (w .whole), le-ltb 65536 n (w .most))
+
+-- an area that has block i
+pub record Inside (n i : ℕ) : Type 0 where
+  pub area : Whole n
+  pub fits : 512 * i + 512 ≤ n
+
+pub inside-says : (n i : ℕ) → outside n i ≡ false → Inside n i
+inside-says n i e =
+    let a = neither (badLength n) (leb (n / 512) i) e in
+    record { area = whole-says n (a .0); fits = omega (arith, leb-false (n / 512) i (a .1)) }
+
+pub says-inside : (n i : ℕ) → Inside n i → outside n i ≡ false
+says-inside n i s = rw (says-whole n (s .area)) (lt-leb (n / 512) i (omega (arith, s .fits)))
+
+-- ## Blocks
 pub block-length : (a : List ℕ) (i : ℕ) → 512 * i + 512 ≤ length a → length (blockAt a i) ≡ 512
 unfolding blockAt
 block-length a i fits = simp (length-take, length-drop) (omega arith)

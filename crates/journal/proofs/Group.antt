@@ -14,10 +14,10 @@ use lib.Seq.{take-all, take-at, take-nil, take-append-add, drop-drop}
 use borrow.Author.Tests.{ltb-true, ltb-false}
 use Rattle.types.proofs.Cases.{split}
 use Rattle.journal.specs.Area.{blockAt, Same}
-use Rattle.journal.specs.Block.{bodiesFor, usedIn, chunkOf, headerBlock, bodyBlock, contentOf, bodyCount, cursorLength, attemptLength, payloadLength}
+use Rattle.journal.specs.Blocks.{bodiesFor, usedIn, chunkOf, headerBlock, bodyBlock, contentOf, bodyCount, cursorLength, attemptLength, payloadLength}
 use Rattle.journal.specs.Walk.{firstUnsound, contents, payload}
 use Rattle.journal.proofs.Area.{block-length}
-use Rattle.journal.proofs.Block.{header-count, header-cursor, header-attempt, body-content}
+use Rattle.journal.proofs.Blocks.{header-count, header-cursor, header-attempt, body-content}
 use Rattle.journal.proofs.Sound.{header-says, header-sound, body-sound}
 use Rattle.journal.proofs.Walk.{Group, unsoundAt}
 

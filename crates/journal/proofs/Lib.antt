@@ -1,5 +1,6 @@
 pub mod Area
-pub mod Block
+pub mod Blocks
 pub mod Sound
 pub mod Walk
 pub mod Group
+mod Writer

@@ -10,9 +10,9 @@ use lib.ListN.{length}
 use borrow.Author.Tests.{eqb-true, leb-true, eq-eqb, ne-eqb, le-leb}
 use Rattle.types.proofs.Cases.{split}
 use Rattle.crc.specs.Seal.{isSealed}
-use Rattle.journal.specs.Block.{bodiesFor, headerBlock, bodyBlock, kindOf, groupOf, bodyCount, cursorLength, attemptLength, payloadLength, indexOf, usedOf}
+use Rattle.journal.specs.Blocks.{bodiesFor, headerBlock, bodyBlock, kindOf, groupOf, bodyCount, cursorLength, attemptLength, payloadLength, indexOf, usedOf}
 use Rattle.journal.specs.Sound.{allZero, zerosAt, isKind, heads, formed, soundHeader, soundBody}
-use Rattle.journal.proofs.Block.{header-length, header-kind, header-sealed, header-zeros, header-rest, header-count, header-number, header-cursor, header-attempt, body-length, body-kind, body-sealed, body-index, body-used, body-number, body-rest}
+use Rattle.journal.proofs.Blocks.{header-length, header-kind, header-sealed, header-zeros, header-rest, header-count, header-number, header-cursor, header-attempt, body-length, body-kind, body-sealed, body-index, body-used, body-number, body-rest}
 
 both : (p q : Bool) → (p && q) ≡ true → (p ≡ true) × (q ≡ true)
 both true q e = (refl, e)

@@ -10,11 +10,12 @@ use mathlib.Core.List.{List}
 use mathlib.Core.Logic.{⊎-elim}
 use mathlib.Core.Option.{Option, none, some, Option·none-ne-some}
 use lib.ListN.{length}
+use Rattle.types.specs.Refusal.{Result}
 use Rattle.types.proofs.Cases.{split}
 use Rattle.journal.specs.Area.{blockAt, writeAt, Same}
-use Rattle.journal.specs.Block.{usedIn, bodyCount, payloadLength}
+use Rattle.journal.specs.Blocks.{usedIn, bodyCount, payloadLength}
 use Rattle.journal.specs.Sound.{soundHeader, soundBody}
-use Rattle.journal.specs.Walk.{firstUnsound, Found, nothing, unsound, group, orUnsound, bodiesAt, groupAt, Stop, Walked, stop, damaged, after, walkOver, walkFrom, walk}
+use Rattle.journal.specs.Walk.{firstUnsound, Found, nothing, unsound, group, orUnsound, bodiesAt, groupAt, Stop, stop, damaged, after, walkOver, walkFrom, walk}
 use Rattle.journal.proofs.Area.{write-same, write-other, write-apart}
 use Rattle.journal.proofs.Sound.{Header, header-says, says-header}
 
@@ -101,7 +102,7 @@ module _ (a : List ℕ) (hi : ℕ) where
   walk-turn last k i = enough hi (suc hi) last k i (omega arith) (omega arith)
 
   -- what holds of a walk that ends at once, and of one that goes on behind a group where it holds of the rest, holds of every walk
-  pub walk-ind : (P : Option ℕ → ℕ → ℕ → Walked → Type 0)
+  pub walk-ind : (P : Option ℕ → ℕ → ℕ → Result Stop → Type 0)
       → ((last : Option ℕ) (k i : ℕ) → soundHeader hi k i (blockAt a i) ≡ false → P last k i (stop last k i))
       → ((last : Option ℕ) (k i j : ℕ) → soundHeader hi k i (blockAt a i) ≡ true → unsoundAt a k i ≡ some j → P last k i (damaged j))
       → ((last : Option ℕ) (k i e : ℕ) → Group a hi k i e → P (some i) (suc k) e (walkFrom a hi (some i) (suc k) e) → P last k i (walkFrom a hi (some i) (suc k) e))

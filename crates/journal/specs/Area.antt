@@ -4,15 +4,20 @@ use Prim.Native.Nat.{ℕ, _+_, _*_, _/_, _%_, _≤_, _<_}
 use mathlib.Core.Path.{_≡_}
 use mathlib.Core.Bool.{Bool, not, _||_}
 use mathlib.Core.List.{List, _++_}
-use lib.Dec.{ltb, eqb}
+use lib.Dec.{leb, ltb, eqb}
 use lib.ListN.{length, take, drop}
 
 -- a length that no area has: 0, no multiple of 512, or above 65,536
 abbrev pub badLength : ℕ → Bool
 badLength n = eqb n 0 || not (eqb (n % 512) 0) || ltb 65536 n
 
+-- the blocks of an area
 abbrev pub blocks : List ℕ → ℕ
 blocks a = length a / 512
+
+-- an area of n bytes is refused, or has no block i
+abbrev pub outside : ℕ → ℕ → Bool
+outside n i = badLength n || leb (n / 512) i
 
 -- block i, counted from 0
 unfoldable pub blockAt : List ℕ → ℕ → List ℕ

@@ -1,4 +1,5 @@
 pub mod Area
-pub mod Block
+pub mod Blocks
 pub mod Sound
 pub mod Walk
+pub mod Answers

@@ -6,7 +6,7 @@ use mathlib.Core.List.{List, [], _∷_}
 use lib.Dec.{leb, eqb}
 use lib.ListN.{length, take, drop}
 use Rattle.crc.specs.Seal.{isSealed}
-use Rattle.journal.specs.Block.{bodiesFor, kindOf, groupOf, bodyCount, cursorLength, attemptLength, payloadLength, indexOf, usedOf}
+use Rattle.journal.specs.Blocks.{bodiesFor, kindOf, groupOf, bodyCount, cursorLength, attemptLength, payloadLength, indexOf, usedOf}
 
 abbrev pub allZero : List ℕ → Bool
 allZero [] = true

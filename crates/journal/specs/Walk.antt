@@ -7,7 +7,7 @@ use mathlib.Core.Option.{Option, none, some}
 use lib.ListN.{take}
 use Rattle.types.specs.Refusal.{Result, refused, done, Damaged}
 use Rattle.journal.specs.Area.{blockAt}
-use Rattle.journal.specs.Block.{bodiesFor, usedIn, bodyCount, payloadLength, contentOf}
+use Rattle.journal.specs.Blocks.{bodiesFor, usedIn, bodyCount, payloadLength, contentOf}
 use Rattle.journal.specs.Sound.{soundHeader, soundBody}
 
 -- the first unsound one of m bodies from index j on, of the group k whose header, at block i, counts n bodies with t bytes
@@ -43,33 +43,30 @@ pub record Stop : Type 0 where
   pub number : ℕ
   pub block : ℕ
 
--- what a walk answers: where it ended, or 5 with the first unsound body
-abbrev pub Walked : Type 0
-Walked = Result Stop
-
-abbrev pub stop : Option ℕ → ℕ → ℕ → Walked
+-- a walk answers where it ended, or 5 with the first unsound body
+abbrev pub stop : Option ℕ → ℕ → ℕ → Result Stop
 stop last k i = done (record { last = last; number = k; block = i })
 
-abbrev pub damaged : ℕ → Walked
+abbrev pub damaged : ℕ → Result Stop
 damaged j = refused (Damaged j)
 
 -- the walk ends where nothing is found, and goes on behind a sound group
-abbrev pub after : Found → Walked → (ℕ → Walked) → Walked
+abbrev pub after : Found → Result Stop → (ℕ → Result Stop) → Result Stop
 after nothing here on = here
 after (unsound j) here on = damaged j
 after (group e) here on = on e
 
 -- at most m groups, from block i on, where group k is expected; `last` is the header block of the group before
-unfoldable pub walkOver : ℕ → List ℕ → ℕ → Option ℕ → ℕ → ℕ → Walked
+unfoldable pub walkOver : ℕ → List ℕ → ℕ → Option ℕ → ℕ → ℕ → Result Stop
 walkOver zero a hi last k i = stop last k i
 walkOver (suc m) a hi last k i = after (groupAt a hi k i) (stop last k i) (λ e. walkOver m a hi (some i) (suc k) e)
 
 -- the walk behind a group; there are less than hi groups below block hi
-unfoldable pub walkFrom : List ℕ → ℕ → Option ℕ → ℕ → ℕ → Walked
+unfoldable pub walkFrom : List ℕ → ℕ → Option ℕ → ℕ → ℕ → Result Stop
 walkFrom a hi last k i = walkOver hi a hi last k i
 
 -- the walk from block i on, where group k is expected first; no group may pass block hi
-abbrev pub walk : List ℕ → ℕ → ℕ → ℕ → Walked
+abbrev pub walk : List ℕ → ℕ → ℕ → ℕ → Result Stop
 walk a hi k i = walkFrom a hi none k i
 
 -- the content of m bodies from block i on

@@ -20,16 +20,19 @@ usedIn j n t = cond (ltb j n) 500 (t - 500 * (n - 1))
 abbrev pub chunkOf : ℕ → List ℕ → List ℕ
 chunkOf j payload = take 500 (drop (500 * (j - 1)) payload)
 
--- the header of group k: kind 1 and the body count, two zeros, the number, the ceiling, the lengths of the cursor snapshot
--- and of the attempt snapshot, zeros, and the check
+-- the first eight bytes of a block: kind, byte 1, bytes 2 to 3, and the group's number
+abbrev pub opening : ℕ → ℕ → ℕ → ℕ → List ℕ
+opening kind second third k = kind ∷ le 1 second ++ (le 2 third ++ le 4 k)
+
+-- the header of group k: kind 1 and the body count, the ceiling, the lengths of the cursor snapshot and of the attempt
+-- snapshot, zeros, and the check
 unfoldable pub headerBlock : ℕ → ℕ → ℕ → ℕ → List ℕ
 headerBlock k ceiling lc la =
-    sealed (1 ∷ le 1 (bodiesFor (lc + la)) ++ (le 2 0 ++ (le 4 k ++ (le 8 ceiling ++ (le 2 lc ++ (le 2 la ++ replicate 488 0))))))
+    sealed (opening 1 (bodiesFor (lc + la)) 0 k ++ (le 8 ceiling ++ (le 2 lc ++ (le 2 la ++ replicate 488 0))))
 
--- body j of group k: kind 2 and the index, the number of bytes used, the group's number, the bytes, zeros, and the check
+-- body j of group k: kind 2, the index and the number of bytes used, the bytes, zeros, and the check
 unfoldable pub bodyBlock : ℕ → ℕ → List ℕ → List ℕ
-bodyBlock k j chunk =
-    sealed (2 ∷ le 1 j ++ (le 2 (length chunk) ++ (le 4 k ++ (chunk ++ replicate (500 - length chunk) 0))))
+bodyBlock k j chunk = sealed (opening 2 j (length chunk) k ++ (chunk ++ replicate (500 - length chunk) 0))
 
 -- byte 0 of either kind, and bytes 4 to 7
 abbrev pub kindOf : List ℕ → ℕ

@@ -10,8 +10,8 @@ use Rattle.raw.specs.Bytes.{le}
 use Rattle.raw.proofs.Bytes.{unle-le}
 use Rattle.crc.specs.Crc32c.{crc}
 use Rattle.crc.specs.Seal.{sealed, isSealed}
-use Rattle.crc.proofs.Seal.{sealed-ok, sealed-length}
-use Rattle.journal.specs.Block.{bodiesFor, headerBlock, bodyBlock, kindOf, groupOf, bodyCount, ceilingOf, cursorLength, attemptLength, indexOf, usedOf, contentOf}
+use Rattle.crc.proofs.Seal.{sealed-ok, length-sealed}
+use Rattle.journal.specs.Blocks.{bodiesFor, opening, headerBlock, bodyBlock, kindOf, groupOf, bodyCount, ceilingOf, cursorLength, attemptLength, indexOf, usedOf, contentOf}
 use Rattle.journal.specs.Sound.{allZero, zerosAt}
 
 module _ (k ceiling lc la : ℕ) where
@@ -26,7 +26,7 @@ module _ (k ceiling lc la : ℕ) where
   pub header-sealed : isSealed (headerBlock k ceiling lc la) ≡ true
   unfolding headerBlock
   header-sealed =
-      sealed-ok (1 ∷ le 1 (bodiesFor (lc + la)) ++ (le 2 0 ++ (le 4 k ++ (le 8 ceiling ++ (le 2 lc ++ (le 2 la ++ replicate 488 0))))))
+      sealed-ok (opening 1 (bodiesFor (lc + la)) 0 k ++ (le 8 ceiling ++ (le 2 lc ++ (le 2 la ++ replicate 488 0))))
 
   pub header-zeros : zerosAt 2 2 (headerBlock k ceiling lc la) ≡ true
   unfolding headerBlock
@@ -62,7 +62,7 @@ zeros (suc n) = zeros n
 
 module _ (k j : ℕ) (chunk : List ℕ) (few : length chunk ≤ 500) where
   abbrev fields : List ℕ
-  fields = 2 ∷ le 1 j ++ (le 2 (length chunk) ++ (le 4 k ++ []))
+  fields = opening 2 j (length chunk) k
 
   abbrev padded : List ℕ
   padded = chunk ++ replicate (500 - length chunk) 0
@@ -78,7 +78,7 @@ module _ (k j : ℕ) (chunk : List ℕ) (few : length chunk ≤ 500) where
   inner-length = length-append fields padded ∙ omega (arith, padded-length)
 
   pub body-length : length (bodyBlock k j chunk) ≡ 512
-  body-length = ap length body-is ∙ sealed-length (fields ++ padded) ∙ omega (arith, inner-length)
+  body-length = ap length body-is ∙ length-sealed (fields ++ padded) ∙ omega (arith, inner-length)
 
   pub body-kind : kindOf (bodyBlock k j chunk) ≡ 2
   unfolding bodyBlock
