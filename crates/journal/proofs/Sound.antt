@@ -1,12 +1,15 @@
 -- Which blocks are sound: those that are written, and none whose check fails, none of kind 2 and none of zeros is a sound
 -- header; and what a sound block says, part by part. Assumes nothing.
-use Prim.Native.Nat.{ℕ, _+_, _-_, _≤_, _<_, _^_}
+use Prim.Native.Nat.{ℕ, _+_, _-_, _≤_, _<_, _^_, min}
 use native.Mathlib.Omega.{arith}
+use native.Mathlib.Numerals.{add-one}
+use native.Mathlib.Decide.{decLe}
 use mathlib.Core.Path.{_≡_, refl, sym, _∙_}
 use mathlib.Core.Bool.{Bool, true, false, _&&_, and-false, true≢false}
 use mathlib.Core.List.{List, [], _∷_}
 use lib.Dec.{leb, eqb}
-use lib.ListN.{length}
+use lib.ListN.{length, take, drop, getD, drop-of-length-le}
+use lib.Seq.{drop-cons}
 use borrow.Author.Tests.{eqb-true, leb-true, eq-eqb, ne-eqb, le-leb}
 use Rattle.types.proofs.Cases.{split}
 use Rattle.crc.specs.Seal.{isSealed}
@@ -18,9 +21,26 @@ both : (p q : Bool) → (p && q) ≡ true → (p ≡ true) × (q ≡ true)
 both true q e = (refl, e)
 both false q e = absurd (true≢false (sym e))
 
--- a test that fails leaves no conjunction true
-fails : (p q : Bool) → p ≡ false → (p && q) ≡ false
-fails p q e = rw e
+-- a test is false where it cannot be true
+refuted : (t : Bool) → (t ≡ true → ⊥) → false ≡ t
+refuted t n = split t (λ e. absurd (n e)) (λ e. sym e)
+
+pub differ : {t : Bool} → t ≡ true → t ≡ false → ⊥
+differ e f = true≢false (sym e ∙ f)
+
+-- ## Zeros, as a loop finds them
+module _ (b : List ℕ) (i : ℕ) (so-far : allZero (drop i b) ≡ allZero b) where
+  next-zero : i < length b → allZero b ≡ (eqb (getD b i 0) 0 && allZero (drop (i + 1) b))
+  next-zero h = sym so-far ∙ rw (drop-cons b i 0 h, add-one i)
+
+  pub zero-more : i < length b → getD b i 0 ≡ 0 → allZero (drop (i + 1) b) ≡ allZero b
+  zero-more h e = sym (next-zero h ∙ rw (eq-eqb (getD b i 0) 0 e))
+
+  pub zero-not : i < length b → (getD b i 0 ≡ 0 → ⊥) → false ≡ allZero b
+  zero-not h n = sym (next-zero h ∙ rw (ne-eqb (getD b i 0) 0 n))
+
+  pub zero-all : length b ≤ i → true ≡ allZero b
+  zero-all h = sym (sym so-far ∙ rw (drop-of-length-le b {i = i} h))
 
 -- ## No headers
 -- a block is of no kind but its own, and of none where its check fails
@@ -68,6 +88,14 @@ pub says-kind : (kind : ℕ) (b : List ℕ) → Kind kind b → isKind kind b �
 unfolding isKind
 says-kind kind b s = rw (s .check, eq-eqb (length b) 512 (s .whole), eq-eqb (kindOf b) kind (s .kind-is))
 
+-- the test as the code makes it
+pub kind-test : (kind : ℕ) (b : List ℕ) → length b ≡ 512 → kindOf b ≡ kind → isSealed b ≡ isKind kind b
+unfolding isKind
+kind-test kind b w k = rw (eq-eqb (length b) 512 w, eq-eqb (kindOf b) kind k)
+
+pub no-kind : (kind : ℕ) (b : List ℕ) → (Kind kind b → ⊥) → false ≡ isKind kind b
+no-kind kind b n = refuted (isKind kind b) (λ e. n (kind-says kind b e))
+
 pub record Formed (b : List ℕ) : Type 0 where
   pub head : heads b ≡ true
   pub zeros : zerosAt 2 2 b ≡ true
@@ -113,6 +141,13 @@ says-formed b f =
       eq-eqb (bodyCount b) (bodiesFor (payloadLength b)) (f .count),
     )
 
+pub no-form : (b : List ℕ) → (Formed b → ⊥) → false ≡ formed b
+no-form b n = refuted (formed b) (λ e. n (formed-says b e))
+
+-- the body count by the lengths that were read
+pub count-read : (b : List ℕ) (n lc la : ℕ) → n ≡ bodiesFor (lc + la) → lc ≡ cursorLength b → la ≡ attemptLength b → n ≡ bodiesFor (payloadLength b)
+count-read b n lc la e c a = rw (← c, ← a) e
+
 pub record Header (hi k i : ℕ) (b : List ℕ) : Type 0 where
   pub form : Formed b
   pub number : groupOf b ≡ k
@@ -134,6 +169,62 @@ module _ (hi k i : ℕ) (b : List ℕ) where
   unfolding soundHeader
   says-header h =
       rw (says-formed b (h .form), eq-eqb (groupOf b) k (h .number)) (le-leb (i + 1 + bodyCount b) hi (h .fits))
+
+  pub no-header : (Header hi k i b → ⊥) → false ≡ soundHeader hi k i b
+  no-header n = refuted (soundHeader hi k i b) (λ e. n (header-says e))
+
+pub record Body (k j used : ℕ) (b : List ℕ) : Type 0 where
+  pub kind : isKind 2 b ≡ true
+  pub number : groupOf b ≡ k
+  pub index : indexOf b ≡ j
+  pub bytes : usedOf b ≡ used
+  pub rest : zerosAt (500 - used) (8 + used) b ≡ true
+
+module _ (k j used : ℕ) (b : List ℕ) where
+  pub body-says : soundBody k j used b ≡ true → Body k j used b
+  unfolding soundBody
+  body-says e =
+      let r = both _ (zerosAt (500 - used) (8 + used) b) e in
+      let u = both _ (eqb (usedOf b) used) (r .0) in
+      let i = both _ (eqb (indexOf b) j) (u .0) in
+      let n = both (isKind 2 b) (eqb (groupOf b) k) (i .0) in
+      record {
+        kind = n .0;
+        number = eqb-true (groupOf b) k (n .1);
+        index = eqb-true (indexOf b) j (i .1);
+        bytes = eqb-true (usedOf b) used (u .1);
+        rest = r .1;
+      }
+
+  pub says-body : Body k j used b → soundBody k j used b ≡ true
+  unfolding soundBody
+  says-body s =
+      rw (
+        s .kind,
+        eq-eqb (groupOf b) k (s .number),
+        eq-eqb (indexOf b) j (s .index),
+        eq-eqb (usedOf b) used (s .bytes),
+      )
+      (s .rest)
+
+  -- the last test, at the place where the zeros begin
+  pub body-test : (from : ℕ) → from ≡ min (8 + used) 508 → isKind 2 b ≡ true → groupOf b ≡ k → indexOf b ≡ j → usedOf b ≡ used → allZero (take (508 - from) (drop from b)) ≡ soundBody k j used b
+  unfolding soundBody
+  body-test from e s n i u =
+      rw (s, eq-eqb (groupOf b) k n, eq-eqb (indexOf b) j i, eq-eqb (usedOf b) used u)
+      (elim (decLe used 500) [
+        | yes h ↦
+            let f : from ≡ 8 + used = omega arith in
+            let r : 508 - (8 + used) ≡ 500 - used = omega arith in
+            rw (f, r)
+        | no h ↦
+            let f : 508 - from ≡ 0 = omega arith in
+            let r : 500 - used ≡ 0 = omega arith in
+            rw (f, r)
+      ])
+
+  pub no-body : (Body k j used b → ⊥) → false ≡ soundBody k j used b
+  no-body n = refuted (soundBody k j used b) (λ e. n (body-says e))
 
 -- ## What is written is sound
 module _ (k ceiling lc la : ℕ) where
@@ -174,19 +265,15 @@ module _ (k j : ℕ) (chunk : List ℕ) (few : length chunk ≤ 500) where
   body-heads = other-kind 1 (bodyBlock k j chunk) (λ q. omega (arith, body-kind k j chunk few))
 
   pub body-sound : k < 256 ^ 4 → j < 256 → soundBody k j (length chunk) (bodyBlock k j chunk) ≡ true
-  unfolding soundBody
   body-sound n m =
-      rw (
-        says-kind 2 (bodyBlock k j chunk) (record {
+      says-body k j (length chunk) (bodyBlock k j chunk) (record {
+        kind = says-kind 2 (bodyBlock k j chunk) (record {
           whole = body-length k j chunk few;
           kind-is = body-kind k j chunk few;
           check = body-sealed k j chunk few;
-        }),
-        body-number k j chunk few n,
-        body-index k j chunk few m,
-        body-used k j chunk few,
-        eq-eqb k k refl,
-        eq-eqb j j refl,
-        eq-eqb (length chunk) (length chunk) refl,
-      )
-      (body-rest k j chunk few)
+        });
+        number = body-number k j chunk few n;
+        index = body-index k j chunk few m;
+        bytes = body-used k j chunk few;
+        rest = body-rest k j chunk few;
+      })

@@ -1,13 +1,14 @@
 // The journal's blocks: writing one, telling whether it is sound, walking from group to group, and reading a group's payload.
 // An area is 1 to 128 blocks of 512 bytes; whatever is no such area, and whatever part is no block, is refused as 4.
 ghost use mathlib.Core.Path.{_≡_};
-ghost use Prim.Native.Nat.{_*_, _-_, _≤_, min};
+ghost use Prim.Native.Nat.{_+_, _*_, _-_, _≤_, min};
 ghost use lib.ListN.{length, take, replicate};
 ghost use mathlib.Core.List.{_++_};
 ghost use Rattle.types.specs.Table.{answer};
 ghost use Rattle.crc.specs.Seal.{sealed};
-ghost use Rattle.journal.specs.Blocks.{chunkOf, opening, headerBlock, bodyBlock};
+ghost use Rattle.journal.specs.Blocks.{bodiesFor, chunkOf, opening, headerBlock, bodyBlock};
 ghost use Rattle.journal.specs.Area.{badLength, outside};
+ghost use Rattle.journal.specs.Sound.{allZero, isKind, heads, formed, soundHeader, soundBody};
 ghost use Rattle.journal.specs.Answers.{fill, writeBlock, blockOf, filledOf};
 
 // What writing a block answers.
@@ -74,7 +75,7 @@ pub fn write_header(
     if block.len() != 512 {
         return Filled::BadArea;
     }
-    let bodies = (cursor_len as u32 + attempt_len as u32 + 499) / 500;
+    let bodies = bodies_for(cursor_len, attempt_len);
     open_block(block, 1, (bodies % 256) as u8, 0, number);
     raw::write_u64(block, 8, ceiling);
     raw::write_u16(block, 16, cursor_len);
@@ -153,6 +154,122 @@ pub fn outside(len: usize, at: usize) -> bool
         return true;
     }
     len / 512 <= at
+}
+
+fn all_zero(bytes: &[u8]) -> bool
+    ensures { λ r. ⌜ r ≡ allZero (now (bytes .entry)) ⌝ }
+{
+    let mut i: usize = 0;
+    while i < bytes.len() {
+        if bytes[i] != 0 {
+            return false;
+        }
+        i += 1;
+    }
+    true
+}
+
+// Whether this is a block of that kind with a right check.
+fn is_kind(block: &[u8], kind: u8) -> bool
+    ensures { λ r. ⌜ r ≡ isKind kind (now (block .entry)) ⌝ }
+{
+    if block.len() != 512 {
+        return false;
+    }
+    if block[0] != kind {
+        return false;
+    }
+    crc::is_sealed(block)
+}
+
+// Whether a block has kind 1 and a right check.
+pub fn is_head(block: &[u8]) -> bool
+    ensures { λ r. ⌜ r ≡ heads (now (block .entry)) ⌝ }
+{
+    is_kind(block, 1)
+}
+
+// Whether a block is a header sound in all but its number and its fit.
+pub fn is_formed(block: &[u8]) -> bool
+    ensures { λ r. ⌜ r ≡ formed (now (block .entry)) ⌝ }
+{
+    if !is_head(block) {
+        return false;
+    }
+    if !all_zero(&block[2..4]) {
+        return false;
+    }
+    if !all_zero(&block[20..508]) {
+        return false;
+    }
+    let cursor_len = raw::read_u16(block, 16);
+    if cursor_len < 13 {
+        return false;
+    }
+    if 2061 < cursor_len {
+        return false;
+    }
+    let attempt_len = raw::read_u16(block, 18);
+    if attempt_len < 9 {
+        return false;
+    }
+    if 1545 < attempt_len {
+        return false;
+    }
+    let bodies = bodies_for(cursor_len, attempt_len);
+    if block[1] as u32 != bodies {
+        return false;
+    }
+    true
+}
+
+// Whether a block is the sound header of group `number` at block `at`, where no group may pass block `hi`.
+pub fn is_sound_header(block: &[u8], hi: usize, number: u64, at: usize) -> bool
+    ensures { λ r. ⌜ r ≡ soundHeader hi number at (now (block .entry)) ⌝ }
+{
+    if !is_formed(block) {
+        return false;
+    }
+    let group = raw::read_u32(block, 4) as u64;
+    if group != number {
+        return false;
+    }
+    if hi <= at {
+        return false;
+    }
+    if hi - at <= block[1] as usize {
+        return false;
+    }
+    true
+}
+
+// Whether a block is the sound body `index` of group `number`, with this many bytes used.
+pub fn is_sound_body(block: &[u8], number: u64, index: u8, used: u16) -> bool
+    ensures { λ r. ⌜ r ≡ soundBody number index used (now (block .entry)) ⌝ }
+{
+    if !is_kind(block, 2) {
+        return false;
+    }
+    let group = raw::read_u32(block, 4) as u64;
+    if group != number {
+        return false;
+    }
+    if block[1] != index {
+        return false;
+    }
+    let bytes = raw::read_u16(block, 2);
+    if bytes != used {
+        return false;
+    }
+    let from = lesser(8 + used as usize, 508);
+    all_zero(&block[from..508])
+}
+
+// Bodies for the two snapshots of a group.
+fn bodies_for(cursor_len: u16, attempt_len: u16) -> u32
+    ensures { λ r. ⌜ r ≡ bodiesFor («cursor_len» + «attempt_len») ⌝ }
+{
+    (cursor_len as u32 + attempt_len as u32 + 499) / 500
 }
 
 fn lesser(a: usize, b: usize) -> usize

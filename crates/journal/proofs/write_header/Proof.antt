@@ -1,5 +1,6 @@
 -- `journal::write_header` meets its contract: the first eight bytes, three fields behind them, and the check. Assumes nothing.
-use mathlib.Core.Path.{refl}
+use Prim.Native.Nat.{_%_}
+use mathlib.Core.Path.{ap}
 use borrow.Author.Needs.{needs}
 use Rattle.journal.proofs.Writer.{header-made, fill-whole, fill-refused}
 use Rattle.journal.proofs.write_header.Statement.{statement}
@@ -8,11 +9,8 @@ use Rattle.journal.proofs.write_header.Tie as tie
 returns : tie.Need-returns
 returns c = fill-refused _ _ (c .if1 .taken)
 
-add-bodies : tie.Need-add-bodies
-add-bodies c = search needs
-
-add-bodies-2 : tie.Need-add-bodies-2
-add-bodies-2 c = search needs
+bodies-for-requires : tie.Need-bodies-for-requires
+bodies-for-requires c κs = search needs
 
 cast-open-block : tie.Need-cast-open-block
 cast-open-block c = search needs
@@ -41,10 +39,14 @@ cursor-written c = c .before .before .before .before .before .before .before .be
 abbrev opened : tie.After-slice-known6 → tie.After-open-block
 opened c = cursor-written c .before .before .before .before .before .before .before .before
 
+abbrev counted : tie.After-slice-known6 → tie.After-bodies-for
+counted c = opened c .before .before
+
 returns-2 : tie.Need-returns-2
 returns-2 c =
-    fill-whole _ (opened c .before .before .before .before .args .block .now) _ (opened c .before .before .if1 .left)
-    (header-made _ _ _ _ _ _ _ _ _ _ _ _ _ refl
+    fill-whole _ _ _ (counted c .before .if1 .left)
+    (header-made _ _ _ _ _ _ _ _ _ _ _ _ _
+    (ap (λ n. n % 256) (counted c .bodies-for .ensures))
     (opened c .open-block .ensures)
     (cursor-written c .before .before .before .before .write-u64 .ensures)
     (cursor-written c .write-u16 .ensures)
@@ -56,8 +58,7 @@ write-header-spec =
     tie.close
     (tie.spec
     returns
-    add-bodies
-    add-bodies-2
+    bodies-for-requires
     cast-open-block
     open-block-requires
     write-u64-requires
