@@ -52,6 +52,13 @@ pub says-inside : (n i : ℕ) → Inside n i → outside n i ≡ false
 says-inside n i s = rw (says-whole n (s .area)) (lt-leb (n / 512) i (omega (arith, s .fits)))
 
 -- ## Blocks
+-- the part of the area from the first byte of a block to its last
+pub block-part : (a : List ℕ) (i : ℕ) → take (512 * i + 512 - 512 * i) (drop (512 * i) a) ≡ blockAt a i
+unfolding blockAt
+block-part a i =
+    let n : 512 * i + 512 - 512 * i ≡ 512 = omega arith in
+    rw n
+
 pub block-length : (a : List ℕ) (i : ℕ) → 512 * i + 512 ≤ length a → length (blockAt a i) ≡ 512
 unfolding blockAt
 block-length a i fits = simp (length-take, length-drop) (omega arith)

@@ -15,11 +15,11 @@ use borrow.Author.Tests.{ltb-true, ltb-false}
 use Rattle.types.proofs.Cases.{split}
 use Rattle.journal.specs.Area.{blockAt, Same}
 use Rattle.journal.specs.Blocks.{bodiesFor, usedIn, chunkOf, headerBlock, bodyBlock, contentOf, bodyCount, cursorLength, attemptLength, payloadLength}
-use Rattle.journal.specs.Walk.{firstUnsound, contents, payload}
+use Rattle.journal.specs.Walks.{firstUnsound, contents, payload}
 use Rattle.journal.proofs.Area.{block-length}
 use Rattle.journal.proofs.Blocks.{header-count, header-cursor, header-attempt, body-content}
 use Rattle.journal.proofs.Sound.{header-says, header-sound, body-sound}
-use Rattle.journal.proofs.Walk.{Group, unsoundAt}
+use Rattle.journal.proofs.Walks.{Group, unsoundAt}
 
 module _ (p : List ℕ) where
   pub chunk-few : (j : ℕ) → length (chunkOf j p) ≤ 500

@@ -1,6 +1,7 @@
 pub mod Area
 pub mod Blocks
 pub mod Sound
-pub mod Walk
+pub mod Walks
 pub mod Group
 mod Writer
+mod Walker

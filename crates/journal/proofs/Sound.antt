@@ -13,7 +13,7 @@ use lib.Seq.{drop-cons}
 use borrow.Author.Tests.{eqb-true, leb-true, eq-eqb, ne-eqb, le-leb}
 use Rattle.types.proofs.Cases.{split}
 use Rattle.crc.specs.Seal.{isSealed}
-use Rattle.journal.specs.Blocks.{bodiesFor, headerBlock, bodyBlock, kindOf, groupOf, bodyCount, cursorLength, attemptLength, payloadLength, indexOf, usedOf}
+use Rattle.journal.specs.Blocks.{bodiesFor, Counted, headerBlock, bodyBlock, kindOf, groupOf, bodyCount, cursorLength, attemptLength, payloadLength, indexOf, usedOf}
 use Rattle.journal.specs.Sound.{allZero, zerosAt, isKind, heads, formed, soundHeader, soundBody}
 use Rattle.journal.proofs.Blocks.{header-length, header-kind, header-sealed, header-zeros, header-rest, header-count, header-number, header-cursor, header-attempt, body-length, body-kind, body-sealed, body-index, body-used, body-number, body-rest}
 
@@ -125,6 +125,15 @@ formed-says b e =
       attempt-low = leb-true 9 (attemptLength b) (a₁ .1);
       attempt-high = leb-true (attemptLength b) 1545 (a₂ .1);
       count = eqb-true (bodyCount b) (bodiesFor (payloadLength b)) (n .1);
+    }
+
+-- so it counts 1 to 8 bodies
+pub formed-counted : (b : List ℕ) → Formed b → Counted (bodyCount b) (payloadLength b)
+formed-counted b f =
+    record {
+      count = f .count;
+      some-body = omega (arith, f .count, f .cursor-low);
+      most = omega (arith, f .count, f .cursor-high, f .attempt-high);
     }
 
 pub says-formed : (b : List ℕ) → Formed b → formed b ≡ true

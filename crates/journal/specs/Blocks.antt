@@ -1,6 +1,7 @@
 -- The two kinds of block, byte by byte, as 01 lays them down under "Journal": what is written, and the fields that are read
 -- back. A field holds the low bytes of its number.
-use Prim.Native.Nat.{ℕ, _+_, _*_, _-_, _/_}
+use Prim.Native.Nat.{ℕ, _+_, _*_, _-_, _/_, _≤_}
+use mathlib.Core.Path.{_≡_}
 use mathlib.Core.Bool.{cond}
 use mathlib.Core.List.{List, _∷_, _++_}
 use lib.Dec.{ltb}
@@ -11,6 +12,12 @@ use Rattle.crc.specs.Seal.{sealed}
 -- bodies for a payload of t bytes: 500 bytes to each but the last
 abbrev pub bodiesFor : ℕ → ℕ
 bodiesFor t = (t + 499) / 500
+
+-- n bodies for t bytes, 1 to 8 of them
+pub record Counted (n t : ℕ) : Type 0 where
+  pub count : n ≡ bodiesFor t
+  pub some-body : 1 ≤ n
+  pub most : n ≤ 8
 
 -- payload bytes in body j of n, counted from 1, of t in all
 abbrev pub usedIn : ℕ → ℕ → ℕ → ℕ

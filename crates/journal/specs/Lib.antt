@@ -1,5 +1,5 @@
 pub mod Area
 pub mod Blocks
 pub mod Sound
-pub mod Walk
+pub mod Walks
 pub mod Answers

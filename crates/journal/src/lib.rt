@@ -1,15 +1,16 @@
 // The journal's blocks: writing one, telling whether it is sound, walking from group to group, and reading a group's payload.
 // An area is 1 to 128 blocks of 512 bytes; whatever is no such area, and whatever part is no block, is refused as 4.
 ghost use mathlib.Core.Path.{_≡_};
-ghost use Prim.Native.Nat.{_+_, _*_, _-_, _≤_, min};
+ghost use Prim.Native.Nat.{suc, _+_, _*_, _-_, _≤_, _<_, min};
 ghost use lib.ListN.{length, take, replicate};
 ghost use mathlib.Core.List.{_++_};
 ghost use Rattle.types.specs.Table.{answer};
 ghost use Rattle.crc.specs.Seal.{sealed};
-ghost use Rattle.journal.specs.Blocks.{bodiesFor, chunkOf, opening, headerBlock, bodyBlock};
+ghost use Rattle.journal.specs.Blocks.{bodiesFor, Counted, usedIn, chunkOf, opening, headerBlock, bodyBlock};
 ghost use Rattle.journal.specs.Area.{badLength, outside};
 ghost use Rattle.journal.specs.Sound.{allZero, isKind, heads, formed, soundHeader, soundBody};
-ghost use Rattle.journal.specs.Answers.{fill, writeBlock, blockOf, filledOf};
+ghost use Rattle.journal.specs.Walks.{firstUnsound, orUnsound, groupAt};
+ghost use Rattle.journal.specs.Answers.{fill, writeBlock, walkIn, blockOf, filledOf, foundOf, walkedOf};
 
 // What writing a block answers.
 pub enum Filled {
@@ -29,6 +30,30 @@ pub enum Block {
         number: u32,
         index: u8,
     },
+}
+
+// The header block of the last group of a walk, if there was one.
+pub enum LastGroup {
+    At(usize),
+    None,
+}
+
+// What a walk answers: the last group, the number expected next, and the block where it would stand.
+pub enum Walked {
+    Stopped {
+        last: LastGroup,
+        number: u64,
+        block: usize,
+    },
+    BadArea,
+    Damaged(usize),
+}
+
+// What one turn of the walk finds: no sound header, an unsound body's block, or the block behind a sound group.
+enum Turn {
+    Nothing,
+    Unsound(usize),
+    Group(usize),
 }
 
 fn clear(bytes: &mut [u8])
@@ -270,6 +295,89 @@ fn bodies_for(cursor_len: u16, attempt_len: u16) -> u32
     ensures { λ r. ⌜ r ≡ bodiesFor («cursor_len» + «attempt_len») ⌝ }
 {
     (cursor_len as u32 + attempt_len as u32 + 499) / 500
+}
+
+// Bytes that body `index` of `bodies` is to use, of `total`.
+fn used_in(index: usize, bodies: usize, total: usize) -> u16
+    requires { ⌜ Counted bodies total ⌝ }
+    ensures { λ r. ⌜ r ≡ usedIn index bodies total ⌝ }
+{
+    if index < bodies {
+        return 500;
+    }
+    (total - 500 * (bodies - 1)) as u16
+}
+
+// The bodies of the group whose header stands at block `at`: the first unsound one, or the block behind them.
+fn bodies_at(area: &[u8], number: u64, at: usize, bodies: usize, total: usize) -> Turn
+    requires { ⌜ Counted bodies total × (512 * (at + 1 + bodies) ≤ length (now area)) ⌝ }
+    ensures { λ r. ⌜ foundOf r ≡ orUnsound (firstUnsound (now (area .entry)) number at bodies total bodies 1) (at + suc bodies) ⌝ }
+{
+    let mut j: usize = 1;
+    while j <= bodies {
+        let from = 512 * (at + j);
+        let to = from + 512;
+        let used = used_in(j, bodies, total);
+        if !is_sound_body(&area[from..to], number, j as u8, used) {
+            return Turn::Unsound(at + j);
+        }
+        j += 1;
+    }
+    Turn::Group(at + j)
+}
+
+// What stands at block `at`, where group `number` is expected: one turn of the walk.
+fn group_at(area: &[u8], hi: usize, number: u64, at: usize) -> Turn
+    requires { ⌜ (at < hi) × (512 * hi ≤ length (now area)) ⌝ }
+    ensures { λ r. ⌜ foundOf r ≡ groupAt (now (area .entry)) hi number at ⌝ }
+{
+    let from = 512 * at;
+    let to = from + 512;
+    let block = &area[from..to];
+    if !is_sound_header(block, hi, number, at) {
+        return Turn::Nothing;
+    }
+    let bodies = block[1] as usize;
+    let cursor_len = raw::read_u16(block, 16) as usize;
+    let attempt_len = raw::read_u16(block, 18) as usize;
+    bodies_at(area, number, at, bodies, cursor_len + attempt_len)
+}
+
+// The walk from a block on, where a number is expected first; no group may pass block `hi` or the area's end.
+pub fn walk(area: &[u8], hi: usize, first_number: u64, first_block: usize) -> Walked
+    ensures { λ r. ⌜ walkedOf r ≡ walkIn hi «first_number» «first_block» (now (area .entry)) ⌝ }
+{
+    if bad_length(area.len()) {
+        return Walked::BadArea;
+    }
+    let end = lesser(hi, area.len() / 512);
+    let mut last = LastGroup::None;
+    let mut number = first_number;
+    let mut at = first_block;
+    while at < end {
+        match group_at(area, end, number, at) {
+            Turn::Nothing => {
+                return Walked::Stopped {
+                    last: last,
+                    number: number,
+                    block: at,
+                };
+            }
+            Turn::Unsound(block) => {
+                return Walked::Damaged(block);
+            }
+            Turn::Group(behind) => {
+                last = LastGroup::At(at);
+                number += 1;
+                at = behind;
+            }
+        }
+    }
+    Walked::Stopped {
+        last: last,
+        number: number,
+        block: at,
+    }
 }
 
 fn lesser(a: usize, b: usize) -> usize

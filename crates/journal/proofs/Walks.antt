@@ -15,7 +15,7 @@ use Rattle.types.proofs.Cases.{split}
 use Rattle.journal.specs.Area.{blockAt, writeAt, Same}
 use Rattle.journal.specs.Blocks.{usedIn, bodyCount, payloadLength}
 use Rattle.journal.specs.Sound.{soundHeader, soundBody}
-use Rattle.journal.specs.Walk.{firstUnsound, Found, nothing, unsound, group, orUnsound, bodiesAt, groupAt, Stop, stop, damaged, after, walkOver, walkFrom, walk}
+use Rattle.journal.specs.Walks.{firstUnsound, Found, nothing, unsound, group, orUnsound, bodiesAt, groupAt, Stop, stop, damaged, after, walkOver, walkFrom, walk}
 use Rattle.journal.proofs.Area.{write-same, write-other, write-apart}
 use Rattle.journal.proofs.Sound.{Header, header-says, says-header}
 
@@ -36,7 +36,7 @@ module _ (a : List ℕ) (hi k i : ℕ) where
   unfolding groupAt
   says-nothing s = rw s
 
-  says-bodies : soundHeader hi k i (blockAt a i) ≡ true → groupAt a hi k i ≡ bodiesAt a k i
+  pub says-bodies : soundHeader hi k i (blockAt a i) ≡ true → groupAt a hi k i ≡ bodiesAt a k i
   unfolding groupAt
   says-bodies s = rw s
 
@@ -62,6 +62,13 @@ module _ (a : List ℕ) (hi k i : ℕ) where
   nothing-says = found-cases (λ f. f ≡ nothing → soundHeader hi k i (blockAt a i) ≡ false) (λ s p. s)
       (λ j s q p. absurd (let z : _≡_ {A = ℕ} 0 1 = cc in omega arith))
       (λ e g p. absurd (let z : _≡_ {A = ℕ} 0 1 = cc in omega arith))
+
+  pub group-says : (e : ℕ) → groupAt a hi k i ≡ group e → Group a hi k i e
+  group-says e =
+      found-cases (λ f. f ≡ group e → Group a hi k i e)
+      (λ s p. absurd (let z : _≡_ {A = ℕ} 0 1 = cc in omega arith))
+      (λ j s q p. absurd (let z : _≡_ {A = ℕ} 0 1 = cc in omega arith))
+      (λ x g p. let q : x ≡ e = cc in rw (← q) g)
 
   -- no group begins at the walk's end or behind it
   pub past-end : hi ≤ i → groupAt a hi k i ≡ nothing
