@@ -114,7 +114,7 @@ payload-same a a′ hi lo k i e s l g =
       contents-same a a′ lo e (bodiesFor (payloadLength (blockAt a i))) (suc i) s (omega arith) (omega arith),
     )
 
-contents-length : (a : List ℕ) (m x : ℕ) → 512 * (x + m) ≤ length a → length (contents a m x) ≡ 500 * m
+pub contents-length : (a : List ℕ) (m x : ℕ) → 512 * (x + m) ≤ length a → length (contents a m x) ≡ 500 * m
 contents-length a zero x h = refl
 contents-length a (suc m) x h =
     simp (length-append, length-take, length-drop)

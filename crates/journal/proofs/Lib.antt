@@ -5,3 +5,4 @@ pub mod Walks
 pub mod Group
 mod Writer
 mod Walker
+mod Reader

@@ -2,15 +2,15 @@
 // An area is 1 to 128 blocks of 512 bytes; whatever is no such area, and whatever part is no block, is refused as 4.
 ghost use mathlib.Core.Path.{_≡_};
 ghost use Prim.Native.Nat.{suc, _+_, _*_, _-_, _≤_, _<_, min};
-ghost use lib.ListN.{length, take, replicate};
+ghost use lib.ListN.{length, take, drop, replicate};
 ghost use mathlib.Core.List.{_++_};
 ghost use Rattle.types.specs.Table.{answer};
 ghost use Rattle.crc.specs.Seal.{sealed};
-ghost use Rattle.journal.specs.Blocks.{bodiesFor, Counted, usedIn, chunkOf, opening, headerBlock, bodyBlock};
+ghost use Rattle.journal.specs.Blocks.{bodiesFor, Counted, usedIn, chunkOf, opening, bodyBlock};
 ghost use Rattle.journal.specs.Area.{badLength, outside};
 ghost use Rattle.journal.specs.Sound.{allZero, isKind, heads, formed, soundHeader, soundBody};
-ghost use Rattle.journal.specs.Walks.{firstUnsound, orUnsound, groupAt};
-ghost use Rattle.journal.specs.Answers.{fill, writeBlock, walkIn, blockOf, filledOf, foundOf, walkedOf};
+ghost use Rattle.journal.specs.Walks.{firstUnsound, orUnsound, groupAt, contents};
+ghost use Rattle.journal.specs.Answers.{fill, writeBlock, walkIn, readPayload, headerIn, headerOf, blockOf, filledOf, foundOf, walkedOf, payloadOf};
 
 // What writing a block answers.
 pub enum Filled {
@@ -18,18 +18,20 @@ pub enum Filled {
     BadArea,
 }
 
-// A block to be written: the header of a group, or body `index`, from 1, of its payload.
+// What the header of a group says: its number, the generation ceiling, and the lengths of the cursor snapshot and of the
+// attempt snapshot.
+#[repr(C)]
+pub struct Header {
+    pub number: u32,
+    pub ceiling: u64,
+    pub cursor_len: u16,
+    pub attempt_len: u16,
+}
+
+// A block to be written: a header, or body `index`, from 1, of the payload.
 pub enum Block {
-    Header {
-        number: u32,
-        ceiling: u64,
-        cursor_len: u16,
-        attempt_len: u16,
-    },
-    Body {
-        number: u32,
-        index: u8,
-    },
+    Header(Header),
+    Body { number: u32, index: u8 },
 }
 
 // The header block of the last group of a walk, if there was one.
@@ -47,6 +49,13 @@ pub enum Walked {
     },
     BadArea,
     Damaged(usize),
+}
+
+// What reading a payload answers: the number of its bytes, or refusals 4 and 20.
+pub enum Payload {
+    Read(usize),
+    BadArea,
+    OutTooShort,
 }
 
 // What one turn of the walk finds: no sound header, an unsound body's block, or the block behind a sound group.
@@ -88,23 +97,17 @@ fn open_block(block: &mut [u8], kind: u8, second: u8, third: u16, number: u32)
 }
 
 // Fills a block with the header of a group.
-pub fn write_header(
-    block: &mut [u8],
-    number: u32,
-    ceiling: u64,
-    cursor_len: u16,
-    attempt_len: u16,
-) -> Filled
-    ensures { λ r. ⌜ answer (filledOf r) (now (block .exit)) ≡ fill (headerBlock number ceiling «cursor_len» «attempt_len») (now (block .entry)) ⌝ }
+pub fn write_header(block: &mut [u8], header: Header) -> Filled
+    ensures { λ r. ⌜ answer (filledOf r) (now (block .exit)) ≡ fill (headerOf header) (now (block .entry)) ⌝ }
 {
     if block.len() != 512 {
         return Filled::BadArea;
     }
-    let bodies = bodies_for(cursor_len, attempt_len);
-    open_block(block, 1, (bodies % 256) as u8, 0, number);
-    raw::write_u64(block, 8, ceiling);
-    raw::write_u16(block, 16, cursor_len);
-    raw::write_u16(block, 18, attempt_len);
+    let bodies = bodies_for(header.cursor_len, header.attempt_len);
+    open_block(block, 1, (bodies % 256) as u8, 0, header.number);
+    raw::write_u64(block, 8, header.ceiling);
+    raw::write_u16(block, 16, header.cursor_len);
+    raw::write_u16(block, 18, header.attempt_len);
     seal(block);
     Filled::Written
 }
@@ -142,18 +145,7 @@ pub fn write_block(area: &mut [u8], at: usize, block: Block, payload: &[u8]) -> 
     let from = 512 * at;
     let to = from + 512;
     match block {
-        Block::Header {
-            number,
-            ceiling,
-            cursor_len,
-            attempt_len,
-        } => write_header(
-            &mut area[from..to],
-            number,
-            ceiling,
-            cursor_len,
-            attempt_len,
-        ),
+        Block::Header(header) => write_header(&mut area[from..to], header),
         Block::Body { number, index } => write_body(&mut area[from..to], number, index, payload),
     }
 }
@@ -377,6 +369,61 @@ pub fn walk(area: &[u8], hi: usize, first_number: u64, first_block: usize) -> Wa
         last: last,
         number: number,
         block: at,
+    }
+}
+
+// Copies a payload of `total` bytes, which begins in the body at block `first`, to the front of `out`.
+fn copy_payload(area: &[u8], first: usize, total: usize, out: &mut [u8])
+    requires { ⌜ (512 * (first + bodiesFor total) ≤ length (now area)) × (total ≤ length (now out)) ⌝ }
+    ensures { λ _. ⌜ now (out .exit) ≡ take total (contents (now (area .entry)) (bodiesFor total) first) ++ drop total (now (out .entry)) ⌝ }
+{
+    let mut at = first;
+    let mut copied: usize = 0;
+    while copied < total {
+        let size = lesser(500, total - copied);
+        let from = 512 * at + 8;
+        let to = from + size;
+        raw::write_bytes(out, copied, &area[from..to]);
+        copied += size;
+        at += 1;
+    }
+}
+
+// Reads the payload of the group whose header stands at block `at` to the front of `out`, and answers how many bytes it has.
+pub fn read_payload(area: &[u8], at: usize, out: &mut [u8]) -> Payload
+    ensures { λ r. ⌜ answer (payloadOf r) (now (out .exit)) ≡ readPayload at (now (area .entry)) (now (out .entry)) ⌝ }
+{
+    if outside(area.len(), at) {
+        return Payload::BadArea;
+    }
+    let from = 512 * at;
+    let to = from + 512;
+    let header = read_header(&area[from..to]);
+    let total = header.cursor_len as usize + header.attempt_len as usize;
+    let bodies = bodies_for(header.cursor_len, header.attempt_len);
+    if outside(area.len(), at + bodies as usize) {
+        return Payload::BadArea;
+    }
+    if out.len() < total {
+        return Payload::OutTooShort;
+    }
+    copy_payload(area, at + 1, total, out);
+    Payload::Read(total)
+}
+
+// What a header says. Bytes that a part of another length lacks are read as zeros.
+pub fn read_header(block: &[u8]) -> Header
+    ensures { λ r. ⌜ r ≡ headerIn (now (block .entry)) ⌝ }
+{
+    let number = raw::read_u32(block, 4);
+    let ceiling = raw::read_u64(block, 8);
+    let cursor_len = raw::read_u16(block, 16);
+    let attempt_len = raw::read_u16(block, 18);
+    Header {
+        number: number,
+        ceiling: ceiling,
+        cursor_len: cursor_len,
+        attempt_len: attempt_len,
     }
 }
 
