@@ -1,5 +1,6 @@
-pub mod Bits
-pub mod Register
-pub mod Table
+mod Bits
+mod Register
+mod Table
+mod Loop
 pub mod Crc
 pub mod Seal

@@ -1,17 +1,16 @@
--- The register after a byte in one step. Fed its own first bits the register only moves; so what is fed to it can be
--- added to those bits first and passed through a register of zeros, whose end is then added to the moved rest.
--- Assumes nothing.
+-- The register after a whole byte. A register that is fed its own first bits only moves, so a byte can be added to
+-- those first, the sum be passed through a register of zeros, and the end added to what has moved. Assumes nothing.
 use Prim.Native.Nat.{ℕ, suc, _/_, _%_, _^_, _<_}
 use native.Mathlib.Omega.{arith}
 use mathlib.Core.Path.{_≡_, refl, sym, ap, ap₂, subst, _∙_}
-use mathlib.Core.Bool.{Bool, true, false, cond, not, xor}
+use mathlib.Core.Bool.{Bool, true, false, xor}
 use mathlib.Core.List.{List, [], _∷_, _++_, append-assoc, append-nil}
+use lib.Bits.{bitXor}
 use lib.ListN.{length, replicate, length-append}
 use lib.Seq.{append-snoc}
 use Rattle.types.proofs.Cases.{split}
-use Rattle.crc.proofs.Bits.{length-bits, bits-split, bits-xor, bits-low}
-use lib.Bits.{bitXor}
 use Rattle.crc.specs.Crc32c.{bits, xors, polynomial, shift, feedBits, feed}
+use Rattle.crc.proofs.Bits.{length-bits, bits-split, bits-xor, bits-low}
 
 xor-comm : (a b : Bool) → xor a b ≡ xor b a
 unfolding xor
@@ -48,12 +47,12 @@ xors-snoc [] (y ∷ b) e = absurd (omega arith)
 xors-snoc (x ∷ a) [] e = absurd (omega arith)
 xors-snoc (x ∷ a) (y ∷ b) e = ap (_∷_ (xor x y)) (xors-snoc a b (omega arith))
 
-pub length-xors : (a b : List Bool) → length (xors a b) ≡ length a
+length-xors : (a b : List Bool) → length (xors a b) ≡ length a
 length-xors [] b = refl
 length-xors (x ∷ a) [] = refl
 length-xors (x ∷ a) (y ∷ b) = ap suc (length-xors a b)
 
-pub length-shift : (r : List Bool) (d : Bool) → length (shift r d) ≡ length r
+length-shift : (r : List Bool) (d : Bool) → length (shift r d) ≡ length r
 length-shift [] d = refl
 length-shift (r ∷ rs) d =
     split (xor r d)
@@ -68,14 +67,15 @@ pub length-feed : (bytes : List ℕ) (r : List Bool) → length (feed r bytes) �
 length-feed [] r = refl
 length-feed (b ∷ bytes) r = length-feed bytes (feedBits r (bits 8 b)) ∙ length-feedBits (bits 8 b) r
 
--- a sum moves as its first part does, its second part only moving on
-sum-shift : (s r : List Bool) (a x d : Bool) → length s ≡ length r → shift (xors (a ∷ s) (x ∷ r)) d ≡ xors (shift (a ∷ s) (xor x d)) (r ++ false ∷ [])
+-- a sum of registers fed a bit: the second one's first bit goes with what is fed, and its others only move
+sum-shift : (s r : List Bool) (a x d : Bool) → length s ≡ length r
+    → shift (xors (a ∷ s) (x ∷ r)) d ≡ xors (shift (a ∷ s) (xor x d)) (r ++ false ∷ [])
 sum-shift s r a x d e =
     rw (xor-assoc, xors-snoc s r e)
-    (split (xor a (xor x d)) (λ t. rw (t, xors-swap)) (λ t. rw t))
+    (split (xor a (xor x d)) (λ t. rw t (xors-swap (s ++ false ∷ []) (r ++ false ∷ []) polynomial)) (λ t. rw t))
 
--- of a register `x ++ y` fed as many bits as x has: those are added to x first
-pub sum-feed : (x d y s : List Bool) → length d ≡ length x → length s ≡ length (x ++ y)
+-- the same for as many bits as x has
+sum-feed : (x d y s : List Bool) → length d ≡ length x → length s ≡ length (x ++ y)
     → feedBits (xors s (x ++ y)) d ≡ xors (feedBits s (xors x d)) (y ++ replicate (length x) false)
 sum-feed [] [] y s e f = rw append-nil
 sum-feed [] (d ∷ ds) y s e f = absurd (omega arith)
@@ -83,7 +83,8 @@ sum-feed (x ∷ xs) [] y s e f = absurd (omega arith)
 sum-feed (x ∷ xs) (d ∷ ds) y [] e f = absurd (omega arith)
 sum-feed (x ∷ xs) (d ∷ ds) y (a ∷ s) e f =
     let l : suc (length s) ≡ length (xs ++ (y ++ false ∷ [])) = simp length-append (omega (arith, simp length-append at f)) in
-    rw (sum-shift s (xs ++ y) a x d (omega arith), append-assoc xs y (false ∷ []), ← append-snoc y false (replicate (length xs) false))
+    let m : length s ≡ length (xs ++ y) = omega arith in
+    rw (sum-shift s (xs ++ y) a x d m, append-assoc xs y (false ∷ []), ← append-snoc y false (replicate (length xs) false))
     (sum-feed xs ds (y ++ false ∷ []) (shift (a ∷ s) (xor x d)) (omega arith) (length-shift (a ∷ s) (xor x d) ∙ l))
 
 -- a register of zeros
@@ -107,7 +108,7 @@ moved n h =
     let top : n / 256 / 2 ^ 24 ≡ 0 = omega arith in
     bits-split 24 8 (n / 256) ∙ ap (λ (t : ℕ). bits 24 (n / 256) ++ bits 8 t) top
 
--- a byte: its sum with the low byte of the register goes through a register of zeros, and the others move down
+-- a byte is fed: its sum with the register's low byte goes through zeros, and the bytes above move down
 pub byte-step : (n b : ℕ) → n < 2 ^ 32
     → feedBits (bits 32 n) (bits 8 b) ≡ xors (feedBits zeros (bits 8 (bitXor n b % 256))) (bits 32 (n / 256))
 unfolding zeros
@@ -117,7 +118,8 @@ byte-step n b h =
     let parts : bits 32 n ≡ x ++ y = bits-split 8 24 n in
     let full : length (x ++ y) ≡ 32 = ap length (sym parts) ∙ length-bits 32 n in
     let low : xors x (bits 8 b) ≡ bits 8 (bitXor n b % 256) = sym (bits-low 8 (bitXor n b) ∙ bits-xor 8 n b) in
-    let fed : feedBits (xors zeros (x ++ y)) (bits 8 b) ≡ xors (feedBits zeros (xors x (bits 8 b))) (y ++ replicate (length x) false) =
-    sum-feed x (bits 8 b) y zeros (length-bits 8 b ∙ sym (length-bits 8 n)) (sym full) in
-    ap (λ (r : List Bool). feedBits r (bits 8 b)) (parts ∙ sym (from-zeros (x ++ y) full)) ∙ fed
-    ∙ ap₂ (λ (s t : List Bool). xors (feedBits zeros s) t) low (ap (λ (k : ℕ). y ++ replicate k false) (length-bits 8 n) ∙ sym (moved n h))
+    let rest : y ++ replicate (length x) false ≡ bits 32 (n / 256) =
+    ap (λ (k : ℕ). y ++ replicate k false) (length-bits 8 n) ∙ sym (moved n h) in
+    ap (λ (r : List Bool). feedBits r (bits 8 b)) (parts ∙ sym (from-zeros (x ++ y) full))
+    ∙ sum-feed x (bits 8 b) y zeros (length-bits 8 b ∙ sym (length-bits 8 n)) (sym full)
+    ∙ ap₂ (λ (s t : List Bool). xors (feedBits zeros s) t) low rest

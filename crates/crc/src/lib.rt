@@ -4,7 +4,7 @@ ghost use Rattle.crc.specs.Crc32c.{bits, feedBits, crc, crcFrom};
 ghost use Rattle.crc.specs.Table.{Remainders};
 ghost use Rattle.crc.specs.Seal.{isSealed};
 
-// The register after each byte has passed through it, from a register of zeros.
+// For each byte, the register after it has passed through a register of zeros.
 const TABLE: [u32; 256] = [
     0x00000000,
     0xf26b8303,
@@ -285,7 +285,7 @@ pub fn crc32c_append(before: u32, bytes: &[u8]) -> u32
     register ^ 0xffff_ffff
 }
 
-// The register after one byte more.
+// The register after one byte more: the table has what the byte and the register's low byte come to together.
 fn after_byte(table: &[u32; 256], register: u32, byte: u8) -> u32
     requires { ⌜ Remainders (now table) ⌝ }
     ensures { λ r. ⌜ bits 32 r ≡ feedBits (bits 32 register) (bits 8 byte) ⌝ }

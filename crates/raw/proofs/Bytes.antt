@@ -9,24 +9,9 @@ use mathlib.Core.List.{List, [], _∷_, _++_, append-assoc}
 use mir.Syntax.{w8}
 use mir.Val.{Fits}
 use lib.ListN.{length, take, drop, getD, set, length-append, length-take, length-drop, take-append-drop, drop-of-length-le}
-use lib.Seq.{
-  sets,
-  sets-eq,
-  set-comm,
-  length-take-le,
-  take-at,
-  take-nil,
-  take-take,
-  take-append-le,
-  take-append-seam,
-  drop-at,
-  drop-nil,
-  drop-drop,
-  drop-append-le,
-  drop-append-add,
-  getD-take,
-  getD-drop,
-}
+use lib.Seq.{sets, sets-eq, set-comm, length-take-le, getD-take, getD-drop}
+use lib.Seq.{take-at, take-nil, take-take, take-append-le, take-append-seam}
+use lib.Seq.{drop-at, drop-nil, drop-drop, drop-append-le, drop-append-add}
 use borrow.Author.Tests.{lt-ltb, le-ltb}
 use Rattle.types.specs.Refusal.{Result, refused, done}
 use Rattle.types.specs.Refusal as refusal
@@ -105,6 +90,14 @@ part-front k zero l = rw zero-add
 part-front k (suc q) [] = rw (take-nil, take-nil, drop-nil)
 part-front k (suc q) (x ∷ l) = rw (suc-add, part-front k q l)
 
+-- one byte is a number
+pub number-byte : (pos : ℕ) (bs : List ℕ) → numberAt 1 pos bs ≡ getD bs pos 0
+number-byte pos bs = one (drop pos bs) ∙ getD-drop pos bs 0 0 ∙ rw add-zero
+  where
+    one : (l : List ℕ) → unle (take 1 l) ≡ getD l 0 0
+    one [] = refl
+    one (b ∷ l) = omega arith
+
 pub number-lt : (k pos : ℕ) (bs : List ℕ) → IsBytes bs → numberAt k pos bs < 256 ^ k
 number-lt k pos bs p =
     let part : List ℕ = take k (drop pos bs) in
@@ -114,14 +107,6 @@ number-lt k pos bs p =
 
 pub number-past : (k pos : ℕ) (bs : List ℕ) → length bs ≤ pos → numberAt k pos bs ≡ 0
 number-past k pos bs h = rw (drop-of-length-le bs h, take-nil)
-
--- one byte is a number
-pub number-byte : (pos : ℕ) (bs : List ℕ) → numberAt 1 pos bs ≡ getD bs pos 0
-number-byte pos bs = one (drop pos bs) ∙ getD-drop pos bs 0 0 ∙ rw add-zero
-  where
-    one : (l : List ℕ) → unle (take 1 l) ≡ getD l 0 0
-    one [] = refl
-    one (b ∷ l) = omega arith
 
 -- in the first of two lists, in the second, at their seam, and in a part
 pub number-append-left : (k q : ℕ) (a b : List ℕ) → q + k ≤ length a → numberAt k q (a ++ b) ≡ numberAt k q a

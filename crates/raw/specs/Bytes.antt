@@ -45,6 +45,7 @@ write pos new bs =
     guarded (ltb (length bs) (pos + length new) ⇒ refusal.OutTooShort ∷ []) bs
     (answer (done (pos + length new)) (overwrite pos new bs))
 
+-- what the code's answer says
 abbrev pub outcomeOf : Write → Result ℕ
 outcomeOf (Next pos) = done pos
 outcomeOf OutTooShort = refused refusal.OutTooShort
