@@ -26,11 +26,11 @@ there c = sym (c .before .outside .ensures) ∙ c .if1 .left
 inside : (c : tie.Else1) → Inside (length (start c .args .area .now)) (start c .args .at)
 inside c = inside-says _ _ (there c)
 
-mul-from : tie.Need-mul-from
-mul-from c = omega (arith, inside c .fits)
+mul-start : tie.Need-mul-start
+mul-start c = omega (arith, inside c .fits)
 
-add-to : tie.Need-add-to
-add-to c = omega (arith, inside c .fits)
+add-end : tie.Need-add-end
+add-end c = omega (arith, inside c .fits)
 
 enum-known-block : tie.Need-enum-known-block
 enum-known-block c = search needs
@@ -84,8 +84,8 @@ write-block-spec =
     (tie.spec
     outside-requires
     returns
-    mul-from
-    add-to
+    mul-start
+    add-end
     enum-known-block
     sub-write-header
     part-write-header-start
