@@ -1,5 +1,6 @@
-// The journal's blocks: writing one, telling whether it is sound, walking from group to group, and reading a group's payload.
-// An area is 1 to 128 blocks of 512 bytes; whatever is no such area, and whatever part is no block, is refused as 4.
+// The journal's blocks: writing one, telling whether it is sound, walking from group to group, and reading a group's
+// payload. An area is 1 to 128 blocks of 512 bytes; whatever is no such area, and whatever part is no block, is
+// refused as 4.
 ghost use mathlib.Core.Path.{_≡_};
 ghost use Prim.Native.Nat.{suc, _+_, _*_, _-_, _≤_, _<_, min};
 ghost use lib.ListN.{length, take, drop, replicate};
@@ -12,8 +13,8 @@ ghost use Rattle.journal.specs.Sound.{allZero, isKind, heads, formed, so
 ghost use Rattle.journal.specs.Walks.{firstUnsound, orUnsound, groupAt, contents};
 ghost use Rattle.journal.specs.Answers.{fill, writeBlock, walkIn, readPayload, headerIn, headerOf, blockOf, filledOf, foundOf, walkedOf, payloadOf};
 
-// What the header of a group says: its number, the generation ceiling, and the lengths of the cursor snapshot and of the
-// attempt snapshot.
+// What the header of a group says: its number, the generation ceiling, and the lengths of the cursor snapshot and of
+// the attempt snapshot.
 #[repr(C)]
 pub struct Header {
     pub number: u32,
@@ -400,7 +401,8 @@ fn copy_payload(area: &[u8], first: usize, total: usize, out: &mut [u8])
     }
 }
 
-// Reads the payload of the group whose header stands at block `at` to the front of `out`, and answers how many bytes it has.
+// Reads the payload of the group whose header stands at block `at` to the front of `out`, and answers how many bytes
+// it has.
 pub fn read_payload(area: &[u8], at: usize, out: &mut [u8]) -> Payload
     ensures { λ r. ⌜ answer (payloadOf r) (now (out .exit)) ≡ readPayload at (now (area .entry)) (now (out .entry)) ⌝ }
 {
