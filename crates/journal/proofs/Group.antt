@@ -97,30 +97,32 @@ module _ (a : List ℕ) (k i : ℕ) (p : List ℕ) (bodies : Bodies a k i p) whe
 -- group k stands whole at block i of an area: its header, with a ceiling and the lengths of the two snapshots, and
 -- the bodies of its payload
 pub record Written (a : List ℕ) (k i ceiling lc la : ℕ) (p : List ℕ) : Type 0 where
-  pub number : k < 256 ^ 4
-  pub allowed : Lengths lc la
   pub total : length p ≡ lc + la
   pub header : blockAt a i ≡ headerBlock k ceiling lc la
   pub bodies : Bodies a k i p
 
-module _ (a : List ℕ) (k i ceiling lc la : ℕ) (p : List ℕ) (w : Written a k i ceiling lc la p) where
+module _ (a : List ℕ) (k i ceiling lc la : ℕ) (p : List ℕ) (w : Written a k i ceiling lc la p)
+    (c₁ : 13 ≤ lc) (c₂ : lc ≤ 2061) (a₁ : 9 ≤ la) (a₂ : la ≤ 1545) where
   length-is : payloadLength (blockAt a i) ≡ length p
   length-is =
-      let c = header-cursor k ceiling lc la (omega (arith, w .allowed)) in
-      let t = header-attempt k ceiling lc la (omega (arith, w .allowed)) in
+      let c = header-cursor k ceiling lc la (omega arith) in
+      let t = header-attempt k ceiling lc la (omega arith) in
       rw (w .header) (omega (arith, c, t, w .total))
 
   count-is : bodyCount (blockAt a i) ≡ bodiesFor (length p)
-  count-is = rw (w .header, w .total) (header-count k ceiling lc la (omega (arith, w .allowed)))
+  count-is = rw (w .header, w .total) (header-count k ceiling lc la (omega arith))
 
   few-bodies : bodiesFor (length p) ≤ 8
-  few-bodies = omega (arith, w .allowed, w .total)
+  few-bodies = omega (arith, w .total)
 
-  pub group-written : (hi : ℕ) → i + suc (bodiesFor (length p)) ≤ hi
+  allowed : Lengths lc la
+  allowed = record { cursor-low = c₁; cursor-high = c₂; attempt-low = a₁; attempt-high = a₂ }
+
+  pub group-written : (hi : ℕ) → k < 256 ^ 4 → i + suc (bodiesFor (length p)) ≤ hi
       → Group a hi k i (i + suc (bodiesFor (length p)))
-  group-written hi h =
-      let s = header-sound k ceiling lc la (w .allowed) hi i (w .number) (omega (arith, w .total)) in
-      let b = bodies-sound a k i p (w .bodies) (w .number) (omega (arith, few-bodies)) (bodiesFor (length p)) 0 in
+  group-written hi n h =
+      let s = header-sound k ceiling lc la allowed hi i n (omega (arith, w .total)) in
+      let b = bodies-sound a k i p (w .bodies) n (omega (arith, few-bodies)) (bodiesFor (length p)) 0 in
       record {
         header = rw (w .header) (header-says hi k i (headerBlock k ceiling lc la) s);
         bodies = rw (count-is, length-is) (b (omega arith));
@@ -139,20 +141,23 @@ module _ (a a′ : List ℕ) (hi lo k₀ : ℕ) (l : Option ℕ) (k e ceiling lc
     (ends : walk a hi k₀ lo ≡ stop l k e)
     (same : Same a a′ lo e)
     (w : Written a′ k e ceiling lc la p)
+    (c₁ : 13 ≤ lc) (c₂ : lc ≤ 2061) (a₁ : 9 ≤ la) (a₂ : la ≤ 1545)
+    (n : k < 256 ^ 4)
     (fits : e + suc (bodiesFor (length p)) ≤ hi) where
   abbrev end : ℕ
   end = e + suc (bodiesFor (length p))
 
+  whole : Group a′ hi k e end
+  whole = group-written a′ k e ceiling lc la p w c₁ c₂ a₁ a₂ hi n fits
+
   -- in general the walk passes the group and goes on behind it
   pub written-passes : walk a′ hi k₀ lo ≡ walkFrom a′ hi (some e) (suc k) end
-  written-passes =
-      walk-passes a a′ hi lo k₀ l k e ends end same (group-written a′ k e ceiling lc la p w hi fits)
+  written-passes = walk-passes a a′ hi lo k₀ l k e ends end same whole
 
   -- where no sound header of the next number stands there, it is longer by just that group
   pub written-longer : soundHeader hi (suc k) end (blockAt a′ end) ≡ false
       → walk a′ hi k₀ lo ≡ stop (some e) (suc k) end
-  written-longer =
-      walk-longer a a′ hi lo k₀ l k e ends end same (group-written a′ k e ceiling lc la p w hi fits)
+  written-longer = walk-longer a a′ hi lo k₀ l k e ends end same whole
 
 -- ## The payload of any group
 contents-same : (a a′ : List ℕ) (lo e m x : ℕ) → Same a a′ lo e → lo ≤ x → x + m ≤ e

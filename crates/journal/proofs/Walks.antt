@@ -158,7 +158,7 @@ module _ (a : List ℕ) (hi : ℕ) where
   -- the last group of a walk that began behind `last`: that one, or a later one
   pub data LastIs (last : Option ℕ) (k i : ℕ) (l : Option ℕ) (k′ e : ℕ) : Type 0 where
     at-once : l ≡ last → k′ ≡ k → e ≡ i → LastIs last k i l k′ e
-    later : (h m : ℕ) → l ≡ some h → k′ ≡ suc m → k ≤ m → i ≤ h → Group a hi m h e → LastIs last k i l k′ e
+    behind : (h m : ℕ) → l ≡ some h → k′ ≡ suc m → k ≤ m → i ≤ h → Group a hi m h e → LastIs last k i l k′ e
 
   pub record Ended (last : Option ℕ) (k i : ℕ) (l : Option ℕ) (k′ e : ℕ) : Type 0 where
     pub rises : i ≤ e
@@ -170,8 +170,8 @@ module _ (a : List ℕ) (hi : ℕ) where
 
   last-behind : (last : Option ℕ) (k i e₁ : ℕ) (l : Option ℕ) (k′ e : ℕ) → Group a hi k i e₁
       → LastIs (some i) (suc k) e₁ l k′ e → LastIs last k i l k′ e
-  last-behind last k i e₁ l k′ e g (at-once p q r) = later i k p q (omega arith) (omega arith) (rw r g)
-  last-behind last k i e₁ l k′ e g (later h m p q r s t) = later h m p q (omega arith) (omega (arith, g .behind)) t
+  last-behind last k i e₁ l k′ e g (at-once p q r) = behind i k p q (omega arith) (omega arith) (rw r g)
+  last-behind last k i e₁ l k′ e g (behind h m p q r s t) = behind h m p q (omega arith) (omega (arith, g .behind)) t
 
   pub walk-ended : (last : Option ℕ) (k i : ℕ) (l : Option ℕ) (k′ e : ℕ) → walkFrom a hi last k i ≡ stop l k′ e
       → Ended last k i l k′ e
@@ -332,30 +332,32 @@ module _ (a a′ : List ℕ) (hi lo k₀ : ℕ) where
         walk-passes e′ s g ∙ walk-turn a′ hi (some e) (suc k) e′ ∙ rw (says-nothing a′ hi (suc k) e′ n)
 
 -- ## A block written
-module _ (a : List ℕ) (i : ℕ) (b : List ℕ) (fits : 512 * i + 512 ≤ length a) (whole : length b ≡ 512) where
-  module _ (hi lo k₀ : ℕ) (l : Option ℕ) (k e : ℕ) (ends : walk a hi k₀ lo ≡ stop l k e) (out : i < e → i < lo) where
-    -- behind the groups, or in front of the first, it leaves the walk as it was, unless it is the sound header
-    -- expected
-    pub walk-write : (i ≡ e → soundHeader hi k e b ≡ false) → walk (writeAt a i b) hi k₀ lo ≡ stop l k e
-    walk-write n =
-        walk-kept a (writeAt a i b) hi lo k₀ l k e ends (write-apart a i b fits whole lo e out)
-        (elim (ℕ-discrete e i) [
-          | yes q ↦ rw (q, write-same a i b fits whole) (rw q at (n (sym q)))
-          | no q ↦ rw (write-other a i b fits whole e q) (walk-ended a hi none k₀ lo l k e ends .no-header)
-        ])
+-- behind the groups, or in front of the first, it leaves the walk as it was, unless it is the sound header expected
+module _ (a : List ℕ) (hi lo k₀ : ℕ) (l : Option ℕ) (k e i : ℕ) (b : List ℕ)
+    (fits : 512 * i + 512 ≤ length a)
+    (whole : length b ≡ 512)
+    (ends : walk a hi k₀ lo ≡ stop l k e)
+    (out : i < e → i < lo) where
+  pub walk-write : (i ≡ e → soundHeader hi k e b ≡ false) → walk (writeAt a i b) hi k₀ lo ≡ stop l k e
+  walk-write n =
+      walk-kept a (writeAt a i b) hi lo k₀ l k e ends (write-apart a i b fits whole lo e out)
+      (elim (ℕ-discrete e i) [
+        | yes q ↦ rw (q, write-same a i b fits whole) (rw q at (n (sym q)))
+        | no q ↦ rw (write-other a i b fits whole e q) (walk-ended a hi none k₀ lo l k e ends .no-header)
+      ])
 
-    -- so does a body, a block whose check fails, or one of zeros
-    pub walk-write-headless : heads b ≡ false → walk (writeAt a i b) hi k₀ lo ≡ stop l k e
-    walk-write-headless n = walk-write (λ q. headless hi k e b n)
+  -- so a body, a block whose check fails and one of zeros leave it as it was
+  pub walk-write-headless : heads b ≡ false → walk (writeAt a i b) hi k₀ lo ≡ stop l k e
+  walk-write-headless n = walk-write (λ q. headless hi k e b n)
 
-  -- which makes no block a header, wherever it is written
-  pub write-headless : heads b ≡ false → (j : ℕ) → heads (blockAt a j) ≡ false
-      → heads (blockAt (writeAt a i b) j) ≡ false
-  write-headless n j h =
-      elim (ℕ-discrete j i) [
-        | yes q ↦ rw (q, write-same a i b fits whole) n
-        | no q ↦ rw (write-other a i b fits whole j q) h
-      ]
+-- one that is no header makes no block a header, wherever it is written
+pub write-headless : (a : List ℕ) (i : ℕ) (b : List ℕ) → 512 * i + 512 ≤ length a → length b ≡ 512 → heads b ≡ false
+    → (j : ℕ) → heads (blockAt a j) ≡ false → heads (blockAt (writeAt a i b) j) ≡ false
+write-headless a i b fits whole n j h =
+    elim (ℕ-discrete j i) [
+      | yes q ↦ rw (q, write-same a i b fits whole) n
+      | no q ↦ rw (write-other a i b fits whole j q) h
+    ]
 
 -- over zeros a walk ends where it begins
 pub walk-zeros : (a : List ℕ) (hi k i : ℕ) → allZero a ≡ true → walk a hi k i ≡ stop none k i
