@@ -1,0 +1,6 @@
+pub mod Area
+pub mod Blocks
+pub mod Sound
+pub mod Walks
+pub mod Answers
+pub mod Examples
