@@ -9,7 +9,7 @@ use mathlib.Core.Option.{Option, none, some, Option·none-ne-some}
 use lib.Dec.{ltb, eqb}
 use lib.ListN.{length}
 use borrow.Author.Tests.{ltb-true, ltb-false, eqb-true, eqb-false, eq-eqb, ne-eqb}
-use Rattle.types.specs.Keyed.{Entry, entry, lookup, put, delete, dropBelow, anyBelow, Rising, All}
+use Rattle.types.specs.Keyed.{Entry, entry, lookup, put, update, delete, dropBelow, anyBelow, Rising, All, mapValues}
 use Rattle.types.proofs.Cases.{split}
 
 eqb-move : (j k x : ℕ) → eqb j k ≡ false → eqb k x ≡ true → eqb j x ≡ false
@@ -138,3 +138,35 @@ module _ {A : Type 0} where
         (λ t. absurd (Option·none-ne-some v (sym (lookup-under (suc (e .key)) o l (r .1) (omega (arith, eqb-true o (e .key) t))) ∙ q)))
         (λ t. rw t q))),
   )
+
+  pub lookup-all : (P : ℕ → A → Type 0) (k : ℕ) (v : A) (l : List (Entry A)) → All P l → lookup k l ≡ some v → P k v
+  lookup-all P k v [] a h = absurd (Option·none-ne-some v h)
+  lookup-all P k v (e ∷ l) a h =
+      split (eqb k (e .key))
+      (λ q. let w : some (e .value) ≡ some v = rw q at h in let u : e .value ≡ v = cc in rw (eqb-true k (e .key) q, ← u) (a .0))
+      (λ q. lookup-all P k v l (a .1) (rw q at h))
+
+  pub all-put : (P : ℕ → A → Type 0) (k : ℕ) (v : A) (l : List (Entry A)) → P k v → All P l → All P (put k v l)
+  all-put P k v [] p a = (p, tt)
+  all-put P k v (e ∷ l) p a =
+      split (ltb k (e .key))
+      (λ t. rw t (p, a))
+      (λ t. split (eqb k (e .key)) (λ q. rw (t, q) (p, a .1)) (λ q. rw (t, q) (a .0, all-put P k v l p (a .1))))
+
+  pub all-delete : (P : ℕ → A → Type 0) (k : ℕ) (l : List (Entry A)) → All P l → All P (delete k l)
+  all-delete P k [] a = tt
+  all-delete P k (e ∷ l) a = split (eqb k (e .key)) (λ q. rw q (all-delete P k l (a .1))) (λ q. rw q (a .0, all-delete P k l (a .1)))
+
+  pub all-dropBelow : (P : ℕ → A → Type 0) (b : ℕ) (l : List (Entry A)) → All P l → All P (dropBelow b l)
+  all-dropBelow P b [] a = tt
+  all-dropBelow P b (e ∷ l) a = split (ltb (e .key) b) (λ q. rw q (all-dropBelow P b l (a .1))) (λ q. rw q (a .0, all-dropBelow P b l (a .1)))
+
+  -- ## a value changed in its place is the value put there
+  pub update-put : (lo k : ℕ) (f : A → A) (v : A) (l : List (Entry A)) → Rising lo l → lookup k l ≡ some v → update k f l ≡ put k (f v) l
+  update-put lo k f v [] r h = absurd (Option·none-ne-some v h)
+  update-put lo k f v (e ∷ l) r h =
+      split (ltb k (e .key))
+      (λ t. absurd (Option·none-ne-some v (sym (lookup-under (e .key) k (e ∷ l) (omega arith, r .1) (ltb-true k (e .key) t)) ∙ h)))
+      (λ t. split (eqb k (e .key))
+      (λ q. let w : some (e .value) ≡ some v = rw q at h in let u : e .value ≡ v = cc in rw (t, q, u, eqb-true k (e .key) q))
+      (λ q. rw (t, q) (ap (λ (m : List (Entry A)). e ∷ m) (update-put (suc (e .key)) k f v l (r .1) (rw q at h)))))

@@ -2,3 +2,5 @@ pub mod Cases
 pub mod Table
 pub mod Keyed
 pub mod Shift
+pub mod Sorted
+pub mod Columns

@@ -3,3 +3,5 @@ pub mod Identifiers
 pub mod Refusal
 pub mod Table
 pub mod Keyed
+pub mod Sorted
+pub mod Lists
