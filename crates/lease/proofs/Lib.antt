@@ -1,1 +1,5 @@
 pub mod Shifted
+pub mod Valid
+pub mod Slots
+pub mod Returns
+pub mod Tokens

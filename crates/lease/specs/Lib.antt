@@ -4,3 +4,4 @@ pub mod Claim
 pub mod Counts
 pub mod Rest
 pub mod Answers
+pub mod Columns

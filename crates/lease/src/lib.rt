@@ -11,6 +11,7 @@ ghost use Rattle.lease.specs.Claim.{claim, ack, extend, nack, capFrom, d
 ghost use Rattle.lease.specs.Rest.{attemptsFlushed, releaseBelow, resealFromTo, deferRedelivery, shiftDeadlines, inFlight, isClaimable, deliveries, holdsActive, pendingRedeliveryAttempt, expired};
 ghost use Rattle.lease.specs.Counts.{resumeAttempts, attemptCounts, allAttemptCounts};
 ghost use Rattle.lease.specs.Answers.{claimOf, ackOf, extendOf, nackOf, resumeOf, listedOf, attemptsOf, Answers, Tries, Becomes};
+use columns::Place;
 use types::Generation;
 use types::Offset;
 
@@ -280,5 +281,74 @@ impl LeaseTable {
         ensures { λ r. ⌜ r ≡ inFlight (view self) ⌝ }
     {
         self.len
+    }
+
+    // Acks the lease that the token owns: the message is in flight no longer.
+    pub fn ack(mut self, token: LeaseToken) -> Acked
+        requires { ⌜ Sound self ⌝ }
+        ensures { λ r. ⌜ Answers (ackOf (r .outcome)) self (r .table) (ack (view self) (token .offset .0) (token .generation .0)) ⌝ }
+    {
+        let len = self.len;
+        let place = columns::find(&self.offsets, len, token.offset.0);
+        let Place::Found(at) = place else {
+            return Acked {
+                outcome: AckOutcome::Fenced,
+                table: self,
+            };
+        };
+        if self.leases[at].generation.0 != token.generation.0 {
+            return Acked {
+                outcome: AckOutcome::Fenced,
+                table: self,
+            };
+        }
+        columns::remove_64(&mut self.offsets, len, at, at + 1);
+        let mut i = at;
+        let mut j = at + 1;
+        while j < len {
+            let next = self.leases[j];
+            self.leases[i] = next;
+            i += 1;
+            j += 1;
+        }
+        self.len = len - 1;
+        Acked {
+            outcome: AckOutcome::Acked,
+            table: self,
+        }
+    }
+
+    // Extends the lease that the token owns by one visibility window from now, within the hard cap of its attempt.
+    pub fn extend(mut self, token: LeaseToken, now: u64) -> Extended
+        requires { ⌜ Sound self ⌝ }
+        ensures { λ r. ⌜ Answers (extendOf (r .outcome)) self (r .table) (extend (view self) (token .offset .0) (token .generation .0) now) ⌝ }
+    {
+        let place = columns::find(&self.offsets, self.len, token.offset.0);
+        let Place::Found(at) = place else {
+            return Extended {
+                outcome: ExtendOutcome::Fenced,
+                table: self,
+            };
+        };
+        let lease = self.leases[at];
+        if lease.generation.0 != token.generation.0 {
+            return Extended {
+                outcome: ExtendOutcome::Fenced,
+                table: self,
+            };
+        }
+        let cap = self.config.cap(lease.attempt_start);
+        if cap <= now {
+            return Extended {
+                outcome: ExtendOutcome::CapReached,
+                table: self,
+            };
+        }
+        let deadline = self.config.deadline(lease.attempt_start, now);
+        self.leases[at].deadline = deadline;
+        Extended {
+            outcome: ExtendOutcome::Extended(deadline),
+            table: self,
+        }
     }
 }

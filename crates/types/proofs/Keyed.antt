@@ -170,3 +170,60 @@ module _ {A : Type 0} where
       (λ t. split (eqb k (e .key))
       (λ q. let w : some (e .value) ≡ some v = rw q at h in let u : e .value ≡ v = cc in rw (t, q, u, eqb-true k (e .key) q))
       (λ q. rw (t, q) (ap (λ (m : List (Entry A)). e ∷ m) (update-put (suc (e .key)) k f v l (r .1) (rw q at h)))))
+
+  pub lookup-update-same : (k : ℕ) (f : A → A) (v : A) (l : List (Entry A)) → lookup k l ≡ some v → lookup k (update k f l) ≡ some (f v)
+  lookup-update-same k f v [] h = absurd (Option·none-ne-some v h)
+  lookup-update-same k f v (e ∷ l) h =
+      split (eqb k (e .key))
+      (λ q. let w : some (e .value) ≡ some v = rw q at h in let u : e .value ≡ v = cc in rw (q, q, u))
+      (λ q. rw (q, q) (lookup-update-same k f v l (rw q at h)))
+
+  pub lookup-update-other : (j k : ℕ) (f : A → A) (l : List (Entry A)) → eqb j k ≡ false → lookup j (update k f l) ≡ lookup j l
+  lookup-update-other j k f [] n = refl
+  lookup-update-other j k f (e ∷ l) n =
+      split (eqb k (e .key))
+      (λ q. rw (q, eqb-move j k (e .key) n q))
+      (λ q. rw q (ap (cond (eqb j (e .key)) (some (e .value))) (lookup-update-other j k f l n)))
+
+  pub rising-update : (lo k : ℕ) (f : A → A) (l : List (Entry A)) → Rising lo l → Rising lo (update k f l)
+  rising-update lo k f [] r = tt
+  rising-update lo k f (e ∷ l) r = split (eqb k (e .key)) (λ q. rw q r) (λ q. rw q (r .0, rising-update (suc (e .key)) k f l (r .1)))
+
+  pub length-update : (k : ℕ) (f : A → A) (l : List (Entry A)) → length (update k f l) ≡ length l
+  length-update k f [] = refl
+  length-update k f (e ∷ l) = split (eqb k (e .key)) (λ q. rw q) (λ q. rw q (ap suc (length-update k f l)))
+
+  pub all-update : (P : ℕ → A → Type 0) (k : ℕ) (f : A → A) (l : List (Entry A)) → ((o : ℕ) (v : A) → P o v → P o (f v)) → All P l → All P (update k f l)
+  all-update P k f [] h a = tt
+  all-update P k f (e ∷ l) h a =
+      split (eqb k (e .key))
+      (λ q. rw q (h (e .key) (e .value) (a .0), a .1))
+      (λ q. rw q (a .0, all-update P k f l h (a .1)))
+
+-- ## every value changed
+module _ {A B : Type 0} (f : A → B) where
+  pub lookup-mapValues-some : (k : ℕ) (v : A) (l : List (Entry A)) → lookup k l ≡ some v → lookup k (mapValues f l) ≡ some (f v)
+  lookup-mapValues-some k v [] h = absurd (Option·none-ne-some v h)
+  lookup-mapValues-some k v (e ∷ l) h =
+      split (eqb k (e .key))
+      (λ q. let w : some (e .value) ≡ some v = rw q at h in let u : e .value ≡ v = cc in rw (q, u))
+      (λ q. rw q (lookup-mapValues-some k v l (rw q at h)))
+
+  pub lookup-mapValues-none : (k : ℕ) (l : List (Entry A)) → lookup k l ≡ none → lookup k (mapValues f l) ≡ none
+  lookup-mapValues-none k [] h = refl
+  lookup-mapValues-none k (e ∷ l) h =
+      split (eqb k (e .key))
+      (λ q. absurd (Option·none-ne-some (e .value) (sym (rw q at h))))
+      (λ q. rw q (lookup-mapValues-none k l (rw q at h)))
+
+  pub rising-mapValues : (lo : ℕ) (l : List (Entry A)) → Rising lo l → Rising lo (mapValues f l)
+  rising-mapValues lo [] r = tt
+  rising-mapValues lo (e ∷ l) r = (r .0, rising-mapValues (suc (e .key)) l (r .1))
+
+  pub length-mapValues : (l : List (Entry A)) → length (mapValues f l) ≡ length l
+  length-mapValues [] = refl
+  length-mapValues (e ∷ l) = ap suc (length-mapValues l)
+
+  pub all-mapValues : (P : ℕ → A → Type 0) (Q : ℕ → B → Type 0) (l : List (Entry A)) → ((o : ℕ) (v : A) → P o v → Q o (f v)) → All P l → All Q (mapValues f l)
+  all-mapValues P Q [] h a = tt
+  all-mapValues P Q (e ∷ l) h a = (h (e .key) (e .value) (a .0), all-mapValues P Q l h (a .1))
