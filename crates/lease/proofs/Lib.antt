@@ -3,3 +3,4 @@ pub mod Valid
 pub mod Slots
 pub mod Returns
 pub mod Tokens
+pub mod Questions

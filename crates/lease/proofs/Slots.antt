@@ -60,11 +60,10 @@ module _ (x at len : ℕ) (keys : List ℕ) (fits : len ≤ length keys) where
   placed-found h e = (rw (length-take-le len keys fits) h, getD-take len keys at 0 h ∙ e)
 
   pub placed-missing : at ≡ below x (take len keys) → (at < len → getD keys at 0 ≡ x → ⊥) → Placed x (take len keys) (Missing at)
-  placed-missing p n =
-      (
-        p,
-        λ h e. let k : at < len = rw (length-take-le len keys fits) at h in n k (sym (getD-take len keys at 0 k) ∙ e),
-      )
+  placed-missing p n = (
+    p,
+    λ h e. let k : at < len = rw (length-take-le len keys fits) at h in n k (sym (getD-take len keys at 0 k) ∙ e),
+  )
 
 -- ## two columns of which the first n places are in use
 -- x stands at a place: the value there is its, a store there puts another one, and without the place x is gone

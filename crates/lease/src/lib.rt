@@ -351,4 +351,161 @@ impl LeaseTable {
             table: self,
         }
     }
+
+    // Gives the lease that the token owns up: the message can be claimed again after the delay, which no cap bounds. A new
+    // generation fences the token off, and the count stays for the next claim.
+    pub fn nack(mut self, token: LeaseToken, now: u64, delay_nanos: u64) -> Nacked
+        requires { ⌜ Sound self ⌝ }
+        ensures { λ r. ⌜ Answers (nackOf (r .outcome)) self (r .table) (nack (view self) (token .offset .0) (token .generation .0) now «delay_nanos») ⌝ }
+    {
+        let place = columns::find(&self.offsets, self.len, token.offset.0);
+        let Place::Found(at) = place else {
+            return Nacked {
+                outcome: NackOutcome::Fenced,
+                table: self,
+            };
+        };
+        let lease = self.leases[at];
+        if lease.generation.0 != token.generation.0 {
+            return Nacked {
+                outcome: NackOutcome::Fenced,
+                table: self,
+            };
+        }
+        let generation = self.next_generation;
+        if generation.0 == 18446744073709551615 {
+            return Nacked {
+                outcome: NackOutcome::Exhausted,
+                table: self,
+            };
+        }
+        let deadline = saturating_add(now, delay_nanos);
+        self.leases[at] = Lease {
+            generation: generation,
+            attempt_start: lease.attempt_start,
+            deadline: deadline,
+            deliveries: lease.deliveries,
+        };
+        self.next_generation.0 = generation.0 + 1;
+        Nacked {
+            outcome: NackOutcome::Requeued { deadline: deadline },
+            table: self,
+        }
+    }
+
+    // Puts the lease of an offset under another generation, if it still has the one that the caller claimed it under: whoever
+    // claimed it since keeps the fence.
+    pub fn reseal_from_to(
+        mut self,
+        offset: Offset,
+        from: Generation,
+        generation: Generation,
+    ) -> Changed
+        requires { ⌜ Sound self ⌝ }
+        ensures { λ r. ⌜ Tries (r .changed) self (r .table) (resealFromTo (view self) (offset .0) (from .0) (generation .0)) ⌝ }
+    {
+        let place = columns::find(&self.offsets, self.len, offset.0);
+        let Place::Found(at) = place else {
+            return Changed {
+                changed: false,
+                table: self,
+            };
+        };
+        if self.leases[at].generation.0 != from.0 {
+            return Changed {
+                changed: false,
+                table: self,
+            };
+        }
+        self.leases[at].generation.0 = generation.0;
+        Changed {
+            changed: true,
+            table: self,
+        }
+    }
+
+    // Whether a claim of the offset would find no lease that still runs.
+    pub fn is_claimable(self, offset: Offset, now: u64) -> bool
+        requires { ⌜ Sound self ⌝ }
+        ensures { λ r. ⌜ r ≡ isClaimable (view self) (offset .0) now ⌝ }
+    {
+        let place = columns::find(&self.offsets, self.len, offset.0);
+        let Place::Found(at) = place else {
+            return true;
+        };
+        self.leases[at].deadline <= now
+    }
+
+    // How often the message of the token was handed out, while the token owns its lease.
+    pub fn deliveries(self, token: LeaseToken) -> Attempts
+        requires { ⌜ Sound self ⌝ }
+        ensures { λ r. ⌜ attemptsOf r ≡ deliveries (view self) (token .offset .0) (token .generation .0) ⌝ }
+    {
+        let place = columns::find(&self.offsets, self.len, token.offset.0);
+        let Place::Found(at) = place else {
+            return Attempts::None;
+        };
+        let lease = self.leases[at];
+        if lease.generation.0 != token.generation.0 {
+            return Attempts::None;
+        }
+        Attempts::Some(lease.deliveries)
+    }
+
+    // Whether the token owns its lease and the lease still runs.
+    pub fn holds_active(self, token: LeaseToken, now: u64) -> bool
+        requires { ⌜ Sound self ⌝ }
+        ensures { λ r. ⌜ r ≡ holdsActive (view self) (token .offset .0) (token .generation .0) now ⌝ }
+    {
+        let place = columns::find(&self.offsets, self.len, token.offset.0);
+        let Place::Found(at) = place else {
+            return false;
+        };
+        let lease = self.leases[at];
+        if lease.generation.0 != token.generation.0 {
+            return false;
+        }
+        now < lease.deadline
+    }
+
+    // How often the message at an offset was handed out, if the next claim would hand it out again: its lease has run out.
+    pub fn pending_redelivery_attempt(self, offset: Offset, now: u64) -> Attempts
+        requires { ⌜ Sound self ⌝ }
+        ensures { λ r. ⌜ attemptsOf r ≡ pendingRedeliveryAttempt (view self) (offset .0) now ⌝ }
+    {
+        let place = columns::find(&self.offsets, self.len, offset.0);
+        let Place::Found(at) = place else {
+            return Attempts::None;
+        };
+        let lease = self.leases[at];
+        if now < lease.deadline {
+            return Attempts::None;
+        }
+        Attempts::Some(lease.deliveries)
+    }
+
+    // Puts a lease that has run out off by a delay, which no cap bounds; generation and count stay.
+    pub fn defer_redelivery(mut self, offset: Offset, now: u64, delay_nanos: u64) -> Changed
+        requires { ⌜ Sound self ⌝ }
+        ensures { λ r. ⌜ Tries (r .changed) self (r .table) (deferRedelivery (view self) (offset .0) now «delay_nanos») ⌝ }
+    {
+        let place = columns::find(&self.offsets, self.len, offset.0);
+        let Place::Found(at) = place else {
+            return Changed {
+                changed: false,
+                table: self,
+            };
+        };
+        if now < self.leases[at].deadline {
+            return Changed {
+                changed: false,
+                table: self,
+            };
+        }
+        self.leases[at].deadline = saturating_add(now, delay_nanos);
+        Changed {
+            changed: true,
+            table: self,
+        }
+    }
 }

@@ -11,7 +11,7 @@ use Rattle.lease.specs.State.{view}
 use Rattle.lease.specs.declared.LeaseTable.{LeaseTable}
 use Rattle.lease.proofs.Shifted.{Closing, closing, closing-more, closed}
 use Rattle.lease.proofs.Slots.{nil, length-mapped, Full, Leased, rebuilt, holding, ascending, leased, free}
-use Rattle.lease.proofs.Tokens.{fenced-free, fenced-other, owned, shows-removed, ack-fenced, acked}
+use Rattle.lease.proofs.Tokens.{not-leased, other-generation, owned, shows-removed, ack-fenced, acked}
 use Rattle.lease.proofs.LeaseTable.ack.Statement.{statement}
 use Rattle.lease.proofs.LeaseTable.ack.Tie as tie
 use Rattle.lease.proofs.LeaseTable.ack.Reads as reads
@@ -52,7 +52,7 @@ returns c =
     let s = c .before .before .before .before .before .before in
     let x = s .args .token .offset .0 in
     ack-fenced (s .args .t1) (s .pre) x (s .args .token .generation .0)
-    (fenced-free (view (s .args .t1)) x (s .args .token .generation .0) (free (s .args .t1) (full s) (s .pre) (c .before .before .find .ensures) (c .enum-told .given .1) .is))
+    (not-leased (view (s .args .t1)) x (s .args .token .generation .0) (free (s .args .t1) (full s) (s .pre) (c .before .before .find .ensures) (c .enum-told .given .1) .is))
 
 mul-if1 : tie.Need-mul-if1 Inv-loop μ-loop
 mul-if1 c = omega (arith, here (c .before) .inside, start (c .before) .pre .len)
@@ -65,26 +65,26 @@ returns-2 c =
     let p = c .before .before .before in
     let s = start p in
     ack-fenced (s .args .t1) (s .pre) (s .args .token .offset .0) (s .args .token .generation .0)
-    (fenced-other (view (s .args .t1)) (s .args .token .offset .0) (s .args .token .generation .0) _ (here p .is) (c .if1 .taken))
+    (other-generation (view (s .args .t1)) (s .args .token .offset .0) (s .args .token .generation .0) _ (here p .is) (c .if1 .taken))
 
 add-remove-64 : tie.Need-add-remove-64 Inv-loop μ-loop
-add-remove-64 c = 
+add-remove-64 c =
     let p = c .before .before .before .before in
     omega (arith, here p .inside, start p .pre .len)
 
 remove-64-requires : tie.Need-remove-64-requires Inv-loop μ-loop
-remove-64-requires c κs = 
+remove-64-requires c κs =
     let p = c .before .before .before .before in
     let h = here p .inside in
     (omega arith, omega arith, start p .pre .len)
 
 add-j : tie.Need-add-j Inv-loop μ-loop
-add-j c = 
+add-j c =
     let p = c .before .before .before .before .before in
     omega (arith, here p .inside, start p .pre .len)
 
 loop-holds : tie.Need-loop-holds Inv-loop μ-loop
-loop-holds c = 
+loop-holds c =
     let p = c .before .before .before .before .before in
     let h = here p .inside in
     let f = full (start p) .leases in

@@ -7,7 +7,7 @@ use Rattle.lease.specs.Claim.{dueAt}
 use Rattle.lease.specs.declared.Lease.{Lease}
 use Rattle.lease.specs.declared.LeaseTable.{LeaseTable}
 use Rattle.lease.proofs.Slots.{nil, length-mapped, Full, Leased, ascending, leased, free}
-use Rattle.lease.proofs.Tokens.{fenced-free, fenced-other, shows-stored, extend-fenced, extend-capped, extend-done}
+use Rattle.lease.proofs.Tokens.{not-leased, other-generation, shows-stored, extend-fenced, extend-capped, extend-done}
 use Rattle.lease.proofs.LeaseTable.extend.Statement.{statement}
 use Rattle.lease.proofs.LeaseTable.extend.Tie as tie
 use Rattle.lease.proofs.LeaseTable.extend.Reads as reads
@@ -41,7 +41,7 @@ returns c =
     let s = c .before .before .before .before .before .before in
     let x = s .args .token .offset .0 in
     extend-fenced (s .args .t1) (s .pre) x (s .args .token .generation .0) (s .args .now)
-    (fenced-free (view (s .args .t1)) x (s .args .token .generation .0) (free (s .args .t1) (full s) (s .pre) (c .before .before .find .ensures) (c .enum-told .given .1) .is))
+    (not-leased (view (s .args .t1)) x (s .args .token .generation .0) (free (s .args .t1) (full s) (s .pre) (c .before .before .find .ensures) (c .enum-told .given .1) .is))
 
 mul-lease : tie.Need-mul-lease
 mul-lease c = omega (arith, here (c .before) .inside, start (c .before) .pre .len)
@@ -54,7 +54,7 @@ returns-2 c =
     let p = c .before .before .before .before .before in
     let s = start p in
     extend-fenced (s .args .t1) (s .pre) (s .args .token .offset .0) (s .args .token .generation .0) (s .args .now)
-    (fenced-other (view (s .args .t1)) (s .args .token .offset .0) (s .args .token .generation .0) _ (here p .is) (c .if1 .taken))
+    (other-generation (view (s .args .t1)) (s .args .token .offset .0) (s .args .token .generation .0) _ (here p .is) (c .if1 .taken))
 
 cap-requires : tie.Need-cap-requires
 cap-requires c κs = search needs
