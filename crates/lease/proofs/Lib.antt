@@ -4,3 +4,4 @@ pub mod Slots
 pub mod Returns
 pub mod Tokens
 pub mod Questions
+pub mod Claims

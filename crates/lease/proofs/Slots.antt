@@ -7,15 +7,16 @@ use native.Mathlib.Numerals.{add-one}
 use mathlib.Core.Path.{_≡_, sym, ap, subst, _∙_}
 use mathlib.Core.List.{List, map}
 use mathlib.Core.Option.{Option, none, some}
-use lib.ListN.{length, take, getD, set, length-map}
+use lib.ListN.{length, take, getD, set, length-map, take-append-drop}
 use lib.Seq.{length-take-le, getD-take, take-set-lt}
 use Rattle.types.specs.Keyed.{Entry, entries, lookup, put, delete, Rising}
 use Rattle.types.specs.Sorted.{Ascending, below}
 use Rattle.types.proofs.Sorted.{below-le}
+use Rattle.types.proofs.Keyed.{delete-absent}
 use Rattle.types.proofs.Columns.{length-entries, rising-ascending, lookup-found, put-found, delete-found, lookup-missing, put-missing}
 use Rattle.lease.specs.State.{Table, Sound, view, leasesOf, carriedOf}
 use Rattle.lease.specs.Claim.{lease}
-use Rattle.lease.specs.Columns.{Placed, inserted, without}
+use Rattle.lease.specs.Columns.{Placed, Spans, inserted, without}
 use Rattle.lease.specs.declared.Lease.{Lease}
 use Rattle.lease.specs.declared.LeaseTable.{LeaseTable}
 use Rattle.lease.specs.declared.columns.Place.{Place}
@@ -83,27 +84,56 @@ module _ {A : Type 0} (d : A) (n : ℕ) (ks : List ℕ) (vs : List A) (fits : n 
   even : length (take n ks) ≡ length (take n vs)
   even = length-take-le n ks fits ∙ sym (length-take-le n vs fits′)
 
-  ascends : Ascending 0 (take n ks)
-  ascends = rising-ascending 0 (take n ks) (take n vs) even rise
+  keys-ascend : Ascending 0 (take n ks)
+  keys-ascend = rising-ascending 0 (take n ks) (take n vs) even rise
 
   stands : (x at : ℕ) → Placed x (take n ks) (Found at) → Stands d n ks vs x at
   stands x at p =
       let h : at < n = rw (length-take-le n ks fits) at (p .0) in
       record {
         inside = h;
-        is = lookup-found d x at 0 (take n ks) (take n vs) even ascends (p .0) (p .1) ∙ ap some (getD-take n vs at d h);
-        put = λ v. ap (entries (take n ks)) (take-set-lt n vs at v h) ∙ sym (put-found x at 0 v (take n ks) (take n vs) even ascends (p .0) (p .1));
-        gone = rw add-one (sym (delete-found x at 0 (take n ks) (take n vs) even ascends (p .0) (p .1)));
+        is = lookup-found d x at 0 (take n ks) (take n vs) even keys-ascend (p .0) (p .1) ∙ ap some (getD-take n vs at d h);
+        put = λ v. ap (entries (take n ks)) (take-set-lt n vs at v h) ∙ sym (put-found x at 0 v (take n ks) (take n vs) even keys-ascend (p .0) (p .1));
+        gone = rw add-one (sym (delete-found x at 0 (take n ks) (take n vs) even keys-ascend (p .0) (p .1)));
       }
 
   lacks : (x at : ℕ) → Placed x (take n ks) (Missing at) → Lacks n ks vs x at
   lacks x at p =
-      let e : lookup x (entries (take n ks) (take n vs)) ≡ none = lookup-missing x 0 (take n ks) (take n vs) even ascends (rw (p .0) at (p .1)) in
+      let e : lookup x (entries (take n ks) (take n vs)) ≡ none = lookup-missing x 0 (take n ks) (take n vs) even keys-ascend (rw (p .0) at (p .1)) in
       record {
         inside = omega (arith, below-le x (take n ks), length-take-le n ks fits, p .0);
         is = e;
         put = λ v. rw (p .0) (sym (put-missing x v (take n ks) (take n vs) even e));
       }
+
+-- the span of a key that stands at a place, and of one that stands nowhere
+module _ (n : ℕ) (ks vs : List ℕ) (fits : n ≤ length ks) (fits′ : n ≤ length vs) (rise : Rising 0 (entries (take n ks) (take n vs))) where
+  pub ascends : Ascending 0 (take n ks)
+  ascends = keys-ascend 0 n ks vs fits fits′ rise
+
+  pub found-inside : (x : ℕ) {at : ℕ} {r : Place} → Placed x (take n ks) r → r ≡ Found at → at < n
+  found-inside x {at} p e = stands 0 n ks vs fits fits′ rise x at (subst (Placed x (take n ks)) e p) .inside
+
+  module _ {x at : ℕ} {r : Place} (p : Placed x (take n ks) r) where
+    pub spans-found : r ≡ Found at → Spans x (take n ks) (take n vs) (record { from = at; to = at + 1; count = getD vs at 0 })
+    spans-found e =
+        let h = stands 0 n ks vs fits fits′ rise x at (subst (Placed x (take n ks)) e p) in
+        record {
+          order = omega arith;
+          inside = rw (length-take-le n ks fits) (omega (arith, h .inside));
+          count = rw (h .is);
+          gone = h .gone;
+        }
+
+    pub spans-missing : r ≡ Missing at → Spans x (take n ks) (take n vs) (record { from = at; to = at; count = 0 })
+    spans-missing e =
+        let h = lacks 0 n ks vs fits fits′ rise x at (subst (Placed x (take n ks)) e p) in
+        record {
+          order = omega arith;
+          inside = rw (length-take-le n ks fits) (h .inside);
+          count = rw (h .is);
+          gone = rw (take-append-drop at (take n ks), take-append-drop at (take n vs)) (sym (delete-absent x (entries (take n ks) (take n vs)) (h .is)));
+        }
 
 -- ## a table
 -- the lease of an offset stands at a place; it has none, and one belongs there
@@ -115,10 +145,10 @@ Free t x at = Lacks (t .len) (t .offsets) (t .leases) x at
 
 module _ (t : LeaseTable) (full : Full t) (ok : Sound t) where
   pub ascending : Ascending 0 (take (t .len) (t .offsets))
-  ascending = ascends nil (t .len) (t .offsets) (t .leases) (omega (arith, full .offsets, ok .len)) (omega (arith, full .leases, ok .len)) (ok .valid .rising)
+  ascending = keys-ascend nil (t .len) (t .offsets) (t .leases) (omega (arith, full .offsets, ok .len)) (omega (arith, full .leases, ok .len)) (ok .valid .rising)
 
   pub carried-ascending : Ascending 0 (take (t .«carried_len») (t .«carried_offsets»))
-  carried-ascending = ascends 0 (t .«carried_len») (t .«carried_offsets») (t .«carried_counts») (omega (arith, full .carried-offsets, ok .carried-len)) (omega (arith, full .carried-counts, ok .carried-len)) (ok .valid .carried-rising)
+  carried-ascending = keys-ascend 0 (t .«carried_len») (t .«carried_offsets») (t .«carried_counts») (omega (arith, full .carried-offsets, ok .carried-len)) (omega (arith, full .carried-counts, ok .carried-len)) (ok .valid .carried-rising)
 
   -- what the answer of a search says
   pub leased : {x at : ℕ} {r : Place} → Placed x (take (t .len) (t .offsets)) r → r ≡ Found at → Leased t x at
@@ -136,3 +166,9 @@ module _ (t : LeaseTable) (full : Full t) (ok : Sound t) where
       length-entries (take (t .len) (t .offsets)) (take (t .len) (t .leases))
       (even nil (t .len) (t .offsets) (t .leases) (omega (arith, full .offsets, ok .len)) (omega (arith, full .leases, ok .len)) (ok .valid .rising))
       ∙ length-take-le (t .len) (t .offsets) (omega (arith, full .offsets, ok .len))
+
+  -- the key at the place that was found
+  pub found-at : {x at : ℕ} {r : Place} → Placed x (take (t .len) (t .offsets)) r → r ≡ Found at → getD (t .offsets) at 0 ≡ x
+  found-at {x} {at} p e =
+      let q = subst (Placed x (take (t .len) (t .offsets))) e p in
+      sym (getD-take (t .len) (t .offsets) at 0 (leased p e .inside)) ∙ q .1

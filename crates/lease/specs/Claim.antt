@@ -45,11 +45,14 @@ abbrev pub deadlineFrom : LeaseConfig → ℕ → ℕ → ℕ
 deadlineFrom c start now = min (sat64 now (c .«visibility_nanos»)) (capFrom c start)
 
 -- ## claim
+abbrev pub countOr0 : Option ℕ → ℕ
+countOr0 none = 0
+countOr0 (some n) = n
+
 -- how often an offset was handed out before: as its lease says, or else its carried count
 abbrev pub handedOut : Option Lease → Option ℕ → ℕ
 handedOut (some l) c = l .deliveries
-handedOut none (some n) = n
-handedOut none none = 0
+handedOut none c = countOr0 c
 
 abbrev pub nextCount : Table → ℕ → ℕ
 nextCount t o = sat32 (handedOut (leaseOf t o) (lookup o (t .carried))) 1

@@ -2,7 +2,6 @@
 use Prim.Native.Nat.{ℕ, max}
 use mathlib.Core.Bool.{cond}
 use mathlib.Core.List.{List, [], _∷_}
-use mathlib.Core.Option.{Option, none, some}
 use lib.Dec.{ltb, eqb}
 use lib.ListN.{length}
 use Rattle.types.specs.Limits.{CARRIED}
@@ -10,6 +9,7 @@ use Rattle.types.specs.Refusal.{done, TooManyPairs}
 use Rattle.types.specs.Table.{_⇒_, Answer, answer, guarded}
 use Rattle.types.specs.Keyed.{Entry, lookup, put, mapValues}
 use Rattle.lease.specs.State.{Table, withCarried}
+use Rattle.lease.specs.Claim.{countOr0}
 use Rattle.lease.specs.declared.Lease.{Lease}
 
 -- ## counts carried over
@@ -30,10 +30,6 @@ resumeAttempts t ps =
 -- those of the leases
 abbrev pub attemptCounts : Table → List (Entry ℕ)
 attemptCounts t = mapValues (λ l. l .deliveries) (t .leases)
-
-abbrev pub countOr0 : Option ℕ → ℕ
-countOr0 none = 0
-countOr0 (some n) = n
 
 -- an offset's count raised to n
 abbrev pub raise : ℕ → ℕ → List (Entry ℕ) → List (Entry ℕ)

@@ -3,13 +3,21 @@
 ghost use mathlib.Core.Path.{_≡_};
 ghost use Prim.Native.Nat.{_+_, _-_, _≤_, _<_};
 ghost use lib.ListN.{length, take};
+ghost use Rattle.types.specs.Keyed.{entries, Rising};
 ghost use Rattle.types.specs.Sorted.{Ascending, below};
-ghost use Rattle.lease.specs.Columns.{inserted, without, Placed};
+ghost use Rattle.lease.specs.Columns.{inserted, without, Placed, Spans};
 
 // Where a key stands, or where it would stand.
 pub(crate) enum Place {
     Found(usize),
     Missing(usize),
+}
+
+// The places of a key, one or none, and the count there, 0 where there is none.
+pub(crate) struct Span {
+    pub from: usize,
+    pub to: usize,
+    pub count: u32,
 }
 
 // How many keys are below x. It halves the range that is left.
@@ -41,6 +49,25 @@ pub(crate) fn find(keys: &[u64], len: usize, x: u64) -> Place
         }
     }
     Place::Missing(at)
+}
+
+pub(crate) fn count_of<'a>(keys: &'a [u64], counts: &'a [u32], len: usize, x: u64) -> Span
+    requires { ⌜ (len ≤ length (now keys)) × (len ≤ length (now counts)) × Rising 0 (entries (take len (now keys)) (take len (now counts))) ⌝ }
+    ensures { λ r. ⌜ Spans x (take len (now (keys .entry))) (take len (now (counts .entry))) r ⌝ }
+{
+    let place = find(keys, len, x);
+    match place {
+        Place::Found(at) => Span {
+            from: at,
+            to: at + 1,
+            count: counts[at],
+        },
+        Place::Missing(at) => Span {
+            from: at,
+            to: at,
+            count: 0,
+        },
+    }
 }
 
 // Puts x in at a place.

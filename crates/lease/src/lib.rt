@@ -3,11 +3,13 @@
 // generation, so that whoever held the message before is fenced off. The caller brings the time, in nanoseconds of any
 // clock: it may stand still or run backwards.
 ghost use mathlib.Core.Path.{_≡_};
-ghost use Prim.Native.Nat.{min};
+ghost use Prim.Native.Nat.{_<_};
+ghost use lib.ListN.{getD};
 ghost use Rattle.types.specs.Limits.{sat64, sat32};
 ghost use Rattle.lease.specs.Config.{nanos, fromMillis, defaultConfig};
 ghost use Rattle.lease.specs.State.{Sound, view, startingAt};
-ghost use Rattle.lease.specs.Claim.{claim, ack, extend, nack, capFrom, deadlineFrom, afterGrant, afterFlush};
+ghost use Rattle.types.specs.Refusal.{done};
+ghost use Rattle.lease.specs.Claim.{lease, claim, ack, extend, nack, capFrom, deadlineFrom, afterGrant, afterFlush};
 ghost use Rattle.lease.specs.Rest.{attemptsFlushed, releaseBelow, resealFromTo, deferRedelivery, shiftDeadlines, inFlight, isClaimable, deliveries, holdsActive, pendingRedeliveryAttempt, expired};
 ghost use Rattle.lease.specs.Counts.{resumeAttempts, attemptCounts, allAttemptCounts};
 ghost use Rattle.lease.specs.Answers.{claimOf, ackOf, extendOf, nackOf, resumeOf, listedOf, attemptsOf, Answers, Tries, Becomes};
@@ -67,6 +69,33 @@ impl LeaseConfig {
         let window = saturating_add(now, self.visibility_nanos);
         let cap = self.cap(start);
         if window <= cap { window } else { cap }
+    }
+
+    // The lease of an attempt that begins now.
+    fn lease(self, generation: Generation, now: u64, deliveries: u32) -> Lease
+        ensures { λ r. ⌜ r ≡ lease (generation .0) now (deadlineFrom self now now) deliveries ⌝ }
+    {
+        let deadline = self.deadline(now, now);
+        Lease {
+            generation: generation,
+            attempt_start: now,
+            deadline: deadline,
+            deliveries: deliveries,
+        }
+    }
+}
+
+// What a claim that is granted answers.
+fn granted(offset: Offset, generation: Generation, deliveries: u32) -> Claim
+    ensures { λ r. ⌜ claimOf r ≡ done (record { offset = offset .0; generation = generation .0; deliveries = deliveries }) ⌝ }
+{
+    let token = LeaseToken {
+        offset: offset,
+        generation: generation,
+    };
+    Claim::Granted {
+        token: token,
+        deliveries: deliveries,
     }
 }
 
@@ -281,6 +310,97 @@ impl LeaseTable {
         ensures { λ r. ⌜ r ≡ inFlight (view self) ⌝ }
     {
         self.len
+    }
+
+    // Claims an offset for delivery. One with no lease, or with a lease that has run out, is granted: the attempt begins now,
+    // under the next generation, which fences off whoever held the offset before. The count goes on from the lease's, or
+    // from the carried one, which the new lease takes over.
+    pub fn claim(mut self, offset: Offset, now: u64) -> Claimed
+        requires { ⌜ Sound self ⌝ }
+        ensures { λ r. ⌜ Answers (claimOf (r .outcome)) self (r .table) (claim (view self) (offset .0) now) ⌝ }
+    {
+        let len = self.len;
+        let place = columns::find(&self.offsets, len, offset.0);
+        match place {
+            Place::Found(at) => self.claim_again(at, offset, now),
+            Place::Missing(at) => {
+                let generation = self.next_generation;
+                if generation.0 == 18446744073709551615 {
+                    return Claimed {
+                        outcome: Claim::Exhausted,
+                        table: self,
+                    };
+                }
+                if 64 <= len {
+                    return Claimed {
+                        outcome: Claim::Full,
+                        table: self,
+                    };
+                }
+                let n = self.carried_len;
+                let prior = columns::count_of(
+                    &self.carried_offsets,
+                    &self.carried_counts,
+                    n,
+                    offset.0,
+                );
+                let from = prior.from;
+                let to = prior.to;
+                columns::remove_128(&mut self.carried_offsets, n, from, to);
+                columns::remove_counts_128(&mut self.carried_counts, n, from, to);
+                self.carried_len = n - (to - from);
+                let deliveries = saturating_next(prior.count);
+                columns::insert_64(&mut self.offsets, len, at, offset.0);
+                let mut held = self.config.lease(generation, now, deliveries);
+                let mut i = at;
+                while i < len {
+                    let next = self.leases[i];
+                    self.leases[i] = held;
+                    held = next;
+                    i += 1;
+                }
+                self.leases[i] = held;
+                self.len = len + 1;
+                self.next_generation.0 = generation.0 + 1;
+                self.redeliveries_since_flush = after_grant(
+                    self.redeliveries_since_flush,
+                    deliveries,
+                );
+                Claimed {
+                    outcome: granted(offset, generation, deliveries),
+                    table: self,
+                }
+            }
+        }
+    }
+
+    // Claims an offset whose lease stands at a place.
+    fn claim_again(mut self, at: usize, offset: Offset, now: u64) -> Claimed
+        requires { ⌜ Sound self × (at < self .len) × (getD (self .offsets) at 0 ≡ offset .0) ⌝ }
+        ensures { λ r. ⌜ Answers (claimOf (r .outcome)) self (r .table) (claim (view self) (offset .0) now) ⌝ }
+    {
+        let lease = self.leases[at];
+        if now < lease.deadline {
+            return Claimed {
+                outcome: Claim::InFlight,
+                table: self,
+            };
+        }
+        let generation = self.next_generation;
+        if generation.0 == 18446744073709551615 {
+            return Claimed {
+                outcome: Claim::Exhausted,
+                table: self,
+            };
+        }
+        let deliveries = saturating_next(lease.deliveries);
+        self.leases[at] = self.config.lease(generation, now, deliveries);
+        self.next_generation.0 = generation.0 + 1;
+        self.redeliveries_since_flush = after_grant(self.redeliveries_since_flush, deliveries);
+        Claimed {
+            outcome: granted(offset, generation, deliveries),
+            table: self,
+        }
     }
 
     // Acks the lease that the token owns: the message is in flight no longer.

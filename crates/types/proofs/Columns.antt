@@ -15,6 +15,7 @@ use borrow.Author.Tests.{ltb-true, ltb-false, eqb-true, lt-ltb, le-ltb, eq-eqb, 
 use Rattle.types.specs.Keyed.{Entry, entry, lookup, put, delete, dropBelow, Rising, entries}
 use Rattle.types.specs.Sorted.{Ascending, below}
 use Rattle.types.proofs.Cases.{split}
+use Rattle.types.proofs.Keyed.{delete-absent}
 use Rattle.types.proofs.Sorted.{ascending-at}
 
 module _ {A : Type 0} where
@@ -43,13 +44,6 @@ module _ {A : Type 0} where
   under x lo [] vs a h = refl
   under x lo (k ∷ ks) [] a h = refl
   under x lo (k ∷ ks) (v ∷ vs) a h = rw (ne-eqb x k (λ q. omega arith)) (under x (suc k) ks vs (a .1) (omega arith))
-
-  delete-absent : (x : ℕ) (l : List (Entry A)) → lookup x l ≡ none → delete x l ≡ l
-  delete-absent x [] h = refl
-  delete-absent x (e ∷ l) h =
-      split (eqb x (e .key))
-      (λ q. absurd (Option·none-ne-some (e .value) (sym (rw q at h))))
-      (λ q. rw q (ap (λ (t : List (Entry A)). e ∷ t) (delete-absent x l (rw q at h))))
 
   -- ## a key that stands at place i
   pub lookup-found : (d : A) (x i lo : ℕ) (ks : List ℕ) (vs : List A) → length ks ≡ length vs → Ascending lo ks → i < length ks → getD ks i 0 ≡ x

@@ -111,6 +111,13 @@ module _ {A : Type 0} where
   length-delete k [] = omega arith
   length-delete k (e ∷ l) = split (eqb k (e .key)) (λ q. rw q (omega (arith, length-delete k l))) (λ q. rw q (omega (arith, length-delete k l)))
 
+  pub delete-absent : (x : ℕ) (l : List (Entry A)) → lookup x l ≡ none → delete x l ≡ l
+  delete-absent x [] h = refl
+  delete-absent x (e ∷ l) h =
+      split (eqb x (e .key))
+      (λ q. absurd (Option·none-ne-some (e .value) (sym (rw q at h))))
+      (λ q. rw q (ap (λ (t : List (Entry A)). e ∷ t) (delete-absent x l (rw q at h))))
+
   pub length-delete-old : (k : ℕ) (v : A) (l : List (Entry A)) → lookup k l ≡ some v → length (delete k l) < length l
   length-delete-old k v [] h = absurd (Option·none-ne-some v h)
   length-delete-old k v (e ∷ l) h =
