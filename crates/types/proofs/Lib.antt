@@ -4,3 +4,4 @@ pub mod Keyed
 pub mod Shift
 pub mod Sorted
 pub mod Columns
+pub mod Lists

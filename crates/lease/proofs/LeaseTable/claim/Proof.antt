@@ -10,7 +10,7 @@ use lib.Seq.{length-take-le}
 use Rattle.types.specs.Limits.{MAX, LEASES, CARRIED}
 use Rattle.lease.specs.Claim.{afterGrant}
 use Rattle.lease.specs.declared.LeaseTable.{LeaseTable}
-use Rattle.lease.proofs.Shifted.{Opening, opening, opening-more, opened}
+use Rattle.lease.proofs.Loops.{Opening, opening, opening-more, opened}
 use Rattle.lease.proofs.Slots.{nil, length-mapped, Full, Free, holding, ascending, leased, free, found-at, in-flight}
 use Rattle.lease.proofs.Claims.{claim-exhausted, claim-full, claimed, room-first, finished, count-first, granted-first}
 use Rattle.lease.proofs.LeaseTable.claim.Statement.{statement}
@@ -63,8 +63,7 @@ claim-again-requires : tie.Need-claim-again-requires Inv-loop μ-loop
 claim-again-requires c κs =
     let p = c .before in
     let s = p .before .before .before .before .before .before in
-    let f = full s in
-    (
+    let f = full s in (
       s .pre,
       leased (s .args .t1) f (s .pre) (p .before .before .find .ensures) (p .place .given .1) .inside,
       found-at (s .args .t1) f (s .pre) (p .before .before .find .ensures) (p .place .given .1),
