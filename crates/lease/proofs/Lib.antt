@@ -9,3 +9,8 @@ pub mod Changes
 pub mod Lists
 pub mod Merge
 pub mod Carried
+pub mod Passed
+pub mod Lookup
+pub mod Generations
+pub mod Counts
+pub mod Examples

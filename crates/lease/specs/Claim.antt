@@ -3,7 +3,7 @@
 use Prim.Native.Nat.{ℕ, _+_, min}
 use mathlib.Core.Bool.{Bool, true, false, cond, not, _&&_}
 use mathlib.Core.List.{List, [], _∷_}
-use mathlib.Core.Option.{Option, none, some}
+use mathlib.Core.Option.{Option, none, some, Option·getD}
 use lib.Dec.{ltb, leb, eqb}
 use lib.ListN.{length}
 use Rattle.types.specs.Limits.{MAX, LEASES, sat32, sat64}
@@ -45,14 +45,10 @@ abbrev pub deadlineFrom : LeaseConfig → ℕ → ℕ → ℕ
 deadlineFrom c start now = min (sat64 now (c .«visibility_nanos»)) (capFrom c start)
 
 -- ## claim
-abbrev pub countOr0 : Option ℕ → ℕ
-countOr0 none = 0
-countOr0 (some n) = n
-
 -- how often an offset was handed out before: as its lease says, or else its carried count
 abbrev pub handedOut : Option Lease → Option ℕ → ℕ
 handedOut (some l) c = l .deliveries
-handedOut none c = countOr0 c
+handedOut none c = Option·getD c 0
 
 abbrev pub nextCount : Table → ℕ → ℕ
 nextCount t o = sat32 (handedOut (leaseOf t o) (lookup o (t .carried))) 1

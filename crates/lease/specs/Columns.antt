@@ -3,12 +3,12 @@ use Prim.Native.Nat.{ℕ, _+_, _≤_, _<_, max}
 use mathlib.Core.Path.{_≡_}
 use mathlib.Core.Bool.{cond}
 use mathlib.Core.List.{List, [], _∷_, _++_}
+use mathlib.Core.Option.{Option·getD}
 use lib.Dec.{ltb, eqb}
 use lib.ListN.{length, take, drop, getD}
 use Rattle.types.specs.Limits.{CARRIED}
 use Rattle.types.specs.Keyed.{Entry, entry, entries, lookup, delete}
 use Rattle.types.specs.Sorted.{below}
-use Rattle.lease.specs.Claim.{countOr0}
 use Rattle.lease.specs.declared.columns.Place.{Place}
 use Rattle.lease.specs.declared.columns.Place.the-variants.{Found, Missing}
 use Rattle.lease.specs.declared.columns.Span.{Span}
@@ -33,7 +33,7 @@ Placed x ks (Missing at) = (at ≡ below x ks) × (at < length ks → getD ks at
 pub record Spans (x : ℕ) (ks vs : List ℕ) (r : Span) : Type 0 where
   pub order : r .from ≤ r .to
   pub inside : r .to ≤ length ks
-  pub count : r .count ≡ countOr0 (lookup x (entries ks vs))
+  pub count : r .count ≡ Option·getD (lookup x (entries ks vs)) 0
   pub gone : entries (without (r .from) (r .to) ks) (without (r .from) (r .to) vs) ≡ delete x (entries ks vs)
 
 -- ## two sorted lists of counts in one, the larger count where a key stands in both

@@ -2,6 +2,7 @@
 use Prim.Native.Nat.{ℕ, max}
 use mathlib.Core.Bool.{cond}
 use mathlib.Core.List.{List, [], _∷_}
+use mathlib.Core.Option.{Option·getD}
 use lib.Dec.{ltb, eqb}
 use lib.ListN.{length}
 use Rattle.types.specs.Limits.{CARRIED}
@@ -9,7 +10,6 @@ use Rattle.types.specs.Refusal.{done, TooManyPairs}
 use Rattle.types.specs.Table.{_⇒_, Answer, answer, guarded}
 use Rattle.types.specs.Keyed.{Entry, lookup, put, mapValues}
 use Rattle.lease.specs.State.{Table, withCarried}
-use Rattle.lease.specs.Claim.{countOr0}
 
 -- ## counts carried over
 -- the carried counts with one pair more: a zero says nothing, and of two counts for an offset the last stays
@@ -32,7 +32,7 @@ attemptCounts t = mapValues (λ l. l .deliveries) (t .leases)
 
 -- an offset's count raised to n
 abbrev pub raise : ℕ → ℕ → List (Entry ℕ) → List (Entry ℕ)
-raise o n c = put o (max (countOr0 (lookup o c)) n) c
+raise o n c = put o (max (Option·getD (lookup o c) 0) n) c
 
 abbrev pub raiseAll : List (Entry ℕ) → List (Entry ℕ) → List (Entry ℕ)
 raiseAll [] c = c

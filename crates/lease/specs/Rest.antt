@@ -2,7 +2,7 @@
 use Prim.Native.Nat.{ℕ}
 use mathlib.Core.Bool.{Bool, true, false, cond, not, _&&_}
 use mathlib.Core.List.{List, [], _∷_}
-use mathlib.Core.Option.{Option, none, some}
+use mathlib.Core.Option.{Option, none, Option·map}
 use lib.Dec.{leb, eqb}
 use lib.ListN.{length}
 use Rattle.types.specs.Limits.{sat64}
@@ -58,8 +58,7 @@ abbrev pub isClaimable : Table → ℕ → ℕ → Bool
 isClaimable t o now = not (running (leaseOf t o) now)
 
 abbrev pub deliveriesOf : Option Lease → Option ℕ
-deliveriesOf none = none
-deliveriesOf (some l) = some (l .deliveries)
+deliveriesOf l = Option·map (λ (x : Lease). x .deliveries) l
 
 -- the count of the lease that a token owns
 abbrev pub deliveries : Table → ℕ → ℕ → Option ℕ

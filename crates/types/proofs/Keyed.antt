@@ -1,13 +1,14 @@
 -- Laws of keyed lists: what a look-up finds after each operation, that they stay sorted, and how long they are.
 -- Assumes nothing.
-use Prim.Native.Nat.{ℕ, suc, _≤_, _<_}
+use Prim.Native.Nat.{ℕ, zero, suc, _≤_, _<_}
 use native.Mathlib.Omega.{arith}
+use native.Mathlib.Nat.{le-of-suc-le-suc}
 use mathlib.Core.Path.{_≡_, refl, sym, ap, _∙_}
 use mathlib.Core.Bool.{Bool, true, false, cond, true≢false}
 use mathlib.Core.List.{List, [], _∷_}
-use mathlib.Core.Option.{Option, none, some, Option·none-ne-some}
+use mathlib.Core.Option.{Option, none, some, Option·none-ne-some, Option·map}
 use lib.Dec.{ltb, eqb}
-use lib.ListN.{length}
+use lib.ListN.{length, getD}
 use borrow.Author.Tests.{ltb-true, ltb-false, eqb-true, eqb-false, eq-eqb, ne-eqb}
 use Rattle.types.specs.Keyed.{Entry, entry, lookup, put, update, delete, dropBelow, anyBelow, Rising, All, mapValues}
 use Rattle.types.proofs.Cases.{split}
@@ -69,6 +70,19 @@ module _ {A : Type 0} where
   pub rising-weaken : (a b : ℕ) (l : List (Entry A)) → a ≤ b → Rising b l → Rising a l
   rising-weaken a b [] h r = tt
   rising-weaken a b (e ∷ l) h r = (omega arith, r .1)
+
+  pub rising-at : (lo i : ℕ) (d : Entry A) (l : List (Entry A)) → Rising lo l → i < length l → lo ≤ getD l i d .key
+  rising-at lo i d [] r h = absurd (omega arith)
+  rising-at lo zero d (e ∷ l) r h = r .0
+  rising-at lo (suc i) d (e ∷ l) r h = omega (arith, r .0, rising-at (suc (e .key)) i d l (r .1) (le-of-suc-le-suc h))
+
+  -- a key stands at one place
+  pub rising-once : (lo i j : ℕ) (d : Entry A) (l : List (Entry A)) → Rising lo l → i < length l → j < length l → getD l i d .key ≡ getD l j d .key → i ≡ j
+  rising-once lo i j d [] r h k q = absurd (omega arith)
+  rising-once lo zero zero d (e ∷ l) r h k q = refl
+  rising-once lo zero (suc j) d (e ∷ l) r h k q = absurd (omega (arith, rising-at (suc (e .key)) j d l (r .1) (le-of-suc-le-suc k)))
+  rising-once lo (suc i) zero d (e ∷ l) r h k q = absurd (omega (arith, rising-at (suc (e .key)) i d l (r .1) (le-of-suc-le-suc h)))
+  rising-once lo (suc i) (suc j) d (e ∷ l) r h k q = ap suc (rising-once (suc (e .key)) i j d l (r .1) (le-of-suc-le-suc h) (le-of-suc-le-suc k) q)
 
   pub rising-put : (lo k : ℕ) (v : A) (l : List (Entry A)) → lo ≤ k → Rising lo l → Rising lo (put k v l)
   rising-put lo k v [] h r = (h, tt)
@@ -188,19 +202,26 @@ module _ {A : Type 0} where
       (λ q. let w : some (e .value) ≡ some v = rw q at h in let u : e .value ≡ v = cc in rw (t, q, u, eqb-true k (e .key) q))
       (λ q. rw (t, q) (ap (λ (m : List (Entry A)). e ∷ m) (update-put (suc (e .key)) k f v l (r .1) (rw q at h)))))
 
-  pub lookup-update-same : (k : ℕ) (f : A → A) (v : A) (l : List (Entry A)) → lookup k l ≡ some v → lookup k (update k f l) ≡ some (f v)
-  lookup-update-same k f v [] h = absurd (Option·none-ne-some v h)
-  lookup-update-same k f v (e ∷ l) h =
-      split (eqb k (e .key))
-      (λ q. let w : some (e .value) ≡ some v = rw q at h in let u : e .value ≡ v = cc in rw (q, q, u))
-      (λ q. rw (q, q) (lookup-update-same k f v l (rw q at h)))
+  -- ## a look-up after each change, for any key
+  pub lookup-put : (j k : ℕ) (v : A) (l : List (Entry A)) → lookup j (put k v l) ≡ cond (eqb j k) (some v) (lookup j l)
+  lookup-put j k v l = split (eqb j k) (λ q. rw (q, eqb-true j k q) (lookup-put-same k v l)) (λ q. rw q (lookup-put-other j k v l q))
 
-  pub lookup-update-other : (j k : ℕ) (f : A → A) (l : List (Entry A)) → eqb j k ≡ false → lookup j (update k f l) ≡ lookup j l
-  lookup-update-other j k f [] n = refl
-  lookup-update-other j k f (e ∷ l) n =
+  pub lookup-delete : (j k : ℕ) (l : List (Entry A)) → lookup j (delete k l) ≡ cond (eqb j k) none (lookup j l)
+  lookup-delete j k l = split (eqb j k) (λ q. rw (q, eqb-true j k q) (lookup-delete-same k l)) (λ q. rw q (lookup-delete-other j k l q))
+
+  pub lookup-dropBelow : (j b : ℕ) (l : List (Entry A)) → lookup j (dropBelow b l) ≡ cond (ltb j b) none (lookup j l)
+  lookup-dropBelow j b l = split (ltb j b) (λ q. rw q (lookup-drop-below j b l q)) (λ q. rw q (lookup-keep-above j b l q))
+
+  pub lookup-update : (j k : ℕ) (f : A → A) (l : List (Entry A)) → lookup j (update k f l) ≡ cond (eqb j k) (Option·map f (lookup j l)) (lookup j l)
+  lookup-update j k f [] = split (eqb j k) (λ q. rw q) (λ q. rw q)
+  lookup-update j k f (e ∷ l) =
       split (eqb k (e .key))
-      (λ q. rw (q, eqb-move j k (e .key) n q))
-      (λ q. rw q (ap (cond (eqb j (e .key)) (some (e .value))) (lookup-update-other j k f l n)))
+      (λ q. split (eqb j k)
+      (λ p. rw (q, p, eqb-true j k p, q))
+      (λ p. rw (q, p, eqb-move j k (e .key) p q)))
+      (λ q. split (eqb j (e .key))
+      (λ p. let n : eqb j k ≡ false = ne-eqb j k (λ r. eqb-false k (e .key) q (sym r ∙ eqb-true j (e .key) p)) in rw (q, p, n))
+      (λ p. rw (q, p) (lookup-update j k f l)))
 
   pub rising-update : (lo k : ℕ) (f : A → A) (l : List (Entry A)) → Rising lo l → Rising lo (update k f l)
   rising-update lo k f [] r = tt
@@ -219,19 +240,9 @@ module _ {A : Type 0} where
 
 -- ## every value changed
 module _ {A B : Type 0} (f : A → B) where
-  pub lookup-mapValues-some : (k : ℕ) (v : A) (l : List (Entry A)) → lookup k l ≡ some v → lookup k (mapValues f l) ≡ some (f v)
-  lookup-mapValues-some k v [] h = absurd (Option·none-ne-some v h)
-  lookup-mapValues-some k v (e ∷ l) h =
-      split (eqb k (e .key))
-      (λ q. let w : some (e .value) ≡ some v = rw q at h in let u : e .value ≡ v = cc in rw (q, u))
-      (λ q. rw q (lookup-mapValues-some k v l (rw q at h)))
-
-  pub lookup-mapValues-none : (k : ℕ) (l : List (Entry A)) → lookup k l ≡ none → lookup k (mapValues f l) ≡ none
-  lookup-mapValues-none k [] h = refl
-  lookup-mapValues-none k (e ∷ l) h =
-      split (eqb k (e .key))
-      (λ q. absurd (Option·none-ne-some (e .value) (sym (rw q at h))))
-      (λ q. rw q (lookup-mapValues-none k l (rw q at h)))
+  pub lookup-mapValues : (k : ℕ) (l : List (Entry A)) → lookup k (mapValues f l) ≡ Option·map f (lookup k l)
+  lookup-mapValues k [] = refl
+  lookup-mapValues k (e ∷ l) = split (eqb k (e .key)) (λ q. rw q) (λ q. rw q (lookup-mapValues k l))
 
   pub rising-mapValues : (lo : ℕ) (l : List (Entry A)) → Rising lo l → Rising lo (mapValues f l)
   rising-mapValues lo [] r = tt
