@@ -1,0 +1,20 @@
+-- 01's settled examples 7 and 8, by computation: visibility 10, hard cap 25, a claim at 100.
+-- Assumes nothing.
+use mathlib.Core.Path.{_≡_, refl}
+use Rattle.types.specs.Refusal.{refused, done, InFlight, CapReached}
+use Rattle.lease.specs.State.{Table, startingAt}
+use Rattle.lease.specs.Claim.{claim, extend}
+
+-- the table with that lease, of offset 0 under generation 0
+abbrev pub leased : Table
+leased = claim (startingAt (record { «visibility_nanos» = 10; «hard_cap_nanos» = 25 }) 0) 0 100 .state
+
+-- at 109 InFlight, at 110 count 2
+pub example-7 : (claim leased 0 109 .outcome ≡ refused InFlight) × (claim leased 0 110 .outcome ≡ done (record { offset = 0; generation = 1; deliveries = 2 }))
+unfolding claim
+example-7 = (refl, refl)
+
+-- the same lease, not claimed again: an extension at 120 gives 125, at 125 refusal 28
+pub example-8 : (extend leased 0 0 120 .outcome ≡ done 125) × (extend leased 0 0 125 .outcome ≡ refused CapReached) × (extend (extend leased 0 0 120 .state) 0 0 125 .outcome ≡ refused CapReached)
+unfolding claim extend
+example-8 = (refl, refl, refl)
