@@ -1,0 +1,8 @@
+pub mod Area
+pub mod Blocks
+pub mod Sound
+pub mod Walks
+pub mod Group
+mod Writer
+mod Walker
+mod Reader

@@ -1,0 +1,124 @@
+-- The walker's steps over plain values. In the loop over the bodies of a group, the first unsound one is to be found among
+-- those that are left; a turn reads its block as a part of the area; in the walk's loop, the rest of the walk is the whole.
+-- Assumes nothing.
+use Prim.Native.Nat.{ℕ, suc, _+_, _*_, _-_, _≤_, _<_, _^_, min}
+use native.Mathlib.Omega.{arith}
+use native.Mathlib.Numerals.{add-one}
+use mathlib.Core.Path.{_≡_, refl, sym, _∙_}
+use mathlib.Core.Bool.{Bool, true, false}
+use mathlib.Core.List.{List}
+use mathlib.Core.Option.{Option, some}
+use lib.ListN.{length, take, drop}
+use Rattle.types.specs.Refusal.{Result, refused, BadArea}
+use Rattle.raw.specs.Bytes.{IsBytes}
+use Rattle.raw.proofs.Bytes.{bytes-take, bytes-drop, number-lt}
+use Rattle.journal.specs.Area.{badLength, blocks, blockAt}
+use Rattle.journal.specs.Blocks.{Counted, usedIn, bodyCount, cursorLength, attemptLength}
+use Rattle.journal.specs.Sound.{soundHeader, soundBody}
+use Rattle.journal.specs.Walks.{firstUnsound, Found, nothing, unsound, group, orUnsound, groupAt, Stop, stop, damaged, after, walkFrom, walk}
+use Rattle.journal.specs.Answers.{walkIn}
+use Rattle.journal.proofs.Area.{block-part}
+use Rattle.journal.proofs.Sound.{Header, header-says, formed-counted}
+use Rattle.journal.proofs.Walks.{says-nothing, says-bodies, group-says, past-end, walk-turn}
+
+-- ## The bodies of a group
+module _ (a : List ℕ) (k i n t : ℕ) where
+  -- the bodies before j are sound
+  pub record Scanned (j : ℕ) : Type 0 where
+    pub first : 1 ≤ j
+    pub most : j ≤ n + 1
+    pub rest : firstUnsound a k i n t (n + 1 - j) j ≡ firstUnsound a k i n t n 1
+
+  pub scan-none : Scanned 1
+  scan-none =
+      let e : n + 1 - 1 ≡ n = omega arith in
+      record { first = omega arith; most = omega arith; rest = rw e }
+
+  module _ (j : ℕ) (s : Scanned j) where
+    -- what the test of body j told
+    module _ (used : ℕ) (u : Bool) (h : j ≤ n) (is : used ≡ usedIn j n t) (test : u ≡ soundBody k j used (take (512 * (i + j) + 512 - 512 * (i + j)) (drop (512 * (i + j)) a))) where
+      tested : soundBody k j (usedIn j n t) (blockAt a (i + j)) ≡ u
+      tested = sym (test ∙ rw (is, block-part a (i + j)))
+
+      left : n + 1 - j ≡ suc (n - j)
+      left = omega arith
+
+      pub scan-more : u ≡ true → Scanned (j + 1)
+      scan-more e =
+          let m : n + 1 - (j + 1) ≡ n - j = omega arith in
+          let q : j + 1 ≡ suc j = omega arith in
+          record { first = omega arith; most = omega arith; rest = rw (m, q) (rw (left, tested, e) at (s .rest)) }
+
+      pub scan-unsound : u ≡ false → unsound (i + j) ≡ orUnsound (firstUnsound a k i n t n 1) (i + suc n)
+      scan-unsound e = rw (← s .rest, left, tested, e)
+
+    pub scan-all : n < j → group (i + j) ≡ orUnsound (firstUnsound a k i n t n 1) (i + suc n)
+    scan-all h =
+        let m : n + 1 - j ≡ 0 = omega arith in
+        let q : j ≡ suc n = omega (arith, s .most) in
+        rw (← s .rest, m, q)
+
+-- ## A turn
+module _ (a : List ℕ) (hi k i : ℕ) where
+  -- the bytes of the block, as the code takes them
+  abbrev part : List ℕ
+  part = take (512 * i + 512 - 512 * i) (drop (512 * i) a)
+
+  module _ (u : Bool) (test : u ≡ soundHeader hi k i part) where
+    tested-header : soundHeader hi k i (blockAt a i) ≡ u
+    tested-header = sym (test ∙ rw (block-part a i))
+
+    pub turn-nothing : u ≡ false → nothing ≡ groupAt a hi k i
+    turn-nothing e = sym (says-nothing a hi k i (tested-header ∙ e))
+
+    module _ (e : u ≡ true) (lc la : ℕ) (c : lc ≡ cursorLength part) (t : la ≡ attemptLength part) where
+      sound : Header hi k i part
+      sound = header-says hi k i part (sym test ∙ e)
+
+      pub turn-counted : Counted (bodyCount part) (lc + la)
+      turn-counted = rw (c, t) (formed-counted part (sound .form))
+
+      pub turn-fits : 512 * hi ≤ length a → 512 * (i + 1 + bodyCount part) ≤ length a
+      turn-fits h = omega (arith, sound .fits)
+
+      pub turn-bodies : (f : Found) → f ≡ orUnsound (firstUnsound a k i (bodyCount part) (lc + la) (bodyCount part) 1) (i + suc (bodyCount part)) → f ≡ groupAt a hi k i
+      turn-bodies f q = q ∙ rw (c, t, block-part a i) (sym (says-bodies a hi k i (tested-header ∙ e)))
+
+-- ## The walk
+module _ (a : List ℕ) (hi : ℕ) (last : Option ℕ) (k i : ℕ) (w : Result Stop) (so-far : walkFrom a hi last k i ≡ w) where
+  turned : after (groupAt a hi k i) (stop last k i) (λ e. walkFrom a hi (some i) (suc k) e) ≡ w
+  turned = sym (walk-turn a hi last k i) ∙ so-far
+
+  pub walk-ends : groupAt a hi k i ≡ nothing → stop last k i ≡ w
+  walk-ends e = rw e at turned
+
+  pub walk-past : hi ≤ i → stop last k i ≡ w
+  walk-past h = walk-ends (past-end a hi k i h)
+
+  pub walk-breaks : (j : ℕ) → groupAt a hi k i ≡ unsound j → damaged j ≡ w
+  walk-breaks j e = rw e at turned
+
+  pub walk-goes : (e : ℕ) → groupAt a hi k i ≡ group e → walkFrom a hi (some i) (k + 1) e ≡ w
+  walk-goes e g = rw add-one (rw g at turned)
+
+-- a group has a number of four bytes, and takes a block at least
+module _ (a : List ℕ) (hi k i e : ℕ) (found : groupAt a hi k i ≡ group e) where
+  pub group-number : IsBytes a → k < 256 ^ 4
+  unfolding blockAt
+  group-number bytes =
+      let g = group-says a hi k i e found in
+      let n = number-lt 4 4 (blockAt a i) (bytes-take 512 (drop (512 * i) a) (bytes-drop (512 * i) a bytes)) in
+      omega (arith, g .header .number)
+
+  pub group-advances : i < e
+  group-advances = omega (arith, group-says a hi k i e found .behind)
+
+-- what the call answers
+module _ (hi k i : ℕ) (a : List ℕ) where
+  pub walk-refused : badLength (length a) ≡ true → refused BadArea ≡ walkIn hi k i a
+  unfolding walkIn
+  walk-refused t = rw t
+
+  pub walk-answered : (end : ℕ) (w : Result Stop) → badLength (length a) ≡ false → end ≡ min hi (blocks a) → w ≡ walk a end k i → w ≡ walkIn hi k i a
+  unfolding walkIn
+  walk-answered end w t e q = q ∙ rw (t, e)

@@ -1,0 +1,5 @@
+pub mod Area
+pub mod Blocks
+pub mod Sound
+pub mod Walks
+pub mod Answers

@@ -1,0 +1,41 @@
+-- Sound blocks, as 01 has them under "journal": kind, check, group number, zeros as laid down, lengths, body count. A header's
+-- number and its fit, which depend on where it stands, come last.
+use Prim.Native.Nat.{ℕ, _+_, _-_}
+use mathlib.Core.Bool.{Bool, true, _&&_}
+use mathlib.Core.List.{List, [], _∷_}
+use lib.Dec.{leb, eqb}
+use lib.ListN.{length, take, drop}
+use Rattle.crc.specs.Seal.{isSealed}
+use Rattle.journal.specs.Blocks.{bodiesFor, kindOf, groupOf, bodyCount, cursorLength, attemptLength, payloadLength, indexOf, usedOf}
+
+abbrev pub allZero : List ℕ → Bool
+allZero [] = true
+allZero (b ∷ bs) = eqb b 0 && allZero bs
+
+-- the k bytes from place pos on are zero
+abbrev pub zerosAt : ℕ → ℕ → List ℕ → Bool
+zerosAt k pos b = allZero (take k (drop pos b))
+
+-- a block of this kind with a right check
+unfoldable pub isKind : ℕ → List ℕ → Bool
+isKind kind b = eqb (length b) 512 && eqb (kindOf b) kind && isSealed b
+
+-- kind 1 and a right check: what could be taken for a header
+abbrev pub heads : List ℕ → Bool
+heads b = isKind 1 b
+
+-- a header sound in all but its number and its fit
+unfoldable pub formed : List ℕ → Bool
+formed b =
+    heads b && zerosAt 2 2 b && zerosAt 488 20 b
+    && leb 13 (cursorLength b) && leb (cursorLength b) 2061 && leb 9 (attemptLength b) && leb (attemptLength b) 1545
+    && eqb (bodyCount b) (bodiesFor (payloadLength b))
+
+-- a sound header at block i, where group k is expected and no group may pass block hi
+unfoldable pub soundHeader : ℕ → ℕ → ℕ → List ℕ → Bool
+soundHeader hi k i b = formed b && eqb (groupOf b) k && leb (i + 1 + bodyCount b) hi
+
+-- a sound body j of group k, with this many bytes used
+unfoldable pub soundBody : ℕ → ℕ → ℕ → List ℕ → Bool
+soundBody k j used b =
+    isKind 2 b && eqb (groupOf b) k && eqb (indexOf b) j && eqb (usedOf b) used && zerosAt (500 - used) (8 + used) b
