@@ -9,7 +9,7 @@ use mathlib.Core.Option.{Option, none, some, Option·none-ne-some}
 use lib.Dec.{ltb, eqb}
 use lib.ListN.{length}
 use borrow.Author.Tests.{ltb-true, ltb-false, eqb-true, eqb-false, eq-eqb, ne-eqb}
-use Rattle.types.specs.Keyed.{Entry, entry, lookup, put, delete, dropBelow, anyBelow, Rising, All}
+use Rattle.types.specs.Keyed.{Entry, entry, lookup, put, update, delete, dropBelow, anyBelow, Rising, All, mapValues}
 use Rattle.types.proofs.Cases.{split}
 
 eqb-move : (j k x : ℕ) → eqb j k ≡ false → eqb k x ≡ true → eqb j x ≡ false
@@ -111,6 +111,13 @@ module _ {A : Type 0} where
   length-delete k [] = omega arith
   length-delete k (e ∷ l) = split (eqb k (e .key)) (λ q. rw q (omega (arith, length-delete k l))) (λ q. rw q (omega (arith, length-delete k l)))
 
+  pub delete-absent : (x : ℕ) (l : List (Entry A)) → lookup x l ≡ none → delete x l ≡ l
+  delete-absent x [] h = refl
+  delete-absent x (e ∷ l) h =
+      split (eqb x (e .key))
+      (λ q. absurd (Option·none-ne-some (e .value) (sym (rw q at h))))
+      (λ q. rw q (ap (λ (t : List (Entry A)). e ∷ t) (delete-absent x l (rw q at h))))
+
   pub length-delete-old : (k : ℕ) (v : A) (l : List (Entry A)) → lookup k l ≡ some v → length (delete k l) < length l
   length-delete-old k v [] h = absurd (Option·none-ne-some v h)
   length-delete-old k v (e ∷ l) h =
@@ -138,3 +145,92 @@ module _ {A : Type 0} where
         (λ t. absurd (Option·none-ne-some v (sym (lookup-under (suc (e .key)) o l (r .1) (omega (arith, eqb-true o (e .key) t))) ∙ q)))
         (λ t. rw t q))),
   )
+
+  pub lookup-all : (P : ℕ → A → Type 0) (k : ℕ) (v : A) (l : List (Entry A)) → All P l → lookup k l ≡ some v → P k v
+  lookup-all P k v [] a h = absurd (Option·none-ne-some v h)
+  lookup-all P k v (e ∷ l) a h =
+      split (eqb k (e .key))
+      (λ q. let w : some (e .value) ≡ some v = rw q at h in let u : e .value ≡ v = cc in rw (eqb-true k (e .key) q, ← u) (a .0))
+      (λ q. lookup-all P k v l (a .1) (rw q at h))
+
+  pub all-put : (P : ℕ → A → Type 0) (k : ℕ) (v : A) (l : List (Entry A)) → P k v → All P l → All P (put k v l)
+  all-put P k v [] p a = (p, tt)
+  all-put P k v (e ∷ l) p a =
+      split (ltb k (e .key))
+      (λ t. rw t (p, a))
+      (λ t. split (eqb k (e .key)) (λ q. rw (t, q) (p, a .1)) (λ q. rw (t, q) (a .0, all-put P k v l p (a .1))))
+
+  pub all-delete : (P : ℕ → A → Type 0) (k : ℕ) (l : List (Entry A)) → All P l → All P (delete k l)
+  all-delete P k [] a = tt
+  all-delete P k (e ∷ l) a = split (eqb k (e .key)) (λ q. rw q (all-delete P k l (a .1))) (λ q. rw q (a .0, all-delete P k l (a .1)))
+
+  pub all-dropBelow : (P : ℕ → A → Type 0) (b : ℕ) (l : List (Entry A)) → All P l → All P (dropBelow b l)
+  all-dropBelow P b [] a = tt
+  all-dropBelow P b (e ∷ l) a = split (ltb (e .key) b) (λ q. rw q (all-dropBelow P b l (a .1))) (λ q. rw q (a .0, all-dropBelow P b l (a .1)))
+
+  -- ## a value changed in its place is the value put there
+  pub update-put : (lo k : ℕ) (f : A → A) (v : A) (l : List (Entry A)) → Rising lo l → lookup k l ≡ some v → update k f l ≡ put k (f v) l
+  update-put lo k f v [] r h = absurd (Option·none-ne-some v h)
+  update-put lo k f v (e ∷ l) r h =
+      split (ltb k (e .key))
+      (λ t. absurd (Option·none-ne-some v (sym (lookup-under (e .key) k (e ∷ l) (omega arith, r .1) (ltb-true k (e .key) t)) ∙ h)))
+      (λ t. split (eqb k (e .key))
+      (λ q. let w : some (e .value) ≡ some v = rw q at h in let u : e .value ≡ v = cc in rw (t, q, u, eqb-true k (e .key) q))
+      (λ q. rw (t, q) (ap (λ (m : List (Entry A)). e ∷ m) (update-put (suc (e .key)) k f v l (r .1) (rw q at h)))))
+
+  pub lookup-update-same : (k : ℕ) (f : A → A) (v : A) (l : List (Entry A)) → lookup k l ≡ some v → lookup k (update k f l) ≡ some (f v)
+  lookup-update-same k f v [] h = absurd (Option·none-ne-some v h)
+  lookup-update-same k f v (e ∷ l) h =
+      split (eqb k (e .key))
+      (λ q. let w : some (e .value) ≡ some v = rw q at h in let u : e .value ≡ v = cc in rw (q, q, u))
+      (λ q. rw (q, q) (lookup-update-same k f v l (rw q at h)))
+
+  pub lookup-update-other : (j k : ℕ) (f : A → A) (l : List (Entry A)) → eqb j k ≡ false → lookup j (update k f l) ≡ lookup j l
+  lookup-update-other j k f [] n = refl
+  lookup-update-other j k f (e ∷ l) n =
+      split (eqb k (e .key))
+      (λ q. rw (q, eqb-move j k (e .key) n q))
+      (λ q. rw q (ap (cond (eqb j (e .key)) (some (e .value))) (lookup-update-other j k f l n)))
+
+  pub rising-update : (lo k : ℕ) (f : A → A) (l : List (Entry A)) → Rising lo l → Rising lo (update k f l)
+  rising-update lo k f [] r = tt
+  rising-update lo k f (e ∷ l) r = split (eqb k (e .key)) (λ q. rw q r) (λ q. rw q (r .0, rising-update (suc (e .key)) k f l (r .1)))
+
+  pub length-update : (k : ℕ) (f : A → A) (l : List (Entry A)) → length (update k f l) ≡ length l
+  length-update k f [] = refl
+  length-update k f (e ∷ l) = split (eqb k (e .key)) (λ q. rw q) (λ q. rw q (ap suc (length-update k f l)))
+
+  pub all-update : (P : ℕ → A → Type 0) (k : ℕ) (f : A → A) (l : List (Entry A)) → ((o : ℕ) (v : A) → P o v → P o (f v)) → All P l → All P (update k f l)
+  all-update P k f [] h a = tt
+  all-update P k f (e ∷ l) h a =
+      split (eqb k (e .key))
+      (λ q. rw q (h (e .key) (e .value) (a .0), a .1))
+      (λ q. rw q (a .0, all-update P k f l h (a .1)))
+
+-- ## every value changed
+module _ {A B : Type 0} (f : A → B) where
+  pub lookup-mapValues-some : (k : ℕ) (v : A) (l : List (Entry A)) → lookup k l ≡ some v → lookup k (mapValues f l) ≡ some (f v)
+  lookup-mapValues-some k v [] h = absurd (Option·none-ne-some v h)
+  lookup-mapValues-some k v (e ∷ l) h =
+      split (eqb k (e .key))
+      (λ q. let w : some (e .value) ≡ some v = rw q at h in let u : e .value ≡ v = cc in rw (q, u))
+      (λ q. rw q (lookup-mapValues-some k v l (rw q at h)))
+
+  pub lookup-mapValues-none : (k : ℕ) (l : List (Entry A)) → lookup k l ≡ none → lookup k (mapValues f l) ≡ none
+  lookup-mapValues-none k [] h = refl
+  lookup-mapValues-none k (e ∷ l) h =
+      split (eqb k (e .key))
+      (λ q. absurd (Option·none-ne-some (e .value) (sym (rw q at h))))
+      (λ q. rw q (lookup-mapValues-none k l (rw q at h)))
+
+  pub rising-mapValues : (lo : ℕ) (l : List (Entry A)) → Rising lo l → Rising lo (mapValues f l)
+  rising-mapValues lo [] r = tt
+  rising-mapValues lo (e ∷ l) r = (r .0, rising-mapValues (suc (e .key)) l (r .1))
+
+  pub length-mapValues : (l : List (Entry A)) → length (mapValues f l) ≡ length l
+  length-mapValues [] = refl
+  length-mapValues (e ∷ l) = ap suc (length-mapValues l)
+
+  pub all-mapValues : (P : ℕ → A → Type 0) (Q : ℕ → B → Type 0) (l : List (Entry A)) → ((o : ℕ) (v : A) → P o v → Q o (f v)) → All P l → All Q (mapValues f l)
+  all-mapValues P Q [] h a = tt
+  all-mapValues P Q (e ∷ l) h a = (h (e .key) (e .value) (a .0), all-mapValues P Q l h (a .1))

@@ -5,3 +5,5 @@ pub mod Zipped
 pub mod Search
 pub mod Shift
 pub mod Scan
+pub mod Sorted
+pub mod Columns

@@ -23,6 +23,11 @@ module _ {A : Type 0} where
   put k v [] = entry k v ∷ []
   put k v (e ∷ l) = cond (ltb k (e .key)) (entry k v ∷ e ∷ l) (cond (eqb k (e .key)) (entry k v ∷ l) (e ∷ put k v l))
 
+  -- the value of the key changed in its place, where there is one
+  abbrev pub update : ℕ → (A → A) → List (Entry A) → List (Entry A)
+  update k f [] = []
+  update k f (e ∷ l) = cond (eqb k (e .key)) (entry (e .key) (f (e .value)) ∷ l) (e ∷ update k f l)
+
   -- without the key
   abbrev pub delete : ℕ → List (Entry A) → List (Entry A)
   delete k [] = []
@@ -47,3 +52,14 @@ module _ {A : Type 0} where
   abbrev pub All : (ℕ → A → Type 0) → List (Entry A) → Type 0
   All P [] = Unit {0}
   All P (e ∷ l) = P (e .key) (e .value) × All P l
+
+  -- a column of keys and one of values, side by side
+  abbrev pub entries : List ℕ → List A → List (Entry A)
+  entries [] vs = []
+  entries (k ∷ ks) [] = []
+  entries (k ∷ ks) (v ∷ vs) = entry k v ∷ entries ks vs
+
+-- every value changed
+abbrev pub mapValues : {A B : Type 0} → (A → B) → List (Entry A) → List (Entry B)
+mapValues f [] = []
+mapValues f (e ∷ l) = entry (e .key) (f (e .value)) ∷ mapValues f l

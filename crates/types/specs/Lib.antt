@@ -5,3 +5,5 @@ pub mod Table
 pub mod Keyed
 pub mod Zipped
 pub mod Search
+pub mod Sorted
+pub mod Lists

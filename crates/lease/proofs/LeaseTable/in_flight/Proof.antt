@@ -1,0 +1,16 @@
+-- `LeaseTable::in_flight` meets its contract.
+-- Assumes nothing.
+use borrow.Author.Needs.{needs}
+use mathlib.Core.Path.{sym}
+use Rattle.lease.proofs.Slots.{length-mapped, Full, in-flight}
+use Rattle.lease.proofs.LeaseTable.in_flight.Statement.{statement}
+use Rattle.lease.proofs.LeaseTable.in_flight.Tie as tie
+
+full : (c : tie.Start) → Full (c .args .self)
+full c = record { offsets = search needs; leases = search (needs, length-mapped); carried-offsets = search needs; carried-counts = search needs }
+
+returns : tie.Need-returns
+returns c = sym (in-flight (c .args .self) (full c) (c .pre))
+
+pub in-flight-spec : {M : Type 1} → statement M
+in-flight-spec = tie.close (tie.spec returns)

@@ -1,0 +1,170 @@
+-- Every operation keeps what holds of a table: sorted, within its limits, one lease and one carried count for an offset,
+-- numbers of their types, no count of 0.
+-- Assumes nothing.
+use Prim.Native.Nat.{ℕ, suc, _+_, _≤_, _<_}
+use native.Mathlib.Omega.{arith}
+use mathlib.Core.Path.{_≡_, refl}
+use mathlib.Core.Bool.{Bool, true, false, _&&_}
+use mathlib.Core.List.{List, [], _∷_}
+use mathlib.Core.Option.{Option, none, some}
+use lib.Dec.{ltb, leb, eqb}
+use lib.ListN.{length}
+use borrow.Author.Tests.{ltb-false, leb-false, eqb-false}
+use Rattle.types.specs.Limits.{MAX, MAX32, LEASES, CARRIED, sat32}
+use Rattle.types.specs.Keyed.{Entry, lookup, put, update, delete, dropBelow, Rising, All, mapValues}
+use Rattle.types.proofs.Cases.{split}
+use Rattle.types.proofs.Keyed.{rising-put, length-put, length-put-old, all-put, rising-delete, length-delete, all-delete, rising-update, length-update, all-update, rising-dropBelow, length-dropBelow, all-dropBelow, rising-mapValues, length-mapValues, all-mapValues}
+use Rattle.lease.specs.State.{Table, withLeases, withCarried, startingAt, Counted, Valid}
+use Rattle.lease.specs.Claim.{leaseOf, isNone, handedOut, nextCount, consumed, grant, lease, requeue, requeuedAs, dueAt, deadlineFrom}
+use Rattle.lease.specs.Rest.{attemptsFlushed, releaseBelow, resealedAs, shiftedBy, shiftDeadlines}
+use Rattle.lease.specs.Counts.{carry, carryAll}
+use Rattle.lease.specs.declared.LeaseConfig.{LeaseConfig}
+use Rattle.lease.specs.declared.Lease.{Lease}
+
+pub valid-start : (c : LeaseConfig) (g : ℕ) → g ≤ MAX → Valid (startingAt c g)
+valid-start c g h =
+    record { rising = tt; few = omega arith; counted = tt; carried-rising = tt; carried-few = omega arith; carried-counted = tt; generation-fits = h }
+
+abbrev Fine : List (Entry Lease) → Type 0
+Fine l = All (λ o v. Counted o (v .deliveries)) l
+
+-- ## one half of a table changed
+pub valid-leases : (t : Table) (l : List (Entry Lease)) → Valid t → Rising 0 l → length l ≤ LEASES → Fine l → Valid (withLeases t l)
+valid-leases t l v r f a =
+    record { rising = r; few = f; counted = a; carried-rising = v .carried-rising; carried-few = v .carried-few; carried-counted = v .carried-counted; generation-fits = v .generation-fits }
+
+pub valid-carried : (t : Table) (c : List (Entry ℕ)) → Valid t → Rising 0 c → length c ≤ CARRIED → All Counted c → Valid (withCarried t c)
+valid-carried t c v r f a =
+    record { rising = v .rising; few = v .few; counted = v .counted; carried-rising = r; carried-few = f; carried-counted = a; generation-fits = v .generation-fits }
+
+-- a lease changed, and not how often it was handed out
+pub valid-update : (t : Table) (o : ℕ) (f : Lease → Lease) → ((l : Lease) → f l .deliveries ≡ l .deliveries) → Valid t
+    → Valid (withLeases t (update o f (t .leases)))
+valid-update t o f same v =
+    valid-leases t (update o f (t .leases)) v
+    (rising-update 0 o f (t .leases) (v .rising))
+    (rw (length-update o f (t .leases)) (v .few))
+    (all-update (λ k l. Counted k (l .deliveries)) o f (t .leases) (λ k l h. rw (same l) h) (v .counted))
+
+pub valid-ack : (t : Table) (o : ℕ) → Valid t → Valid (withLeases t (delete o (t .leases)))
+valid-ack t o v =
+    valid-leases t (delete o (t .leases)) v
+    (rising-delete 0 o (t .leases) (v .rising))
+    (omega (arith, length-delete o (t .leases), v .few))
+    (all-delete (λ k l. Counted k (l .deliveries)) o (t .leases) (v .counted))
+
+next-fits : (g : ℕ) → g ≤ MAX → eqb g MAX ≡ false → g + 1 ≤ MAX
+next-fits g h n = omega (arith, eqb-false g MAX n)
+
+pub valid-requeue : (t : Table) (o deadline : ℕ) → eqb (t .nextGeneration) MAX ≡ false → Valid t → Valid (requeue t o deadline)
+valid-requeue t o deadline n v =
+    let u = valid-update t o (requeuedAs (t .nextGeneration) deadline) (λ l. refl) v in
+    record {
+      rising = u .rising;
+      few = u .few;
+      counted = u .counted;
+      carried-rising = v .carried-rising;
+      carried-few = v .carried-few;
+      carried-counted = v .carried-counted;
+      generation-fits = next-fits (t .nextGeneration) (v .generation-fits) n;
+    }
+
+pub valid-flushed : (t : Table) → Valid t → Valid (attemptsFlushed t)
+valid-flushed t v =
+    record {
+      rising = v .rising;
+      few = v .few;
+      counted = v .counted;
+      carried-rising = v .carried-rising;
+      carried-few = v .carried-few;
+      carried-counted = v .carried-counted;
+      generation-fits = v .generation-fits;
+    }
+
+pub valid-release : (t : Table) (b : ℕ) → Valid t → Valid (releaseBelow t b)
+valid-release t b v =
+    record {
+      rising = rising-dropBelow 0 b (t .leases) (v .rising);
+      few = omega (arith, length-dropBelow b (t .leases), v .few);
+      counted = all-dropBelow (λ k l. Counted k (l .deliveries)) b (t .leases) (v .counted);
+      carried-rising = rising-dropBelow 0 b (t .carried) (v .carried-rising);
+      carried-few = omega (arith, length-dropBelow b (t .carried), v .carried-few);
+      carried-counted = all-dropBelow Counted b (t .carried) (v .carried-counted);
+      generation-fits = v .generation-fits;
+    }
+
+pub valid-shift : (t : Table) (delta : ℕ) → Valid t → Valid (shiftDeadlines t delta)
+valid-shift t delta v =
+    valid-leases t (mapValues (shiftedBy delta) (t .leases)) v
+    (rising-mapValues (shiftedBy delta) 0 (t .leases) (v .rising))
+    (rw (length-mapValues (shiftedBy delta) (t .leases)) (v .few))
+    (all-mapValues (shiftedBy delta) (λ k l. Counted k (l .deliveries)) (λ k l. Counted k (l .deliveries)) (t .leases) (λ k l h. h) (v .counted))
+
+-- ## grants
+counted-next : (o n : ℕ) → o ≤ MAX → Counted o (sat32 n 1)
+counted-next o n h = record { offset-fits = h; once = omega arith; count-fits = omega arith }
+
+-- room for the lease of an offset: it has one, or there are fewer than 64
+room : (o : ℕ) (l : Lease) (ls : List (Entry Lease)) (x : Option Lease) → lookup o ls ≡ x → Rising 0 ls → length ls ≤ LEASES
+    → (isNone x && leb LEASES (length ls)) ≡ false → length (put o l ls) ≤ LEASES
+room o l ls none e r f n = omega (arith, length-put o l ls, leb-false LEASES (length ls) n)
+room o l ls (some w) e r f n = rw (length-put-old 0 o l w ls r e) f
+
+record Rest (c : List (Entry ℕ)) : Type 0 where
+  pub rising : Rising 0 c
+  pub few : length c ≤ CARRIED
+  pub counted : All Counted c
+
+rest : (o : ℕ) (c : List (Entry ℕ)) (x : Option Lease) → Rest c → Rest (consumed x o c)
+rest o c (some l) h = h
+rest o c none h =
+    record {
+      rising = rising-delete 0 o c (h .rising);
+      few = omega (arith, length-delete o c, h .few);
+      counted = all-delete Counted o c (h .counted);
+    }
+
+pub valid-grant : (t : Table) (o now : ℕ) → o ≤ MAX → eqb (t .nextGeneration) MAX ≡ false → (isNone (leaseOf t o) && leb LEASES (length (t .leases))) ≡ false
+    → Valid t → Valid (grant t o now)
+valid-grant t o now h n f v =
+    let new = lease (t .nextGeneration) now (deadlineFrom (t .config) now now) (nextCount t o) in
+    let c = rest o (t .carried) (leaseOf t o) (record { rising = v .carried-rising; few = v .carried-few; counted = v .carried-counted }) in
+    record {
+      rising = rising-put 0 o new (t .leases) (omega arith) (v .rising);
+      few = room o new (t .leases) (leaseOf t o) refl (v .rising) (v .few) f;
+      counted = all-put (λ k l. Counted k (l .deliveries)) o new (t .leases) (counted-next o (handedOut (leaseOf t o) (lookup o (t .carried))) h) (v .counted);
+      carried-rising = c .rising;
+      carried-few = c .few;
+      carried-counted = c .counted;
+      generation-fits = next-fits (t .nextGeneration) (v .generation-fits) n;
+    }
+
+-- ## counts carried over
+carry-rising : (o n : ℕ) (c : List (Entry ℕ)) → Rising 0 c → Rising 0 (carry o n c)
+carry-rising o n c r = split (eqb n 0) (λ q. rw q r) (λ q. rw q (rising-put 0 o n c (omega arith) r))
+
+carry-counted : (o n : ℕ) (c : List (Entry ℕ)) → o ≤ MAX → n ≤ MAX32 → All Counted c → All Counted (carry o n c)
+carry-counted o n c h m a =
+    split (eqb n 0)
+    (λ q. rw q a)
+    (λ q. rw q (all-put Counted o n c (record { offset-fits = h; once = omega (arith, eqb-false n 0 q); count-fits = m }) a))
+
+-- an offset and a count of their types
+abbrev pub Fits : ℕ → ℕ → Type 0
+Fits o n = (o ≤ MAX) × (n ≤ MAX32)
+
+carry-all-rising : (ps c : List (Entry ℕ)) → Rising 0 c → Rising 0 (carryAll ps c)
+carry-all-rising [] c r = r
+carry-all-rising (p ∷ ps) c r = carry-all-rising ps (carry (p .key) (p .value) c) (carry-rising (p .key) (p .value) c r)
+
+carry-all-counted : (ps c : List (Entry ℕ)) → All Fits ps → All Counted c → All Counted (carryAll ps c)
+carry-all-counted [] c f a = a
+carry-all-counted (p ∷ ps) c f a = carry-all-counted ps (carry (p .key) (p .value) c) (f .1) (carry-counted (p .key) (p .value) c (f .0 .0) (f .0 .1) a)
+
+pub valid-resume : (t : Table) (ps : List (Entry ℕ)) → All Fits ps → ltb CARRIED (length (carryAll ps (t .carried))) ≡ false → Valid t
+    → Valid (withCarried t (carryAll ps (t .carried)))
+valid-resume t ps f n v =
+    valid-carried t (carryAll ps (t .carried)) v
+    (carry-all-rising ps (t .carried) (v .carried-rising))
+    (omega (arith, ltb-false CARRIED (length (carryAll ps (t .carried))) n))
+    (carry-all-counted ps (t .carried) f (v .carried-counted))

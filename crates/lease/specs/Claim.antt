@@ -1,0 +1,148 @@
+-- Claims, acks, extensions and nacks of leases (01, "Modules", lease; lease.rs): each a refusal table in 01's order and
+-- an effect.
+use Prim.Native.Nat.{ℕ, _+_, min}
+use mathlib.Core.Bool.{Bool, true, false, cond, not, _&&_}
+use mathlib.Core.List.{List, [], _∷_}
+use mathlib.Core.Option.{Option, none, some}
+use lib.Dec.{ltb, leb, eqb}
+use lib.ListN.{length}
+use Rattle.types.specs.Limits.{MAX, LEASES, sat32, sat64}
+use Rattle.types.specs.Refusal.{done, InFlight, Fenced, Exhausted, Full, CapReached}
+use Rattle.types.specs.Table.{Row, _⇒_, Answer, answer, guarded}
+use Rattle.types.specs.Keyed.{Entry, lookup, put, update, delete}
+use Rattle.lease.specs.State.{Table, withLeases}
+use Rattle.lease.specs.declared.LeaseConfig.{LeaseConfig}
+use Rattle.lease.specs.declared.Lease.{Lease}
+
+-- ## one lease
+abbrev pub lease : ℕ → ℕ → ℕ → ℕ → Lease
+lease g start deadline n = record { generation = record { 0 = g }; «attempt_start» = start; deadline = deadline; deliveries = n }
+
+-- the lease of an offset
+abbrev pub leaseOf : Table → ℕ → Option Lease
+leaseOf t o = lookup o (t .leases)
+
+abbrev pub isNone : {A : Type 0} → Option A → Bool
+isNone none = true
+isNone (some a) = false
+
+-- a lease runs before its deadline, and is due at the deadline itself
+abbrev pub running : Option Lease → ℕ → Bool
+running none now = false
+running (some l) now = ltb now (l .deadline)
+
+-- a token's generation is that of the lease
+abbrev pub owns : Option Lease → ℕ → Bool
+owns none g = false
+owns (some l) g = eqb (l .generation .0) g
+
+-- the end of an attempt that began at `start`, however often it is extended
+abbrev pub capFrom : LeaseConfig → ℕ → ℕ
+capFrom c start = sat64 start (c .«hard_cap_nanos»)
+
+-- one visibility window from now, within that end
+abbrev pub deadlineFrom : LeaseConfig → ℕ → ℕ → ℕ
+deadlineFrom c start now = min (sat64 now (c .«visibility_nanos»)) (capFrom c start)
+
+-- ## claim
+abbrev pub countOr0 : Option ℕ → ℕ
+countOr0 none = 0
+countOr0 (some n) = n
+
+-- how often an offset was handed out before: as its lease says, or else its carried count
+abbrev pub handedOut : Option Lease → Option ℕ → ℕ
+handedOut (some l) c = l .deliveries
+handedOut none c = countOr0 c
+
+abbrev pub nextCount : Table → ℕ → ℕ
+nextCount t o = sat32 (handedOut (leaseOf t o) (lookup o (t .carried))) 1
+
+-- a first lease takes its offset's count over from the carried ones
+abbrev pub consumed : Option Lease → ℕ → List (Entry ℕ) → List (Entry ℕ)
+consumed (some l) o c = c
+consumed none o c = delete o c
+
+-- the redelivery counter: a grant whose count is 2 or more raises it by 1, a flush clears it
+abbrev pub afterGrant : ℕ → ℕ → ℕ
+afterGrant n count = cond (leb 2 count) (sat32 n 1) n
+
+abbrev pub afterFlush : ℕ → ℕ
+afterFlush n = 0
+
+-- the offset leased anew under the next generation, the attempt beginning now
+abbrev pub grant : Table → ℕ → ℕ → Table
+grant t o now =
+    record {
+      config = t .config;
+      leases = put o (lease (t .nextGeneration) now (deadlineFrom (t .config) now now) (nextCount t o)) (t .leases);
+      carried = consumed (leaseOf t o) o (t .carried);
+      nextGeneration = t .nextGeneration + 1;
+      redeliveries = afterGrant (t .redeliveries) (nextCount t o);
+    }
+
+-- what a granted claim answers: the token and the count
+pub record Grant : Type 0 where
+  pub offset : ℕ
+  pub generation : ℕ
+  pub deliveries : ℕ
+
+abbrev pub granted : Table → ℕ → Grant
+granted t o = record { offset = o; generation = t .nextGeneration; deliveries = nextCount t o }
+
+abbrev pub claimRows : Table → ℕ → ℕ → List Row
+claimRows t o now =
+    running (leaseOf t o) now ⇒ InFlight ∷
+    eqb (t .nextGeneration) MAX ⇒ Exhausted ∷
+    (isNone (leaseOf t o) && leb LEASES (length (t .leases))) ⇒ Full ∷ []
+
+unfoldable pub claim : Table → ℕ → ℕ → Answer Grant Table
+claim t o now = guarded (claimRows t o now) t (answer (done (granted t o)) (grant t o now))
+
+-- ## calls with a token, of offset o and generation g
+-- the row that all of them begin with
+abbrev pub tokenRow : Table → ℕ → ℕ → Row
+tokenRow t o g = not (owns (leaseOf t o) g) ⇒ Fenced
+
+unfoldable pub ack : Table → ℕ → ℕ → Answer (Unit {0}) Table
+ack t o g = guarded (tokenRow t o g ∷ []) t (answer (done tt) (withLeases t (delete o (t .leases))))
+
+abbrev pub startOf : Option Lease → ℕ
+startOf none = 0
+startOf (some l) = l .«attempt_start»
+
+-- a lease with another deadline
+abbrev pub dueAt : ℕ → Lease → Lease
+dueAt deadline l = lease (l .generation .0) (l .«attempt_start») deadline (l .deliveries)
+
+abbrev pub extendRows : Table → ℕ → ℕ → ℕ → List Row
+extendRows t o g now = tokenRow t o g ∷ leb (capFrom (t .config) (startOf (leaseOf t o))) now ⇒ CapReached ∷ []
+
+-- the answer is the new deadline
+abbrev pub extended : Table → ℕ → ℕ → ℕ
+extended t o now = deadlineFrom (t .config) (startOf (leaseOf t o)) now
+
+unfoldable pub extend : Table → ℕ → ℕ → ℕ → Answer ℕ Table
+extend t o g now =
+    guarded (extendRows t o g now) t
+    (answer (done (extended t o now)) (withLeases t (update o (dueAt (extended t o now)) (t .leases))))
+
+-- a lease given up until a deadline: a new generation fences its holder, and the count stays
+abbrev pub requeuedAs : ℕ → ℕ → Lease → Lease
+requeuedAs g deadline l = lease g (l .«attempt_start») deadline (l .deliveries)
+
+abbrev pub requeue : Table → ℕ → ℕ → Table
+requeue t o deadline =
+    record {
+      config = t .config;
+      leases = update o (requeuedAs (t .nextGeneration) deadline) (t .leases);
+      carried = t .carried;
+      nextGeneration = t .nextGeneration + 1;
+      redeliveries = t .redeliveries;
+    }
+
+abbrev pub nackRows : Table → ℕ → ℕ → List Row
+nackRows t o g = tokenRow t o g ∷ eqb (t .nextGeneration) MAX ⇒ Exhausted ∷ []
+
+-- the answer is the deadline, which no cap bounds
+unfoldable pub nack : Table → ℕ → ℕ → ℕ → ℕ → Answer ℕ Table
+nack t o g now delay = guarded (nackRows t o g) t (answer (done (sat64 now delay)) (requeue t o (sat64 now delay)))

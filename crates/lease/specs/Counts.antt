@@ -1,0 +1,44 @@
+-- Attempt counts: those carried over a restart, and the lists of them that a snapshot takes (lease.rs).
+use Prim.Native.Nat.{ℕ, max}
+use mathlib.Core.Bool.{cond}
+use mathlib.Core.List.{List, [], _∷_}
+use lib.Dec.{ltb, eqb}
+use lib.ListN.{length}
+use Rattle.types.specs.Limits.{CARRIED}
+use Rattle.types.specs.Refusal.{done, TooManyPairs}
+use Rattle.types.specs.Table.{_⇒_, Answer, answer, guarded}
+use Rattle.types.specs.Keyed.{Entry, lookup, put, mapValues}
+use Rattle.lease.specs.State.{Table, withCarried}
+use Rattle.lease.specs.Claim.{countOr0}
+use Rattle.lease.specs.declared.Lease.{Lease}
+
+-- ## counts carried over
+-- the carried counts with one pair more: a zero says nothing, and of two counts for an offset the last stays
+abbrev pub carry : ℕ → ℕ → List (Entry ℕ) → List (Entry ℕ)
+carry o n c = cond (eqb n 0) c (put o n c)
+
+abbrev pub carryAll : List (Entry ℕ) → List (Entry ℕ) → List (Entry ℕ)
+carryAll [] c = c
+carryAll (p ∷ ps) c = carryAll ps (carry (p .key) (p .value) c)
+
+unfoldable pub resumeAttempts : Table → List (Entry ℕ) → Answer (Unit {0}) Table
+resumeAttempts t ps =
+    guarded (ltb CARRIED (length (carryAll ps (t .carried))) ⇒ TooManyPairs ∷ []) t
+    (answer (done tt) (withCarried t (carryAll ps (t .carried))))
+
+-- ## lists of counts, by offset
+-- those of the leases
+abbrev pub attemptCounts : Table → List (Entry ℕ)
+attemptCounts t = mapValues (λ l. l .deliveries) (t .leases)
+
+-- an offset's count raised to n
+abbrev pub raise : ℕ → ℕ → List (Entry ℕ) → List (Entry ℕ)
+raise o n c = put o (max (countOr0 (lookup o c)) n) c
+
+abbrev pub raiseAll : List (Entry Lease) → List (Entry ℕ) → List (Entry ℕ)
+raiseAll [] c = c
+raiseAll (e ∷ l) c = raiseAll l (raise (e .key) (e .value .deliveries) c)
+
+-- the carried counts and the leases', the larger where an offset has both
+unfoldable pub allAttemptCounts : Table → List (Entry ℕ)
+allAttemptCounts t = raiseAll (t .leases) (t .carried)

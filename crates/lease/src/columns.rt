@@ -1,0 +1,158 @@
+// Sorted tables held as columns: an array of keys, and an array of values at the same places. The first `len` places of
+// each are in use.
+ghost use mathlib.Core.Path.{_≡_};
+ghost use Prim.Native.Nat.{_+_, _-_, _≤_, _<_};
+ghost use lib.ListN.{length, take};
+ghost use Rattle.types.specs.Keyed.{entries, Rising};
+ghost use Rattle.types.specs.Sorted.{Ascending, below};
+ghost use Rattle.lease.specs.Columns.{inserted, without, Placed, Spans};
+
+// Where a key stands, or where it would stand.
+pub(crate) enum Place {
+    Found(usize),
+    Missing(usize),
+}
+
+// The places of a key, one or none, and the count there, 0 where there is none.
+pub(crate) struct Span {
+    pub from: usize,
+    pub to: usize,
+    pub count: u32,
+}
+
+// How many keys are below x. It halves the range that is left.
+pub(crate) fn position(keys: &[u64], len: usize, x: u64) -> usize
+    requires { ⌜ (len ≤ length (now keys)) × Ascending 0 (take len (now keys)) ⌝ }
+    ensures { λ r. ⌜ r ≡ below x (take len (now (keys .entry))) ⌝ }
+{
+    let mut low: usize = 0;
+    let mut high = len;
+    while low < high {
+        let mid = low + (high - low) / 2;
+        if keys[mid] < x {
+            low = mid + 1;
+        } else {
+            high = mid;
+        }
+    }
+    low
+}
+
+pub(crate) fn find(keys: &[u64], len: usize, x: u64) -> Place
+    requires { ⌜ (len ≤ length (now keys)) × Ascending 0 (take len (now keys)) ⌝ }
+    ensures { λ r. ⌜ Placed x (take len (now (keys .entry))) r ⌝ }
+{
+    let at = position(keys, len, x);
+    if at < len {
+        if keys[at] == x {
+            return Place::Found(at);
+        }
+    }
+    Place::Missing(at)
+}
+
+pub(crate) fn count_of<'a>(keys: &'a [u64], counts: &'a [u32], len: usize, x: u64) -> Span
+    requires { ⌜ (len ≤ length (now keys)) × (len ≤ length (now counts)) × Rising 0 (entries (take len (now keys)) (take len (now counts))) ⌝ }
+    ensures { λ r. ⌜ Spans x (take len (now (keys .entry))) (take len (now (counts .entry))) r ⌝ }
+{
+    let place = find(keys, len, x);
+    match place {
+        Place::Found(at) => Span {
+            from: at,
+            to: at + 1,
+            count: counts[at],
+        },
+        Place::Missing(at) => Span {
+            from: at,
+            to: at,
+            count: 0,
+        },
+    }
+}
+
+// Puts x in at a place.
+pub(crate) fn insert(column: &mut [u64], len: usize, at: usize, x: u64)
+    requires { ⌜ (at ≤ len) × (len < length (now column)) ⌝ }
+    ensures { λ _. ⌜ take (len + 1) (now (column .exit)) ≡ inserted at x (take len (now (column .entry))) ⌝ }
+{
+    let mut held = x;
+    let mut i = at;
+    while i < len {
+        let next = column[i];
+        column[i] = held;
+        held = next;
+        i += 1;
+    }
+    column[i] = held;
+}
+
+pub(crate) fn insert_count(column: &mut [u32], len: usize, at: usize, x: u32)
+    requires { ⌜ (at ≤ len) × (len < length (now column)) ⌝ }
+    ensures { λ _. ⌜ take (len + 1) (now (column .exit)) ≡ inserted at x (take len (now (column .entry))) ⌝ }
+{
+    let mut held = x;
+    let mut i = at;
+    while i < len {
+        let next = column[i];
+        column[i] = held;
+        held = next;
+        i += 1;
+    }
+    column[i] = held;
+}
+
+// Takes the places from `from` up to `to` out.
+pub(crate) fn remove(column: &mut [u64], len: usize, from: usize, to: usize)
+    requires { ⌜ (from ≤ to) × (to ≤ len) × (len ≤ length (now column)) ⌝ }
+    ensures { λ _. ⌜ take (len - (to - from)) (now (column .exit)) ≡ without from to (take len (now (column .entry))) ⌝ }
+{
+    let mut i = from;
+    let mut j = to;
+    while j < len {
+        column[i] = column[j];
+        i += 1;
+        j += 1;
+    }
+}
+
+pub(crate) fn remove_counts(column: &mut [u32], len: usize, from: usize, to: usize)
+    requires { ⌜ (from ≤ to) × (to ≤ len) × (len ≤ length (now column)) ⌝ }
+    ensures { λ _. ⌜ take (len - (to - from)) (now (column .exit)) ≡ without from to (take len (now (column .entry))) ⌝ }
+{
+    let mut i = from;
+    let mut j = to;
+    while j < len {
+        column[i] = column[j];
+        i += 1;
+        j += 1;
+    }
+}
+
+// The same in an array that lies in a table.
+pub(crate) fn insert_64(column: &mut [u64; 64], len: usize, at: usize, x: u64)
+    requires { ⌜ (at ≤ len) × (len < 64) ⌝ }
+    ensures { λ _. ⌜ take (len + 1) (now (column .exit)) ≡ inserted at x (take len (now (column .entry))) ⌝ }
+{
+    insert(column, len, at, x);
+}
+
+pub(crate) fn remove_64(column: &mut [u64; 64], len: usize, from: usize, to: usize)
+    requires { ⌜ (from ≤ to) × (to ≤ len) × (len ≤ 64) ⌝ }
+    ensures { λ _. ⌜ take (len - (to - from)) (now (column .exit)) ≡ without from to (take len (now (column .entry))) ⌝ }
+{
+    remove(column, len, from, to);
+}
+
+pub(crate) fn remove_128(column: &mut [u64; 128], len: usize, from: usize, to: usize)
+    requires { ⌜ (from ≤ to) × (to ≤ len) × (len ≤ 128) ⌝ }
+    ensures { λ _. ⌜ take (len - (to - from)) (now (column .exit)) ≡ without from to (take len (now (column .entry))) ⌝ }
+{
+    remove(column, len, from, to);
+}
+
+pub(crate) fn remove_counts_128(column: &mut [u32; 128], len: usize, from: usize, to: usize)
+    requires { ⌜ (from ≤ to) × (to ≤ len) × (len ≤ 128) ⌝ }
+    ensures { λ _. ⌜ take (len - (to - from)) (now (column .exit)) ≡ without from to (take len (now (column .entry))) ⌝ }
+{
+    remove_counts(column, len, from, to);
+}

@@ -1,0 +1,631 @@
+// The leases of one work group over a log: who holds which message until when, under which generation, and how often it
+// was handed out. A message in flight is handed out again once its lease's deadline has come; each hand-out takes a new
+// generation, so that whoever held the message before is fenced off. The caller brings the time, in nanoseconds of any
+// clock: it may stand still or run backwards.
+ghost use mathlib.Core.Path.{_≡_};
+ghost use Prim.Native.Nat.{_<_};
+ghost use lib.ListN.{getD};
+ghost use Rattle.types.specs.Limits.{sat64, sat32};
+ghost use Rattle.lease.specs.Config.{nanos, fromMillis, defaultConfig};
+ghost use Rattle.lease.specs.State.{Sound, view, startingAt};
+ghost use Rattle.types.specs.Refusal.{done};
+ghost use Rattle.lease.specs.Claim.{lease, claim, ack, extend, nack, capFrom, deadlineFrom, afterGrant, afterFlush};
+ghost use Rattle.lease.specs.Rest.{attemptsFlushed, releaseBelow, resealFromTo, deferRedelivery, shiftDeadlines, inFlight, isClaimable, deliveries, holdsActive, pendingRedeliveryAttempt, expired};
+ghost use Rattle.lease.specs.Counts.{resumeAttempts, attemptCounts, allAttemptCounts};
+ghost use Rattle.lease.specs.Answers.{claimOf, ackOf, extendOf, nackOf, resumeOf, listedOf, attemptsOf, Answers, Tries, Becomes};
+use columns::Place;
+use types::Generation;
+use types::Offset;
+
+mod columns;
+
+// How long a hand-out lasts, in nanoseconds. A hard cap below the visibility shortens every lease to the cap; where one
+// of the two is 0, a lease runs out the moment it is granted.
+#[repr(C)]
+pub struct LeaseConfig {
+    // How long a message that was handed out stays in flight.
+    pub visibility_nanos: u64,
+    // How long it may stay so in all, from the start of the attempt, however often its holder extends it.
+    pub hard_cap_nanos: u64,
+}
+
+impl LeaseConfig {
+    // 30 seconds.
+    pub const DEFAULT_VISIBILITY_MS: u64 = 30000;
+    // 5 minutes.
+    pub const DEFAULT_HARD_CAP_MS: u64 = 300000;
+
+    // A configuration from milliseconds, each at most the largest number of nanoseconds.
+    pub fn from_millis(visibility_ms: u64, hard_cap_ms: u64) -> LeaseConfig
+        ensures { λ r. ⌜ r ≡ fromMillis «visibility_ms» «hard_cap_ms» ⌝ }
+    {
+        LeaseConfig {
+            visibility_nanos: to_nanos(visibility_ms),
+            hard_cap_nanos: to_nanos(hard_cap_ms),
+        }
+    }
+
+    // The default visibility and hard cap.
+    pub fn default() -> LeaseConfig
+        ensures { λ r. ⌜ r ≡ defaultConfig ⌝ }
+    {
+        LeaseConfig::from_millis(
+            LeaseConfig::DEFAULT_VISIBILITY_MS,
+            LeaseConfig::DEFAULT_HARD_CAP_MS,
+        )
+    }
+
+    // When an attempt that began at `start` ends for good.
+    fn cap(self, start: u64) -> u64
+        ensures { λ r. ⌜ r ≡ capFrom self start ⌝ }
+    {
+        saturating_add(start, self.hard_cap_nanos)
+    }
+
+    // One visibility window from now, within the cap of an attempt that began at `start`.
+    fn deadline(self, start: u64, now: u64) -> u64
+        ensures { λ r. ⌜ r ≡ deadlineFrom self start now ⌝ }
+    {
+        let window = saturating_add(now, self.visibility_nanos);
+        let cap = self.cap(start);
+        if window <= cap { window } else { cap }
+    }
+
+    // The lease of an attempt that begins now.
+    fn lease(self, generation: Generation, now: u64, deliveries: u32) -> Lease
+        ensures { λ r. ⌜ r ≡ lease (generation .0) now (deadlineFrom self now now) deliveries ⌝ }
+    {
+        let deadline = self.deadline(now, now);
+        Lease {
+            generation: generation,
+            attempt_start: now,
+            deadline: deadline,
+            deliveries: deliveries,
+        }
+    }
+}
+
+// What a claim that is granted answers.
+fn granted(offset: Offset, generation: Generation, deliveries: u32) -> Claim
+    ensures { λ r. ⌜ claimOf r ≡ done (record { offset = offset .0; generation = generation .0; deliveries = deliveries }) ⌝ }
+{
+    let token = LeaseToken {
+        offset: offset,
+        generation: generation,
+    };
+    Claim::Granted {
+        token: token,
+        deliveries: deliveries,
+    }
+}
+
+// Milliseconds in nanoseconds, at most the largest number.
+fn to_nanos(ms: u64) -> u64
+    ensures { λ r. ⌜ r ≡ nanos ms ⌝ }
+{
+    if ms <= 18446744073709 {
+        ms * 1000000
+    } else {
+        18446744073709551615
+    }
+}
+
+// The sum, at most the largest number.
+fn saturating_add(a: u64, b: u64) -> u64
+    ensures { λ r. ⌜ r ≡ sat64 a b ⌝ }
+{
+    if a <= 18446744073709551615 - b {
+        a + b
+    } else {
+        18446744073709551615
+    }
+}
+
+// One more, at most the largest number.
+fn saturating_next(n: u32) -> u32
+    ensures { λ r. ⌜ r ≡ sat32 n 1 ⌝ }
+{
+    if n == 4294967295 { n } else { n + 1 }
+}
+
+// Names one hand-out of a message: an ack, an extension or a nack carries it, and works only while the lease of the
+// offset has this generation.
+#[repr(C)]
+pub struct LeaseToken {
+    pub offset: Offset,
+    pub generation: Generation,
+}
+
+#[repr(C)]
+pub struct Lease {
+    pub generation: Generation,
+    // When the current attempt began: the hard cap runs from here, anew with each attempt.
+    pub attempt_start: u64,
+    pub deadline: u64,
+    pub deliveries: u32,
+}
+
+// What a claim answers: the token with the number of hand-outs so far, this one counted; or refusal 23, 25 or 27.
+pub enum Claim {
+    Granted { token: LeaseToken, deliveries: u32 },
+    InFlight,
+    Exhausted,
+    Full,
+}
+
+// What an ack answers: the lease is gone, or refusal 24.
+pub enum AckOutcome {
+    Acked,
+    Fenced,
+}
+
+// What an extension answers: the new deadline, or refusal 28 or 24.
+pub enum ExtendOutcome {
+    Extended(u64),
+    CapReached,
+    Fenced,
+}
+
+// What a nack answers: when the message can be claimed again, or refusal 24 or 25.
+pub enum NackOutcome {
+    Requeued { deadline: u64 },
+    Fenced,
+    Exhausted,
+}
+
+// What resuming attempt counts answers: nothing, or refusal 19.
+pub enum ResumeOutcome {
+    Resumed,
+    TooManyPairs,
+}
+
+// What a list into lent memory answers: how many places were filled, or refusal 20.
+pub enum Listed {
+    Filled(usize),
+    OutTooShort,
+}
+
+// An attempt count, where there is one.
+pub enum Attempts {
+    Some(u32),
+    None,
+}
+
+// At most 64 leases and 128 carried attempt counts, each sorted by offset: the offsets in one array, what belongs to them
+// at the same places of another.
+#[repr(C)]
+pub struct LeaseTable {
+    pub config: LeaseConfig,
+    pub offsets: [u64; 64],
+    pub leases: [Lease; 64],
+    pub len: usize,
+    // The counts that a restart carried over, of offsets not claimed since: the first claim of one goes on from its count.
+    pub carried_offsets: [u64; 128],
+    pub carried_counts: [u32; 128],
+    pub carried_len: usize,
+    // What the next grant or nack takes.
+    pub next_generation: Generation,
+    // Grants with a count of 2 or more since the counts were last made durable.
+    pub redeliveries_since_flush: u32,
+}
+
+pub struct Claimed {
+    pub outcome: Claim,
+    pub table: LeaseTable,
+}
+
+pub struct Acked {
+    pub outcome: AckOutcome,
+    pub table: LeaseTable,
+}
+
+pub struct Extended {
+    pub outcome: ExtendOutcome,
+    pub table: LeaseTable,
+}
+
+pub struct Nacked {
+    pub outcome: NackOutcome,
+    pub table: LeaseTable,
+}
+
+pub struct Resumed {
+    pub outcome: ResumeOutcome,
+    pub table: LeaseTable,
+}
+
+// Whether there was something to change, and the table.
+pub struct Changed {
+    pub changed: bool,
+    pub table: LeaseTable,
+}
+
+// The counter of redeliveries after a grant with this count.
+fn after_grant(counter: u32, deliveries: u32) -> u32
+    ensures { λ r. ⌜ r ≡ afterGrant counter deliveries ⌝ }
+{
+    if 2 <= deliveries {
+        return saturating_next(counter);
+    }
+    counter
+}
+
+// The counter once the attempt counts are durable.
+fn after_flush(counter: u32) -> u32
+    ensures { λ r. ⌜ r ≡ afterFlush counter ⌝ }
+{
+    0
+}
+
+impl LeaseTable {
+    // An empty table.
+    pub fn new(config: LeaseConfig) -> LeaseTable
+        ensures { λ r. ⌜ Becomes r (startingAt config 0) ⌝ }
+    {
+        LeaseTable::starting_at(config, Generation(0))
+    }
+
+    // An empty table whose first grant takes the given generation.
+    pub fn starting_at(config: LeaseConfig, generation: Generation) -> LeaseTable
+        ensures { λ r. ⌜ Becomes r (startingAt config (generation .0)) ⌝ }
+    {
+        let none = Lease {
+            generation: Generation(0),
+            attempt_start: 0,
+            deadline: 0,
+            deliveries: 0,
+        };
+        LeaseTable {
+            config: config,
+            offsets: [0; 64],
+            leases: [none; 64],
+            len: 0,
+            carried_offsets: [0; 128],
+            carried_counts: [0; 128],
+            carried_len: 0,
+            next_generation: generation,
+            redeliveries_since_flush: 0,
+        }
+    }
+
+    // How many grants had a count of 2 or more since the last flush.
+    pub fn redeliveries_since_flush(self) -> u32
+        ensures { λ r. ⌜ r ≡ view self .redeliveries ⌝ }
+    {
+        self.redeliveries_since_flush
+    }
+
+    // The attempt counts are durable: the counter starts anew.
+    pub fn note_attempts_flushed(mut self) -> LeaseTable
+        requires { ⌜ Sound self ⌝ }
+        ensures { λ r. ⌜ Becomes r (attemptsFlushed (view self)) ⌝ }
+    {
+        self.redeliveries_since_flush = after_flush(self.redeliveries_since_flush);
+        self
+    }
+
+    // How many messages are in flight, their leases run out or not.
+    pub fn in_flight(self) -> usize
+        requires { ⌜ Sound self ⌝ }
+        ensures { λ r. ⌜ r ≡ inFlight (view self) ⌝ }
+    {
+        self.len
+    }
+
+    // Claims an offset for delivery. One with no lease, or with a lease that has run out, is granted: the attempt begins now,
+    // under the next generation, which fences off whoever held the offset before. The count goes on from the lease's, or
+    // from the carried one, which the new lease takes over.
+    pub fn claim(mut self, offset: Offset, now: u64) -> Claimed
+        requires { ⌜ Sound self ⌝ }
+        ensures { λ r. ⌜ Answers (claimOf (r .outcome)) self (r .table) (claim (view self) (offset .0) now) ⌝ }
+    {
+        let len = self.len;
+        let place = columns::find(&self.offsets, len, offset.0);
+        match place {
+            Place::Found(at) => self.claim_again(at, offset, now),
+            Place::Missing(at) => {
+                let generation = self.next_generation;
+                if generation.0 == 18446744073709551615 {
+                    return Claimed {
+                        outcome: Claim::Exhausted,
+                        table: self,
+                    };
+                }
+                if 64 <= len {
+                    return Claimed {
+                        outcome: Claim::Full,
+                        table: self,
+                    };
+                }
+                let n = self.carried_len;
+                let prior = columns::count_of(
+                    &self.carried_offsets,
+                    &self.carried_counts,
+                    n,
+                    offset.0,
+                );
+                let from = prior.from;
+                let to = prior.to;
+                columns::remove_128(&mut self.carried_offsets, n, from, to);
+                columns::remove_counts_128(&mut self.carried_counts, n, from, to);
+                self.carried_len = n - (to - from);
+                let deliveries = saturating_next(prior.count);
+                columns::insert_64(&mut self.offsets, len, at, offset.0);
+                let mut held = self.config.lease(generation, now, deliveries);
+                let mut i = at;
+                while i < len {
+                    let next = self.leases[i];
+                    self.leases[i] = held;
+                    held = next;
+                    i += 1;
+                }
+                self.leases[i] = held;
+                self.len = len + 1;
+                self.next_generation.0 = generation.0 + 1;
+                self.redeliveries_since_flush = after_grant(
+                    self.redeliveries_since_flush,
+                    deliveries,
+                );
+                Claimed {
+                    outcome: granted(offset, generation, deliveries),
+                    table: self,
+                }
+            }
+        }
+    }
+
+    // Claims an offset whose lease stands at a place.
+    fn claim_again(mut self, at: usize, offset: Offset, now: u64) -> Claimed
+        requires { ⌜ Sound self × (at < self .len) × (getD (self .offsets) at 0 ≡ offset .0) ⌝ }
+        ensures { λ r. ⌜ Answers (claimOf (r .outcome)) self (r .table) (claim (view self) (offset .0) now) ⌝ }
+    {
+        let lease = self.leases[at];
+        if now < lease.deadline {
+            return Claimed {
+                outcome: Claim::InFlight,
+                table: self,
+            };
+        }
+        let generation = self.next_generation;
+        if generation.0 == 18446744073709551615 {
+            return Claimed {
+                outcome: Claim::Exhausted,
+                table: self,
+            };
+        }
+        let deliveries = saturating_next(lease.deliveries);
+        self.leases[at] = self.config.lease(generation, now, deliveries);
+        self.next_generation.0 = generation.0 + 1;
+        self.redeliveries_since_flush = after_grant(self.redeliveries_since_flush, deliveries);
+        Claimed {
+            outcome: granted(offset, generation, deliveries),
+            table: self,
+        }
+    }
+
+    // Acks the lease that the token owns: the message is in flight no longer.
+    pub fn ack(mut self, token: LeaseToken) -> Acked
+        requires { ⌜ Sound self ⌝ }
+        ensures { λ r. ⌜ Answers (ackOf (r .outcome)) self (r .table) (ack (view self) (token .offset .0) (token .generation .0)) ⌝ }
+    {
+        let len = self.len;
+        let place = columns::find(&self.offsets, len, token.offset.0);
+        let Place::Found(at) = place else {
+            return Acked {
+                outcome: AckOutcome::Fenced,
+                table: self,
+            };
+        };
+        if self.leases[at].generation.0 != token.generation.0 {
+            return Acked {
+                outcome: AckOutcome::Fenced,
+                table: self,
+            };
+        }
+        columns::remove_64(&mut self.offsets, len, at, at + 1);
+        let mut i = at;
+        let mut j = at + 1;
+        while j < len {
+            let next = self.leases[j];
+            self.leases[i] = next;
+            i += 1;
+            j += 1;
+        }
+        self.len = len - 1;
+        Acked {
+            outcome: AckOutcome::Acked,
+            table: self,
+        }
+    }
+
+    // Extends the lease that the token owns by one visibility window from now, within the hard cap of its attempt.
+    pub fn extend(mut self, token: LeaseToken, now: u64) -> Extended
+        requires { ⌜ Sound self ⌝ }
+        ensures { λ r. ⌜ Answers (extendOf (r .outcome)) self (r .table) (extend (view self) (token .offset .0) (token .generation .0) now) ⌝ }
+    {
+        let place = columns::find(&self.offsets, self.len, token.offset.0);
+        let Place::Found(at) = place else {
+            return Extended {
+                outcome: ExtendOutcome::Fenced,
+                table: self,
+            };
+        };
+        let lease = self.leases[at];
+        if lease.generation.0 != token.generation.0 {
+            return Extended {
+                outcome: ExtendOutcome::Fenced,
+                table: self,
+            };
+        }
+        let cap = self.config.cap(lease.attempt_start);
+        if cap <= now {
+            return Extended {
+                outcome: ExtendOutcome::CapReached,
+                table: self,
+            };
+        }
+        let deadline = self.config.deadline(lease.attempt_start, now);
+        self.leases[at].deadline = deadline;
+        Extended {
+            outcome: ExtendOutcome::Extended(deadline),
+            table: self,
+        }
+    }
+
+    // Gives the lease that the token owns up: the message can be claimed again after the delay, which no cap bounds. A new
+    // generation fences the token off, and the count stays for the next claim.
+    pub fn nack(mut self, token: LeaseToken, now: u64, delay_nanos: u64) -> Nacked
+        requires { ⌜ Sound self ⌝ }
+        ensures { λ r. ⌜ Answers (nackOf (r .outcome)) self (r .table) (nack (view self) (token .offset .0) (token .generation .0) now «delay_nanos») ⌝ }
+    {
+        let place = columns::find(&self.offsets, self.len, token.offset.0);
+        let Place::Found(at) = place else {
+            return Nacked {
+                outcome: NackOutcome::Fenced,
+                table: self,
+            };
+        };
+        let lease = self.leases[at];
+        if lease.generation.0 != token.generation.0 {
+            return Nacked {
+                outcome: NackOutcome::Fenced,
+                table: self,
+            };
+        }
+        let generation = self.next_generation;
+        if generation.0 == 18446744073709551615 {
+            return Nacked {
+                outcome: NackOutcome::Exhausted,
+                table: self,
+            };
+        }
+        let deadline = saturating_add(now, delay_nanos);
+        self.leases[at] = Lease {
+            generation: generation,
+            attempt_start: lease.attempt_start,
+            deadline: deadline,
+            deliveries: lease.deliveries,
+        };
+        self.next_generation.0 = generation.0 + 1;
+        Nacked {
+            outcome: NackOutcome::Requeued { deadline: deadline },
+            table: self,
+        }
+    }
+
+    // Puts the lease of an offset under another generation, if it still has the one that the caller claimed it under: whoever
+    // claimed it since keeps the fence.
+    pub fn reseal_from_to(
+        mut self,
+        offset: Offset,
+        from: Generation,
+        generation: Generation,
+    ) -> Changed
+        requires { ⌜ Sound self ⌝ }
+        ensures { λ r. ⌜ Tries (r .changed) self (r .table) (resealFromTo (view self) (offset .0) (from .0) (generation .0)) ⌝ }
+    {
+        let place = columns::find(&self.offsets, self.len, offset.0);
+        let Place::Found(at) = place else {
+            return Changed {
+                changed: false,
+                table: self,
+            };
+        };
+        if self.leases[at].generation.0 != from.0 {
+            return Changed {
+                changed: false,
+                table: self,
+            };
+        }
+        self.leases[at].generation.0 = generation.0;
+        Changed {
+            changed: true,
+            table: self,
+        }
+    }
+
+    // Whether a claim of the offset would find no lease that still runs.
+    pub fn is_claimable(self, offset: Offset, now: u64) -> bool
+        requires { ⌜ Sound self ⌝ }
+        ensures { λ r. ⌜ r ≡ isClaimable (view self) (offset .0) now ⌝ }
+    {
+        let place = columns::find(&self.offsets, self.len, offset.0);
+        let Place::Found(at) = place else {
+            return true;
+        };
+        self.leases[at].deadline <= now
+    }
+
+    // How often the message of the token was handed out, while the token owns its lease.
+    pub fn deliveries(self, token: LeaseToken) -> Attempts
+        requires { ⌜ Sound self ⌝ }
+        ensures { λ r. ⌜ attemptsOf r ≡ deliveries (view self) (token .offset .0) (token .generation .0) ⌝ }
+    {
+        let place = columns::find(&self.offsets, self.len, token.offset.0);
+        let Place::Found(at) = place else {
+            return Attempts::None;
+        };
+        let lease = self.leases[at];
+        if lease.generation.0 != token.generation.0 {
+            return Attempts::None;
+        }
+        Attempts::Some(lease.deliveries)
+    }
+
+    // Whether the token owns its lease and the lease still runs.
+    pub fn holds_active(self, token: LeaseToken, now: u64) -> bool
+        requires { ⌜ Sound self ⌝ }
+        ensures { λ r. ⌜ r ≡ holdsActive (view self) (token .offset .0) (token .generation .0) now ⌝ }
+    {
+        let place = columns::find(&self.offsets, self.len, token.offset.0);
+        let Place::Found(at) = place else {
+            return false;
+        };
+        let lease = self.leases[at];
+        if lease.generation.0 != token.generation.0 {
+            return false;
+        }
+        now < lease.deadline
+    }
+
+    // How often the message at an offset was handed out, if the next claim would hand it out again: its lease has run out.
+    pub fn pending_redelivery_attempt(self, offset: Offset, now: u64) -> Attempts
+        requires { ⌜ Sound self ⌝ }
+        ensures { λ r. ⌜ attemptsOf r ≡ pendingRedeliveryAttempt (view self) (offset .0) now ⌝ }
+    {
+        let place = columns::find(&self.offsets, self.len, offset.0);
+        let Place::Found(at) = place else {
+            return Attempts::None;
+        };
+        let lease = self.leases[at];
+        if now < lease.deadline {
+            return Attempts::None;
+        }
+        Attempts::Some(lease.deliveries)
+    }
+
+    // Puts a lease that has run out off by a delay, which no cap bounds; generation and count stay.
+    pub fn defer_redelivery(mut self, offset: Offset, now: u64, delay_nanos: u64) -> Changed
+        requires { ⌜ Sound self ⌝ }
+        ensures { λ r. ⌜ Tries (r .changed) self (r .table) (deferRedelivery (view self) (offset .0) now «delay_nanos») ⌝ }
+    {
+        let place = columns::find(&self.offsets, self.len, offset.0);
+        let Place::Found(at) = place else {
+            return Changed {
+                changed: false,
+                table: self,
+            };
+        };
+        if now < self.leases[at].deadline {
+            return Changed {
+                changed: false,
+                table: self,
+            };
+        }
+        self.leases[at].deadline = saturating_add(now, delay_nanos);
+        Changed {
+            changed: true,
+            table: self,
+        }
+    }
+}
