@@ -2,3 +2,4 @@ pub mod Ranges
 pub mod Cursor
 pub mod View
 pub mod Place
+pub mod Snapshot

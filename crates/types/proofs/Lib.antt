@@ -7,3 +7,5 @@ pub mod Shift
 pub mod Scan
 pub mod Sorted
 pub mod Columns
+pub mod Checked
+pub mod Entries

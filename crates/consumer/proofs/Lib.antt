@@ -1,0 +1,4 @@
+pub mod Open
+pub mod Valid
+pub mod Counts
+pub mod Effects

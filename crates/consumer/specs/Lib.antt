@@ -1,0 +1,6 @@
+pub mod State
+pub mod Calls
+pub mod Questions
+pub mod Checkpoint
+pub mod Restart
+pub mod Valid

@@ -1,0 +1,10 @@
+pub mod Law
+pub mod Generations
+pub mod Bound
+pub mod Runs
+pub mod Restarts
+pub mod Invariant
+pub mod Groups
+pub mod Pending
+pub mod Asks
+pub mod Checkpoints

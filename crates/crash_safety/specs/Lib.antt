@@ -1,0 +1,3 @@
+pub mod Runs
+pub mod Book
+pub mod Demand3
