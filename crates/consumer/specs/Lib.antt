@@ -4,3 +4,4 @@ pub mod Questions
 pub mod Checkpoint
 pub mod Restart
 pub mod Valid
+pub mod View

@@ -111,7 +111,7 @@ module _ (s : State) (v : Valid s) where
       pub header-kept : Journal c n (writeAt a (s .seat .block) (headerOf s)) (stored s)
       header-kept =
           let more = one-more a (n / 512) 1 0 (j .last) (s .seat) groups (newCeiling s) lc la (payloadOf s)
-              (cursor-fits .0) (cursor-fits .1) (attempts-fit .0) (attempts-fit .1) payload-total small room within behind in
+          (cursor-fits .0) (cursor-fits .1) (attempts-fit .0) (attempts-fit .1) payload-total small room within behind in
           let long : length (writeAt a (s .seat .block) (headerOf s)) ≡ n = write-length a (s .seat .block) (headerOf s) (omega (arith, within)) (header-length (s .seat .number) (newCeiling s) lc la) ∙ j .size in
           record {
             size = long;

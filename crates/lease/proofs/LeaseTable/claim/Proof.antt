@@ -63,8 +63,7 @@ claim-again-requires : tie.Need-claim-again-requires Inv-loop μ-loop
 claim-again-requires c κs =
     let p = c .before in
     let s = p .before .before .before .before .before .before in
-    let f = full s in
-    (
+    let f = full s in (
       s .pre,
       leased (s .args .t1) f (s .pre) (p .before .before .find .ensures) (p .place .given .1) .inside,
       found-at (s .args .t1) f (s .pre) (p .before .before .find .ensures) (p .place .given .1),
