@@ -5,3 +5,4 @@ pub mod Returns
 pub mod Tokens
 pub mod Questions
 pub mod Claims
+pub mod Searches
