@@ -2,14 +2,16 @@
 use Prim.Native.Nat.{ℕ}
 use mathlib.Core.Path.{_≡_}
 use mathlib.Core.Bool.{Bool, true, false}
-use mathlib.Core.Option.{Option}
-use Rattle.types.specs.Refusal.{Result, refused, done}
+use mathlib.Core.Option.{Option, none, some}
+use Rattle.types.specs.Refusal.{Refusal, Result, refused, done}
 use Rattle.types.specs.Refusal as refusal
 use Rattle.types.specs.Table.{Answer, answer, Kept}
 use Rattle.cursor.specs.View as cursor
+use Rattle.cursor.specs.declared.AckCursor.{AckCursor}
 use Rattle.delivery.specs.Config as delivery
 use Rattle.delivery.specs.Policy.{Destination, Deliver, DeadLetter}
 use Rattle.lease.specs.State as lease
+use Rattle.lease.specs.declared.LeaseTable.{LeaseTable}
 use Rattle.lease.specs.declared.LeaseToken.{LeaseToken}
 use Rattle.consumer.specs.State.{State, stateOf, seatAt}
 use Rattle.consumer.specs.Calls.{HandOut}
@@ -17,6 +19,8 @@ use Rattle.consumer.specs.Valid.{Valid}
 use Rattle.consumer.specs.declared.Consumer.{Consumer}
 use Rattle.consumer.specs.declared.calls.ClaimAnswer.{ClaimAnswer}
 use Rattle.consumer.specs.declared.calls.ClaimAnswer.the-variants as claim
+use Rattle.consumer.specs.declared.calls.ClaimTest.{ClaimTest}
+use Rattle.consumer.specs.declared.calls.ClaimTest.the-variants as test
 use Rattle.consumer.specs.declared.calls.SettleAnswer.{SettleAnswer}
 use Rattle.consumer.specs.declared.calls.SettleAnswer.the-variants as settle
 use Rattle.consumer.specs.declared.calls.NackAnswer.{NackAnswer}
@@ -43,6 +47,21 @@ pub record Answers {A : Type 0} (outcome : Result A) (before after : Consumer) (
   pub sound : Sound after
   pub kept : Kept outcome before after
 
+-- the struct with another table, and with another cursor and another table
+abbrev pub holdingBoth : Consumer → AckCursor → LeaseTable → Consumer
+holdingBoth c cursor table =
+    record {
+      cursor = cursor;
+      table = table;
+      ceiling = c .ceiling;
+      seat = c .seat;
+      «area_len» = c .«area_len»;
+      delivery = c .delivery;
+    }
+
+abbrev pub holding : Consumer → LeaseTable → Consumer
+holding c table = holdingBoth c (c .cursor) table
+
 -- ## 01's answers for the cases of each enum
 abbrev pub handOutOf : LeaseToken → ℕ → Destination → HandOut
 handOutOf token n d =
@@ -57,6 +76,15 @@ claimOf claim.InFlight = refused refusal.InFlight
 claimOf claim.Exhausted = refused refusal.Exhausted
 claimOf claim.CheckpointDue = refused refusal.CheckpointDue
 claimOf claim.Full = refused refusal.Full
+
+-- the test of a claim: nothing, or what it is refused with
+abbrev pub testOf : ClaimTest → Option (Result HandOut)
+testOf test.Open = none
+testOf (test.Refused a) = some (claimOf a)
+
+abbrev pub asResult : Option Refusal → Option (Result HandOut)
+asResult none = none
+asResult (some r) = some (refused r)
 
 abbrev pub settleOf : SettleAnswer → Result (Unit {0})
 settleOf settle.Settled = done tt

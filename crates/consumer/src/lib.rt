@@ -7,7 +7,7 @@ use lease::LeaseConfig;
 use lease::LeaseTable;
 use types::Generation;
 
-mod calls;
+pub mod calls;
 
 // What a consumer is started with.
 #[repr(C)]
