@@ -2,4 +2,3 @@ pub mod Ranges
 pub mod Cursor
 pub mod View
 pub mod Place
-pub mod Snapshot
