@@ -1,7 +1,9 @@
-pub mod Shifted
+pub mod Loops
 pub mod Valid
 pub mod Slots
 pub mod Returns
 pub mod Tokens
 pub mod Questions
 pub mod Claims
+pub mod Changes
+pub mod Lists
