@@ -1,4 +1,5 @@
--- Every answer of every call keeps what holds of a state, and a finished checkpoint does. Assumes nothing.
+-- Every answer of every call keeps what holds of a state, and so does a finished checkpoint. A call changes cursor and table alone,
+-- so that `changed` leaves little to be shown of it. Assumes nothing.
 use Prim.Native.Nat.{ℕ, _+_, _≤_}
 use native.Mathlib.Omega.{arith}
 use mathlib.Core.Path.{_≡_, refl, sym, _∙_}
@@ -80,17 +81,17 @@ module _ (s : State) (o now : ℕ) (v : Valid s) (p : ClaimOpen s o now) where
   abbrev new : Lease
   new = newLease t o now
 
-  -- room for the lease and for the count, by what the offset had before
+  -- room for the lease, and for all counts together, by what the offset had before
   lease-fits : (x : Option Lease) → leaseOf t o ≡ x → (isNone x && leb LEASES (length (t .leases))) ≡ false
   lease-fits none e = lt-leb LEASES (length (t .leases)) (p .lease-room e)
   lease-fits (some l) e = refl
 
-  counts-fit : (x : Option Lease) (y : Option ℕ) → leaseOf t o ≡ x → lookup o (t .carried) ≡ y
+  counts-together : (x : Option Lease) (y : Option ℕ) → leaseOf t o ≡ x → lookup o (t .carried) ≡ y
       → length (put o new (t .leases)) + length (consumed x o (t .carried)) ≤ CARRIED
-  counts-fit (some l) y e f = rw (length-put-old 0 o new l (t .leases) (v .table .rising) e) (v .together)
-  counts-fit none none e f =
+  counts-together (some l) y e f = rw (length-put-old 0 o new l (t .leases) (v .table .rising) e) (v .together)
+  counts-together none none e f =
       omega (arith, p .count-room e f, length-put o new (t .leases), length-delete o (t .carried))
-  counts-fit none (some n) e f =
+  counts-together none (some n) e f =
       omega (arith, v .together, length-put o new (t .leases), length-delete-old o n (t .carried) f)
 
   counted : afterGrant (t .redeliveries) (nextCount t o) ≤ s .policy .flushRedeliveries
@@ -104,7 +105,7 @@ module _ (s : State) (o now : ℕ) (v : Valid s) (p : ClaimOpen s o now) where
       changed s (s .cursor) (grant t o now) v (record {
         cursor = v .cursor;
         table = valid-grant t o now fits (ne-eqb (t .nextGeneration) MAX (p .generation-left)) (lease-fits (leaseOf t o) refl) (v .table);
-        together = counts-fit (leaseOf t o) (lookup o (t .carried)) refl refl;
+        together = counts-together (leaseOf t o) (lookup o (t .carried)) refl refl;
         leased = λ x l q.
             split (eqb x o)
             (λ e. rw (eqb-true x o e) here)

@@ -5,3 +5,4 @@ pub mod Checkpoint
 pub mod Restart
 pub mod Valid
 pub mod View
+pub mod Examples
