@@ -5,3 +5,4 @@ pub mod Effects
 pub mod Payload
 pub mod Restart
 pub mod Questions
+pub mod Starting

@@ -4,7 +4,7 @@
 use Prim.Native.Nat.{ℕ, zero, suc, _*_, _/_, _≤_}
 use native.Mathlib.Omega.{arith}
 use mathlib.Core.Path.{_≡_, refl, _∙_}
-use mathlib.Core.Bool.{true, false, cond, _||_}
+use mathlib.Core.Bool.{true, false, cond}
 use mathlib.Core.List.{List, [], _∷_}
 use mathlib.Core.Option.{Option, none, some}
 use lib.Dec.{eqb}
@@ -26,8 +26,8 @@ use Rattle.cursor.proofs.Snapshot.{decoded-valid}
 use Rattle.cursor.specs.Snapshot.{decodeCursor}
 use Rattle.attempt.specs.Snapshot.{PairsFit, decodeAttempts}
 use Rattle.attempt.proofs.Snapshot.{decoded-rising, decoded-fit, decoded-few}
-use Rattle.lease.specs.State.{startingAt, Counted}
 use Rattle.lease.specs.Claim.{countOr0}
+use Rattle.lease.specs.State.{startingAt, Counted}
 use Rattle.lease.proofs.Valid.{valid-start, valid-carried}
 use Rattle.journal.specs.Area.{blocks, blockAt}
 use Rattle.journal.specs.Blocks.{bodiesFor, ceilingOf, cursorLength, attemptLength, payloadLength, contentOf}

@@ -6,3 +6,4 @@ pub mod Restart
 pub mod Valid
 pub mod View
 pub mod Examples
+pub mod Starting
