@@ -1,3 +1,4 @@
 pub mod Snapshot
 mod Writing
 mod Reading
+mod Walk

@@ -7,23 +7,26 @@ use mathlib.Core.Bool.{true, false}
 use mathlib.Core.List.{List, [], _∷_, _++_}
 use lib.ListN.{length, take, drop, getD, set, length-map, take-append-drop}
 use lib.Seq.{take-suc-set, drop-set-lt, append-snoc}
+use types.Run.{OneOf, miss}
+use denote.Enum.Declared.{tagOf}
 use borrow.Author.Tests.{lt-ltb, le-ltb, le-leb, lt-leb, eq-eqb, ne-eqb}
 use Rattle.types.specs.Limits.{PAIRS}
 use Rattle.types.specs.Refusal.{Refusal, Result, refused, done}
 use Rattle.types.specs.Refusal as refusal
-use Rattle.types.specs.Table.{Row, Passed, checked}
-use Rattle.types.specs.Keyed.{Entry, entry}
+use Rattle.types.specs.Table.{Row, Passed, checked, answer}
+use Rattle.types.specs.Keyed.{Entry}
 use Rattle.types.proofs.Table.{checked-done, checked-refused}
 use Rattle.types.proofs.Scan.{map-set}
 use Rattle.raw.specs.Bytes.{numberAt}
 use Rattle.crc.specs.Seal.{isSealed}
-use Rattle.attempt.specs.Snapshot.{readPairs, pairCount, pairsIn, orderAfter, orderTable, limitTable, pairsTable, decodeTable, decodeAttempts}
-use Rattle.attempt.specs.Codec.{entryOf, entriesOf, blank, decodeOf, DecodedIs, RefusedIs}
+use Rattle.attempt.specs.Snapshot.{readPair, readPairs, pairCount, pairsIn, orderAfter, orderTable, limitTable, pairsTable, decodeTable, decodeAttempts, decodeInto}
+use Rattle.attempt.specs.Codec.{entryOf, entriesOf, blank, decodeOf, counted, DecodedIs, RefusedIs, RoomIs}
 use Rattle.attempt.specs.declared.Pair.{Pair}
 use Rattle.attempt.specs.declared.Decoded.{Decoded}
 use Rattle.attempt.specs.declared.Decode.{Decode}
 use Rattle.attempt.specs.declared.Decode.the-variants.{Pairs, Truncated, UnsupportedVersion, BadLength, CountMismatch, BadCrc, NotSorted, TooManyPairs, OutTooShort}
-use Rattle.attempt.proofs.Snapshot.{length-read, accepted, accepts, fill-room}
+use Rattle.attempt.proofs.Decode.{the-type}
+use Rattle.attempt.proofs.Snapshot.{length-read, accepted, accepts, fill-room, fill-short}
 
 -- ---- the tests of `check`, in their order
 module _ (b : List ℕ) where
@@ -61,10 +64,7 @@ module _ (b : List ℕ) where
 
 -- ---- the pairs that are left: i of n are passed, and the next stands at pos
 module _ (b : List ℕ) (n i pos : ℕ) where
-  abbrev next : Entry ℕ
-  next = entry (numberAt 8 pos b) (numberAt 4 (pos + 8) b)
-
-  read-more : i < n → readPairs (n - i) pos b ≡ next ∷ readPairs (n - (i + 1)) (pos + 12) b
+  read-more : i < n → readPairs (n - i) pos b ≡ readPair pos b ∷ readPairs (n - (i + 1)) (pos + 12) b
   read-more h =
       let e : n - i ≡ suc (n - (i + 1)) = omega arith in
       rw e
@@ -91,16 +91,20 @@ module _ (b : List ℕ) (n i pos : ℕ) where
 
   -- the loop of `get_pairs`: the pairs read, those left and the other places of the array give what the array is to be
   module _ (a : List Pair) where
-    pub get-more : (p : Pair) → i < n → n ≤ length a → p .offset ≡ numberAt 8 pos b → p .attempt ≡ numberAt 4 (pos + 8) b
+    pub get-more : (p : Pair) → i < n → n ≤ length a → entryOf p ≡ readPair pos b
         → take (i + 1) (entriesOf (set a i p)) ++ (readPairs (n - (i + 1)) (pos + 12) b ++ drop n (entriesOf (set a i p)))
         ≡ take i (entriesOf a) ++ (readPairs (n - i) pos b ++ drop n (entriesOf a))
-    get-more p h fits o t =
+    get-more p h fits e =
         let l : i < length (entriesOf a) = rw length-map (omega arith) in
-        rw (map-set entryOf a i p, o, t, add-one, take-suc-set (entriesOf a) i next l, drop-set-lt n (entriesOf a) i next h)
+        rw (map-set entryOf a i p, e, add-one, take-suc-set (entriesOf a) i (readPair pos b) l, drop-set-lt n (entriesOf a) i (readPair pos b) h)
         (rw (append-snoc, read-more h, add-one))
 
     pub get-end : i ≡ n → take i (entriesOf a) ++ (readPairs (n - i) pos b ++ drop n (entriesOf a)) ≡ entriesOf a
     get-end e = rw (read-end (omega arith), e, take-append-drop)
+
+pub length-blank : length blank ≡ 128
+unfolding blank
+length-blank = refl
 
 pub order-start : (b : List ℕ) (n : ℕ) (limit : List Row)
     → checked (orderTable (readPairs n 5 b) ++ limit) (done n) ≡ order b n 1 17 (numberAt 8 5 b) limit
@@ -117,35 +121,32 @@ module _ (b : List ℕ) (n pos : ℕ) where
   pub few : n ≤ PAIRS → checked (limitTable (readPairs n pos b)) (done n) ≡ done n
   few h = rw (length-read n pos b, le-ltb PAIRS n h)
 
--- ---- what `decode_pairs` answers
-length-blank : length (entriesOf blank) ≡ 128
-unfolding blank
-length-blank = refl
+-- ---- outcomes
+
+-- an outcome of the arms behind that of pairs
+abbrev pub Other : Decode → Type 0
+Other d = OneOf (1 ∷ 2 ∷ 3 ∷ 4 ∷ 5 ∷ 6 ∷ 7 ∷ 8 ∷ []) (tagOf the-type d)
+
+other-refused : (d : Decode) → Other d → (q : Refusal) × (decodeOf d ≡ refused q)
+other-refused (Pairs n) h = absurd (miss (1 ∷ 2 ∷ 3 ∷ 4 ∷ 5 ∷ 6 ∷ 7 ∷ 8 ∷ []) 0 tt h)
+other-refused Truncated h = (_, refl)
+other-refused (UnsupportedVersion v) h = (_, refl)
+other-refused (BadLength n) h = (_, refl)
+other-refused (CountMismatch d n) h = (_, refl)
+other-refused BadCrc h = (_, refl)
+other-refused (NotSorted o p) h = (_, refl)
+other-refused TooManyPairs h = (_, refl)
+other-refused OutTooShort h = (_, refl)
+
+pub other-counted : (d : Decode) → Other d → 0 ≡ counted (decodeOf d)
+other-counted d h = sym (ap counted (other-refused d h .1))
 
 module _ (b : List ℕ) where
-  -- another outcome than pairs is a refusal
-  abbrev Refusing : Decode → Type 0
-  Refusing d = (q : Refusal) × (decodeOf d ≡ refused q)
-
-  refusing : (d : Decode) → ((n : ℕ) → d ≡ Pairs n → ⊥) → Refusing d
-  refusing (Pairs n) h = absurd (h n refl)
-  refusing Truncated h = (_, refl)
-  refusing (UnsupportedVersion v) h = (_, refl)
-  refusing (BadLength n) h = (_, refl)
-  refusing (CountMismatch d n) h = (_, refl)
-  refusing BadCrc h = (_, refl)
-  refusing (NotSorted o p) h = (_, refl)
-  refusing TooManyPairs h = (_, refl)
-  refusing OutTooShort h = (_, refl)
-
-  pub refuses : (d : Decode) (r : Decoded) → ((n : ℕ) → d ≡ Pairs n → ⊥) → decodeOf d ≡ answered b → RefusedIs d r → DecodedIs b r
+  -- the tests refused, or let n pairs through
+  refused-bytes : (q : Refusal) → refused q ≡ answered b → decodeAttempts b ≡ refused q
   unfolding decodeAttempts
-  refuses d r h e k =
-      let f = refusing d h in
-      let q : decodeAttempts b ≡ refused (f .0) = checked-refused (decodeTable b) (pairCount b) (done (pairsIn b)) (f .0) (sym e ∙ f .1) in
-      record { is = rw (k .outcome-is, k .pairs, f .1, q); count = rw (k .outcome-is, f .1) (k .count) }
+  refused-bytes q e = checked-refused (decodeTable b) (pairCount b) (done (pairsIn b)) q (sym e)
 
-  -- the pairs fit the array, and the bytes hold them
   module _ (n : ℕ) (e : done n ≡ answered b) where
     passed : Passed (decodeTable b) × (pairCount b ≡ n)
     passed = checked-done (decodeTable b) (pairCount b) n (sym e)
@@ -156,12 +157,50 @@ module _ (b : List ℕ) where
         let c = passed .1 in
         (omega (arith, a .few), omega (arith, a .long))
 
-    holds : decodeAttempts b ≡ done (readPairs n 5 b)
-    holds = accepts b (passed .0) ∙ ap (λ (k : ℕ). done (readPairs k 5 b)) (passed .1)
+    decoded-bytes : decodeAttempts b ≡ done (readPairs n 5 b)
+    decoded-bytes = accepts b (passed .0) ∙ ap (λ (k : ℕ). done (readPairs k 5 b)) (passed .1)
 
-    pub decodes : (pairs : List Pair) → entriesOf pairs ≡ readPairs n 5 b ++ drop n (entriesOf blank)
-        → DecodedIs b (record { outcome = Pairs n; pairs = pairs; count = n })
-    decodes pairs g =
-        let room : n ≤ length (entriesOf blank) = omega (arith, fits .0, length-blank) in
-        let into = fill-room (readPairs n 5 b) (entriesOf blank) n (length-read n 5 b) room in
-        record { is = rw (g, holds) (sym into); count = refl }
+    -- what the bytes hold, in a list with room
+    into : (lent : List (Entry ℕ)) → n ≤ length lent → decodeInto b lent ≡ answer (done n) (readPairs n 5 b ++ drop n lent)
+    into lent room = rw decoded-bytes (fill-room (readPairs n 5 b) lent n (length-read n 5 b) room)
+
+    no-room : (lent : List (Entry ℕ)) → length lent < n → decodeInto b lent ≡ answer (refused refusal.OutTooShort) lent
+    no-room lent short = rw decoded-bytes (fill-short (readPairs n 5 b) lent n (length-read n 5 b) short)
+
+  -- ---- what `decode_pairs` answers
+  pub refuses : (d : Decode) (r : Decoded) → Other d → decodeOf d ≡ answered b → RefusedIs d r → DecodedIs b r
+  refuses d r h e k =
+      let f = other-refused d h in
+      record { is = rw (k .outcome-is, k .pairs, f .1, refused-bytes (f .0) (sym (f .1) ∙ e)); count = rw (k .outcome-is, f .1) (k .count) }
+
+  pub decodes : (n : ℕ) (pairs : List Pair) → done n ≡ answered b → entriesOf pairs ≡ readPairs n 5 b ++ drop n (entriesOf blank)
+      → DecodedIs b (record { outcome = Pairs n; pairs = pairs; count = n })
+  decodes n pairs e g =
+      let room : n ≤ length (entriesOf blank) = omega (arith, fits n e .0, length-map blank entryOf, length-blank) in
+      record { is = rw g (sym (into n e (entriesOf blank) room)); count = refl }
+
+  -- ---- what `check_room` answers
+  module _ (room : ℕ) where
+    pub room-short : (d : Decode) → decodeOf d ≡ answered b → room < counted (decodeOf d) → RoomIs b room OutTooShort
+    room-short d e h = go (decodeOf d) e h
+      where
+        go : (a : Result ℕ) → a ≡ answered b → room < counted a → RoomIs b room OutTooShort
+        go (refused q) e h = absurd (omega arith)
+        go (done n) e h =
+            record {
+              is = λ lent size. sym (no-room n e lent (omega arith));
+              within = omega arith;
+              fits = omega arith;
+            }
+
+    pub room-enough : (d : Decode) → decodeOf d ≡ answered b → counted (decodeOf d) ≤ room → RoomIs b room d
+    room-enough d e h = go (decodeOf d) refl e h
+      where
+        go : (a : Result ℕ) → decodeOf d ≡ a → a ≡ answered b → counted a ≤ room → RoomIs b room d
+        go (refused q) p e h = record { is = λ lent size. rw (p, refused-bytes q e); within = rw p (omega arith); fits = rw p (omega arith) }
+        go (done n) p e h =
+            record {
+              is = λ lent size. rw p (sym (into n e lent (omega arith)));
+              within = rw p (omega (arith, fits n e .1));
+              fits = rw p h;
+            }

@@ -1,10 +1,11 @@
 -- What the encoder's functions write, over plain values. Assumes nothing.
-use Prim.Native.Nat.{ℕ, _+_, _*_, _<_, _≤_}
+use Prim.Native.Nat.{ℕ, _+_, _*_, _<_, _≤_, min}
 use native.Mathlib.Omega.{arith}
+use native.Mathlib.Decide.{decLt}
 use mathlib.Core.Path.{_≡_, refl, sym, _∙_}
 use mathlib.Core.List.{List, [], _∷_}
 use lib.ListN.{length, take, drop, getD, set, length-map}
-use lib.Seq.{length-take-le}
+use lib.Seq.{length-take-le, take-length}
 use borrow.Author.Tests.{lt-ltb, le-ltb}
 use Rattle.types.specs.Limits.{PAIRS}
 use Rattle.types.specs.Refusal.{Result, refused, done}
@@ -16,7 +17,7 @@ use Rattle.raw.specs.Bytes.{le, overwrite, write}
 use Rattle.raw.proofs.Bytes.{overwrite-none, overwrite-byte, overwrite-append, write-room, write-short, wrote-behind}
 use Rattle.crc.specs.Crc32c.{crc}
 use Rattle.crc.proofs.Seal.{sealed-put}
-use Rattle.attempt.specs.Snapshot.{pairBytes, pairsBytes, bodyBytes, encodeAttempts1}
+use Rattle.attempt.specs.Snapshot.{pairBytes, pairsBytes, bodyBytes, encodeAttempts1, encodeInto}
 use Rattle.attempt.specs.Codec.{entryOf, entriesOf, nil, encodeFirst}
 use Rattle.attempt.specs.declared.Pair.{Pair}
 use Rattle.attempt.proofs.Snapshot.{length-body, attempts-length}
@@ -79,3 +80,15 @@ module _ (pairs : List Pair) (n at : ℕ) (bs : List ℕ) where
         let e : o₂ ≡ overwrite at (encodeAttempts1 list) bs = sealed-put (bodyBytes list) (5 + 12 * n) at bs o₁ o₂ check size (omega arith) body (rw part at sum) seal in
         let end : at + length (encodeAttempts1 list) ≡ at + (9 + 12 * n) = omega arith in
         sym (within ∙ write-room at (encodeAttempts1 list) bs (omega arith) ∙ same end (sym e))
+
+-- ---- a lent list, of which an array holds as many pairs as fit
+pub lent-encoded : (ps first : List Pair) (m at : ℕ) (bs : List ℕ) → m ≡ min (length ps) 128 → take m first ≡ take m ps
+    → encodeFirst (length ps) first at bs ≡ encodeInto (entriesOf ps) at bs
+lent-encoded ps first m at bs e front =
+    elim (decLt PAIRS (length ps)) [
+      | yes h ↦ rw (lt-ltb PAIRS (length ps) h, length-map ps entryOf, lt-ltb PAIRS (length ps) h)
+      | no h ↦
+          let all : m ≡ length ps = omega arith in
+          let whole : take (length ps) first ≡ ps = rw all at front ∙ take-length ps in
+          rw (le-ltb PAIRS (length ps) (omega arith), whole)
+    ]

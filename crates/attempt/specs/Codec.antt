@@ -1,15 +1,15 @@
 -- How the code's types stand for pairs and for 01's answers, and the parts of the contracts.
-use Prim.Native.Nat.{ℕ}
+use Prim.Native.Nat.{ℕ, _*_, _≤_}
 use mathlib.Core.Path.{_≡_}
-use mathlib.Core.List.{List, [], _∷_, map}
+use mathlib.Core.List.{List, [], _∷_, _++_, map}
 use lib.Dec.{ltb}
-use lib.ListN.{take, replicate}
+use lib.ListN.{length, take, drop, replicate}
 use Rattle.types.specs.Limits.{PAIRS}
 use Rattle.types.specs.Refusal.{Result, refused, done}
 use Rattle.types.specs.Refusal as refusal
 use Rattle.types.specs.Table.{_⇒_, Answer, answer, guarded}
 use Rattle.types.specs.Keyed.{Entry, entry}
-use Rattle.attempt.specs.Snapshot.{encodeInto, decodeInto}
+use Rattle.attempt.specs.Snapshot.{encodeInto, readPairs, decodeInto}
 use Rattle.attempt.specs.declared.Pair.{Pair}
 use Rattle.attempt.specs.declared.Encode.{Encode}
 use Rattle.attempt.specs.declared.Encode.the-variants as encodes
@@ -67,3 +67,10 @@ pub record RefusedIs (outcome : Decode) (r : Decoded) : Type 0 where
   pub outcome-is : r .outcome ≡ outcome
   pub pairs : r .pairs ≡ blank
   pub count : r .count ≡ 0
+
+-- the outcome for a lent list of a length, which the pairs in the bytes then go into, and that they are there and fit
+pub record RoomIs (b : List ℕ) (room : ℕ) (r : Decode) : Type 0 where
+  pub is : (lent : List (Entry ℕ)) → length lent ≡ room
+      → let n = counted (decodeOf r) in answer (decodeOf r) (readPairs n 5 b ++ drop n lent) ≡ decodeInto b lent
+  pub within : 12 * counted (decodeOf r) ≤ length b
+  pub fits : counted (decodeOf r) ≤ room

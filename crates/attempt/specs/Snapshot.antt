@@ -37,10 +37,13 @@ abbrev pub encodeInto : List (Entry ℕ) → ℕ → List ℕ → Answer ℕ (Li
 encodeInto l at out =
     guarded (ltb PAIRS (length l) ⇒ refusal.TooManyPairs ∷ []) out (write at (encodeAttempts1 l) out)
 
--- n pairs from a place of the bytes on, 12 bytes each
+-- the pair at a place of the bytes, and n pairs from there on, 12 bytes each
+abbrev pub readPair : ℕ → List ℕ → Entry ℕ
+readPair pos b = entry (numberAt 8 pos b) (numberAt 4 (pos + 8) b)
+
 abbrev pub readPairs : ℕ → ℕ → List ℕ → List (Entry ℕ)
 readPairs zero pos b = []
-readPairs (suc n) pos b = entry (numberAt 8 pos b) (numberAt 4 (pos + 8) b) ∷ readPairs n (pos + 12) b
+readPairs (suc n) pos b = readPair pos b ∷ readPairs n (pos + 12) b
 
 -- the number of pairs by the length of the bytes, and the pairs
 abbrev pub pairCount : List ℕ → ℕ

@@ -2,13 +2,13 @@
 // pair are known here alone.
 ghost use mathlib.Core.Path.{_≡_};
 ghost use mathlib.Core.List.{_++_};
-ghost use Prim.Native.Nat.{_+_, _*_, _≤_};
+ghost use Prim.Native.Nat.{_+_, _*_, _≤_, min};
 ghost use lib.ListN.{length, take, drop};
 ghost use Rattle.types.specs.Refusal.{done};
 ghost use Rattle.types.specs.Table.{answer, checked};
 ghost use Rattle.raw.specs.Bytes.{overwrite};
-ghost use Rattle.attempt.specs.Snapshot.{pairBytes, pairsBytes, bodyBytes, readPairs, pairCount, pairsTable, decodeTable};
-ghost use Rattle.attempt.specs.Codec.{entryOf, entriesOf, blank, encodeOf, decodeOf, encodeFirst, DecodedIs, RefusedIs};
+ghost use Rattle.attempt.specs.Snapshot.{pairBytes, pairsBytes, bodyBytes, encodeInto, readPair, readPairs, pairCount, pairsTable, decodeTable, decodeInto};
+ghost use Rattle.attempt.specs.Codec.{entryOf, entriesOf, blank, encodeOf, decodeOf, counted, encodeFirst, DecodedIs, RefusedIs, RoomIs};
 
 // The length of a snapshot without pairs: version, count and check.
 pub const ATTEMPT_SNAPSHOT_MIN_LEN: usize = 9;
@@ -50,6 +50,16 @@ pub struct Decoded {
     pub outcome: Decode,
     pub pairs: [Pair; 128],
     pub count: usize,
+}
+
+// An array without pairs.
+fn no_pairs() -> [Pair; 128]
+    ensures { λ r. ⌜ r ≡ blank ⌝ }
+{
+    [Pair {
+        offset: 0,
+        attempt: 0,
+    }; 128]
 }
 
 // Writes a pair at a position.
@@ -164,24 +174,27 @@ fn check(input: &[u8]) -> Decode
     check_pairs(input, actual)
 }
 
+// The pair at a position.
+fn get_pair(input: &[u8], pos: usize) -> Pair
+    requires { ⌜ pos ≤ length (now input) ⌝ }
+    ensures { λ r. ⌜ entryOf r ≡ readPair pos (now (input .entry)) ⌝ }
+{
+    Pair {
+        offset: raw::read_u64(input, pos),
+        attempt: raw::read_u32(input, pos + 8),
+    }
+}
+
 // The pairs at the front of an array.
 fn get_pairs(input: &[u8], count: usize) -> [Pair; 128]
     requires { ⌜ (count ≤ 128) × (5 + 12 * count ≤ length (now input)) ⌝ }
     ensures { λ r. ⌜ entriesOf r ≡ readPairs count 5 (now (input .entry)) ++ drop count (entriesOf blank) ⌝ }
 {
-    let mut pairs = [Pair {
-        offset: 0,
-        attempt: 0,
-    }; 128];
+    let mut pairs = no_pairs();
     let mut pos: usize = 5;
     let mut i: usize = 0;
     while i < count {
-        let offset = raw::read_u64(input, pos);
-        let attempt = raw::read_u32(input, pos + 8);
-        pairs[i] = Pair {
-            offset: offset,
-            attempt: attempt,
-        };
+        pairs[i] = get_pair(input, pos);
         pos += PAIR_LEN;
         i += 1;
     }
@@ -192,10 +205,7 @@ fn get_pairs(input: &[u8], count: usize) -> [Pair; 128]
 fn refused(outcome: Decode) -> Decoded
     ensures { λ r. ⌜ RefusedIs outcome r ⌝ }
 {
-    let pairs = [Pair {
-        offset: 0,
-        attempt: 0,
-    }; 128];
+    let pairs = no_pairs();
     Decoded {
         outcome: outcome,
         pairs: pairs,
@@ -218,4 +228,83 @@ pub fn decode_pairs(input: &[u8]) -> Decoded
         pairs: pairs,
         count: count,
     }
+}
+
+// How many pairs an outcome has.
+fn count_of(outcome: Decode) -> usize
+    ensures { λ r. ⌜ r ≡ counted (decodeOf outcome) ⌝ }
+{
+    match outcome {
+        Decode::Pairs(count) => count,
+        _ => 0,
+    }
+}
+
+// Refusals 13 to 20, or the number of pairs, for a list with this much room.
+fn check_room(input: &[u8], room: usize) -> Decode
+    ensures { λ r. ⌜ RoomIs (now (input .entry)) room r ⌝ }
+{
+    let outcome = check(input);
+    if room < count_of(outcome) {
+        return Decode::OutTooShort;
+    }
+    outcome
+}
+
+// The number, or 128 where it is larger.
+fn at_most_128(n: usize) -> usize
+    ensures { λ r. ⌜ r ≡ min n 128 ⌝ }
+{
+    if 128 < n {
+        return 128;
+    }
+    n
+}
+
+// The first n pairs of a lent list at the front of an array.
+fn gathered(pairs: &[Pair], n: usize) -> [Pair; 128]
+    requires { ⌜ (n ≤ length (now pairs)) × (n ≤ 128) ⌝ }
+    ensures { λ r. ⌜ take n r ≡ take n (now (pairs .entry)) ⌝ }
+{
+    let mut first = no_pairs();
+    let mut i: usize = 0;
+    while i < n {
+        first[i] = pairs[i];
+        i += 1;
+    }
+    first
+}
+
+// Fills the first n places of a lent list with the pairs of a snapshot.
+fn fill_pairs(input: &[u8], pairs: &mut [Pair], n: usize)
+    requires { ⌜ (12 * n ≤ length (now input)) × (n ≤ length (now pairs)) ⌝ }
+    ensures { λ _. ⌜ entriesOf (now (pairs .exit)) ≡ readPairs n 5 (now (input .entry)) ++ drop n (entriesOf (now (pairs .entry))) ⌝ }
+{
+    let mut pos: usize = 5;
+    let mut i: usize = 0;
+    while i < n {
+        pairs[i] = get_pair(input, pos);
+        pos += PAIR_LEN;
+        i += 1;
+    }
+}
+
+// Writes the snapshot of the pairs from a position on, in their order. Over 128 pairs are refused (19), then a snapshot
+// without room (20).
+pub fn encode_attempt_snapshot(pairs: &[Pair], out: &mut [u8], at: usize) -> Encode
+    ensures { λ r. ⌜ answer (encodeOf r) (now (out .exit)) ≡ encodeInto (entriesOf (now (pairs .entry))) at (now (out .entry)) ⌝ }
+{
+    let count = pairs.len();
+    let first = gathered(pairs, at_most_128(count));
+    encode_pairs(first, count, out, at)
+}
+
+// Fills a lent list with the pairs of a snapshot, from its first place on; the other places stay. Refused as `decode_pairs`
+// refuses, and then where the list is too short (20).
+pub fn decode_attempt_snapshot(input: &[u8], pairs: &mut [Pair]) -> Decode
+    ensures { λ r. ⌜ answer (decodeOf r) (entriesOf (now (pairs .exit))) ≡ decodeInto (now (input .entry)) (entriesOf (now (pairs .entry))) ⌝ }
+{
+    let outcome = check_room(input, pairs.len());
+    fill_pairs(input, pairs, count_of(outcome));
+    outcome
 }

@@ -5,3 +5,7 @@ pub mod Effects
 pub mod CallsReturns
 pub mod CallsClaim
 pub mod CallsToken
+pub mod Payload
+pub mod Restart
+pub mod Questions
+pub mod Starting

@@ -1,5 +1,6 @@
--- Every answer of every call keeps what holds of a state, and a finished checkpoint does. Assumes nothing.
-use Prim.Native.Nat.{ℕ, _+_, _≤_}
+-- Every answer of every call keeps what holds of a state; so do a begin and every step of what holds of a record, and the last one
+-- gives a state back. A call changes cursor and table alone, so that `changed` leaves little to be shown of it. Assumes nothing.
+use Prim.Native.Nat.{ℕ, _+_, _≤_, _<_}
 use native.Mathlib.Omega.{arith}
 use mathlib.Core.Path.{_≡_, refl, sym, _∙_}
 use mathlib.Core.Bool.{Bool, true, false, _&&_, _||_, true≢false}
@@ -7,12 +8,13 @@ use mathlib.Core.List.{List}
 use mathlib.Core.Option.{Option, none, some}
 use lib.Dec.{ltb, leb, eqb}
 use lib.ListN.{length}
-use borrow.Author.Tests.{eqb-true, ne-eqb, lt-leb}
+use borrow.Author.Tests.{leb-false, eqb-true, ne-eqb, lt-leb}
 use Rattle.types.specs.Limits.{MAX, LEASES, CARRIED, RANGES}
 use Rattle.types.specs.Refusal.{done}
 use Rattle.types.specs.Table.{Answer}
 use Rattle.types.specs.Keyed.{Entry, lookup, put, update}
 use Rattle.types.proofs.Cases.{split}
+use Rattle.types.proofs.Table.{guarded-cases}
 use Rattle.types.proofs.Keyed.{lookup-put-other, lookup-delete-same, lookup-delete-other, lookup-update-other, lookup-drop-below, lookup-keep-above, length-put, length-put-old, length-delete, length-delete-old, length-update, length-dropBelow}
 use Rattle.types.proofs.Entries.{absent}
 use Rattle.cursor.specs.Cursor.{Cursor, settled, ackBounded}
@@ -23,11 +25,11 @@ use Rattle.lease.specs.State.{Table}
 use Rattle.lease.specs.State as leases
 use Rattle.lease.specs.Claim.{lease, deadlineFrom, leaseOf, isNone, nextCount, consumed, afterGrant, grant, dueAt, requeuedAs, extended}
 use Rattle.lease.proofs.Valid.{valid-grant, valid-ack, valid-requeue, valid-update, valid-release, valid-flushed}
-use Rattle.consumer.specs.State.{State, withBoth}
+use Rattle.consumer.specs.State.{State, withBoth, blocksOf}
 use Rattle.consumer.specs.Calls.{HandOut, claimed, claim, isShed, acked, ack, nackDeadline, nacked, nack, progress, committedTo, commit}
-use Rattle.consumer.specs.Checkpoint.{flushed}
-use Rattle.consumer.specs.Valid.{Leased, Valid}
-use Rattle.consumer.proofs.Open.{ClaimOpen, claim-cases, AckOpen, ack-cases, NackOpen, nack-cases, ProgressOpen, progressed, progress-cases, commit-cases, BeginOpen}
+use Rattle.consumer.specs.Checkpoint.{bodies, flushed, Writing, begin, isLast, nextPlace, going, leftBy, Wrote, Lent, lent, stepTable, step}
+use Rattle.consumer.specs.Valid.{Leased, Valid, ValidWriting, ValidLeft}
+use Rattle.consumer.proofs.Open.{ClaimOpen, claim-cases, AckOpen, ack-cases, NackOpen, nack-cases, ProgressOpen, progressed, progress-cases, commit-cases, BeginOpen, begin-says}
 
 -- ## A state with another cursor and another table
 module _ (s : State) (c : Cursor) (t : Table) where
@@ -80,17 +82,17 @@ module _ (s : State) (o now : ℕ) (v : Valid s) (p : ClaimOpen s o now) where
   abbrev new : Lease
   new = newLease t o now
 
-  -- room for the lease and for the count, by what the offset had before
+  -- room for the lease, and for all counts together, by what the offset had before
   lease-fits : (x : Option Lease) → leaseOf t o ≡ x → (isNone x && leb LEASES (length (t .leases))) ≡ false
   lease-fits none e = lt-leb LEASES (length (t .leases)) (p .lease-room e)
   lease-fits (some l) e = refl
 
-  counts-fit : (x : Option Lease) (y : Option ℕ) → leaseOf t o ≡ x → lookup o (t .carried) ≡ y
+  counts-together : (x : Option Lease) (y : Option ℕ) → leaseOf t o ≡ x → lookup o (t .carried) ≡ y
       → length (put o new (t .leases)) + length (consumed x o (t .carried)) ≤ CARRIED
-  counts-fit (some l) y e f = rw (length-put-old 0 o new l (t .leases) (v .table .rising) e) (v .together)
-  counts-fit none none e f =
+  counts-together (some l) y e f = rw (length-put-old 0 o new l (t .leases) (v .table .rising) e) (v .together)
+  counts-together none none e f =
       omega (arith, p .count-room e f, length-put o new (t .leases), length-delete o (t .carried))
-  counts-fit none (some n) e f =
+  counts-together none (some n) e f =
       omega (arith, v .together, length-put o new (t .leases), length-delete-old o n (t .carried) f)
 
   counted : afterGrant (t .redeliveries) (nextCount t o) ≤ s .policy .flushRedeliveries
@@ -104,7 +106,7 @@ module _ (s : State) (o now : ℕ) (v : Valid s) (p : ClaimOpen s o now) where
       changed s (s .cursor) (grant t o now) v (record {
         cursor = v .cursor;
         table = valid-grant t o now fits (ne-eqb (t .nextGeneration) MAX (p .generation-left)) (lease-fits (leaseOf t o) refl) (v .table);
-        together = counts-fit (leaseOf t o) (lookup o (t .carried)) refl refl;
+        together = counts-together (leaseOf t o) (lookup o (t .carried)) refl refl;
         leased = λ x l q.
             split (eqb x o)
             (λ e. rw (eqb-true x o e) here)
@@ -279,3 +281,28 @@ flushed-valid s p v =
       within = p .room;
       numbered = omega (arith, v .numbered);
     }
+
+-- ## The record, from begin through every step
+pub begin-valid : (s : State) (w : Writing) → begin s ≡ done w → Valid s → ValidWriting w
+begin-valid s w e v =
+    let d = begin-says s w e in
+    rw (← d .1) (record { state = v; room = d .0 .room; few = omega arith })
+
+module _ (w : Writing) (v : ValidWriting w) where
+  -- the block that is written lies in the area
+  pub next-inside : nextPlace w < blocksOf (w .state)
+  next-inside =
+      split (isLast w)
+      (λ e. rw e (omega (arith, v .room)))
+      (λ e. rw e (omega (arith, v .room, leb-false (bodies (w .state)) (w .written) e)))
+
+  left-valid : ValidLeft (leftBy w)
+  left-valid =
+      split (isLast w)
+      (λ e. rw e (flushed-valid (w .state) (record { room = v .room }) (v .state)))
+      (λ e. rw e (record { state = v .state; room = v .room; few = omega (arith, leb-false (bodies (w .state)) (w .written) e) }))
+
+  pub step-valid : (a : List ℕ) → ValidLeft (step w a .state .left)
+  unfolding step
+  step-valid a =
+      guarded-cases (stepTable w a) (lent (going w) a) _ (λ (r : Answer Wrote Lent). ValidLeft (r .state .left)) (λ r e. v) (λ p. left-valid)

@@ -13,8 +13,7 @@ use Rattle.types.specs.Keyed.{lookup, delete, anyBelow}
 use Rattle.cursor.specs.Cursor.{settled, ackBounded, commitUpTo}
 use Rattle.delivery.specs.Policy.{Destination, disposition, effectiveNackDelay}
 use Rattle.lease.specs.State.{Table, withLeases}
-use Rattle.lease.specs.Claim.{leaseOf, isNone, running, nextCount, grant, tokenRow, requeue, extend}
-use Rattle.lease.specs.Claim.{countOr0}
+use Rattle.lease.specs.Claim.{leaseOf, isNone, running, nextCount, grant, tokenRow, requeue, extend, countOr0}
 use Rattle.lease.specs.Rest.{releaseBelow, deliveriesOf}
 use Rattle.consumer.specs.State.{State, withTable, withBoth}
 
@@ -26,6 +25,7 @@ pub record HandOut : Type 0 where
   pub deliveries : ℕ
   pub destination : Destination
 
+-- what a claim of o hands out
 abbrev pub handOut : State → ℕ → HandOut
 handOut s o =
     record {
@@ -50,6 +50,7 @@ isFull t o =
     && (leb LEASES (length (t .leases))
     || (isNone (lookup o (t .carried)) && leb CARRIED (length (t .leases) + length (t .carried))))
 
+-- 21, 22, 23, 25, 26 with both of its conditions, 27
 abbrev pub claimTable : State → ℕ → ℕ → List Row
 claimTable s o now =
     eqb o MAX ⇒ LastOffset
@@ -73,6 +74,7 @@ abbrev pub isShed : Result Bool → Bool
 isShed (refused r) = true
 isShed (done b) = false
 
+-- 24, 29
 abbrev pub ackTable : State → ℕ → ℕ → List Row
 ackTable s o g = tokenRow (s .table) o g ∷ isShed (ackBounded (s .cursor) o RANGES .outcome) ⇒ Shed ∷ []
 
@@ -92,6 +94,7 @@ attemptOf s o = countOr0 (deliveriesOf (leaseOf (s .table) o))
 abbrev pub nackDeadline : State → ℕ → ℕ → Option ℕ → ℕ
 nackDeadline s o now explicit = sat64 now (effectiveNackDelay (s .policy) (attemptOf s o) explicit)
 
+-- 24, 25, 26 for the ceiling alone
 abbrev pub nackTable : State → ℕ → ℕ → List Row
 nackTable s o g =
     tokenRow (s .table) o g
@@ -117,6 +120,7 @@ unfoldable pub progress : State → ℕ → ℕ → ℕ → Answer ℕ State
 progress s o g now = onTable s (extend (s .table) o g now)
 
 -- ## commit
+-- 30
 abbrev pub commitTable : State → ℕ → List Row
 commitTable s bound = anyBelow bound (s .table .leases) ⇒ Held ∷ []
 

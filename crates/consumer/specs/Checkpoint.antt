@@ -17,6 +17,7 @@ use Rattle.journal.specs.Blocks.{bodiesFor, chunkOf, headerBlock, bodyBlock}
 use Rattle.consumer.specs.State.{State, stateOf, seatAt, blocksOf}
 
 -- ## what is written
+-- the cursor's snapshot and that of all attempt counts, and both as the payload
 abbrev pub cursorBytes : State → List ℕ
 cursorBytes s = encodeCursor (s .cursor)
 
@@ -26,6 +27,7 @@ attemptBytes s = encodeAttempts1 (allAttemptCounts (s .table))
 abbrev pub payloadOf : State → List ℕ
 payloadOf s = cursorBytes s ++ attemptBytes s
 
+-- the bodies that the payload takes
 abbrev pub bodies : State → ℕ
 bodies s = bodiesFor (length (payloadOf s))
 
@@ -33,6 +35,7 @@ bodies s = bodiesFor (length (payloadOf s))
 abbrev pub newCeiling : State → ℕ
 newCeiling s = sat64 (s .table .nextGeneration) 4096
 
+-- body j, counted from 1, and the header
 abbrev pub bodyOf : State → ℕ → List ℕ
 bodyOf s j = bodyBlock (s .seat .number) j (chunkOf j (payloadOf s))
 
@@ -54,10 +57,11 @@ pub record Writing : Type 0 where
 abbrev pub writing : State → ℕ → Writing
 writing s n = record { state = s; written = n }
 
--- fewer blocks are left than the group needs
+-- 31: fewer blocks are left than the group needs
 abbrev pub beginTable : State → List Row
 beginTable s = ltb (blocksOf s) (s .seat .block + suc (bodies s)) ⇒ JournalFull ∷ []
 
+-- nothing is written yet; a refusal leaves the caller the state
 unfoldable pub begin : State → Result Writing
 begin s = checked (beginTable s) (done (writing s 0))
 
@@ -97,6 +101,7 @@ lent l a = record { left = l; area = a }
 abbrev pub stepTable : Writing → List ℕ → List Row
 stepTable w a = not (eqb (length a) (w .state .size)) ⇒ BadArea ∷ []
 
+-- the next block write, and no other
 unfoldable pub step : Writing → List ℕ → Answer Wrote Lent
 step w a =
     guarded (stepTable w a) (lent (going w) a)

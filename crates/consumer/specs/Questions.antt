@@ -10,13 +10,13 @@ use Rattle.types.specs.Table.{_⇒_, checked}
 use Rattle.types.specs.Keyed.{Entry, lookup}
 use Rattle.cursor.specs.Cursor.{settled}
 use Rattle.lease.specs.declared.Lease.{Lease}
-use Rattle.lease.specs.Claim.{leaseOf}
+use Rattle.lease.specs.Claim.{leaseOf, countOr0}
 use Rattle.lease.specs.Rest.{dueOffsets, inFlight}
-use Rattle.lease.specs.Claim.{countOr0}
 use Rattle.lease.specs.Counts.{allAttemptCounts}
 use Rattle.consumer.specs.State.{State, blocksOf}
 use Rattle.consumer.specs.Calls.{atCeiling, atThreshold}
 
+-- the keys of entries, in their order
 abbrev pub keysOf : List (Entry ℕ) → List ℕ
 keysOf [] = []
 keysOf (e ∷ l) = e .key ∷ keysOf l
@@ -29,6 +29,7 @@ waitingAt s now = keysOf (s .table .carried) ++ dueOffsets now (s .table .leases
 abbrev pub waiting : State → ℕ → ℕ → Result (List ℕ)
 waiting s now room = checked (ltb room (length (waitingAt s now)) ⇒ OutTooShort ∷ []) (done (waitingAt s now))
 
+-- a test as a number
 abbrev pub bit : Bool → ℕ
 bit true = 1
 bit false = 0
@@ -50,10 +51,11 @@ pub data Question : Type 0 where
   LeaseOf : ℕ → Question
   CountOf : ℕ → Question
   InFlight : Question
-  -- whether a checkpoint is due for the ceiling, and for the threshold
+  -- whether a checkpoint is due, for the ceiling and for the threshold
   IsDue : Question
   BlocksLeft : Question
 
+-- what each question is answered
 unfoldable pub reply : State → Question → Result (List ℕ)
 reply s (Waiting now room) = waiting s now room
 reply s Committed = done (s .cursor .committed ∷ [])

@@ -1,7 +1,7 @@
 -- How a consumer starts, fresh or from a journal (01, "consumer"): the tests of settings and area, the walk, and the last group
 -- read. A restart reads the settings and the area and writes nothing.
 use Prim.Native.Nat.{ℕ}
-use mathlib.Core.Bool.{cond, _||_}
+use mathlib.Core.Bool.{Bool, cond, _||_}
 use mathlib.Core.List.{List, [], _∷_, _++_}
 use mathlib.Core.Option.{Option, none, some}
 use lib.Dec.{eqb}
@@ -39,11 +39,14 @@ unfoldable pub start : Settings → ℕ → Result State
 start c size = checked (startTable c size) (done (fresh c size))
 
 -- ## restart
+-- a zero, or the count of a settled offset
+abbrev pub isDropped : Cursor → Entry ℕ → Bool
+isDropped c e = eqb (e .value) 0 || settled c (e .key)
+
 -- the nonzero counts of offsets that are not settled
 abbrev pub unsettledCounts : Cursor → List (Entry ℕ) → List (Entry ℕ)
 unsettledCounts c [] = []
-unsettledCounts c (e ∷ l) =
-    cond (eqb (e .value) 0 || settled c (e .key)) (unsettledCounts c l) (e ∷ unsettledCounts c l)
+unsettledCounts c (e ∷ l) = cond (isDropped c e) (unsettledCounts c l) (e ∷ unsettledCounts c l)
 
 -- from both snapshots as they were read, the cursor's first
 abbrev pub fromSnapshots : Settings → ℕ → Result Cursor → Result (List (Entry ℕ)) → ℕ → Seat → Result State

@@ -7,12 +7,12 @@ use mathlib.Core.Bool.{Bool, true, false, cond, _&&_, _||_, true≢false}
 use mathlib.Core.List.{List}
 use mathlib.Core.Option.{Option}
 use lib.Dec.{ltb, leb, eqb}
-use borrow.Author.Tests.{ltb-true, leb-true, lt-ltb}
+use borrow.Author.Tests.{leb-true}
 use Rattle.types.specs.Limits.{MAX, sat32}
-use Rattle.types.specs.Refusal.{Result, refused, done}
-use Rattle.types.specs.Table.{Answer, answer}
+use Rattle.types.specs.Refusal.{Result, done}
+use Rattle.types.specs.Table.{Answer}
 use Rattle.types.proofs.Cases.{split}
-use Rattle.cursor.specs.Cursor.{Cursor, settled}
+use Rattle.cursor.specs.Cursor.{Cursor}
 use Rattle.delivery.specs.Policy.{disposition}
 use Rattle.lease.specs.State.{Table}
 use Rattle.lease.specs.Claim as lease
@@ -22,7 +22,10 @@ use Rattle.consumer.specs.Calls as consumer
 use Rattle.consumer.specs.Calls.{handOut, nackDeadline, committedTo}
 use Rattle.consumer.specs.Questions.{countOf}
 use Rattle.consumer.specs.Valid.{Valid}
-use Rattle.consumer.proofs.Open.{ClaimOpen, claim-cases, AckOpen, ack-cases, nack-cases, progressed, progress-cases, CommitOpen, commit-cases}
+use Rattle.consumer.proofs.Valid.{claimed-valid, acked-settled, acked-valid, nacked-valid, progressed-valid, committed-settled, committed-valid}
+use Rattle.consumer.proofs.Counts.{next-count}
+use Rattle.consumer.proofs.Effects.{claimed-count, acked-count, nacked-count, progressed-count, committed-count, unchanged-settled, unchanged-count}
+use Rattle.consumer.proofs.Open.{ClaimOpen, claim-cases, AckOpen, ack-cases, nack-cases, progressed, progress-cases, commit-cases}
 use Rattle.machine.specs.Calls.{Ask, claim, ack, term, nack, progress, commit, look, fits, u64, Event, claimed, acked, termed, nacked, extended, committed}
 use Rattle.machine.specs.Door.{idle, asked}
 use Rattle.crash_safety.specs.Book.{turnedTo, handedOut, settle, settleBelow}
@@ -30,7 +33,6 @@ use Rattle.crash_safety.specs.Runs.{world}
 use Rattle.crash_safety.proofs.Law.{Ledger, ledger, noted, Law, Lawful}
 use Rattle.crash_safety.proofs.Runs.{Made, Answered}
 use Rattle.crash_safety.proofs.Invariant.{Agrees, Stands, Inv}
-use Rattle.crash_safety.proofs.Pending.{next-count, claimed-valid, claimed-count, acked-valid, acked-settled, acked-count, nacked-valid, nacked-count, progressed-valid, progressed-count, committed-valid, committed-settled, committed-count, settled-count}
 
 both : (p q : Bool) → (p && q) ≡ true → (p ≡ true) × (q ≡ true)
 both true q e = (refl, e)
@@ -80,7 +82,7 @@ module _ (c : Settings) (n : ℕ) (l : Ledger) (s : State) (a : List ℕ) (inv :
         }
 
     counts-after : (x : ℕ) → countOf (consumer.claimed s o clock) x ≡ handedOut (l .book .page) o .count x
-    counts-after x = claimed-count s (now .valid) o clock m p x ∙ rw (now .agrees .counts x)
+    counts-after x = claimed-count s o clock (now .valid) p m x ∙ rw (now .agrees .counts x)
 
     raised : afterGrant (s .table .redeliveries) (nextCount (s .table) o) ≡ cond (leb 2 (nextCount (s .table) o)) (l .redeliveries + 1) (l .redeliveries)
     raised =
@@ -91,7 +93,7 @@ module _ (c : Settings) (n : ℕ) (l : Ledger) (s : State) (a : List ℕ) (inv :
     handed-out : Inv c n (noted l (claimed o clock (done (handOut s o)))) (world (idle (consumer.claimed s o clock)) a)
     handed-out =
         with-ledger (noted l (claimed o clock (done (handOut s o)))) (s .cursor) (lease.grant (s .table) o clock) refl
-        (claimed-valid s (now .valid) o clock m p)
+        (claimed-valid s o clock (now .valid) p m)
         (record { settles = now .agrees .settles; counts = counts-after })
         raised
         (omega arith)
@@ -108,10 +110,10 @@ module _ (c : Settings) (n : ℕ) (l : Ledger) (s : State) (a : List ℕ) (inv :
   settles-one : (o g : ℕ) → AckOpen s o g → Inv c n (settledOne o) (world (idle (consumer.acked s o)) a)
   settles-one o g p =
       with-ledger (settledOne o) (consumer.acked s o .cursor) (consumer.acked s o .table) refl
-      (acked-valid s (now .valid) o g p)
+      (acked-valid s o g (now .valid) p)
       (record {
-        settles = λ x. acked-settled s (now .valid) o g p x ∙ ap (λ t. eqb x o || t) (now .agrees .settles x);
-        counts = λ x. acked-count s (now .valid) o g p x ∙ ap (cond (eqb x o) 0) (now .agrees .counts x);
+        settles = λ x. acked-settled s o g (now .valid) p x ∙ ap (λ t. eqb x o || t) (now .agrees .settles x);
+        counts = λ x. acked-count s o g (now .valid) p x ∙ ap (cond (eqb x o) 0) (now .agrees .counts x);
       })
       (now .redeliveries)
       (now .floor)
@@ -134,10 +136,10 @@ module _ (c : Settings) (n : ℕ) (l : Ledger) (s : State) (a : List ℕ) (inv :
       record {
         says = tt;
         keeps = with-ledger l (s .cursor) (lease.requeue (s .table) o deadline) refl
-            (nacked-valid s (now .valid) o g deadline p)
+            (nacked-valid s o g deadline (now .valid) p)
             (record {
               settles = now .agrees .settles;
-              counts = λ x. nacked-count s (now .valid) o g deadline p x ∙ now .agrees .counts x;
+              counts = λ x. nacked-count s o g deadline (now .valid) p x ∙ now .agrees .counts x;
             })
             (now .redeliveries)
             (omega (arith, now .floor));
@@ -150,10 +152,10 @@ module _ (c : Settings) (n : ℕ) (l : Ledger) (s : State) (a : List ℕ) (inv :
       record {
         says = tt;
         keeps = with-ledger l (s .cursor) (progressed s o deadline .table) refl
-            (progressed-valid s (now .valid) o deadline)
+            (progressed-valid s o g clock deadline (now .valid) p)
             (record {
               settles = now .agrees .settles;
-              counts = λ x. progressed-count s (now .valid) o deadline x ∙ now .agrees .counts x;
+              counts = λ x. progressed-count s o g clock deadline (now .valid) p x ∙ now .agrees .counts x;
             })
             (now .redeliveries)
             (now .floor);
@@ -169,24 +171,19 @@ module _ (c : Settings) (n : ℕ) (l : Ledger) (s : State) (a : List ℕ) (inv :
     unchanged h =
         with-ledger settledBelow (s .cursor) (s .table) refl (now .valid)
         (record {
-          settles = λ x. split (ltb x bound) (λ t. rw t (already x t)) (λ t. rw t (now .agrees .settles x));
-          counts = λ x. split (ltb x bound)
-              (λ t. rw t (settled-count s (now .valid) x (already x t)))
-              (λ t. rw t (now .agrees .counts x));
+          settles = λ x. unchanged-settled s bound h x ∙ ap (λ t. ltb x bound || t) (now .agrees .settles x);
+          counts = λ x. unchanged-count s bound h (now .valid) x ∙ ap (cond (ltb x bound) 0) (now .agrees .counts x);
         })
         (now .redeliveries)
         (now .floor)
-      where
-        already : (x : ℕ) → ltb x bound ≡ true → settled (s .cursor) x ≡ true
-        already x t = rw (lt-ltb x (s .cursor .committed) (omega (arith, ltb-true x bound t)))
 
-    moved : bound ≤ MAX → CommitOpen s bound → Inv c n settledBelow (world (idle (committedTo s bound)) a)
-    moved m p =
+    moved : bound ≤ MAX → Inv c n settledBelow (world (idle (committedTo s bound)) a)
+    moved m =
         with-ledger settledBelow (committedTo s bound .cursor) (committedTo s bound .table) refl
-        (committed-valid s (now .valid) bound m p)
+        (committed-valid s bound (now .valid) m)
         (record {
-          settles = λ x. committed-settled s (now .valid) bound m p x ∙ ap (λ t. ltb x bound || t) (now .agrees .settles x);
-          counts = λ x. committed-count s (now .valid) bound m p x ∙ ap (cond (ltb x bound) 0) (now .agrees .counts x);
+          settles = λ x. committed-settled s bound (now .valid) x ∙ ap (λ t. ltb x bound || t) (now .agrees .settles x);
+          counts = λ x. committed-count s bound (now .valid) m x ∙ ap (cond (ltb x bound) 0) (now .agrees .counts x);
         })
         (now .redeliveries)
         (now .floor)
@@ -195,7 +192,7 @@ module _ (c : Settings) (n : ℕ) (l : Ledger) (s : State) (a : List ℕ) (inv :
     commit-kept m =
         commit-cases s bound (Kept (committed bound)) (λ r. record { says = tt; keeps = inv })
         (λ h. record { says = tt; keeps = unchanged h })
-        (λ p. record { says = tt; keeps = moved m p })
+        (λ p. record { says = tt; keeps = moved m })
 
   -- ## all of them; a question changes nothing
   pub ask-kept : (q : Ask) → fits q ≡ true → Answered noted (Law (c .policy)) (Inv c n) l (asked s a q)

@@ -8,12 +8,11 @@
 -- Assumes nothing.
 use Prim.Native.Nat.{ℕ, _+_, _*_, _≤_, _<_, min}
 use native.Mathlib.Omega.{arith}
-use mathlib.Core.Path.{_≡_, refl, _∙_}
+use mathlib.Core.Path.{_≡_, refl}
 use mathlib.Core.Bool.{Bool, true, false, cond, _&&_, _||_, true≢false}
 use mathlib.Core.List.{List, [], _∷_}
-use mathlib.Core.Option.{Option, none, some}
 use lib.Dec.{ltb, leb, eqb}
-use borrow.Author.Tests.{leb-true, leb-false, eqb-true, ne-eqb, lt-ltb, le-ltb, le-leb, lt-leb}
+use borrow.Author.Tests.{leb-true, leb-false, eqb-true, ne-eqb, lt-ltb, le-ltb}
 use Rattle.types.specs.Limits.{MAX32, sat32}
 use Rattle.types.specs.Refusal.{refused, done}
 use Rattle.types.proofs.Cases.{split}
@@ -22,7 +21,7 @@ use Rattle.consumer.specs.Calls.{HandOut}
 use Rattle.machine.specs.Calls.{Event, claimed, acked, termed, nacked, extended, committed, looked, begun, stepped, restarted, failed}
 use Rattle.crash_safety.specs.Book.{Page, Book, handedOut, settle, settleBelow, turnedTo, renewed, wentBack, note}
 use Rattle.crash_safety.specs.Demand3.{handed, forDelivery, delivered, deliveries}
-use Rattle.crash_safety.proofs.Law.{Ledger, ledger, emptyLedger, noted, Lawful, Law, Along, since}
+use Rattle.crash_safety.proofs.Law.{Ledger, emptyLedger, noted, Lawful, Law, Along, since}
 
 -- the restarts among the events
 abbrev pub isRestart : Event → ℕ

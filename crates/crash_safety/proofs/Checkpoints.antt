@@ -1,35 +1,54 @@
--- What a checkpoint writes is what a restart reads: with the header in its place behind the groups, the journal holds the state
--- that was taken at begin, without its leases and with their counts carried. Assumes nothing.
+-- What each block write of a checkpoint makes of the journal. A block that is no header, whole or torn, leaves it as it was. With
+-- the header in its place behind the groups, the journal holds the state that was taken at begin, without its leases and with
+-- their counts carried. Assumes nothing.
 use Prim.Native.Nat.{ℕ, suc, _+_, _*_, _/_, _≤_, _<_, _^_}
 use native.Mathlib.Omega.{arith}
-use mathlib.Core.Path.{_≡_, refl, sym, ap, _∙_}
+use mathlib.Core.Path.{_≡_, refl, ap, _∙_}
 use mathlib.Core.Bool.{false}
-use mathlib.Core.List.{List, _++_}
-use mathlib.Core.Option.{some, Option·none-ne-some}
-use lib.ListN.{length, take, drop, length-append}
+use mathlib.Core.List.{List}
+use mathlib.Core.Option.{some}
+use lib.ListN.{length}
 use lib.Seq.{take-at, drop-at, take-all}
-use Rattle.types.specs.Limits.{MAX}
 use Rattle.types.specs.Refusal.{done}
-use Rattle.types.specs.Keyed.{lookup}
-use Rattle.types.proofs.Keyed.{lookup-all}
-use Rattle.cursor.specs.Cursor.{settled}
-use Rattle.attempt.proofs.Snapshot.{attempts-length, attempts-back}
-use Rattle.lease.specs.State.{startingAt}
+use Rattle.cursor.proofs.Snapshot.{cursor-back}
+use Rattle.attempt.proofs.Snapshot.{attempts-back}
 use Rattle.lease.specs.Counts.{allAttemptCounts}
-use Rattle.lease.proofs.Valid.{valid-start, valid-carried}
 use Rattle.journal.specs.Area.{blockAt, writeAt}
+use Rattle.journal.specs.Sound.{heads}
 use Rattle.journal.specs.Walks.{payload}
-use Rattle.journal.specs.Blocks.{bodiesFor, cursorLength, attemptLength, ceilingOf}
+use Rattle.journal.specs.Blocks.{cursorLength, attemptLength, ceilingOf}
 use Rattle.journal.proofs.Area.{whole-says, write-length}
 use Rattle.journal.proofs.Blocks.{header-length, header-ceiling, header-cursor, header-attempt}
 use Rattle.consumer.specs.State.{Settings, State}
 use Rattle.consumer.specs.Checkpoint.{cursorBytes, attemptBytes, payloadOf, bodies, newCeiling, bodyOf, headerOf, flushed}
 use Rattle.consumer.specs.Restart.{readGroup}
-use Rattle.consumer.specs.Valid.{Valid}
+use Rattle.consumer.specs.Valid.{Accepted, Valid}
+use Rattle.consumer.proofs.Payload.{PayloadFits, payload-fits}
+use Rattle.consumer.proofs.Restart.{resumed-valid}
+use Rattle.consumer.proofs.Counts.{counts-rising, counts-fit, counts-few, counts-counted, counts-unsettled, counts-carried}
 use Rattle.crash_safety.proofs.Invariant.{Groups, Saved, restored, Journal}
-use Rattle.crash_safety.proofs.Groups.{one-more}
-use Rattle.crash_safety.proofs.Pending.{counts-rising, counts-fit, counts-few, counts-counted, counts-unsettled, counts-carried, cursor-back, cursor-length}
+use Rattle.crash_safety.proofs.Groups.{read-same, write-outside, groups-kept, one-more}
 
+-- ## a block that is no header, behind the groups
+module _ (c : Settings) (n : ℕ) (a : List ℕ) (w : Saved) (j : Journal c n a w) (i : ℕ) (b : List ℕ)
+    (from : w .seat .block ≤ i) (to : i < n / 512) (whole : length b ≡ 512) where
+  inside : 512 * i + 512 ≤ length a
+  inside = omega (arith, j .size)
+
+  pub block-kept : heads b ≡ false → Journal c n (writeAt a i b) w
+  block-kept h =
+      let long : length (writeAt a i b) ≡ length a = write-length a i b inside whole in
+      record {
+        size = long ∙ j .size;
+        last = j .last;
+        groups = groups-kept a (n / 512) 1 0 (j .last) (w .seat) (j .groups) i b inside whole (λ q. absurd (omega arith)) h;
+        reads = read-same a (n / 512) 1 0 (j .last) (w .seat) (j .groups) c (writeAt a i b) long
+            (write-outside a (n / 512) 1 0 (j .last) (w .seat) (j .groups) i b inside whole (λ q. absurd (omega arith)))
+            ∙ j .reads;
+        valid = j .valid;
+      }
+
+-- ## the header
 -- what a checkpoint of this state stores
 abbrev pub stored : State → Saved
 stored s =
@@ -40,7 +59,6 @@ stored s =
       seat = flushed s .seat;
     }
 
--- ## the lengths
 module _ (s : State) (v : Valid s) where
   abbrev lc : ℕ
   lc = length (cursorBytes s)
@@ -48,22 +66,16 @@ module _ (s : State) (v : Valid s) where
   abbrev la : ℕ
   la = length (attemptBytes s)
 
-  cursor-fits : (13 ≤ lc) × (lc ≤ 2061)
-  cursor-fits = omega (arith, cursor-length (s .cursor), v .cursor .few)
+  abbrev sizes : PayloadFits s
+  sizes = payload-fits s v
 
-  attempts-fit : (9 ≤ la) × (la ≤ 1545)
-  attempts-fit = omega (arith, attempts-length (allAttemptCounts (s .table)), counts-few s v)
-
-  payload-total : length (payloadOf s) ≡ lc + la
-  payload-total = length-append (cursorBytes s) (attemptBytes s)
-
-  -- ## the header's group reads as the state
+  -- the header's group reads as the state
   module _ (c : Settings) (a : List ℕ) (i : ℕ) (header : blockAt a i ≡ headerOf s) (content : payload a i ≡ payloadOf s) where
     reads-stored : readGroup c a i (flushed s .seat) ≡ done (restored c (length a) (stored s))
     reads-stored =
         let k : ℕ = s .seat .number in
-        let lc-is : cursorLength (blockAt a i) ≡ lc = rw header (header-cursor k (newCeiling s) lc la (omega (arith, cursor-fits))) in
-        let la-is : attemptLength (blockAt a i) ≡ la = rw header (header-attempt k (newCeiling s) lc la (omega (arith, attempts-fit))) in
+        let lc-is : cursorLength (blockAt a i) ≡ lc = rw header (header-cursor k (newCeiling s) lc la (omega (arith, sizes .cursor-high))) in
+        let la-is : attemptLength (blockAt a i) ≡ la = rw header (header-attempt k (newCeiling s) lc la (omega (arith, sizes .attempt-high))) in
         let ceiling-is : ceilingOf (blockAt a i) ≡ newCeiling s = rw header (header-ceiling k (newCeiling s) lc la (omega arith)) in
         rw (
           content,
@@ -78,24 +90,22 @@ module _ (s : State) (v : Valid s) where
           counts-carried s v,
         )
 
-  -- ## the journal with the header
+  -- the journal with the header
   module _ (c : Settings) (n : ℕ) (size : s .size ≡ n) (policy : s .policy ≡ c .policy) (room : s .seat .block + suc (bodies s) ≤ n / 512) where
     stored-valid : Valid (restored c n (stored s))
     stored-valid =
-        record {
-          cursor = v .cursor;
-          table = valid-carried (startingAt (c .lease) (newCeiling s)) (allAttemptCounts (s .table)) (valid-start (c .lease) (newCeiling s) (omega arith)) (counts-rising s v) (counts-few s v) (counts-counted s v);
-          together = omega (arith, counts-few s v);
-          leased = λ o l q. absurd (Option·none-ne-some l q);
-          carried = λ o k q. lookup-all (λ x m. settled (s .cursor) x ≡ false) o k (allAttemptCounts (s .table)) (counts-unsettled s v) q;
-          under-ceiling = omega arith;
-          ceiling-fits = omega arith;
-          counter = omega arith;
-          policy = rw (← policy) (v .policy);
-          area = rw (← size) (v .area);
-          within = room;
-          numbered = omega (arith, v .numbered);
-        }
+        let p : Accepted (c .policy) = rw policy at (v .policy) in
+        resumed-valid c n
+        (record { allowed = p .allowed; few-steps = p .few-steps; some-threshold = p .some-threshold; area = rw size at (v .area) })
+        (p .fits)
+        (s .cursor)
+        (allAttemptCounts (s .table))
+        (newCeiling s)
+        (flushed s .seat)
+        (v .cursor)
+        (record { rising = counts-rising s v; few = counts-few s v; counted = counts-counted s v; unsettled = counts-unsettled s v })
+        (omega arith)
+        (record { within = room; numbered = omega (arith, v .numbered) })
 
     module _ (a : List ℕ) (w : Saved) (j : Journal c n a w) (seat : s .seat ≡ w .seat)
         (behind : (i : ℕ) → i < bodies s → blockAt a (s .seat .block + suc i) ≡ bodyOf s (suc i)) where
@@ -111,7 +121,7 @@ module _ (s : State) (v : Valid s) where
       pub header-kept : Journal c n (writeAt a (s .seat .block) (headerOf s)) (stored s)
       header-kept =
           let more = one-more a (n / 512) 1 0 (j .last) (s .seat) groups (newCeiling s) lc la (payloadOf s)
-          (cursor-fits .0) (cursor-fits .1) (attempts-fit .0) (attempts-fit .1) payload-total small room within behind in
+          (sizes .cursor-low) (sizes .cursor-high) (sizes .attempt-low) (sizes .attempt-high) (sizes .total) small room within behind in
           let long : length (writeAt a (s .seat .block) (headerOf s)) ≡ n = write-length a (s .seat .block) (headerOf s) (omega (arith, within)) (header-length (s .seat .number) (newCeiling s) lc la) ∙ j .size in
           record {
             size = long;

@@ -5,7 +5,7 @@ use Prim.Native.Nat.{ℕ, suc, _+_, _*_, _≤_, _<_, _^_}
 use native.Mathlib.Omega.{arith}
 use native.Mathlib.Decide.{decLt, ℕ-discrete}
 use native.Mathlib.Numerals.{add-one}
-use mathlib.Core.Path.{_≡_, refl, sym, ap, _∙_}
+use mathlib.Core.Path.{_≡_, refl, sym, _∙_}
 use mathlib.Core.Bool.{false}
 use mathlib.Core.List.{List}
 use mathlib.Core.Option.{Option, none, some, Option·none-ne-some}
@@ -13,13 +13,13 @@ use lib.ListN.{length}
 use Rattle.journal.specs.Area.{blockAt, writeAt, Same}
 use Rattle.journal.specs.Blocks.{bodiesFor, chunkOf, headerBlock, bodyBlock}
 use Rattle.journal.specs.Sound.{heads, soundHeader}
-use Rattle.journal.specs.Walks.{walk, payload, stop}
+use Rattle.journal.specs.Walks.{payload}
 use Rattle.journal.proofs.Area.{write-same, write-other, write-apart}
 use Rattle.journal.proofs.Blocks.{header-length}
 use Rattle.journal.proofs.Sound.{headless}
 use Rattle.journal.proofs.Group.{Written, group-written, payload-written, payload-same}
 use Rattle.journal.proofs.Walks.{LastIs, at-once, behind, nothing-says, past-end, walk-ended, walk-write, walk-longer}
-use Rattle.consumer.specs.State.{Settings, State, Seat, seatAt}
+use Rattle.consumer.specs.State.{Settings, Seat, seatAt}
 use Rattle.consumer.specs.Restart.{lastGroup}
 use Rattle.crash_safety.proofs.Invariant.{Groups}
 

@@ -5,6 +5,10 @@ pub mod Runs
 pub mod Restarts
 pub mod Invariant
 pub mod Groups
-pub mod Pending
 pub mod Asks
 pub mod Checkpoints
+pub mod Steps
+pub mod Items
+pub mod Start
+pub mod Demand3
+pub mod Tokens

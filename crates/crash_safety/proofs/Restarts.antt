@@ -2,7 +2,6 @@
 use Prim.Native.Nat.{ℕ, _+_}
 use native.Mathlib.Omega.{arith}
 use mathlib.Core.Path.{_≡_, refl, sym, ap, _∙_}
-use mathlib.Core.Bool.{true, false}
 use mathlib.Core.List.{List, [], _∷_}
 use mathlib.Core.Option.{Option, none, some}
 use lib.Dec.{eqb}
@@ -13,7 +12,7 @@ use Rattle.consumer.specs.State.{Settings, State}
 use Rattle.consumer.specs.Checkpoint as checkpoint
 use Rattle.consumer.specs.Checkpoint.{Writing}
 use Rattle.consumer.specs.Restart as restarts
-use Rattle.machine.specs.Calls.{Ask, claim, ack, term, nack, progress, commit, look, Call, ask, begin, step, restart, fits}
+use Rattle.machine.specs.Calls.{Ask, claim, ack, term, nack, progress, commit, look, ask, begin, step, restart, fits}
 use Rattle.machine.specs.Door.{Phase, idle, writing, off, Turn, asked, beganAs, restartedAs, door}
 use Rattle.crash_safety.specs.Runs.{Cut, old, new, torn, Item, call, stepOn, cut, isTorn, cutAt, keepsJournal, World, world, next, after, run}
 use Rattle.crash_safety.specs.Demand3.{restartIn, restartsIn}

@@ -32,3 +32,26 @@ module _ {G : Type 0} (fold : G → Event → G) (P : G → Event → Type 0) (I
         go (some t) e m skip rest =
             let made : Made g t = rw e at m in
             rw (e, run) (made .says, rest (fold g (t .event)) t (made .keeps))
+
+-- ## one invariant beside another
+module _ {G H : Type 0} (fold : G → Event → G) (P : G → Event → Type 0) (I : G → World → Type 0)
+    (fold₂ : H → Event → H) (Q : H → Event → Type 0) (J : G → H → World → Type 0) where
+  abbrev pub Both : Type 0
+  Both = G × H
+
+  abbrev pub foldBoth : Both → Event → Both
+  foldBoth b e = (fold (b .0) e, fold₂ (b .1) e)
+
+  -- what the second says and keeps
+  abbrev pub Second : Both → Option Turn → Type 0
+  Second = Answered foldBoth (λ b e. Q (b .1) e) (λ b w. J (b .0) (b .1) w)
+
+  abbrev pub Says : Both → Event → Type 0
+  Says b e = P (b .0) e × Q (b .1) e
+
+  abbrev pub Keeps : Both → World → Type 0
+  Keeps b w = I (b .0) w × J (b .0) (b .1) w
+
+  pub beside : (b : Both) (x : Option Turn) → Answered fold P I (b .0) x → Second b x → Answered foldBoth Says Keeps b x
+  beside b none p q = tt
+  beside b (some t) p q = record { says = (p .says, q .says); keeps = (p .keeps, q .keeps) }

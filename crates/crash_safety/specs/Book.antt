@@ -1,11 +1,10 @@
 -- Demand 3's book, as 01 keeps it: settled offsets, counts by offset and a copy of both. It is a function of what is seen: the
 -- calls with their arguments and answers, and whether a power failure left a header block new.
 use Prim.Native.Nat.{ℕ}
-use mathlib.Core.Bool.{Bool, true, false, cond, _||_}
+use mathlib.Core.Bool.{Bool, false, cond, _||_}
 use lib.Dec.{ltb, eqb}
 use Rattle.types.specs.Limits.{sat32}
 use Rattle.types.specs.Refusal.{refused, done}
-use Rattle.consumer.specs.Checkpoint.{Wrote}
 use Rattle.machine.specs.Calls.{Event, claimed, acked, termed, nacked, extended, committed, looked, begun, stepped, restarted, failed}
 
 -- which offsets are settled, and how often each was handed out since it was last forgotten or settled

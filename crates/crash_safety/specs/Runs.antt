@@ -1,7 +1,7 @@
 -- Demand 3's lists: calls that each get what the one before left, from a fresh consumer on one zeroed journal with one
 -- configuration, and power failures in the middle of a block write (01, "journal").
 use Prim.Native.Nat.{ℕ}
-use mathlib.Core.Bool.{Bool, true, false, cond, not, _&&_}
+use mathlib.Core.Bool.{Bool, false, cond, not, _&&_}
 use mathlib.Core.List.{List, [], _∷_}
 use mathlib.Core.Option.{Option, none, some}
 use lib.Dec.{eqb}

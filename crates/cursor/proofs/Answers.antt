@@ -11,7 +11,8 @@ use Rattle.types.specs.Limits.{MAX, RANGES}
 use Rattle.types.specs.Refusal.{refused, done, Shed}
 use Rattle.types.specs.Table.{Answer, answer}
 use Rattle.cursor.specs.Cursor.{Cursor, cursor, Valid, settled, fragments, recorded, ackBounded, committedTo, commitUpTo}
-use Rattle.cursor.specs.View.{ackCursor, view, Sound, ackOf, Updated}
+use Rattle.cursor.specs.View.{ackCursor, view, Sound}
+use Rattle.cursor.specs.Answers.{ackOf, Updated}
 use Rattle.cursor.specs.Place.{Open, Spotted}
 use Rattle.cursor.specs.declared.AckCursor.{AckCursor}
 use Rattle.cursor.specs.declared.BoundedAck.the-variants.{Recorded}

@@ -4,3 +4,6 @@ pub mod Place
 pub mod View
 pub mod Search
 pub mod Answers
+pub mod Snapshot
+pub mod Reading
+pub mod Writing

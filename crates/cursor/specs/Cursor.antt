@@ -2,13 +2,12 @@
 -- commit and a resumption answer (01, "cursor", and cursor.rs).
 use Prim.Native.Nat.{ℕ, _+_, _≤_, min}
 use mathlib.Core.Bool.{Bool, true, false, cond, not, _&&_, _||_}
-use mathlib.Core.List.{List, [], _∷_}
-use mathlib.Core.Option.{Option, none, some}
+use mathlib.Core.List.{List, [], _∷_, _++_}
 use lib.Dec.{ltb, leb, eqb}
 use lib.ListN.{length}
 use Rattle.types.specs.Limits.{MAX, RANGES}
-use Rattle.types.specs.Refusal.{Refusal, Result, refused, done, EmptyRange, NotSortedDisjointAndAboveCommitted, TooManyRuns, Shed}
-use Rattle.types.specs.Table.{_⇒_, Answer, answer, unless, checked, guarded}
+use Rattle.types.specs.Refusal.{Result, done, EmptyRange, NotSortedDisjointAndAboveCommitted, TooManyRuns, Shed}
+use Rattle.types.specs.Table.{Row, _⇒_, Answer, answer, checked, guarded}
 use Rattle.cursor.specs.Ranges.{Above, inside, touches, insert}
 use Rattle.cursor.specs.declared.Range.{Range}
 
@@ -61,19 +60,25 @@ unfoldable pub commitUpTo : Cursor → ℕ → Answer Bool Cursor
 commitUpTo c bound =
     cond (leb bound (c .committed)) (answer (done false) c) (answer (done true) (committedTo bound (c .ahead)))
 
--- the first fault of ranges behind an end, range by range: 10, 11
-abbrev pub fault : ℕ → List Range → Option Refusal
-fault prev-end [] = none
-fault prev-end (r ∷ rs) =
-    cond (leb (r .end) (r .start)) (some (EmptyRange (r .start) (r .end)))
-    (cond (leb (r .start) prev-end) (some (NotSortedDisjointAndAboveCommitted (r .start) prev-end))
-    (fault (r .end) rs))
-
--- a cursor at a committed offset, with nothing ahead; and with ranges ahead of it: 10 and 11 range by range, then 12
+-- a cursor at a committed offset, with nothing ahead
 abbrev pub resume : ℕ → Cursor
 resume committed = cursor committed []
 
+-- 10 and 11 for a range behind an end; for ranges, one behind the other
+abbrev pub rangeTable : ℕ → Range → List Row
+rangeTable prev-end r =
+    leb (r .end) (r .start) ⇒ EmptyRange (r .start) (r .end)
+    ∷ leb (r .start) prev-end ⇒ NotSortedDisjointAndAboveCommitted (r .start) prev-end
+    ∷ []
+
+abbrev pub rangesTable : ℕ → List Range → List Row
+rangesTable prev-end [] = []
+rangesTable prev-end (r ∷ rs) = rangeTable prev-end r ++ rangesTable (r .end) rs
+
+-- 10 and 11 range by range, then 12
+abbrev pub resumeTable : ℕ → List Range → List Row
+resumeTable committed ahead = rangesTable committed ahead ++ ltb RANGES (length ahead) ⇒ TooManyRuns ∷ []
+
+-- a cursor with ranges ahead of a committed offset
 unfoldable pub resumeWithAhead : ℕ → List Range → Result Cursor
-resumeWithAhead committed ahead =
-    unless (fault committed ahead)
-    (checked (ltb RANGES (length ahead) ⇒ TooManyRuns ∷ []) (done (cursor committed ahead)))
+resumeWithAhead committed ahead = checked (resumeTable committed ahead) (done (cursor committed ahead))

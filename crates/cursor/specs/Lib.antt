@@ -1,5 +1,6 @@
 pub mod Ranges
 pub mod Cursor
-pub mod View
-pub mod Place
 pub mod Snapshot
+pub mod View
+pub mod Answers
+pub mod Place

@@ -3,20 +3,30 @@
 // An ack at committed moves it over the range that begins there. No function keeps anything elsewhere: a cursor goes in
 // by value and comes back.
 ghost use mathlib.Core.Path.{_≡_};
-ghost use Prim.Native.Nat.{_+_, _-_, _≤_, _<_, max};
+ghost use Prim.Native.Nat.{_+_, _-_, _*_, _≤_, _<_, max};
 ghost use mathlib.Core.Bool.{_&&_};
 ghost use mathlib.Core.List.{_∷_};
 ghost use lib.Dec.{ltb, eqb};
 ghost use lib.ListN.{length, take, getD, set};
 ghost use Rattle.types.specs.Identifiers.{offset};
 ghost use Rattle.types.specs.Refusal.{done};
-ghost use Rattle.types.specs.Zipped.{inserted, removed};
+ghost use Rattle.types.specs.Table.{answer, first};
+ghost use Rattle.raw.specs.Bytes.{overwrite, write, outcomeOf};
+ghost use Rattle.types.specs.Zipped.{zipped, inserted, removed};
 ghost use Rattle.types.specs.Search.{Sorted, upTo};
-ghost use Rattle.cursor.specs.Ranges.{offsets};
-ghost use Rattle.cursor.specs.Cursor.{settled, ackBounded, commitUpTo};
-ghost use Rattle.cursor.specs.View.{ackCursor, view, Sound, Whole, Fresh, ackOf, Updated};
+ghost use Rattle.cursor.specs.Ranges.{range, offsets};
+ghost use Rattle.cursor.specs.Snapshot.{rangesBytes, bodyBytes, encodeCursor, readRanges, decodeTable};
+ghost use Rattle.cursor.specs.Cursor.{settled, ackBounded, commitUpTo, rangeTable, resumeTable};
+ghost use Rattle.cursor.specs.View.{ackCursor, view, Sound, Whole, Fresh};
+ghost use Rattle.cursor.specs.Answers.{ackOf, Updated, resumeFault, decodeFault, DecodedIs};
 ghost use Rattle.cursor.specs.Place.{Spotted, joinedAt};
+use raw::Write;
 use types::Offset;
+
+const SNAPSHOT_VERSION: u8 = 1;
+
+// The bytes of a range in a snapshot.
+const RANGE_LEN: usize = 16;
 
 // The offsets from start up to, and not including, end.
 #[repr(C)]
@@ -52,6 +62,47 @@ pub struct Acked {
 // Whether the bound was above committed.
 pub struct Committed {
     pub advanced: bool,
+    pub cursor: AckCursor,
+}
+
+// Ranges that no cursor has: refusals 10, 11 and 12.
+pub enum AckCursorError {
+    // start is not below end.
+    EmptyRange { start: u64, end: u64 },
+    // start is not above the end before it, which is committed for the first range.
+    NotSortedDisjointAndAboveCommitted { start: u64, prev_end: u64 },
+    // Over 128 ranges.
+    TooManyRuns,
+}
+
+// Bytes that are no snapshot: refusals 6 to 9, and those of the ranges.
+pub enum SnapshotError {
+    // Shorter than a snapshot without ranges.
+    Truncated,
+    // No whole number of ranges.
+    BadLength { len: usize },
+    // Another version than 1.
+    UnsupportedVersion(u8),
+    // The check is not that of the bytes before it.
+    BadCrc,
+    Ranges(AckCursorError),
+}
+
+// Whether ranges are those of a cursor.
+pub enum Resume {
+    Resumed,
+    Refused(AckCursorError),
+}
+
+// Whether bytes are a snapshot.
+pub enum Decode {
+    Restored,
+    Refused(SnapshotError),
+}
+
+// Beside a refusal stands the cursor that `new` gives.
+pub struct Decoded {
+    pub outcome: Decode,
     pub cursor: AckCursor,
 }
 
@@ -298,7 +349,130 @@ fn commit_in_place(
     }
 }
 
+// Whether a range may stand behind an end.
+fn check_range(prev_end: u64, start: u64, end: u64) -> Resume
+    ensures { λ r. ⌜ resumeFault r ≡ first (rangeTable «prev_end» (range start end)) ⌝ }
+{
+    if end <= start {
+        return Resume::Refused(AckCursorError::EmptyRange { start, end });
+    }
+    if start <= prev_end {
+        return Resume::Refused(AckCursorError::NotSortedDisjointAndAboveCommitted {
+            start,
+            prev_end,
+        });
+    }
+    Resume::Resumed
+}
+
+// Whether the n ranges of a snapshot may stand ahead of committed: all of them are tested before their number is.
+fn check_ranges(input: &[u8], committed: u64, n: usize) -> Resume
+    requires { ⌜ 9 + 16 * n ≤ length (now input) ⌝ }
+    ensures { λ r. ⌜ resumeFault r ≡ first (resumeTable committed (readRanges n 9 (now (input .entry)))) ⌝ }
+{
+    let mut prev_end = committed;
+    let mut pos: usize = 9;
+    let mut i: usize = 0;
+    while i < n {
+        let start = raw::read_u64(input, pos);
+        let end = raw::read_u64(input, pos + 8);
+        let checked = check_range(prev_end, start, end);
+        let Resume::Resumed = checked else {
+            return checked;
+        };
+        prev_end = end;
+        pos += RANGE_LEN;
+        i += 1;
+    }
+    if 128 < n {
+        return Resume::Refused(AckCursorError::TooManyRuns);
+    }
+    Resume::Resumed
+}
+
+// Whether bytes are a snapshot.
+fn check_snapshot(input: &[u8]) -> Decode
+    ensures { λ r. ⌜ decodeFault r ≡ first (decodeTable (now (input .entry))) ⌝ }
+{
+    let len = input.len();
+    if len < AckCursor::SNAPSHOT_MIN_LEN {
+        return Decode::Refused(SnapshotError::Truncated);
+    }
+    let ranges_len = len - AckCursor::SNAPSHOT_MIN_LEN;
+    if ranges_len % RANGE_LEN != 0 {
+        return Decode::Refused(SnapshotError::BadLength { len });
+    }
+    let version = input[0];
+    if version != SNAPSHOT_VERSION {
+        return Decode::Refused(SnapshotError::UnsupportedVersion(version));
+    }
+    if !crc::is_sealed(input) {
+        return Decode::Refused(SnapshotError::BadCrc);
+    }
+    let committed = raw::read_u64(input, 1);
+    match check_ranges(input, committed, ranges_len / RANGE_LEN) {
+        Resume::Resumed => Decode::Restored,
+        Resume::Refused(error) => Decode::Refused(SnapshotError::Ranges(error)),
+    }
+}
+
+// Reads the n ranges of a snapshot into columns.
+fn read_ranges(input: &[u8], n: usize, starts: &mut [u64; 128], ends: &mut [u64; 128])
+    requires { ⌜ (9 + 16 * n ≤ length (now input)) × (n ≤ 128) × (length (now starts) ≡ 128) × (length (now ends) ≡ 128) ⌝ }
+    ensures { λ _. ⌜ zipped range (take n (now (starts .exit))) (take n (now (ends .exit))) ≡ readRanges n 9 (now (input .entry)) ⌝ }
+{
+    let mut pos: usize = 9;
+    let mut i: usize = 0;
+    while i < n {
+        starts[i] = raw::read_u64(input, pos);
+        ends[i] = raw::read_u64(input, pos + 8);
+        pos += RANGE_LEN;
+        i += 1;
+    }
+}
+
+// Writes the first n ranges of columns from a position on.
+fn write_ranges<'a>(
+    starts: &'a [u64; 128],
+    ends: &'a [u64; 128],
+    n: usize,
+    out: &mut [u8],
+    at: usize,
+)
+    requires { ⌜ (n ≤ 128) × (length (now starts) ≡ 128) × (length (now ends) ≡ 128) × (at + 16 * n ≤ length (now out)) ⌝ }
+    ensures { λ _. ⌜ now (out .exit) ≡ overwrite at (rangesBytes (zipped range (take n (now (starts .entry))) (take n (now (ends .entry))))) (now (out .entry)) ⌝ }
+{
+    let mut pos = at;
+    let mut i: usize = 0;
+    while i < n {
+        raw::write_u64(out, pos, starts[i]);
+        raw::write_u64(out, pos + 8, ends[i]);
+        pos += RANGE_LEN;
+        i += 1;
+    }
+}
+
+// Writes all of a snapshot but its check.
+fn write_body<'a>(
+    committed: u64,
+    starts: &'a [u64; 128],
+    ends: &'a [u64; 128],
+    n: usize,
+    out: &mut [u8],
+    at: usize,
+)
+    requires { ⌜ (n ≤ 128) × (length (now starts) ≡ 128) × (length (now ends) ≡ 128) × (at + (9 + 16 * n) ≤ length (now out)) ⌝ }
+    ensures { λ _. ⌜ now (out .exit) ≡ overwrite at (bodyBytes (view (ackCursor committed (now (starts .entry)) (now (ends .entry)) n))) (now (out .entry)) ⌝ }
+{
+    out[at] = SNAPSHOT_VERSION;
+    raw::write_u64(out, at + 1, committed);
+    write_ranges(starts, ends, n, out, at + 9);
+}
+
 impl AckCursor {
+    // The length of a snapshot without ranges: version, committed and check.
+    pub const SNAPSHOT_MIN_LEN: usize = 1 + 8 + 4;
+
     // A cursor at offset zero with nothing acked.
     pub fn new() -> AckCursor
         ensures { λ r. ⌜ Fresh 0 r ⌝ }
@@ -315,6 +489,49 @@ impl AckCursor {
             starts: [0; 128],
             ends: [0; 128],
             runs: 0,
+        }
+    }
+
+    // Writes the snapshot from a position on, and answers the position behind it. Refused without room (20).
+    pub fn encode_snapshot(self, out: &mut [u8], at: usize) -> Write
+        requires { ⌜ Sound self ⌝ }
+        ensures { λ r. ⌜ answer (outcomeOf r) (now (out .exit)) ≡ write at (encodeCursor (view self)) (now (out .entry)) ⌝ }
+    {
+        let runs = self.runs;
+        let len = AckCursor::SNAPSHOT_MIN_LEN + RANGE_LEN * runs;
+        if raw::too_short(out.len(), at, len) {
+            return Write::OutTooShort;
+        }
+        write_body(self.committed, &self.starts, &self.ends, runs, out, at);
+        let end = at + (len - 4);
+        let check = crc::crc32c(&out[at..end]);
+        raw::write_u32(out, end, check)
+    }
+
+    // The cursor of a snapshot. Refused in this order: too short (6), no whole number of ranges (7), another version (8), a
+    // wrong check (9), range by range an empty one (10) or one not above the end before it (11), over 128 ranges (12).
+    pub fn decode_snapshot(input: &[u8]) -> Decoded
+        ensures { λ r. ⌜ DecodedIs (now (input .entry)) r ⌝ }
+    {
+        let outcome = check_snapshot(input);
+        let Decode::Restored = outcome else {
+            return Decoded {
+                outcome,
+                cursor: AckCursor::new(),
+            };
+        };
+        let n = (input.len() - AckCursor::SNAPSHOT_MIN_LEN) / RANGE_LEN;
+        let mut starts = [0; 128];
+        let mut ends = [0; 128];
+        read_ranges(input, n, &mut starts, &mut ends);
+        Decoded {
+            outcome,
+            cursor: AckCursor {
+                committed: raw::read_u64(input, 1),
+                starts,
+                ends,
+                runs: n,
+            },
         }
     }
 

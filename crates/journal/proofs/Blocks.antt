@@ -2,10 +2,10 @@
 use Prim.Native.Nat.{ℕ, zero, suc, _+_, _-_, _≤_, _<_, _^_}
 use native.Mathlib.Omega.{arith}
 use mathlib.Core.Path.{_≡_, refl, ap, _∙_}
-use mathlib.Core.Bool.{true, false}
-use mathlib.Core.List.{List, [], _∷_, _++_, append-assoc}
-use lib.ListN.{length, take, drop, replicate, length-append, length-take, length-replicate}
-use lib.Seq.{take-at, drop-at, take-take, drop-append-add}
+use mathlib.Core.Bool.{true}
+use mathlib.Core.List.{List, _++_, append-assoc}
+use lib.ListN.{length, take, replicate, length-append, length-replicate}
+use lib.Seq.{take-at, drop-at, drop-append-add}
 use Rattle.raw.specs.Bytes.{le}
 use Rattle.raw.proofs.Bytes.{unle-le}
 use Rattle.crc.specs.Crc32c.{crc}
@@ -13,6 +13,8 @@ use Rattle.crc.specs.Seal.{sealed, isSealed}
 use Rattle.crc.proofs.Seal.{sealed-ok, length-sealed}
 use Rattle.journal.specs.Blocks.{bodiesFor, opening, headerBlock, bodyBlock, kindOf, groupOf, bodyCount, ceilingOf, cursorLength, attemptLength, indexOf, usedOf, contentOf}
 use Rattle.journal.specs.Sound.{allZero, zerosAt}
+use Rattle.journal.specs.declared.Header.{Header}
+use Rattle.journal.specs.Answers.{headerIn, headerOf}
 
 module _ (k ceiling lc la : ℕ) where
   pub header-length : length (headerBlock k ceiling lc la) ≡ 512
@@ -55,6 +57,17 @@ module _ (k ceiling lc la : ℕ) where
   pub header-attempt : la < 256 ^ 2 → attemptLength (headerBlock k ceiling lc la) ≡ la
   unfolding headerBlock
   header-attempt = unle-le 2 la
+
+-- a header written says what it was given
+pub header-back : (h : Header) → h .number < 256 ^ 4 → h .ceiling < 256 ^ 8 → h .«cursor_len» < 256 ^ 2 → h .«attempt_len» < 256 ^ 2
+    → headerIn (headerOf h) ≡ h
+header-back h k c l a =
+    rw (
+      header-number (h .number) (h .ceiling) (h .«cursor_len») (h .«attempt_len») k,
+      header-ceiling (h .number) (h .ceiling) (h .«cursor_len») (h .«attempt_len») c,
+      header-cursor (h .number) (h .ceiling) (h .«cursor_len») (h .«attempt_len») l,
+      header-attempt (h .number) (h .ceiling) (h .«cursor_len») (h .«attempt_len») a,
+    )
 
 zeros : (n : ℕ) → allZero (replicate n 0) ≡ true
 zeros zero = refl

@@ -1,25 +1,26 @@
 -- A group that is written whole is sound and reads back: the bodies hold the payload in stretches of 500 bytes. Assumes
 -- nothing.
-use Prim.Native.Nat.{ℕ, zero, suc, _+_, _*_, _-_, _/_, _≤_, _<_, _^_, min}
+use Prim.Native.Nat.{ℕ, zero, suc, _+_, _*_, _-_, _≤_, _<_, _^_}
 use native.Mathlib.Omega.{arith}
 use native.Mathlib.Nat.{sub-zero}
 use native.Mathlib.Decide.{decLe}
 use mathlib.Core.Path.{_≡_, refl, sym, ap, _∙_}
-use mathlib.Core.Bool.{cond}
-use mathlib.Core.List.{List, [], _++_, append-assoc, append-nil}
-use mathlib.Core.Option.{none}
+use mathlib.Core.Bool.{false}
+use mathlib.Core.List.{List, _++_, append-assoc, append-nil}
+use mathlib.Core.Option.{Option, none, some}
 use lib.Dec.{ltb}
 use lib.ListN.{length, take, drop, replicate, length-append, length-take, length-drop, take-append-drop, drop-of-length-le}
 use lib.Seq.{take-all, take-at, take-nil, take-append-add, drop-drop}
 use borrow.Author.Tests.{ltb-true, ltb-false}
 use Rattle.types.proofs.Cases.{split}
 use Rattle.journal.specs.Area.{blockAt, Same}
-use Rattle.journal.specs.Blocks.{bodiesFor, usedIn, chunkOf, headerBlock, bodyBlock, contentOf, bodyCount, cursorLength, attemptLength, payloadLength}
-use Rattle.journal.specs.Walks.{firstUnsound, contents, payload}
+use Rattle.journal.specs.Blocks.{bodiesFor, usedIn, chunkOf, headerBlock, bodyBlock, bodyCount, payloadLength}
+use Rattle.journal.specs.Sound.{soundHeader}
+use Rattle.journal.specs.Walks.{firstUnsound, stop, walkFrom, walk, contents, payload}
 use Rattle.journal.proofs.Area.{block-length}
 use Rattle.journal.proofs.Blocks.{header-count, header-cursor, header-attempt, body-content}
 use Rattle.journal.proofs.Sound.{header-says, header-sound, body-sound}
-use Rattle.journal.proofs.Walks.{Group, unsoundAt}
+use Rattle.journal.proofs.Walks.{Group, walk-passes, walk-longer}
 
 module _ (p : List ℕ) where
   pub chunk-few : (j : ℕ) → length (chunkOf j p) ≤ 500
@@ -98,6 +99,24 @@ module _ (a : List ℕ) (k i ceiling lc la : ℕ) (p : List ℕ) (w : Written a 
   payload-written =
       rw length-is
       (rw sub-zero at (bodies-read a k i p (w .bodies) (bodiesFor (length p)) 0 (suc i) (omega arith) (omega arith)))
+
+-- ## A group written at the end of a walk
+-- a′ is the area with the whole group, and agrees with a from lo on up to where the walk over a ended
+module _ (a a′ : List ℕ) (hi lo k₀ : ℕ) (l : Option ℕ) (k e : ℕ) (ends : walk a hi k₀ lo ≡ stop l k e) (same : Same a a′ lo e)
+    (ceiling lc la : ℕ) (p : List ℕ) (w : Written a′ k e ceiling lc la p) (c₁ : 13 ≤ lc) (c₂ : lc ≤ 2061) (a₁ : 9 ≤ la) (a₂ : la ≤ 1545)
+    (n : k < 256 ^ 4) (fits : e + suc (bodiesFor (length p)) ≤ hi) where
+  -- in general the walk passes the group and goes on behind it
+  pub written-passes : walk a′ hi k₀ lo ≡ walkFrom a′ hi (some e) (suc k) (e + suc (bodiesFor (length p)))
+  written-passes =
+      walk-passes a a′ hi lo k₀ l k e ends (e + suc (bodiesFor (length p))) same
+      (group-written a′ k e ceiling lc la p w c₁ c₂ a₁ a₂ hi n fits)
+
+  -- where no sound header of the next number stands there, it is longer by just that group
+  pub written-longer : soundHeader hi (suc k) (e + suc (bodiesFor (length p))) (blockAt a′ (e + suc (bodiesFor (length p)))) ≡ false
+      → walk a′ hi k₀ lo ≡ stop (some e) (suc k) (e + suc (bodiesFor (length p)))
+  written-longer =
+      walk-longer a a′ hi lo k₀ l k e ends (e + suc (bodiesFor (length p))) same
+      (group-written a′ k e ceiling lc la p w c₁ c₂ a₁ a₂ hi n fits)
 
 -- ## The payload of any group
 contents-same : (a a′ : List ℕ) (lo e m x : ℕ) → Same a a′ lo e → lo ≤ x → x + m ≤ e → contents a′ m x ≡ contents a m x

@@ -1,6 +1,6 @@
 -- Which blocks are sound: those that are written, and none whose check fails, none of kind 2 and none of zeros is a sound
 -- header; and what a sound block says, part by part. Assumes nothing.
-use Prim.Native.Nat.{ℕ, _+_, _-_, _≤_, _<_, _^_, min}
+use Prim.Native.Nat.{ℕ, zero, suc, _+_, _-_, _≤_, _<_, _^_, min}
 use native.Mathlib.Omega.{arith}
 use native.Mathlib.Numerals.{add-one}
 use native.Mathlib.Decide.{decLe}
@@ -41,6 +41,19 @@ module _ (b : List ℕ) (i : ℕ) (so-far : allZero (drop i b) ≡ allZero b) wh
 
   pub zero-all : length b ≤ i → true ≡ allZero b
   zero-all h = sym (sym so-far ∙ rw (drop-of-length-le b {i = i} h))
+
+-- a part of zeros is zeros
+pub zeros-take : (n : ℕ) (b : List ℕ) → allZero b ≡ true → allZero (take n b) ≡ true
+zeros-take zero b e = refl
+zeros-take (suc n) [] e = refl
+zeros-take (suc n) (x ∷ b) e =
+    let z = both (eqb x 0) (allZero b) e in
+    rw (z .0) (zeros-take n b (z .1))
+
+pub zeros-drop : (n : ℕ) (b : List ℕ) → allZero b ≡ true → allZero (drop n b) ≡ true
+zeros-drop zero b e = e
+zeros-drop (suc n) [] e = refl
+zeros-drop (suc n) (x ∷ b) e = zeros-drop n b (both (eqb x 0) (allZero b) e .1)
 
 -- ## No headers
 -- a block is of no kind but its own, and of none where its check fails

@@ -5,19 +5,18 @@ use Prim.Native.Nat.{ℕ, zero, suc, _+_, _*_, _≤_, _<_}
 use native.Mathlib.Omega.{arith}
 use native.Mathlib.Decide.{ℕ-discrete}
 use mathlib.Core.Path.{_≡_, refl, sym, ap, subst, _∙_}
-use mathlib.Core.Bool.{Bool, true, false, true≢false}
+use mathlib.Core.Bool.{true, false}
 use mathlib.Core.List.{List}
-use mathlib.Core.Logic.{⊎-elim}
 use mathlib.Core.Option.{Option, none, some, Option·none-ne-some}
-use lib.ListN.{length}
+use lib.ListN.{length, drop}
 use Rattle.types.specs.Refusal.{Result}
 use Rattle.types.proofs.Cases.{split}
 use Rattle.journal.specs.Area.{blockAt, writeAt, Same}
 use Rattle.journal.specs.Blocks.{usedIn, bodyCount, payloadLength}
-use Rattle.journal.specs.Sound.{soundHeader, soundBody}
+use Rattle.journal.specs.Sound.{allZero, heads, soundHeader, soundBody}
 use Rattle.journal.specs.Walks.{firstUnsound, Found, nothing, unsound, group, orUnsound, bodiesAt, groupAt, Stop, stop, damaged, after, walkOver, walkFrom, walk}
 use Rattle.journal.proofs.Area.{write-same, write-other, write-apart}
-use Rattle.journal.proofs.Sound.{Header, header-says, says-header}
+use Rattle.journal.proofs.Sound.{Header, header-says, says-header, headless, zero-header, zeros-take, zeros-drop}
 
 -- ## One group
 -- the first unsound body that the block i counts, as the header of group k
@@ -277,3 +276,25 @@ walk-write a hi lo k₀ l k e i b fits whole ends out n =
       | yes q ↦ rw (q, write-same a i b fits whole) (rw q at (n (sym q)))
       | no q ↦ rw (write-other a i b fits whole e q) (walk-ended a hi none k₀ lo l k e ends .no-header)
     ])
+
+-- ## Blocks that are no headers
+module _ (a : List ℕ) (i : ℕ) (b : List ℕ) (fits : 512 * i + 512 ≤ length a) (whole : length b ≡ 512) (none-here : heads b ≡ false) where
+  -- a body, a block whose check fails or zeros, written behind the groups or in front of the first
+  pub walk-write-headless : (hi lo k₀ : ℕ) (l : Option ℕ) (k e : ℕ) → walk a hi k₀ lo ≡ stop l k e → (i < e → i < lo) → walk (writeAt a i b) hi k₀ lo ≡ stop l k e
+  walk-write-headless hi lo k₀ l k e ends out =
+      walk-write a hi lo k₀ l k e i b fits whole ends out (λ q. headless hi k e b none-here)
+
+  -- wherever it is written, it makes no block a header
+  pub write-headless : (j : ℕ) → heads (blockAt a j) ≡ false → heads (blockAt (writeAt a i b) j) ≡ false
+  write-headless j h =
+      elim (ℕ-discrete j i) [
+        | yes q ↦ rw (q, write-same a i b fits whole) none-here
+        | no q ↦ rw (write-other a i b fits whole j q) h
+      ]
+
+-- over zeros a walk ends where it begins
+pub walk-zeros : (a : List ℕ) (hi k i : ℕ) → allZero a ≡ true → walk a hi k i ≡ stop none k i
+unfolding blockAt
+walk-zeros a hi k i z =
+    walk-turn a hi none k i
+    ∙ rw (says-nothing a hi k i (zero-header hi k i (blockAt a i) (zeros-take 512 (drop (512 * i) a) (zeros-drop (512 * i) a z))))

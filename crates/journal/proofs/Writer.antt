@@ -6,9 +6,9 @@ use native.Mathlib.Nat.{sub-zero, zero-sub}
 use native.Mathlib.Decide.{decLe}
 use mathlib.Core.Path.{_≡_, refl, sym, ap, _∙_}
 use mathlib.Core.Bool.{true, false}
-use mathlib.Core.List.{List, [], _∷_, _++_, append-nil, append-assoc}
-use lib.ListN.{length, take, drop, set, replicate, length-set, length-take, length-drop, length-replicate, drop-of-length-le}
-use lib.Seq.{take-all, take-nil, take-at, take-append-add, drop-append-add, drop-drop}
+use mathlib.Core.List.{List, _∷_, _++_, append-nil}
+use lib.ListN.{length, take, drop, set, replicate, length-set, length-take, length-drop, drop-of-length-le}
+use lib.Seq.{take-all, take-at, take-append-add, drop-append-add, drop-drop}
 use borrow.Author.Fill.{fill-more}
 use borrow.Author.Tests.{eq-eqb, ne-eqb}
 use Rattle.types.specs.Refusal.{Result, refused, done}

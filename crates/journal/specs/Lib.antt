@@ -3,3 +3,4 @@ pub mod Blocks
 pub mod Sound
 pub mod Walks
 pub mod Answers
+pub mod Examples

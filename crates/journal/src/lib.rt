@@ -12,12 +12,6 @@ ghost use Rattle.journal.specs.Sound.{allZero, isKind, heads, formed, so
 ghost use Rattle.journal.specs.Walks.{firstUnsound, orUnsound, groupAt, contents};
 ghost use Rattle.journal.specs.Answers.{fill, writeBlock, walkIn, readPayload, headerIn, headerOf, blockOf, filledOf, foundOf, walkedOf, payloadOf};
 
-// What writing a block answers.
-pub enum Filled {
-    Written,
-    BadArea,
-}
-
 // What the header of a group says: its number, the generation ceiling, and the lengths of the cursor snapshot and of the
 // attempt snapshot.
 #[repr(C)]
@@ -32,6 +26,12 @@ pub struct Header {
 pub enum Block {
     Header(Header),
     Body { number: u32, index: u8 },
+}
+
+// What writing a block answers.
+pub enum Filled {
+    Written,
+    BadArea,
 }
 
 // The header block of the last group of a walk, if there was one.
@@ -65,6 +65,30 @@ enum Turn {
     Group(usize),
 }
 
+// Whether an area of this length is refused.
+pub fn bad_length(len: usize) -> bool
+    ensures { λ r. ⌜ r ≡ badLength len ⌝ }
+{
+    if len == 0 {
+        return true;
+    }
+    if len % 512 != 0 {
+        return true;
+    }
+    65536 < len
+}
+
+// Whether an area of this length is refused, or has no block `at`.
+pub fn outside(len: usize, at: usize) -> bool
+    ensures { λ r. ⌜ r ≡ outside len at ⌝ }
+{
+    if bad_length(len) {
+        return true;
+    }
+    len / 512 <= at
+}
+
+// Fills with zeros.
 fn clear(bytes: &mut [u8])
     ensures { λ _. ⌜ now (bytes .exit) ≡ replicate (length (now (bytes .entry))) 0 ⌝ }
 {
@@ -142,37 +166,15 @@ pub fn write_block(area: &mut [u8], at: usize, block: Block, payload: &[u8]) -> 
     if outside(area.len(), at) {
         return Filled::BadArea;
     }
-    let from = 512 * at;
-    let to = from + 512;
+    let start = 512 * at;
+    let end = start + 512;
     match block {
-        Block::Header(header) => write_header(&mut area[from..to], header),
-        Block::Body { number, index } => write_body(&mut area[from..to], number, index, payload),
+        Block::Header(header) => write_header(&mut area[start..end], header),
+        Block::Body { number, index } => write_body(&mut area[start..end], number, index, payload),
     }
 }
 
-// Whether an area of this length is refused.
-pub fn bad_length(len: usize) -> bool
-    ensures { λ r. ⌜ r ≡ badLength len ⌝ }
-{
-    if len == 0 {
-        return true;
-    }
-    if len % 512 != 0 {
-        return true;
-    }
-    65536 < len
-}
-
-// Whether an area of this length is refused, or has no block `at`.
-pub fn outside(len: usize, at: usize) -> bool
-    ensures { λ r. ⌜ r ≡ outside len at ⌝ }
-{
-    if bad_length(len) {
-        return true;
-    }
-    len / 512 <= at
-}
-
+// Whether every byte is zero.
 fn all_zero(bytes: &[u8]) -> bool
     ensures { λ r. ⌜ r ≡ allZero (now (bytes .entry)) ⌝ }
 {
@@ -267,8 +269,8 @@ pub fn is_sound_body(block: &[u8], number: u64, index: u8, used: u16) -> bool
     if !is_kind(block, 2) {
         return false;
     }
-    let group = raw::read_u32(block, 4) as u64;
-    if group != number {
+    let owner = raw::read_u32(block, 4) as u64;
+    if owner != number {
         return false;
     }
     if block[1] != index {
@@ -280,13 +282,6 @@ pub fn is_sound_body(block: &[u8], number: u64, index: u8, used: u16) -> bool
     }
     let from = lesser(8 + used as usize, 508);
     all_zero(&block[from..508])
-}
-
-// Bodies for the two snapshots of a group.
-fn bodies_for(cursor_len: u16, attempt_len: u16) -> u32
-    ensures { λ r. ⌜ r ≡ bodiesFor («cursor_len» + «attempt_len») ⌝ }
-{
-    (cursor_len as u32 + attempt_len as u32 + 499) / 500
 }
 
 // Bytes that body `index` of `bodies` is to use, of `total`.
@@ -372,6 +367,22 @@ pub fn walk(area: &[u8], hi: usize, first_number: u64, first_block: usize) -> Wa
     }
 }
 
+// What a header says. Bytes that a part of another length lacks are read as zeros.
+pub fn read_header(block: &[u8]) -> Header
+    ensures { λ r. ⌜ r ≡ headerIn (now (block .entry)) ⌝ }
+{
+    let number = raw::read_u32(block, 4);
+    let ceiling = raw::read_u64(block, 8);
+    let cursor_len = raw::read_u16(block, 16);
+    let attempt_len = raw::read_u16(block, 18);
+    Header {
+        number: number,
+        ceiling: ceiling,
+        cursor_len: cursor_len,
+        attempt_len: attempt_len,
+    }
+}
+
 // Copies a payload of `total` bytes, which begins in the body at block `first`, to the front of `out`.
 fn copy_payload(area: &[u8], first: usize, total: usize, out: &mut [u8])
     requires { ⌜ (512 * (first + bodiesFor total) ≤ length (now area)) × (total ≤ length (now out)) ⌝ }
@@ -411,26 +422,11 @@ pub fn read_payload(area: &[u8], at: usize, out: &mut [u8]) -> Payload
     Payload::Read(total)
 }
 
-// What a header says. Bytes that a part of another length lacks are read as zeros.
-pub fn read_header(block: &[u8]) -> Header
-    ensures { λ r. ⌜ r ≡ headerIn (now (block .entry)) ⌝ }
+// Bodies for the two snapshots of a group.
+fn bodies_for(cursor_len: u16, attempt_len: u16) -> u32
+    ensures { λ r. ⌜ r ≡ bodiesFor («cursor_len» + «attempt_len») ⌝ }
 {
-    let number = raw::read_u32(block, 4);
-    let ceiling = raw::read_u64(block, 8);
-    let cursor_len = raw::read_u16(block, 16);
-    let attempt_len = raw::read_u16(block, 18);
-    Header {
-        number: number,
-        ceiling: ceiling,
-        cursor_len: cursor_len,
-        attempt_len: attempt_len,
-    }
-}
-
-fn lesser(a: usize, b: usize) -> usize
-    ensures { λ r. ⌜ r ≡ min a b ⌝ }
-{
-    if a < b { a } else { b }
+    (cursor_len as u32 + attempt_len as u32 + 499) / 500
 }
 
 // Where the bytes of body `index` begin in a payload of `len` bytes.
@@ -441,4 +437,11 @@ fn chunk_start(index: u8, len: usize) -> usize
         return 0;
     }
     lesser(500 * (index as usize - 1), len)
+}
+
+// The smaller of two numbers.
+fn lesser(a: usize, b: usize) -> usize
+    ensures { λ r. ⌜ r ≡ min a b ⌝ }
+{
+    if a < b { a } else { b }
 }

@@ -1,4 +1,4 @@
-pub mod Shifted
+pub mod Loops
 pub mod Valid
 pub mod Slots
 pub mod Returns
@@ -6,3 +6,5 @@ pub mod Tokens
 pub mod Questions
 pub mod Claims
 pub mod Searches
+pub mod Changes
+pub mod Lists

@@ -1,12 +1,16 @@
 -- What the answers of lease.rs mean: each enum of the code as an outcome or one of 01's refusals, and the records that
 -- the contracts state.
-use Prim.Native.Nat.{ℕ}
+use Prim.Native.Nat.{ℕ, _≤_}
 use mathlib.Core.Path.{_≡_}
 use mathlib.Core.Bool.{Bool, false}
+use mathlib.Core.List.{List}
 use mathlib.Core.Option.{Option, none, some}
+use lib.ListN.{take}
+use Rattle.types.specs.Limits.{LEASES}
 use Rattle.types.specs.Refusal.{Result, refused, done}
 use Rattle.types.specs.Refusal as refusal
 use Rattle.types.specs.Table.{Answer, answer, Kept}
+use Rattle.types.specs.Keyed.{Entry, entries}
 use Rattle.lease.specs.State.{Table, view, Sound}
 use Rattle.lease.specs.Claim.{Grant}
 use Rattle.lease.specs.declared.LeaseTable.{LeaseTable}
@@ -22,6 +26,8 @@ use Rattle.lease.specs.declared.ResumeOutcome.{ResumeOutcome}
 use Rattle.lease.specs.declared.ResumeOutcome.the-variants as resume
 use Rattle.lease.specs.declared.Listed.{Listed}
 use Rattle.lease.specs.declared.Listed.the-variants as listed
+use Rattle.lease.specs.declared.AttemptCounts.{AttemptCounts}
+use Rattle.lease.specs.declared.DueOffsets.{DueOffsets}
 use Rattle.lease.specs.declared.Attempts.{Attempts}
 use Rattle.lease.specs.declared.Attempts.the-variants as attempts
 
@@ -74,3 +80,13 @@ pub record Tries (changed : Bool) (before after : LeaseTable) (right : Answer Bo
 pub record Becomes (after : LeaseTable) (right : Table) : Type 0 where
   pub is : view after ≡ right
   pub sound : Sound after
+
+-- a list of counts in the first places of two arrays
+pub record Lists (r : AttemptCounts) (right : List (Entry ℕ)) : Type 0 where
+  pub len : r .len ≤ 192
+  pub is : entries (take (r .len) (r .offsets)) (take (r .len) (r .attempts)) ≡ right
+
+-- a list of offsets in the first places of an array
+pub record Offsets (r : DueOffsets) (right : List ℕ) : Type 0 where
+  pub len : r .len ≤ LEASES
+  pub is : take (r .len) (r .offsets) ≡ right

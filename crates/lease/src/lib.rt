@@ -10,9 +10,11 @@ ghost use Rattle.lease.specs.Config.{nanos, fromMillis, defaultConfig};
 ghost use Rattle.lease.specs.State.{Sound, view, startingAt};
 ghost use Rattle.types.specs.Refusal.{done};
 ghost use Rattle.lease.specs.Claim.{lease, claim, ack, extend, nack, capFrom, deadlineFrom, afterGrant, afterFlush};
-ghost use Rattle.lease.specs.Rest.{attemptsFlushed, releaseBelow, resealFromTo, deferRedelivery, shiftDeadlines, inFlight, isClaimable, deliveries, holdsActive, pendingRedeliveryAttempt, expired};
+ghost use Rattle.types.specs.Table.{answer};
+ghost use Rattle.types.specs.Lists.{listed};
+ghost use Rattle.lease.specs.Rest.{shiftedBy, attemptsFlushed, releaseBelow, resealFromTo, deferRedelivery, shiftDeadlines, inFlight, isClaimable, deliveries, holdsActive, pendingRedeliveryAttempt, expired};
 ghost use Rattle.lease.specs.Counts.{resumeAttempts, attemptCounts, allAttemptCounts};
-ghost use Rattle.lease.specs.Answers.{claimOf, ackOf, extendOf, nackOf, resumeOf, listedOf, attemptsOf, Answers, Tries, Becomes};
+ghost use Rattle.lease.specs.Answers.{claimOf, ackOf, extendOf, nackOf, resumeOf, listedOf, attemptsOf, Answers, Tries, Becomes, Lists, Offsets};
 use columns::Place;
 use types::Generation;
 use types::Offset;
@@ -146,6 +148,21 @@ pub struct Lease {
     pub deliveries: u32,
 }
 
+impl Lease {
+    // The lease with its clock forward.
+    fn shifted(self, delta: u64) -> Lease
+        ensures { λ r. ⌜ r ≡ shiftedBy delta self ⌝ }
+    {
+        let generation = self.generation;
+        Lease {
+            generation: generation,
+            attempt_start: saturating_add(self.attempt_start, delta),
+            deadline: saturating_add(self.deadline, delta),
+            deliveries: self.deliveries,
+        }
+    }
+}
+
 // What a claim answers: the token with the number of hand-outs so far, this one counted; or refusal 23, 25 or 27.
 pub enum Claim {
     Granted { token: LeaseToken, deliveries: u32 },
@@ -208,6 +225,21 @@ pub struct LeaseTable {
     pub next_generation: Generation,
     // Grants with a count of 2 or more since the counts were last made durable.
     pub redeliveries_since_flush: u32,
+}
+
+// Attempt counts by offset, rising: the offsets in one array, their counts at the same places of the other, of which the
+// first `len` are in use. A table has at most 192.
+#[repr(C)]
+pub struct AttemptCounts {
+    pub offsets: [u64; 192],
+    pub attempts: [u32; 192],
+    pub len: usize,
+}
+
+// The offsets of leases that have run out, rising, in the first `len` places.
+struct DueOffsets {
+    offsets: [u64; 64],
+    len: usize,
 }
 
 pub struct Claimed {
@@ -311,6 +343,52 @@ impl LeaseTable {
         ensures { λ r. ⌜ r ≡ inFlight (view self) ⌝ }
     {
         self.len
+    }
+
+    // How often each message in flight was handed out.
+    pub fn attempt_counts(self) -> AttemptCounts
+        requires { ⌜ Sound self ⌝ }
+        ensures { λ r. ⌜ Lists r (attemptCounts (view self)) ⌝ }
+    {
+        let len = self.len;
+        let mut offsets = [0u64; 192];
+        let mut attempts = [0u32; 192];
+        let mut i: usize = 0;
+        while i < len {
+            offsets[i] = self.offsets[i];
+            attempts[i] = self.leases[i].deliveries;
+            i += 1;
+        }
+        AttemptCounts {
+            offsets: offsets,
+            attempts: attempts,
+            len: len,
+        }
+    }
+
+    // Releases every lease and every carried count below an offset: all that lies there is done.
+    pub fn release_below(mut self, up_to: Offset) -> LeaseTable
+        requires { ⌜ Sound self ⌝ }
+        ensures { λ r. ⌜ Becomes r (releaseBelow (view self) («up_to» .0)) ⌝ }
+    {
+        let n = self.carried_len;
+        let carried = columns::position(&self.carried_offsets, n, up_to.0);
+        columns::remove_128(&mut self.carried_offsets, n, 0, carried);
+        columns::remove_counts_128(&mut self.carried_counts, n, 0, carried);
+        self.carried_len = n - carried;
+        let len = self.len;
+        let first = columns::position(&self.offsets, len, up_to.0);
+        columns::remove_64(&mut self.offsets, len, 0, first);
+        let mut i: usize = 0;
+        let mut j = first;
+        while j < len {
+            let next = self.leases[j];
+            self.leases[i] = next;
+            i += 1;
+            j += 1;
+        }
+        self.len = len - first;
+        self
     }
 
     // Claims an offset for delivery. One with no lease, or with a lease that has run out, is granted: the attempt begins now,
@@ -628,5 +706,61 @@ impl LeaseTable {
             changed: true,
             table: self,
         }
+    }
+
+    // Moves every lease's clock forward, its deadline and the start of its attempt: a pause that costs no lease its time.
+    pub fn shift_deadlines(mut self, delta: u64) -> LeaseTable
+        requires { ⌜ Sound self ⌝ }
+        ensures { λ r. ⌜ Becomes r (shiftDeadlines (view self) delta) ⌝ }
+    {
+        let len = self.len;
+        let mut i: usize = 0;
+        while i < len {
+            let lease = self.leases[i];
+            self.leases[i] = lease.shifted(delta);
+            i += 1;
+        }
+        self
+    }
+
+    // The offsets whose leases have run out.
+    fn due(self, now: u64) -> DueOffsets
+        requires { ⌜ Sound self ⌝ }
+        ensures { λ r. ⌜ Offsets r (expired (view self) now) ⌝ }
+    {
+        let len = self.len;
+        let mut offsets = [0u64; 64];
+        let mut n: usize = 0;
+        let mut i: usize = 0;
+        while i < len {
+            let at = i;
+            i += 1;
+            if self.leases[at].deadline <= now {
+                offsets[n] = self.offsets[at];
+                n += 1;
+            }
+        }
+        DueOffsets {
+            offsets: offsets,
+            len: n,
+        }
+    }
+
+    // The same, into a lent list.
+    pub fn expired(self, now: u64, out: &mut [u64]) -> Listed
+        requires { ⌜ Sound self ⌝ }
+        ensures { λ r. ⌜ answer (listedOf r) (out .exit .now) ≡ listed (expired (view self) now) (out .entry .now) ⌝ }
+    {
+        let due = self.due(now);
+        let n = due.len;
+        if out.len() < n {
+            return Listed::OutTooShort;
+        }
+        let mut i: usize = 0;
+        while i < n {
+            out[i] = due.offsets[i];
+            i += 1;
+        }
+        Listed::Filled(n)
     }
 }

@@ -7,12 +7,12 @@ use native.Mathlib.Nat.{le-of-suc-le-suc}
 use native.Mathlib.Decide.{ℕ-discrete}
 use mathlib.Core.Path.{_≡_, refl, sym, ap, _∙_}
 use mathlib.Core.Bool.{Bool, true, false, cond}
-use mathlib.Core.List.{List, [], _∷_, _++_}
+use mathlib.Core.List.{List, [], _∷_, _++_, map}
 use mathlib.Core.Option.{Option, none, some, Option·none-ne-some}
 use lib.Dec.{ltb, eqb}
 use lib.ListN.{length, take, drop, getD, set}
 use borrow.Author.Tests.{ltb-true, ltb-false, eqb-true, lt-ltb, le-ltb, eq-eqb, ne-eqb}
-use Rattle.types.specs.Keyed.{Entry, entry, lookup, put, delete, dropBelow, Rising, entries}
+use Rattle.types.specs.Keyed.{Entry, entry, lookup, put, delete, dropBelow, Rising, entries, mapValues}
 use Rattle.types.specs.Sorted.{Ascending, below}
 use Rattle.types.proofs.Cases.{split}
 use Rattle.types.proofs.Keyed.{delete-absent}
@@ -33,6 +33,14 @@ module _ {A : Type 0} where
   drop-entries (suc i) [] vs = refl
   drop-entries (suc i) (k ∷ ks) [] = sym (no-values (drop i ks))
   drop-entries (suc i) (k ∷ ks) (v ∷ vs) = drop-entries i ks vs
+
+  -- the entries from place i on begin with the one there
+  pub drop-entry : (d : A) (i : ℕ) (ks : List ℕ) (vs : List A) → length ks ≡ length vs → i < length ks
+      → drop i (entries ks vs) ≡ entry (getD ks i 0) (getD vs i d) ∷ drop (suc i) (entries ks vs)
+  drop-entry d i [] vs n h = absurd (omega arith)
+  drop-entry d i (k ∷ ks) [] n h = absurd (omega arith)
+  drop-entry d zero (k ∷ ks) (v ∷ vs) n h = refl
+  drop-entry d (suc i) (k ∷ ks) (v ∷ vs) n h = drop-entry d i ks vs (omega arith) (le-of-suc-le-suc h)
 
   pub rising-ascending : (lo : ℕ) (ks : List ℕ) (vs : List A) → length ks ≡ length vs → Rising lo (entries ks vs) → Ascending lo ks
   rising-ascending lo [] vs e r = tt
@@ -113,3 +121,8 @@ module _ {A : Type 0} where
       split (ltb k x)
       (λ t. rw t (drop-below-place x (suc k) ks vs (omega arith) (a .1)))
       (λ t. rw t (ap (λ (l : List (Entry A)). entry k v ∷ l) (keep-all x (suc k) ks vs (a .1) (omega (arith, ltb-false k x t)))))
+
+pub entries-map : {A B : Type 0} (f : A → B) (ks : List ℕ) (vs : List A) → entries ks (map f vs) ≡ mapValues f (entries ks vs)
+entries-map f [] vs = refl
+entries-map f (k ∷ ks) [] = refl
+entries-map {B} f (k ∷ ks) (v ∷ vs) = ap (λ (t : List (Entry B)). entry k (f v) ∷ t) (entries-map f ks vs)

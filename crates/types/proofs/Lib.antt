@@ -9,3 +9,4 @@ pub mod Sorted
 pub mod Columns
 pub mod Checked
 pub mod Entries
+pub mod Lists

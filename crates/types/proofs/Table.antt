@@ -45,6 +45,17 @@ pub checked-passed : {A : Type 0} (ws : List Row) (a : Result A) → Passed ws �
 checked-passed ws a p = rw (passed-none ws p)
 
 -- one table behind another
+pub first-met-before : (ws vs : List Row) (r : Refusal) → first ws ≡ some r → first (ws ++ vs) ≡ some r
+first-met-before [] vs r e = absurd (Option·none-ne-some r e)
+first-met-before (w ∷ ws) vs r e = split (w .test) (λ q. rw q (rw q at e)) (λ q. rw q (first-met-before ws vs r (rw q at e)))
+
+pub first-none-before : (ws vs : List Row) → first ws ≡ none → first (ws ++ vs) ≡ first vs
+first-none-before [] vs e = refl
+first-none-before (w ∷ ws) vs e =
+    split (w .test)
+    (λ q. absurd (Option·none-ne-some (w .refusal) (sym (rw q at e))))
+    (λ q. rw q (first-none-before ws vs (rw q at e)))
+
 pub passed-append : (ws vs : List Row) → Passed (ws ++ vs) → Passed ws × Passed vs
 passed-append [] vs p = (tt, p)
 passed-append (w ∷ ws) vs p =

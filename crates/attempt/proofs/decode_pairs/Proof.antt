@@ -1,17 +1,10 @@
 -- `decode_pairs` meets its contract: what `check` answered is a refusal, or the number of pairs to be read. Assumes nothing.
-use Prim.Native.Nat.{ℕ}
-use mathlib.Core.Path.{_≡_, sym, ap, subst, _∙_}
-use mathlib.Core.List.{List, [], _∷_}
-use types.Run.{OneOf, miss}
-use denote.Enum.Declared.{tagOf}
+use mathlib.Core.Path.{_≡_, sym, ap, _∙_}
 use borrow.Author.Needs.{needs}
 use Rattle.types.specs.Refusal.{done}
 use Rattle.types.specs.Table.{checked}
 use Rattle.attempt.specs.Snapshot.{pairCount, decodeTable}
 use Rattle.attempt.specs.Codec.{decodeOf}
-use Rattle.attempt.specs.declared.Decode.{Decode}
-use Rattle.attempt.specs.declared.Decode.the-variants.{Pairs}
-use Rattle.attempt.proofs.Decode.{the-type}
 use Rattle.attempt.proofs.Reading.{refuses, fits, decodes}
 use Rattle.attempt.proofs.decode_pairs.Statement.{statement}
 use Rattle.attempt.proofs.decode_pairs.Tie as tie
@@ -25,24 +18,15 @@ enum-known-outcome c = search needs
 refused-requires : tie.Need-refused-requires
 refused-requires c κs = search needs
 
--- an outcome with another tag than that of pairs is none of them
-others : List ℕ
-others = 1 ∷ 2 ∷ 3 ∷ 4 ∷ 5 ∷ 6 ∷ 7 ∷ 8 ∷ []
-
-no-pairs : (d : Decode) → OneOf others (tagOf the-type d) → (n : ℕ) → d ≡ Pairs n → ⊥
-unfolding others
-no-pairs d h n e = miss others 0 tt (subst (λ (x : Decode). OneOf others (tagOf the-type x)) e h)
-
 -- the number that the outcome holds is what the tests let through
 told : (c : tie.After-outcome) → let b = c .before .before .before .before .args .input .now in
     done (c .outcome .given .0 .0) ≡ checked (decodeTable b) (done (pairCount b))
 told c = sym (ap decodeOf (c .outcome .given .1)) ∙ c .before .before .check .ensures
 
 returns : tie.Need-returns
-unfolding others
 returns c =
     let k = c .before .before in
-    refuses (k .before .before .args .input .now) (k .check .result) (c .refused .result) (no-pairs (k .check .result) (c .before .match .keys2)) (k .check .ensures) (c .refused .ensures)
+    refuses (k .before .before .args .input .now) (k .check .result) (c .refused .result) (c .before .match .keys2) (k .check .ensures) (c .refused .ensures)
 
 get-pairs-requires : tie.Need-get-pairs-requires
 get-pairs-requires c κs =
@@ -52,7 +36,7 @@ get-pairs-requires c κs =
 returns-2 : tie.Need-returns-2
 returns-2 c =
     let o = c .before .before in
-    decodes (o .before .before .before .before .args .input .now) (o .outcome .given .0 .0) (told o) (c .get-pairs .result) (c .get-pairs .ensures)
+    decodes (o .before .before .before .before .args .input .now) (o .outcome .given .0 .0) (c .get-pairs .result) (told o) (c .get-pairs .ensures)
 
 pub decode-pairs-spec : {M : Type 1} → statement M
 decode-pairs-spec =

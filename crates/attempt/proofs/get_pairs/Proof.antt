@@ -3,13 +3,13 @@
 use Prim.Native.Nat.{_+_, _-_, _*_, _≤_}
 use native.Mathlib.Omega.{arith}
 use native.Mathlib.Nat.{sub-zero}
-use mathlib.Core.Path.{_≡_, refl, sym, _∙_}
+use mathlib.Core.Path.{_≡_, sym, ap, _∙_}
 use mathlib.Core.List.{_++_}
 use lib.ListN.{length, take, drop, length-set}
 use borrow.Author.Needs.{needs}
 use Rattle.attempt.specs.Snapshot.{readPairs}
 use Rattle.attempt.specs.Codec.{entriesOf, blank}
-use Rattle.attempt.proofs.Reading.{get-more, get-end}
+use Rattle.attempt.proofs.Reading.{length-blank, get-more, get-end}
 use Rattle.attempt.proofs.get_pairs.Statement.{statement}
 use Rattle.attempt.proofs.get_pairs.Tie as tie
 
@@ -23,18 +23,16 @@ Inv-loop input count pairs₀ pos₀ i₀ pairs pos i =
 abbrev μ-loop : tie.MeasureT-loop
 μ-loop input count pairs₀ pos₀ i₀ pairs pos i = count - i
 
+no-pairs-requires : tie.Need-no-pairs-requires Inv-loop μ-loop
+no-pairs-requires c κs = search needs
+
 loop-holds : tie.Need-loop-holds Inv-loop μ-loop
-unfolding blank
-loop-holds c = (omega arith, omega arith, refl, simp sub-zero)
+loop-holds c =
+    let none = c .no-pairs .ensures in
+    (omega arith, omega arith, ap length none ∙ length-blank, rw none (simp sub-zero))
 
-read-u64-requires : tie.Need-read-u64-requires Inv-loop μ-loop
-read-u64-requires c κs = search needs
-
-add-read-u32 : tie.Need-add-read-u32 Inv-loop μ-loop
-add-read-u32 c = omega arith
-
-read-u32-requires : tie.Need-read-u32-requires Inv-loop μ-loop
-read-u32-requires c κs = search needs
+get-pair-requires : tie.Need-get-pair-requires Inv-loop μ-loop
+get-pair-requires c κs = omega arith
 
 mul-pairs : tie.Need-mul-pairs Inv-loop μ-loop
 mul-pairs c = omega arith
@@ -53,18 +51,18 @@ loop-less c = omega arith
 
 loop-again : tie.Need-loop-again Inv-loop μ-loop
 loop-again c =
-    let a = c .before .before .before .before .before .args in
-    let l = c .before .before .before .loop in (
+    let l = c .before .before .loop in
+    let a = c .before .before .before .before .before .args in (
       omega arith,
       omega arith,
       simp length-set (l .inv .2),
-      get-more (a .input .now) (a .count) (l .i) (l .pos) (l .pairs) _ (omega arith) (omega arith) (c .before .read-u64 .ensures) (c .read-u32 .ensures) ∙ l .inv .3,
+      get-more (a .input .now) (a .count) (l .i) (l .pos) (l .pairs) _ (omega arith) (omega arith) (c .get-pair .ensures) ∙ l .inv .3,
     )
 
 returns : tie.Need-returns Inv-loop μ-loop
 returns c =
-    let a = c .before .before .before .args in
     let l = c .before .loop in
+    let a = c .before .before .before .before .args in
     sym (get-end (a .input .now) (a .count) (l .i) (l .pos) (l .pairs) (omega arith)) ∙ l .inv .3
 
 pub get-pairs-spec : {M : Type 1} → statement M
@@ -73,10 +71,9 @@ get-pairs-spec =
     (tie.spec
     Inv-loop
     μ-loop
+    no-pairs-requires
     loop-holds
-    read-u64-requires
-    add-read-u32
-    read-u32-requires
+    get-pair-requires
     mul-pairs
     array-set-from-pairs
     add-pos

@@ -1,13 +1,12 @@
 -- `journal::is_formed` meets its contract: each test is one part of the form. Assumes nothing.
-use Prim.Native.Nat.{ℕ}
 use native.Mathlib.Omega.{arith}
 use mathlib.Core.Path.{_≡_, sym, _∙_}
-use mathlib.Core.Bool.{true, false}
+use mathlib.Core.Bool.{true}
 use borrow.Author.Needs.{needs}
 use borrow.Author.Tests.{not-true, not-false}
 use lib.ListN.{length}
 use Rattle.journal.specs.Blocks.{bodiesFor, payloadLength}
-use Rattle.journal.specs.Sound.{heads, zerosAt}
+use Rattle.journal.specs.Sound.{heads}
 use Rattle.journal.proofs.Sound.{kind-says, says-formed, no-form, count-read, differ}
 use Rattle.journal.proofs.is_formed.Statement.{statement}
 use Rattle.journal.proofs.is_formed.Tie as tie

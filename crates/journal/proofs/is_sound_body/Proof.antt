@@ -21,8 +21,8 @@ kind c = sym (c .before .is-kind .ensures) ∙ not-false _ (c .if1 .left)
 read-u32-requires : tie.Need-read-u32-requires
 read-u32-requires c κs = search needs
 
-cast-group : tie.Need-cast-group
-cast-group c = search needs
+cast-owner : tie.Need-cast-owner
+cast-owner c = search needs
 
 returns-2 : tie.Need-returns-2
 returns-2 c = no-body _ _ _ _ (λ b. c .if2 .taken (c .before .read-u32 .ensures ∙ b .number))
@@ -76,7 +76,7 @@ is-sound-body-spec =
     is-kind-requires
     returns
     read-u32-requires
-    cast-group
+    cast-owner
     returns-2
     shared-slice-read-if3
     returns-3

@@ -1,7 +1,6 @@
 -- `journal::is_sound_header` meets its contract: the form, the number and the fit are what it tests. Assumes nothing.
 use native.Mathlib.Omega.{arith}
-use mathlib.Core.Path.{_≡_, sym, _∙_}
-use mathlib.Core.Bool.{true}
+use mathlib.Core.Path.{sym, _∙_}
 use borrow.Author.Needs.{needs}
 use borrow.Author.Tests.{not-true, not-false}
 use Rattle.journal.proofs.Sound.{Formed, kind-says, formed-says, says-formed, says-header, no-header, differ}

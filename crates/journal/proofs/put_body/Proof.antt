@@ -1,12 +1,8 @@
+-- `journal::put_body` meets its contract: the first eight bytes, the payload bytes over the zeros, and the check. Assumes nothing.
 use borrow.Author.Needs.{needs}
 use Rattle.journal.proofs.Writer.{body-made}
 use Rattle.journal.proofs.put_body.Statement.{statement}
 use Rattle.journal.proofs.put_body.Tie as tie
-use Rattle.journal.proofs.put_body.Reads as reads
-use Rattle.journal.proofs.put_body.Lts as lts
-use Rattle.journal.proofs.open_block.Reads as open-block-reads
-use Rattle.journal.proofs.seal.Reads as seal-reads
-use Rattle.raw.proofs.write_bytes.Reads as write-bytes-reads
 
 cast-open-block : tie.Need-cast-open-block
 cast-open-block c = search needs

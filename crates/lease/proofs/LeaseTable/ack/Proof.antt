@@ -9,7 +9,7 @@ use lib.ListN.{set, getD}
 use Rattle.types.specs.Limits.{LEASES}
 use Rattle.lease.specs.State.{view}
 use Rattle.lease.specs.declared.LeaseTable.{LeaseTable}
-use Rattle.lease.proofs.Shifted.{Closing, closing, closing-more, closed}
+use Rattle.lease.proofs.Loops.{Closing, closing, closing-more, closed}
 use Rattle.lease.proofs.Slots.{nil, length-mapped, Full, Leased, rebuilt, holding, ascending, leased, free}
 use Rattle.lease.proofs.Tokens.{not-leased, other-generation, owned, shows-removed, ack-fenced, acked}
 use Rattle.lease.proofs.LeaseTable.ack.Statement.{statement}

@@ -1,0 +1,99 @@
+-- `AckCursor::encode_snapshot` meets its contract. Assumes nothing.
+use Prim.Native.Nat.{_+_, _-_, _*_, _≤_}
+use native.Mathlib.Omega.{arith}
+use mathlib.Core.Path.{_≡_, sym, _∙_}
+use lib.ListN.{length}
+use borrow.Author.Needs.{needs}
+use borrow.Author.Tests.{ltb-true, ltb-false}
+use Rattle.cursor.specs.View.{view, Whole}
+use Rattle.cursor.proofs.Search.{runs-is}
+use Rattle.cursor.proofs.Writing.{too-short, encoded}
+use Rattle.cursor.proofs.AckCursor.encode_snapshot.Statement.{statement}
+use Rattle.cursor.proofs.AckCursor.encode_snapshot.Tie as tie
+
+whole : (s : tie.Start) → Whole (s .args .t1)
+whole s = record { starts = search needs; ends = search needs; sound = s .pre }
+
+size : (s : tie.Start) → length (view (s .args .t1) .ahead) ≡ s .args .t1 .runs
+size s = runs-is (s .args .t1) (whole s)
+
+mul-len : tie.Need-mul-len
+mul-len c = search needs
+
+add-len : tie.Need-add-len
+add-len c = search needs
+
+too-short-requires : tie.Need-too-short-requires
+too-short-requires c κs = search needs
+
+returns : tie.Need-returns
+returns c =
+    let t = c .before in
+    let s = t .before .before in
+    let a = s .args in
+    too-short (view (a .t1)) (a .t1 .runs) (a .at) (a .out .now) (size s) (ltb-true _ _ (sym (t .too-short .ensures) ∙ c .if1 .taken))
+
+-- there is room
+room : (c : tie.Else1) → let a = c .before .before .before .args in a .at + (13 + 16 * a .t1 .runs) ≤ length (a .out .now)
+room c = ltb-false _ _ (sym (c .before .too-short .ensures) ∙ c .if1 .left)
+
+write-body-requires : tie.Need-write-body-requires
+write-body-requires c κs =
+    let e = c .before .before .before .before in
+    let s = e .before .before .before in
+    (s .pre .few, whole s .starts, whole s .ends, omega (arith, room e))
+
+sub-end : tie.Need-sub-end
+sub-end c = search needs
+
+add-end : tie.Need-add-end
+add-end c = omega (arith, room (c .before .before .before .before .before .before .before))
+
+sub-crc32c : tie.Need-sub-crc32c
+sub-crc32c c = search needs
+
+part-crc32c-start : tie.Need-part-crc32c-start
+part-crc32c-start c = search needs
+
+part-crc32c-end : tie.Need-part-crc32c-end
+part-crc32c-end c =
+    let b = c .before .before .before in
+    omega (arith, room (b .before .before .before .before .before), b .write-body .kept .1 .1 .1 .1 .0)
+
+crc32c-requires : tie.Need-crc32c-requires
+crc32c-requires c κs = search needs
+
+write-u32-requires : tie.Need-write-u32-requires
+write-u32-requires c κs = search needs
+
+same-length : tie.Need-same-length
+same-length c = search needs
+
+returns-2 : tie.Need-returns-2
+returns-2 c =
+    let w = c .before .before in
+    let k = w .before .before in
+    let b = k .before .before .before .before .before in
+    let e = b .before .before .before .before .before in
+    let s = e .before .before .before in
+    let a = s .args in
+    encoded (view (a .t1)) (a .t1 .runs) (a .at) (a .out .now) (size s) (b .write-body .last .1 .1 .1 .1 .0) (w .write-u32 .last .0) (k .crc32c .result) (13 + 16 * a .t1 .runs - 4) (room e) (omega arith) (b .write-body .ensures) (k .crc32c .ensures) (w .write-u32 .ensures)
+
+pub encode-snapshot-spec : {M : Type 1} → statement M
+encode-snapshot-spec =
+    tie.close
+    (tie.spec
+    mul-len
+    add-len
+    too-short-requires
+    returns
+    write-body-requires
+    sub-end
+    add-end
+    sub-crc32c
+    part-crc32c-start
+    part-crc32c-end
+    crc32c-requires
+    write-u32-requires
+    same-length
+    returns-2)

@@ -1,0 +1,72 @@
+-- 01's outcomes and refusals for the cases of the code's enums, and the parts of the contracts.
+use Prim.Native.Nat.{ℕ}
+use mathlib.Core.Path.{_≡_}
+use mathlib.Core.Bool.{Bool, true, false}
+use mathlib.Core.List.{List}
+use mathlib.Core.Option.{Option, none, some}
+use Rattle.types.specs.Refusal.{Refusal, Result, refused, done}
+use Rattle.types.specs.Refusal as refusal
+use Rattle.types.specs.Table.{Answer, answer, unless, Kept}
+use Rattle.cursor.specs.Cursor.{Cursor}
+use Rattle.cursor.specs.Snapshot.{decodeCursor}
+use Rattle.cursor.specs.View.{view, Sound, empty}
+use Rattle.cursor.specs.declared.AckCursor.{AckCursor}
+use Rattle.cursor.specs.declared.BoundedAck.{BoundedAck}
+use Rattle.cursor.specs.declared.BoundedAck.the-variants.{Recorded, Duplicate, Shed}
+use Rattle.cursor.specs.declared.AckCursorError.{AckCursorError}
+use Rattle.cursor.specs.declared.AckCursorError.the-variants.{EmptyRange, NotSortedDisjointAndAboveCommitted, TooManyRuns}
+use Rattle.cursor.specs.declared.SnapshotError.{SnapshotError}
+use Rattle.cursor.specs.declared.SnapshotError.the-variants.{Truncated, BadLength, UnsupportedVersion, BadCrc, Ranges}
+use Rattle.cursor.specs.declared.Resume.{Resume}
+use Rattle.cursor.specs.declared.Resume.the-variants as resumes
+use Rattle.cursor.specs.declared.Decode.{Decode}
+use Rattle.cursor.specs.declared.Decode.the-variants as decodes
+use Rattle.cursor.specs.declared.Decoded.{Decoded}
+
+abbrev pub ackOf : BoundedAck → Result Bool
+ackOf Recorded = done true
+ackOf Duplicate = done false
+ackOf Shed = refused refusal.Shed
+
+-- where nothing is new the very cursor is given back that was handed in
+abbrev pub KeptUnlessNew : Result Bool → AckCursor → AckCursor → Type 0
+KeptUnlessNew (done true) before after = Unit {0}
+KeptUnlessNew (done false) before after = after ≡ before
+KeptUnlessNew (refused r) before after = after ≡ before
+
+-- an operation on a cursor answered as the definition says
+pub record Updated (before : AckCursor) (outcome : Result Bool) (after : AckCursor) (right : Answer Bool Cursor) : Type 0 where
+  pub is : answer outcome (view after) ≡ right
+  pub sound : Sound after
+  pub kept : KeptUnlessNew outcome before after
+
+abbrev pub rangesError : AckCursorError → Refusal
+rangesError (EmptyRange start end) = refusal.EmptyRange start end
+rangesError (NotSortedDisjointAndAboveCommitted start prev-end) = refusal.NotSortedDisjointAndAboveCommitted start prev-end
+rangesError TooManyRuns = refusal.TooManyRuns
+
+abbrev pub snapshotError : SnapshotError → Refusal
+snapshotError Truncated = refusal.CursorTruncated
+snapshotError (BadLength len) = refusal.CursorBadLength len
+snapshotError (UnsupportedVersion version) = refusal.CursorUnsupportedVersion version
+snapshotError BadCrc = refusal.CursorBadCrc
+snapshotError (Ranges error) = rangesError error
+
+-- the refusal that an answer is, if it is one
+abbrev pub resumeFault : Resume → Option Refusal
+resumeFault resumes.Resumed = none
+resumeFault (resumes.Refused error) = some (rangesError error)
+
+abbrev pub decodeFault : Decode → Option Refusal
+decodeFault decodes.Restored = none
+decodeFault (decodes.Refused error) = some (snapshotError error)
+
+-- the answer, with the cursor that stands beside it
+abbrev pub decodeOf : Decode → Cursor → Result Cursor
+decodeOf d c = unless (decodeFault d) (done c)
+
+-- a snapshot is decoded as the definition says; beside a refusal stands the cursor that `new` gives
+pub record DecodedIs (bytes : List ℕ) (r : Decoded) : Type 0 where
+  pub is : decodeOf (r .outcome) (view (r .cursor)) ≡ decodeCursor bytes
+  pub sound : Sound (r .cursor)
+  pub kept : Kept (decodeOf (r .outcome) (view (r .cursor))) (empty 0) (r .cursor)

@@ -1,0 +1,72 @@
+-- What the changes that always take effect show: leases and counts released below a bound, and clocks moved forward.
+-- Assumes nothing.
+use Prim.Native.Nat.{ℕ, _-_, _≤_}
+use native.Mathlib.Omega.{arith}
+use mathlib.Core.Path.{_≡_, refl, sym, ap, _∙_}
+use mathlib.Core.List.{List, map}
+use lib.ListN.{length, take, drop}
+use lib.Seq.{length-take-le}
+use Rattle.types.specs.Keyed.{Entry, entries, dropBelow, Rising}
+use Rattle.types.specs.Sorted.{below}
+use Rattle.types.proofs.Columns.{rising-ascending, drop-below-place, entries-map}
+use Rattle.lease.specs.State.{Sound, view, leasesOf, carriedOf, withLeases}
+use Rattle.lease.specs.Rest.{releaseBelow, shiftedBy, shiftDeadlines}
+use Rattle.lease.specs.Columns.{without}
+use Rattle.lease.specs.Answers.{Becomes}
+use Rattle.lease.specs.declared.Lease.{Lease}
+use Rattle.lease.specs.declared.LeaseTable.{LeaseTable}
+use Rattle.lease.proofs.Slots.{Full, holding}
+use Rattle.lease.proofs.Returns.{becomes}
+use Rattle.lease.proofs.Valid.{valid-release, valid-shift}
+
+-- ## released below a bound
+-- two columns without what lies below
+released : {A : Type 0} (b n first : ℕ) (ks : List ℕ) (vs : List A) (ks′ : List ℕ) (vs′ : List A) → n ≤ length ks → n ≤ length vs → Rising 0 (entries (take n ks) (take n vs))
+    → first ≡ below b (take n ks) → take (n - (first - 0)) ks′ ≡ without 0 first (take n ks) → take (n - (first - 0)) vs′ ≡ without 0 first (take n vs)
+    → entries (take (n - first) ks′) (take (n - first) vs′) ≡ dropBelow b (entries (take n ks) (take n vs))
+released b n first ks vs ks′ vs′ h k r e p q =
+    let z : n - first ≡ n - (first - 0) = omega arith in
+    let even : length (take n ks) ≡ length (take n vs) = length-take-le n ks h ∙ sym (length-take-le n vs k) in
+    rw (z, p, q, e) (sym (drop-below-place b 0 (take n ks) (take n vs) even (rising-ascending 0 (take n ks) (take n vs) even r)))
+
+-- a table of these columns
+abbrev pub shortened : LeaseTable → List ℕ → List Lease → ℕ → List ℕ → List ℕ → ℕ → LeaseTable
+shortened t ks vs n cks cvs m =
+    record {
+      config = t .config;
+      offsets = ks;
+      leases = vs;
+      len = n;
+      «carried_offsets» = cks;
+      «carried_counts» = cvs;
+      «carried_len» = m;
+      «next_generation» = t .«next_generation»;
+      «redeliveries_since_flush» = t .«redeliveries_since_flush»;
+    }
+
+module _ (t : LeaseTable) (full : Full t) (ok : Sound t) (b first carried : ℕ) (ks : List ℕ) (vs : List Lease) (cks cvs : List ℕ) where
+  pub releases : first ≡ below b (take (t .len) (t .offsets)) → carried ≡ below b (take (t .«carried_len») (t .«carried_offsets»))
+      → take (t .len - (first - 0)) ks ≡ without 0 first (take (t .len) (t .offsets)) → take (t .len - (first - 0)) vs ≡ without 0 first (take (t .len) (t .leases))
+      → take (t .«carried_len» - (carried - 0)) cks ≡ without 0 carried (take (t .«carried_len») (t .«carried_offsets»))
+      → take (t .«carried_len» - (carried - 0)) cvs ≡ without 0 carried (take (t .«carried_len») (t .«carried_counts»))
+      → {after : LeaseTable} → after ≡ shortened t ks vs (t .len - first) cks cvs (t .«carried_len» - carried) → Becomes after (releaseBelow (view t) b)
+  releases e c p q v w same =
+      rw same (becomes (record {
+        len = omega (arith, ok .len);
+        carried-len = omega (arith, ok .carried-len);
+        is =
+            rw (
+              released b (t .len) first (t .offsets) (t .leases) ks vs (omega (arith, full .offsets, ok .len)) (omega (arith, full .leases, ok .len)) (ok .valid .rising) e p q,
+              released b (t .«carried_len») carried (t .«carried_offsets») (t .«carried_counts») cks cvs (omega (arith, full .carried-offsets, ok .carried-len)) (omega (arith, full .carried-counts, ok .carried-len)) (ok .valid .carried-rising) c v w,
+            );
+      }) (valid-release (view t) b (ok .valid)))
+
+-- ## clocks forward
+pub shifts : (t : LeaseTable) (ok : Sound t) (delta : ℕ) (vs : List Lease) → take (t .len) vs ≡ map (shiftedBy delta) (take (t .len) (t .leases))
+    → {after : LeaseTable} → after ≡ holding t vs → Becomes after (shiftDeadlines (view t) delta)
+shifts t ok delta vs e same =
+    rw same (becomes (record {
+      len = ok .len;
+      carried-len = ok .carried-len;
+      is = ap (withLeases (view t)) (rw e (entries-map (shiftedBy delta) (take (t .len) (t .offsets)) (take (t .len) (t .leases))));
+    }) (valid-shift (view t) delta (ok .valid)))

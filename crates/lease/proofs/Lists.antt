@@ -1,0 +1,78 @@
+-- What the lists of a table's counts and offsets show.
+-- Assumes nothing.
+use Prim.Native.Nat.{ℕ, suc, zero, _+_, _≤_, _<_}
+use native.Mathlib.Omega.{arith}
+use native.Mathlib.Numerals.{add-one}
+use mathlib.Core.Path.{_≡_, refl, sym, ap, _∙_}
+use mathlib.Core.List.{List, [], _∷_, _++_, map, append-nil}
+use lib.Dec.{leb}
+use lib.ListN.{length, take, drop, getD, set, length-set, drop-of-length-le}
+use lib.Seq.{length-take-le, getD-take, take-suc-set, append-snoc}
+use borrow.Author.Tests.{le-leb, lt-leb}
+use Rattle.types.specs.Limits.{LEASES}
+use Rattle.types.specs.Keyed.{Entry, entry, entries, mapValues}
+use Rattle.types.proofs.Columns.{drop-entry, entries-map}
+use Rattle.lease.specs.State.{Sound, view, leasesOf}
+use Rattle.lease.specs.Counts.{attemptCounts}
+use Rattle.lease.specs.Rest.{dueOffsets}
+use Rattle.lease.specs.declared.Lease.{Lease}
+use Rattle.lease.specs.declared.LeaseTable.{LeaseTable}
+use Rattle.lease.proofs.Slots.{nil, Full, in-flight}
+
+-- ## the counts of the leases
+abbrev pub counts : LeaseTable → List ℕ
+counts t = map (λ (l : Lease). l .deliveries) (t .leases)
+
+take-map : {A B : Type 0} (f : A → B) (n : ℕ) (l : List A) → take n (map f l) ≡ map f (take n l)
+take-map f zero l = refl
+take-map f (suc n) [] = refl
+take-map {B} f (suc n) (x ∷ l) = ap (λ (t : List B). f x ∷ t) (take-map f n l)
+
+pub counts-listed : (t : LeaseTable) (ks ns : List ℕ) (i : ℕ) → i ≡ t .len → take i ks ≡ take i (t .offsets) → take i ns ≡ take i (counts t)
+    → entries (take (t .len) ks) (take (t .len) ns) ≡ attemptCounts (view t)
+counts-listed t ks ns i e p q =
+    rw (← e) (rw (p, q, take-map (λ (l : Lease). l .deliveries) i (t .leases)) (entries-map (λ (l : Lease). l .deliveries) (take i (t .offsets)) (take i (t .leases))))
+
+-- ## the offsets of due leases
+-- those before i are listed
+pub record Listing (t : LeaseTable) (now : ℕ) (offsets : List ℕ) (n i : ℕ) : Type 0 where
+  pub inside : i ≤ t .len
+  pub few : n ≤ i
+  pub full-list : length offsets ≡ LEASES
+  pub is : take n offsets ++ dueOffsets now (drop i (leasesOf t)) ≡ dueOffsets now (leasesOf t)
+
+module _ (t : LeaseTable) (full : Full t) (ok : Sound t) (now : ℕ) where
+  head : (i : ℕ) → i < t .len → drop i (leasesOf t) ≡ entry (getD (t .offsets) i 0) (getD (t .leases) i nil) ∷ drop (i + 1) (leasesOf t)
+  head i h =
+      let ks = length-take-le (t .len) (t .offsets) (omega (arith, full .offsets, ok .len)) in
+      let vs = length-take-le (t .len) (t .leases) (omega (arith, full .leases, ok .len)) in
+      rw (add-one, ← getD-take (t .len) (t .offsets) i 0 h, ← getD-take (t .len) (t .leases) i nil h)
+      (drop-entry nil i (take (t .len) (t .offsets)) (take (t .len) (t .leases)) (ks ∙ sym vs) (omega arith))
+
+  pub listing : (offsets : List ℕ) → length offsets ≡ LEASES → Listing t now offsets 0 0
+  listing offsets h = record { inside = omega arith; few = omega arith; full-list = h; is = refl }
+
+  module _ {offsets : List ℕ} {n i : ℕ} (inv : Listing t now offsets n i) (h : i < t .len) where
+    pub listing-due : getD (t .leases) i nil .deadline ≤ now → Listing t now (set offsets n (getD (t .offsets) i 0)) (n + 1) (i + 1)
+    listing-due d =
+        let k : n < length offsets = omega (arith, inv .few, inv .full-list, ok .len) in
+        record {
+          inside = omega arith;
+          few = omega (arith, inv .few);
+          full-list = length-set offsets n (getD (t .offsets) i 0) ∙ inv .full-list;
+          is = rw (add-one n, take-suc-set offsets n (getD (t .offsets) i 0) k, append-snoc) (rw (head i h, le-leb _ _ d) at (inv .is));
+        }
+
+    pub listing-running : now < getD (t .leases) i nil .deadline → Listing t now offsets n (i + 1)
+    listing-running d =
+        record {
+          inside = omega arith;
+          few = omega (arith, inv .few);
+          full-list = inv .full-list;
+          is = rw (head i h, lt-leb _ _ d) at (inv .is);
+        }
+
+  pub due-listed : {offsets : List ℕ} {n i : ℕ} → Listing t now offsets n i → t .len ≤ i → take n offsets ≡ dueOffsets now (leasesOf t)
+  due-listed {offsets} {n} {i} inv h =
+      let e : drop i (leasesOf t) ≡ [] = drop-of-length-le (leasesOf t) {i = i} (rw (in-flight t full ok) h) in
+      sym (append-nil (take n offsets)) ∙ rw e at (inv .is)
