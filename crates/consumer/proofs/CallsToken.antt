@@ -14,7 +14,7 @@ use Rattle.types.specs.Keyed.{delete}
 use Rattle.types.proofs.Cases.{split}
 use Rattle.types.proofs.Table.{guarded-passed, guarded-refused}
 use Rattle.cursor.specs.Cursor.{Cursor, ackBounded}
-use Rattle.cursor.specs.View as cursor
+use Rattle.cursor.specs.Answers as cursor
 use Rattle.cursor.specs.declared.AckCursor.{AckCursor}
 use Rattle.delivery.specs.Policy.{effectiveNackDelay}
 use Rattle.lease.specs.declared.Lease.{Lease}

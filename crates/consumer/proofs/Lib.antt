@@ -5,7 +5,9 @@ pub mod Effects
 pub mod CallsReturns
 pub mod CallsClaim
 pub mod CallsToken
+pub mod CallsCommit
 pub mod Payload
 pub mod Restart
 pub mod Questions
 pub mod Starting
+pub mod Asked

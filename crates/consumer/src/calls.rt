@@ -3,7 +3,7 @@ ghost use mathlib.Core.Path.{_≡_};
 ghost use Rattle.types.specs.Limits.{RANGES};
 ghost use Rattle.types.specs.Refusal.{done};
 ghost use Rattle.types.specs.Table.{first, Passed};
-ghost use Rattle.cursor.specs.View.{ackOf};
+ghost use Rattle.cursor.specs.Answers.{ackOf};
 ghost use Rattle.delivery.specs.Config.{delayOf};
 ghost use Rattle.delivery.specs.Config as delivery;
 ghost use Rattle.delivery.specs.Policy.{disposition};
@@ -354,6 +354,32 @@ impl Consumer {
                 answer: ProgressAnswer::Fenced,
                 consumer: self,
             },
+        }
+    }
+
+    // Settles every offset below the bound and drops their counts. Nothing changes where that was so before, or where an
+    // offset below the bound is in flight.
+    pub fn commit(self, bound: Offset) -> Committed
+        requires { ⌜ Sound self ⌝ }
+        ensures { λ r. ⌜ Answers (commitOf (r .answer)) self (r .consumer) (commit (view self) (bound .0)) ⌝ }
+    {
+        if bound.0 <= self.cursor.committed {
+            return Committed {
+                answer: CommitAnswer::Unchanged,
+                consumer: self,
+            };
+        }
+        if self.table.holds_below(bound) {
+            return Committed {
+                answer: CommitAnswer::Held,
+                consumer: self,
+            };
+        }
+        let moved = self.cursor.commit_up_to(bound);
+        let table = self.table.release_below(bound);
+        Committed {
+            answer: CommitAnswer::Committed,
+            consumer: self.with_both(moved.cursor, table),
         }
     }
 }

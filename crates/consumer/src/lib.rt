@@ -8,6 +8,7 @@ use lease::LeaseTable;
 use types::Generation;
 
 pub mod calls;
+pub mod queries;
 mod starts;
 
 // What a consumer is started with.

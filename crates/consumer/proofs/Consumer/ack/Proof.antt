@@ -1,7 +1,7 @@
 -- `Consumer::ack` meets its contract: it refuses what the table or the cursor refuses, in this order. Assumes nothing.
 use mathlib.Core.Path.{sym, ap, _∙_}
 use borrow.Author.Needs.{needs}
-use Rattle.cursor.specs.View as cursor
+use Rattle.cursor.specs.Answers as cursor
 use Rattle.lease.specs.Answers.{ackOf}
 use Rattle.consumer.proofs.CallsToken.{ack-fenced, ack-shed, ack-settled}
 use Rattle.consumer.proofs.Consumer.ack.Statement.{statement}
