@@ -56,7 +56,7 @@ pub struct Configured {
 }
 
 // Whether a limit that never bites lacks its opt-in. Delivery counts stay at u32's largest, so no count is above it.
-fn lacks_opt_in(max_deliver: u32, allow_unlimited: bool) -> bool
+pub fn lacks_opt_in(max_deliver: u32, allow_unlimited: bool) -> bool
     ensures { λ r. ⌜ r ≡ (unlimited «max_deliver» && not «allow_unlimited») ⌝ }
 {
     if allow_unlimited {

@@ -5,6 +5,7 @@ pub mod Returns
 pub mod Tokens
 pub mod Questions
 pub mod Claims
+pub mod Searches
 pub mod Changes
 pub mod Lists
 pub mod Merge

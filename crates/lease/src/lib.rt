@@ -22,6 +22,7 @@ use types::Generation;
 use types::Offset;
 
 mod columns;
+pub mod lookup;
 
 // How long a hand-out lasts, in nanoseconds. A hard cap below the visibility shortens every lease to the cap; where one
 // of the two is 0, a lease runs out the moment it is granted.

@@ -7,4 +7,6 @@ pub mod Shift
 pub mod Scan
 pub mod Sorted
 pub mod Columns
+pub mod Checked
+pub mod Entries
 pub mod Lists

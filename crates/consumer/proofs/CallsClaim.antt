@@ -1,0 +1,182 @@
+-- What a claim owes its contract: each of its tests in 01's order, what the whole test says, and the grant behind it.
+-- Assumes nothing.
+use Prim.Native.Nat.{ℕ, _+_, _≤_, _<_}
+use native.Mathlib.Omega.{arith}
+use mathlib.Core.Path.{_≡_, refl, sym, ap, subst, _∙_}
+use mathlib.Core.Bool.{Bool, true, false, not, _&&_, _||_, true≢false}
+use mathlib.Core.List.{List}
+use mathlib.Core.Option.{Option, none, some, Option·none-ne-some}
+use lib.Dec.{leb, eqb}
+use lib.ListN.{length}
+use borrow.Author.Tests.{eq-eqb, ne-eqb, le-leb, lt-leb}
+use Rattle.types.specs.Limits.{MAX, LEASES, CARRIED}
+use Rattle.types.specs.Refusal.{Refusal, Result, refused, done, LastOffset, Settled, InFlight, Exhausted, CheckpointDue, Full}
+use Rattle.types.specs.Table.{Row, first, Passed, Answer, answer}
+use Rattle.types.specs.Keyed.{lookup}
+use Rattle.types.proofs.Table.{first-none, guarded-passed}
+use Rattle.cursor.specs.Cursor.{settled}
+use Rattle.delivery.specs.Policy.{Policy, Destination, disposition}
+use Rattle.delivery.specs.Config as delivery
+use Rattle.lease.specs.declared.Lease.{Lease}
+use Rattle.lease.specs.declared.LeaseTable.{LeaseTable}
+use Rattle.lease.specs.declared.LeaseToken.{LeaseToken}
+use Rattle.lease.specs.declared.Claim.{Claim}
+use Rattle.lease.specs.declared.Claim.the-variants.{Granted}
+use Rattle.lease.specs.State.{Table}
+use Rattle.lease.specs.State as state
+use Rattle.lease.specs.Claim.{Grant, granted, grant, leaseOf, isNone, running, claimRows}
+use Rattle.lease.specs.Claim as leases
+use Rattle.lease.specs.Answers as answers
+use Rattle.consumer.specs.State.{State, withTable}
+use Rattle.consumer.specs.Calls.{HandOut, handOut, isFull, claimTable, claim, claimed}
+use Rattle.consumer.specs.View.{view, Sound, Answers, holding, handOutOf, claimOf, asResult}
+use Rattle.consumer.specs.declared.Consumer.{Consumer}
+use Rattle.consumer.specs.declared.calls.ClaimAnswer.{ClaimAnswer}
+use Rattle.consumer.proofs.Open.{claim-open}
+use Rattle.consumer.proofs.Valid.{claimed-valid}
+use Rattle.consumer.proofs.CallsReturns.{sound-with, refuses, takes-effect}
+
+-- ## 27
+module _ (t : Table) (o : ℕ) where
+  pub full-leased : (l : Lease) → leaseOf t o ≡ some l → false ≡ isFull t o
+  full-leased l e = rw e
+
+  module _ (no-lease : leaseOf t o ≡ none) where
+    pub full-leases : LEASES ≤ length (t .leases) → true ≡ isFull t o
+    full-leases h = rw (no-lease, le-leb LEASES (length (t .leases)) h)
+
+    module _ (h : length (t .leases) < LEASES) where
+      pub full-counted : (n : ℕ) → lookup o (t .carried) ≡ some n → false ≡ isFull t o
+      full-counted n e = rw (no-lease, lt-leb LEASES (length (t .leases)) h, e)
+
+      pub full-counts : lookup o (t .carried) ≡ none → leb CARRIED (length (t .leases) + length (t .carried)) ≡ isFull t o
+      full-counts e = rw (no-lease, lt-leb LEASES (length (t .leases)) h, e)
+
+-- ## the tests, each behind those before it that failed
+-- whether a claim may go on, from what the table calls claimable
+pub blocked : (b x : Bool) → b ≡ not x → not b ≡ true → x ≡ true
+blocked b true e h = refl
+blocked b false e h = absurd (true≢false (sym h ∙ ap not e))
+
+pub unblocked : (b x : Bool) → b ≡ not x → not b ≡ false → x ≡ false
+unblocked b false e h = refl
+unblocked b true e h = absurd (true≢false (sym (ap not e) ∙ h))
+
+module _ (s : State) (o now : ℕ) where
+  -- the claim is refused so
+  abbrev pub Refuses : Refusal → Type 0
+  Refuses r = _≡_ {A = Option (Result HandOut)} (some (refused r)) (asResult (first (claimTable s o now)))
+
+  refuses-with : (r : Refusal) → first (claimTable s o now) ≡ some r → Refuses r
+  refuses-with r e = sym (ap asResult e)
+
+  pub is-last : o ≡ MAX → Refuses LastOffset
+  is-last h = refuses-with LastOffset (rw (eq-eqb o MAX h))
+
+  module _ (last : o ≡ MAX → ⊥) where
+    pub is-settled : settled (s .cursor) o ≡ true → Refuses Settled
+    is-settled h = refuses-with Settled (rw (ne-eqb o MAX last, h))
+
+    module _ (unsettled : settled (s .cursor) o ≡ false) where
+      pub is-running : running (leaseOf (s .table) o) now ≡ true → Refuses InFlight
+      is-running h = refuses-with InFlight (rw (ne-eqb o MAX last, unsettled, h))
+
+      module _ (due : running (leaseOf (s .table) o) now ≡ false) where
+        pub is-exhausted : s .table .nextGeneration ≡ MAX → Refuses Exhausted
+        is-exhausted h =
+            refuses-with Exhausted (rw (ne-eqb o MAX last, unsettled, due, eq-eqb (s .table .nextGeneration) MAX h))
+
+        module _ (left : s .table .nextGeneration ≡ MAX → ⊥) where
+          pub is-at-ceiling : s .ceiling ≤ s .table .nextGeneration → Refuses CheckpointDue
+          is-at-ceiling h =
+              refuses-with CheckpointDue
+              (rw (ne-eqb o MAX last, unsettled, due, ne-eqb (s .table .nextGeneration) MAX left, le-leb (s .ceiling) (s .table .nextGeneration) h))
+
+          module _ (below : s .table .nextGeneration < s .ceiling) where
+            pub is-at-threshold : s .policy .flushRedeliveries ≤ s .table .redeliveries → Refuses CheckpointDue
+            is-at-threshold h =
+                refuses-with CheckpointDue
+                (rw (ne-eqb o MAX last, unsettled, due, ne-eqb (s .table .nextGeneration) MAX left, lt-leb (s .ceiling) (s .table .nextGeneration) below, le-leb (s .policy .flushRedeliveries) (s .table .redeliveries) h))
+
+            module _ (few : s .table .redeliveries < s .policy .flushRedeliveries) where
+              pub is-full : isFull (s .table) o ≡ true → Refuses Full
+              is-full h =
+                  refuses-with Full
+                  (rw (ne-eqb o MAX last, unsettled, due, ne-eqb (s .table .nextGeneration) MAX left, lt-leb (s .ceiling) (s .table .nextGeneration) below, lt-leb (s .policy .flushRedeliveries) (s .table .redeliveries) few) (rw h))
+
+              pub is-open : isFull (s .table) o ≡ false → _≡_ {A = Option (Result HandOut)} none (asResult (first (claimTable s o now)))
+              is-open h =
+                  rw (ne-eqb o MAX last, unsettled, due, ne-eqb (s .table .nextGeneration) MAX left, lt-leb (s .ceiling) (s .table .nextGeneration) below, lt-leb (s .policy .flushRedeliveries) (s .table .redeliveries) few) (rw h)
+
+-- ## what the whole test says
+pub open-passed : (ws : List Row) → none ≡ asResult (first ws) → Passed ws
+open-passed ws e = go (first ws) refl
+  where
+    go : (x : Option Refusal) → first ws ≡ x → Passed ws
+    go none q = first-none ws q
+    go (some r) q = absurd (Option·none-ne-some (refused r) (e ∙ ap asResult q))
+
+pub claim-refused : (c : Consumer) → Sound c → (o now : ℕ) (a : ClaimAnswer) → some (claimOf a) ≡ asResult (first (claimTable (view c) o now))
+    → Answers (claimOf a) c c (claim (view c) o now)
+unfolding claim
+claim-refused c ok o now a e = go (first (claimTable (view c) o now)) refl
+  where
+    go : (x : Option Refusal) → first (claimTable (view c) o now) ≡ x → Answers (claimOf a) c c (claim (view c) o now)
+    go none q = absurd (Option·none-ne-some (claimOf a) (sym (e ∙ ap asResult q)))
+    go (some r) q =
+        let w : some (claimOf a) ≡ some (refused r) = e ∙ ap asResult q in
+        let same : claimOf a ≡ refused r = cc in
+        rw same (refuses c ok (claimTable (view c) o now) r _ q)
+
+-- ## the grant
+-- the answer has the disposition's destination
+pub handed : (token : LeaseToken) (n : ℕ) {d e : Destination} → done d ≡ done e → done (handOutOf token n d) ≡ done (handOutOf token n e)
+handed token n {d} {e} q = let same : d ≡ e = cc in rw same
+
+-- the hand-out that a grant of the table makes
+abbrev handedOut : Policy → Grant → HandOut
+handedOut p g =
+    record {
+      offset = g .offset;
+      generation = g .generation;
+      deliveries = g .deliveries;
+      destination = disposition p (g .deliveries);
+    }
+
+module _ (c : Consumer) (ok : Sound c) (o now : ℕ) (fits : o ≤ MAX) (p : Passed (claimTable (view c) o now)) where
+  abbrev t : Table
+  t = view c .table
+
+  -- the table's own tests failed too
+  table-passed : Passed (claimRows t o now)
+  table-passed = (p .1 .1 .0, (p .1 .1 .1 .0, (room (leaseOf t o) refl, tt)))
+    where
+      room : (x : Option Lease) → leaseOf t o ≡ x → (isNone x && leb LEASES (length (t .leases))) ≡ false
+      room none e = lt-leb LEASES (length (t .leases)) (claim-open (view c) o now p .lease-room e)
+      room (some l) e = refl
+
+  table-granted : leases.claim t o now ≡ answer (done (granted t o)) (grant t o now)
+  unfolding leases.claim
+  table-granted = guarded-passed (claimRows t o now) t _ table-passed
+
+  module _ (outcome : Claim) (after : LeaseTable) (e : answers.Answers (answers.claimOf outcome) (c .table) after (leases.claim t o now)) where
+    outcome-is : answers.claimOf outcome ≡ done (granted t o)
+    outcome-is = ap (λ (a : Answer Grant Table). a .outcome) (e .is ∙ table-granted)
+
+    -- the table refuses nothing
+    pub not-refused : (r : Refusal) → answers.claimOf outcome ≡ refused r → ⊥
+    not-refused r q = let w : refused r ≡ done (granted t o) = sym q ∙ outcome-is in let z : _≡_ {A = ℕ} 0 1 = cc in omega arith
+
+    pub claim-granted : (token : LeaseToken) (n : ℕ) → outcome ≡ Granted token n
+        → (a : ClaimAnswer) → claimOf a ≡ done (handOutOf token n (disposition (delivery.view (c .delivery)) n))
+        → (b : Consumer) → b ≡ holding c after → Answers (claimOf a) c b (claim (view c) o now)
+    unfolding claim
+    claim-granted token n q a f b made =
+        let w : done (record { offset = token .offset .0; generation = token .generation .0; deliveries = n }) ≡ done (granted t o) =
+        sym (ap answers.claimOf q) ∙ outcome-is in
+        let same : record { offset = token .offset .0; generation = token .generation .0; deliveries = n } ≡ granted t o = cc in
+        let shows : view (holding c after) ≡ claimed (view c) o now =
+        ap (λ (x : Answer Grant Table). withTable (view c) (x .state)) (e .is ∙ table-granted) in
+        rw (f ∙ ap (λ (x : Grant). done (handedOut (delivery.view (c .delivery)) x)) same, made)
+        (takes-effect c ok (claimTable (view c) o now) (handOut (view c) o) p shows
+        (sound-with c ok (ok .cursor) (e .sound) shows (claimed-valid (view c) o now (ok .valid) (claim-open (view c) o now p) fits)))

@@ -1,0 +1,185 @@
+-- What the calls with a token owe their contracts: the consumer refuses what the table refuses, and shows what the table did.
+-- Assumes nothing.
+use Prim.Native.Nat.{ℕ, _≤_, _<_}
+use native.Mathlib.Omega.{arith}
+use mathlib.Core.Path.{_≡_, refl, sym, ap, subst, _∙_}
+use mathlib.Core.Bool.{Bool, true, false, cond, not}
+use mathlib.Core.List.{[], _∷_}
+use mathlib.Core.Option.{Option, none, some, Option·none-ne-some}
+use borrow.Author.Tests.{eq-eqb, ne-eqb, le-leb, lt-leb}
+use Rattle.types.specs.Limits.{MAX, RANGES, sat64}
+use Rattle.types.specs.Refusal.{Refusal, Result, refused, done, Fenced, Exhausted, CheckpointDue, Shed}
+use Rattle.types.specs.Table.{Passed, Answer, answer, Kept}
+use Rattle.types.specs.Keyed.{delete}
+use Rattle.types.proofs.Cases.{split}
+use Rattle.types.proofs.Table.{guarded-passed, guarded-refused}
+use Rattle.cursor.specs.Cursor.{Cursor, ackBounded}
+use Rattle.cursor.specs.Answers as cursor
+use Rattle.cursor.specs.declared.AckCursor.{AckCursor}
+use Rattle.delivery.specs.Policy.{effectiveNackDelay}
+use Rattle.lease.specs.declared.Lease.{Lease}
+use Rattle.lease.specs.declared.LeaseTable.{LeaseTable}
+use Rattle.lease.specs.State.{Table, withLeases}
+use Rattle.lease.specs.State as state
+use Rattle.lease.specs.Claim.{leaseOf, owns, tokenRow, countOr0, nackRows, requeue}
+use Rattle.lease.specs.Claim as leases
+use Rattle.lease.specs.Rest.{deliveriesOf, deliveries}
+use Rattle.lease.specs.Answers as answers
+use Rattle.consumer.specs.State.{State, withTable, withBoth}
+use Rattle.consumer.specs.Calls.{isShed, ackTable, acked, ack, attemptOf, nackDeadline, nackTable, nacked, nack, onTable, progress}
+use Rattle.consumer.specs.Valid.{Valid}
+use Rattle.consumer.specs.View.{view, Sound, Answers, holding, holdingBoth}
+use Rattle.consumer.specs.declared.Consumer.{Consumer}
+use Rattle.consumer.proofs.Open.{ack-open, nack-open}
+use Rattle.consumer.proofs.Valid.{acked-valid, nacked-valid, progress-valid}
+use Rattle.consumer.proofs.CallsReturns.{sound-with, refuses, takes-effect}
+
+-- a refusal is no outcome
+apart : {A : Type 0} (r : Refusal) (a : A) → _≡_ {A = Result A} (refused r) (done a) → ⊥
+apart r a e = let z : _≡_ {A = ℕ} 0 1 = cc in omega arith
+
+-- ## Ack and Term
+module _ (c : Consumer) (ok : Sound c) (o g : ℕ) where
+  abbrev t : Table
+  t = view c .table
+
+  -- what the table answers, by whether the token owns the lease
+  table-fenced : tokenRow t o g .test ≡ true → leases.ack t o g ≡ answer (refused Fenced) t
+  unfolding leases.ack
+  table-fenced q = guarded-refused (tokenRow t o g ∷ []) t _ Fenced (rw q)
+
+  table-acked : tokenRow t o g .test ≡ false → leases.ack t o g ≡ answer (done tt) (withLeases t (delete o (t .leases)))
+  unfolding leases.ack
+  table-acked q = guarded-passed (tokenRow t o g ∷ []) t _ (q, tt)
+
+  module _ (outcome : Result (Unit {0})) (after : LeaseTable) (e : answers.Answers outcome (c .table) after (leases.ack t o g)) where
+    outcome-is : outcome ≡ leases.ack t o g .outcome
+    outcome-is = ap (λ (a : Answer (Unit {0}) Table). a .outcome) (e .is)
+
+    pub ack-fenced : outcome ≡ refused Fenced → Answers (refused Fenced) c c (ack (view c) o g)
+    unfolding ack
+    ack-fenced h =
+        split (tokenRow t o g .test)
+        (λ q. refuses c ok (ackTable (view c) o g) Fenced _ (rw q))
+        (λ q. absurd (apart Fenced tt (sym h ∙ outcome-is ∙ ap (λ (a : Answer (Unit {0}) Table). a .outcome) (table-acked q))))
+
+    module _ (h : outcome ≡ done tt) where
+      owns-lease : tokenRow t o g .test ≡ false
+      owns-lease =
+          split (tokenRow t o g .test)
+          (λ q. absurd (apart Fenced tt (sym (sym h ∙ outcome-is ∙ ap (λ (a : Answer (Unit {0}) Table). a .outcome) (table-fenced q)))))
+          (λ q. q)
+
+      module _ (noted : Result Bool) (k : AckCursor) (u : cursor.Updated (c .cursor) noted k (ackBounded (view c .cursor) o RANGES)) where
+        shed-is : isShed noted ≡ isShed (ackBounded (view c .cursor) o RANGES .outcome)
+        shed-is = ap (λ (a : Answer Bool Cursor). isShed (a .outcome)) (u .is)
+
+        pub ack-shed : isShed noted ≡ true → Answers (refused Shed) c c (ack (view c) o g)
+        unfolding ack
+        ack-shed s = refuses c ok (ackTable (view c) o g) Shed _ (rw (owns-lease, sym shed-is ∙ s))
+
+        pub ack-settled : isShed noted ≡ false → (b : Consumer) → b ≡ holdingBoth c k after → Answers (done tt) c b (ack (view c) o g)
+        unfolding ack
+        ack-settled s b made =
+            let p : Passed (ackTable (view c) o g) = (owns-lease, (sym shed-is ∙ s, tt)) in
+            let shows : view (holdingBoth c k after) ≡ acked (view c) o =
+            ap (λ (a : Answer Bool Cursor). withBoth (view c) (a .state) (state.view after)) (u .is)
+            ∙ ap (λ (a : Answer (Unit {0}) Table). withBoth (view c) (ackBounded (view c .cursor) o RANGES .state) (a .state)) (e .is ∙ table-acked owns-lease) in
+            rw made
+            (takes-effect c ok (ackTable (view c) o g) tt p shows
+            (sound-with c ok (u .sound) (e .sound) shows (acked-valid (view c) o g (ok .valid) (ack-open (view c) o g p))))
+
+-- ## Nack
+-- what the count of a token's lease says of the token
+not-owned : (x : Option Lease) (g : ℕ) → none ≡ cond (owns x g) (deliveriesOf x) none → not (owns x g) ≡ true
+not-owned none g e = refl
+not-owned (some l) g e = split (owns (some l) g) (λ q. absurd (Option·none-ne-some (l .deliveries) (e ∙ rw q))) (λ q. rw q)
+
+is-owned : (x : Option Lease) (g n : ℕ) → some n ≡ cond (owns x g) (deliveriesOf x) none → not (owns x g) ≡ false
+is-owned x g n e = split (owns x g) (λ q. rw q) (λ q. absurd (Option·none-ne-some n (sym (e ∙ rw q))))
+
+its-count : (x : Option Lease) (g n : ℕ) → some n ≡ cond (owns x g) (deliveriesOf x) none → n ≡ countOr0 (deliveriesOf x)
+its-count x g n e =
+    split (owns x g) (λ q. ap countOr0 (rw q at e)) (λ q. absurd (Option·none-ne-some n (sym (e ∙ rw q))))
+
+module _ (c : Consumer) (ok : Sound c) (o g now : ℕ) (explicit : Option ℕ) where
+  pub nack-fenced : none ≡ deliveries (view c .table) o g → Answers (refused Fenced) c c (nack (view c) o g now explicit)
+  unfolding nack
+  nack-fenced e = refuses c ok (nackTable (view c) o g) Fenced _ (rw (not-owned (leaseOf (view c .table) o) g e))
+
+  module _ (n : ℕ) (e : some n ≡ deliveries (view c .table) o g) where
+    held : tokenRow (view c .table) o g .test ≡ false
+    held = is-owned (leaseOf (view c .table) o) g n e
+
+    pub attempt-is : n ≡ attemptOf (view c) o
+    attempt-is = its-count (leaseOf (view c .table) o) g n e
+
+    pub nack-exhausted : view c .table .nextGeneration ≡ MAX → Answers (refused Exhausted) c c (nack (view c) o g now explicit)
+    unfolding nack
+    nack-exhausted h = refuses c ok (nackTable (view c) o g) Exhausted _ (rw (held, eq-eqb (view c .table .nextGeneration) MAX h))
+
+    module _ (left : view c .table .nextGeneration ≡ MAX → ⊥) where
+      pub nack-due : view c .ceiling ≤ view c .table .nextGeneration → Answers (refused CheckpointDue) c c (nack (view c) o g now explicit)
+      unfolding nack
+      nack-due h =
+          refuses c ok (nackTable (view c) o g) CheckpointDue _
+          (rw (held, ne-eqb (view c .table .nextGeneration) MAX left, le-leb (view c .ceiling) (view c .table .nextGeneration) h))
+
+      pub nack-passed : view c .table .nextGeneration < view c .ceiling → Passed (nackTable (view c) o g)
+      nack-passed h = (
+        held,
+        (ne-eqb (view c .table .nextGeneration) MAX left, (lt-leb (view c .ceiling) (view c .table .nextGeneration) h, tt)),
+      )
+
+module _ (c : Consumer) (ok : Sound c) (o g now attempt : ℕ) (explicit : Option ℕ) (p : Passed (nackTable (view c) o g)) (count : attempt ≡ attemptOf (view c) o)
+    (delay : ℕ) (waits : delay ≡ effectiveNackDelay (view c .policy) attempt explicit) where
+  -- the table's own tests failed too
+  table-nacked : leases.nack (view c .table) o g now delay ≡ answer (done (sat64 now delay)) (requeue (view c .table) o (sat64 now delay))
+  unfolding leases.nack
+  table-nacked = guarded-passed (nackRows (view c .table) o g) (view c .table) _ (p .0, (p .1 .0, tt))
+
+  deadline-is : sat64 now delay ≡ nackDeadline (view c) o now explicit
+  deadline-is = ap (sat64 now) (waits ∙ ap (λ (n : ℕ). effectiveNackDelay (view c .policy) n explicit) count)
+
+  module _ (outcome : Result ℕ) (after : LeaseTable) (e : answers.Answers outcome (c .table) after (leases.nack (view c .table) o g now delay)) where
+    nacked-is : outcome ≡ done (sat64 now delay)
+    nacked-is = ap (λ (a : Answer ℕ Table). a .outcome) (e .is ∙ table-nacked)
+
+    pub nack-not-refused : (r : Refusal) → outcome ≡ refused r → ⊥
+    nack-not-refused r q = apart r (sat64 now delay) (sym q ∙ nacked-is)
+
+    pub nack-requeued : (d : ℕ) → outcome ≡ done d → (b : Consumer) → b ≡ holding c after → Answers (done d) c b (nack (view c) o g now explicit)
+    unfolding nack
+    nack-requeued d q b made =
+        let w : done d ≡ done (sat64 now delay) = sym q ∙ nacked-is in
+        let same : d ≡ sat64 now delay = cc in
+        let shows : view (holding c after) ≡ nacked (view c) o (nackDeadline (view c) o now explicit) =
+        ap (λ (a : Answer ℕ Table). withTable (view c) (a .state)) (e .is ∙ table-nacked) ∙ ap (nacked (view c) o) deadline-is in
+        rw (same ∙ deadline-is, made)
+        (takes-effect c ok (nackTable (view c) o g) (nackDeadline (view c) o now explicit) p shows
+        (sound-with c ok (ok .cursor) (e .sound) shows
+        (nacked-valid (view c) o g (nackDeadline (view c) o now explicit) (ok .valid) (nack-open (view c) o g p))))
+
+-- ## Progress
+module _ (c : Consumer) (ok : Sound c) (o g now : ℕ) (outcome : Result ℕ) (after : LeaseTable)
+    (e : answers.Answers outcome (c .table) after (leases.extend (view c .table) o g now)) where
+  pub progress-refused : (r : Refusal) → outcome ≡ refused r → Answers (refused r) c c (progress (view c) o g now)
+  unfolding progress
+  progress-refused r q =
+      let same : after ≡ c .table = subst (λ (x : Result ℕ). Kept x (c .table) after) q (e .kept) in
+      record {
+        is = ap (onTable (view c)) (rw (q, same) at (e .is));
+        sound = ok;
+        kept = refl;
+      }
+
+  pub progress-done : (d : ℕ) → outcome ≡ done d → (b : Consumer) → b ≡ holding c after → Answers (done d) c b (progress (view c) o g now)
+  unfolding progress
+  progress-done d q b made =
+      let is : answer (done d) (view (holding c after)) ≡ onTable (view c) (leases.extend (view c .table) o g now) = ap (onTable (view c)) (rw q at (e .is)) in
+      rw made (record {
+        is = is;
+        sound =
+            sound-with c ok (ok .cursor) (e .sound) (ap (λ (a : Answer ℕ State). a .state) is) (progress-valid (view c) o g now (ok .valid));
+        kept = tt;
+      })

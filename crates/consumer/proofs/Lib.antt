@@ -1,0 +1,13 @@
+pub mod Open
+pub mod Valid
+pub mod Counts
+pub mod Effects
+pub mod CallsReturns
+pub mod CallsClaim
+pub mod CallsToken
+pub mod CallsCommit
+pub mod Payload
+pub mod Restart
+pub mod Questions
+pub mod Starting
+pub mod Asked

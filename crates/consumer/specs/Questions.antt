@@ -1,0 +1,67 @@
+-- What a consumer is asked without being changed: the waiting list of 01, and what a server wants to know.
+use Prim.Native.Nat.{ℕ, _-_}
+use mathlib.Core.Bool.{Bool, true, false}
+use mathlib.Core.List.{List, [], _∷_, _++_}
+use mathlib.Core.Option.{Option, none, some}
+use lib.Dec.{ltb}
+use lib.ListN.{length}
+use Rattle.types.specs.Refusal.{Result, done, OutTooShort}
+use Rattle.types.specs.Table.{_⇒_, checked}
+use Rattle.types.specs.Keyed.{Entry, lookup}
+use Rattle.cursor.specs.Cursor.{settled}
+use Rattle.lease.specs.declared.Lease.{Lease}
+use Rattle.lease.specs.Claim.{leaseOf, countOr0}
+use Rattle.lease.specs.Rest.{dueOffsets, inFlight}
+use Rattle.lease.specs.Counts.{allAttemptCounts}
+use Rattle.consumer.specs.State.{State, blocksOf}
+use Rattle.consumer.specs.Calls.{atCeiling, atThreshold}
+
+-- the keys of entries, in their order
+abbrev pub keysOf : List (Entry ℕ) → List ℕ
+keysOf [] = []
+keysOf (e ∷ l) = e .key ∷ keysOf l
+
+-- carried offsets, and those whose lease's deadline has come
+abbrev pub waitingAt : State → ℕ → List ℕ
+waitingAt s now = keysOf (s .table .carried) ++ dueOffsets now (s .table .leases)
+
+-- the waiting list at a clock, into a list of so many places: 20
+abbrev pub waiting : State → ℕ → ℕ → Result (List ℕ)
+waiting s now room = checked (ltb room (length (waitingAt s now)) ⇒ OutTooShort ∷ []) (done (waitingAt s now))
+
+-- a test as a number
+abbrev pub bit : Bool → ℕ
+bit true = 1
+bit false = 0
+
+-- the generation, attempt start, deadline and deliveries of a lease, or nothing
+abbrev pub leaseValues : Option Lease → List ℕ
+leaseValues none = []
+leaseValues (some l) = l .generation .0 ∷ l .«attempt_start» ∷ l .deadline ∷ l .deliveries ∷ []
+
+-- how often an offset was handed out, as the next checkpoint stores it
+abbrev pub countOf : State → ℕ → ℕ
+countOf s o = countOr0 (lookup o (allAttemptCounts (s .table)))
+
+pub data Question : Type 0 where
+  -- at a clock, into a list of so many places
+  Waiting : ℕ → ℕ → Question
+  Committed : Question
+  IsSettled : ℕ → Question
+  LeaseOf : ℕ → Question
+  CountOf : ℕ → Question
+  InFlight : Question
+  -- whether a checkpoint is due, for the ceiling and for the threshold
+  IsDue : Question
+  BlocksLeft : Question
+
+-- what each question is answered
+unfoldable pub reply : State → Question → Result (List ℕ)
+reply s (Waiting now room) = waiting s now room
+reply s Committed = done (s .cursor .committed ∷ [])
+reply s (IsSettled o) = done (bit (settled (s .cursor) o) ∷ [])
+reply s (LeaseOf o) = done (leaseValues (leaseOf (s .table) o))
+reply s (CountOf o) = done (countOf s o ∷ [])
+reply s InFlight = done (inFlight (s .table) ∷ [])
+reply s IsDue = done (bit (atCeiling s) ∷ bit (atThreshold s) ∷ [])
+reply s BlocksLeft = done ((blocksOf s - s .seat .block) ∷ [])

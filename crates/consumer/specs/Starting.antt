@@ -1,0 +1,78 @@
+-- What a start and a restart are handed and answer in the code: the settings that the struct stands for, 01's refusals for the
+-- cases of the answer, and the parts of the contracts.
+use Prim.Native.Nat.{ℕ, _-_}
+use mathlib.Core.Path.{_≡_}
+use mathlib.Core.List.{List, _++_}
+use mathlib.Core.Option.{Option, none, some}
+use lib.ListN.{take, replicate}
+use Rattle.types.specs.Refusal.{Refusal, Result, refused, done}
+use Rattle.types.specs.Refusal as refusal
+use Rattle.types.specs.Table.{unless}
+use Rattle.cursor.specs.Answers.{snapshotError}
+use Rattle.cursor.specs.View as cursor
+use Rattle.attempt.specs.Codec.{decodeOf}
+use Rattle.delivery.specs.declared.DeliveryConfig.{DeliveryConfig}
+use Rattle.delivery.specs.Config as delivery
+use Rattle.delivery.specs.Policy.{policy}
+use Rattle.lease.specs.State as lease
+use Rattle.consumer.specs.State.{State}
+use Rattle.consumer.specs.State as state
+use Rattle.consumer.specs.Restart.{fresh}
+use Rattle.consumer.specs.View.{view, Sound}
+use Rattle.consumer.specs.declared.Settings.{Settings}
+use Rattle.consumer.specs.declared.Consumer.{Consumer}
+use Rattle.consumer.specs.declared.starts.Started.{Started}
+use Rattle.consumer.specs.declared.starts.StartAnswer.{StartAnswer}
+use Rattle.consumer.specs.declared.starts.StartAnswer.the-variants as answers
+
+-- the backoffs of a config, as many as it counts: any past its array are 0
+abbrev pub backoffsOf : DeliveryConfig → List ℕ
+backoffsOf c = take (c .«backoff_len») (c .«backoff_nanos») ++ replicate (c .«backoff_len» - 16) 0
+
+abbrev pub settingsOf : Settings → state.Settings
+settingsOf s =
+    record {
+      policy =
+          policy (s .delivery .«max_deliver») (s .delivery .«allow_unlimited») (backoffsOf (s .delivery))
+          (s .delivery .«attempts_flush_redeliveries»);
+      lease = s .lease;
+    }
+
+-- the settings as the consumer keeps them
+abbrev pub keptOf : Settings → state.Settings
+keptOf s = record { policy = delivery.view (s .delivery); lease = s .lease }
+
+abbrev pub faultOf : {A : Type 0} → Result A → Option Refusal
+faultOf (refused r) = some r
+faultOf (done a) = none
+
+-- the refusal that an answer is, if it is one
+abbrev pub startFault : StartAnswer → Option Refusal
+startFault answers.Started = none
+startFault answers.UnlimitedDeliverNotAllowed = some refusal.UnlimitedDeliverNotAllowed
+startFault answers.TooManySteps = some refusal.TooManySteps
+startFault answers.ZeroThreshold = some refusal.ZeroThreshold
+startFault answers.BadArea = some refusal.BadArea
+startFault (answers.Damaged block) = some (refusal.Damaged block)
+startFault (answers.Cursor error) = some (snapshotError error)
+startFault (answers.Attempts decoded) = faultOf (decodeOf decoded)
+
+-- the answer, with the state that stands beside it
+abbrev pub startOf : StartAnswer → State → Result State
+startOf a s = unless (startFault a) (done s)
+
+-- a fresh consumer
+pub record FreshIs (s : Settings) (size : ℕ) (c : Consumer) : Type 0 where
+  pub is : view c ≡ fresh (keptOf s) size
+  pub cursor : cursor.Sound (c .cursor)
+  pub table : lease.Sound (c .table)
+  pub settings : c .delivery ≡ s .delivery
+
+-- beside a refusal stands the fresh consumer; else the consumer is sound
+abbrev pub Beside : Result State → Settings → ℕ → Consumer → Type 0
+Beside (refused r) s size c = view c ≡ fresh (keptOf s) size
+Beside (done t) s size c = Sound c
+
+pub record StartedIs (s : Settings) (size : ℕ) (right : Result State) (r : Started) : Type 0 where
+  pub is : startOf (r .answer) (view (r .consumer)) ≡ right
+  pub beside : Beside right s size (r .consumer)

@@ -1,0 +1,44 @@
+-- The consumer's state, as document 01 lists it under "consumer", and the settings that it is started with.
+use Prim.Native.Nat.{ℕ, _/_}
+use Rattle.cursor.specs.Cursor.{Cursor}
+use Rattle.lease.specs.declared.LeaseConfig.{LeaseConfig}
+use Rattle.lease.specs.State.{Table}
+use Rattle.delivery.specs.Policy.{Policy}
+
+-- what a consumer is started with
+pub record Settings : Type 0 where
+  pub policy : Policy
+  pub lease : LeaseConfig
+
+-- where the next checkpoint goes: its group number, and the block of its header
+pub record Seat : Type 0 where
+  pub number : ℕ
+  pub block : ℕ
+
+abbrev pub seatAt : ℕ → ℕ → Seat
+seatAt number block = record { number = number; block = block }
+
+-- the table has the leases with their times, the carried counts, the next generation and the redelivery counter; `size` is the
+-- length of the area in bytes
+pub record State : Type 0 where
+  pub cursor : Cursor
+  pub table : Table
+  pub ceiling : ℕ
+  pub seat : Seat
+  pub size : ℕ
+  pub policy : Policy
+
+abbrev pub stateOf : Cursor → Table → ℕ → Seat → ℕ → Policy → State
+stateOf c t ceiling seat size p =
+    record { cursor = c; table = t; ceiling = ceiling; seat = seat; size = size; policy = p }
+
+-- the state with another table, and with another cursor and another table
+abbrev pub withTable : State → Table → State
+withTable s t = stateOf (s .cursor) t (s .ceiling) (s .seat) (s .size) (s .policy)
+
+abbrev pub withBoth : State → Cursor → Table → State
+withBoth s c t = stateOf c t (s .ceiling) (s .seat) (s .size) (s .policy)
+
+-- the blocks of the area
+abbrev pub blocksOf : State → ℕ
+blocksOf s = s .size / 512

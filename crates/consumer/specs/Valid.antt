@@ -1,0 +1,62 @@
+-- What holds of every state that a start, a restart on any area and every answer give, and of every writing record: the
+-- invariant that the consumer's contracts require.
+use Prim.Native.Nat.{ℕ, suc, _+_, _≤_, _<_}
+use mathlib.Core.Path.{_≡_}
+use mathlib.Core.Bool.{false, not, _&&_}
+use mathlib.Core.List.{List}
+use mathlib.Core.Option.{none, some}
+use lib.ListN.{length}
+use Rattle.types.specs.Limits.{MAX, MAX32, CARRIED, STEPS}
+use Rattle.types.specs.Keyed.{Entry, lookup}
+use Rattle.cursor.specs.Cursor.{Cursor, settled}
+use Rattle.cursor.specs.Cursor as cursor
+use Rattle.delivery.specs.Policy.{Policy, unlimited}
+use Rattle.lease.specs.declared.Lease.{Lease}
+use Rattle.lease.specs.State as lease
+use Rattle.journal.specs.Area.{badLength}
+use Rattle.consumer.specs.State.{State, blocksOf}
+use Rattle.consumer.specs.Checkpoint.{bodies, Writing, Left, going, finished}
+
+-- a policy whose numbers are of their types
+pub record Fits (p : Policy) : Type 0 where
+  pub limit-fits : p .maxDeliver ≤ MAX32
+  pub threshold-fits : p .flushRedeliveries ≤ MAX32
+
+-- such a policy that a start accepts: 1, 2 and 3
+pub record Accepted (p : Policy) : Type 0 where
+  pub fits : Fits p
+  pub allowed : (unlimited (p .maxDeliver) && not (p .allowUnlimited)) ≡ false
+  pub few-steps : length (p .backoff) ≤ STEPS
+  pub some-threshold : 0 < p .flushRedeliveries
+
+-- an offset with a lease, beside a cursor and carried counts: it is below MAX, unsettled, and has no carried count
+pub record Leased (c : Cursor) (carried : List (Entry ℕ)) (o : ℕ) : Type 0 where
+  pub below : o < MAX
+  pub unsettled : settled c o ≡ false
+  pub alone : lookup o carried ≡ none
+
+pub record Valid (s : State) : Type 0 where
+  pub cursor : cursor.Valid (s .cursor)
+  pub table : lease.Valid (s .table)
+  pub together : length (s .table .leases) + length (s .table .carried) ≤ CARRIED
+  pub leased : (o : ℕ) (l : Lease) → lookup o (s .table .leases) ≡ some l → Leased (s .cursor) (s .table .carried) o
+  -- a carried count is of an unsettled offset; a foreign journal may have one for MAX
+  pub carried : (o n : ℕ) → lookup o (s .table .carried) ≡ some n → settled (s .cursor) o ≡ false
+  pub under-ceiling : s .table .nextGeneration ≤ s .ceiling
+  pub ceiling-fits : s .ceiling ≤ MAX
+  pub counter : s .table .redeliveries ≤ s .policy .flushRedeliveries
+  pub policy : Accepted (s .policy)
+  pub area : badLength (s .size) ≡ false
+  pub within : s .seat .block ≤ blocksOf s
+  pub numbered : s .seat .number ≤ suc (s .seat .block)
+
+-- the same of a writing record: its group fits, and no more bodies are written than it has
+pub record ValidWriting (w : Writing) : Type 0 where
+  pub state : Valid (w .state)
+  pub room : w .state .seat .block + suc (bodies (w .state)) ≤ blocksOf (w .state)
+  pub few : w .written ≤ bodies (w .state)
+
+-- and of what a step leaves
+abbrev pub ValidLeft : Left → Type 0
+ValidLeft (going w) = ValidWriting w
+ValidLeft (finished s) = Valid s

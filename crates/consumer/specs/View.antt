@@ -1,0 +1,108 @@
+-- What the code's consumer and its answers stand for, the invariant of the struct, and the parts of the contracts.
+use Prim.Native.Nat.{ℕ}
+use mathlib.Core.Path.{_≡_}
+use mathlib.Core.Bool.{Bool, true, false}
+use mathlib.Core.Option.{Option, none, some}
+use Rattle.types.specs.Refusal.{Refusal, Result, refused, done}
+use Rattle.types.specs.Refusal as refusal
+use Rattle.types.specs.Table.{Answer, answer, Kept}
+use Rattle.cursor.specs.View as cursor
+use Rattle.cursor.specs.declared.AckCursor.{AckCursor}
+use Rattle.delivery.specs.Config as delivery
+use Rattle.delivery.specs.Policy.{Destination, Deliver, DeadLetter}
+use Rattle.lease.specs.State as lease
+use Rattle.lease.specs.declared.LeaseTable.{LeaseTable}
+use Rattle.lease.specs.declared.LeaseToken.{LeaseToken}
+use Rattle.consumer.specs.State.{State, stateOf, seatAt}
+use Rattle.consumer.specs.Calls.{HandOut}
+use Rattle.consumer.specs.Valid.{Valid}
+use Rattle.consumer.specs.declared.Consumer.{Consumer}
+use Rattle.consumer.specs.declared.calls.ClaimAnswer.{ClaimAnswer}
+use Rattle.consumer.specs.declared.calls.ClaimAnswer.the-variants as claim
+use Rattle.consumer.specs.declared.calls.ClaimTest.{ClaimTest}
+use Rattle.consumer.specs.declared.calls.ClaimTest.the-variants as test
+use Rattle.consumer.specs.declared.calls.SettleAnswer.{SettleAnswer}
+use Rattle.consumer.specs.declared.calls.SettleAnswer.the-variants as settle
+use Rattle.consumer.specs.declared.calls.NackAnswer.{NackAnswer}
+use Rattle.consumer.specs.declared.calls.NackAnswer.the-variants as nack
+use Rattle.consumer.specs.declared.calls.ProgressAnswer.{ProgressAnswer}
+use Rattle.consumer.specs.declared.calls.ProgressAnswer.the-variants as progress
+use Rattle.consumer.specs.declared.calls.CommitAnswer.{CommitAnswer}
+use Rattle.consumer.specs.declared.calls.CommitAnswer.the-variants as commit
+
+abbrev pub view : Consumer → State
+view c =
+    stateOf (cursor.view (c .cursor)) (lease.view (c .table)) (c .ceiling .0) (seatAt (c .seat .number) (c .seat .block))
+    (c .«area_len») (delivery.view (c .delivery))
+
+pub record Sound (c : Consumer) : Type 0 where
+  pub cursor : cursor.Sound (c .cursor)
+  pub table : lease.Sound (c .table)
+  pub delivery : delivery.Sound (c .delivery)
+  pub valid : Valid (view c)
+
+-- a call: answer and state are the definition's, and a refusal gives back the very struct
+pub record Answers {A : Type 0} (outcome : Result A) (before after : Consumer) (right : Answer A State) : Type 0 where
+  pub is : answer outcome (view after) ≡ right
+  pub sound : Sound after
+  pub kept : Kept outcome before after
+
+-- the struct with another table, and with another cursor and another table
+abbrev pub holdingBoth : Consumer → AckCursor → LeaseTable → Consumer
+holdingBoth c cursor table =
+    record {
+      cursor = cursor;
+      table = table;
+      ceiling = c .ceiling;
+      seat = c .seat;
+      «area_len» = c .«area_len»;
+      delivery = c .delivery;
+    }
+
+abbrev pub holding : Consumer → LeaseTable → Consumer
+holding c table = holdingBoth c (c .cursor) table
+
+-- ## 01's answers for the cases of each enum
+abbrev pub handOutOf : LeaseToken → ℕ → Destination → HandOut
+handOutOf token n d =
+    record { offset = token .offset .0; generation = token .generation .0; deliveries = n; destination = d }
+
+abbrev pub claimOf : ClaimAnswer → Result HandOut
+claimOf (claim.Deliver token n) = done (handOutOf token n Deliver)
+claimOf (claim.DeadLetter token n) = done (handOutOf token n DeadLetter)
+claimOf claim.LastOffset = refused refusal.LastOffset
+claimOf claim.Settled = refused refusal.Settled
+claimOf claim.InFlight = refused refusal.InFlight
+claimOf claim.Exhausted = refused refusal.Exhausted
+claimOf claim.CheckpointDue = refused refusal.CheckpointDue
+claimOf claim.Full = refused refusal.Full
+
+-- the test of a claim: nothing, or what it is refused with
+abbrev pub testOf : ClaimTest → Option (Result HandOut)
+testOf test.Open = none
+testOf (test.Refused a) = some (claimOf a)
+
+abbrev pub asResult : Option Refusal → Option (Result HandOut)
+asResult none = none
+asResult (some r) = some (refused r)
+
+abbrev pub settleOf : SettleAnswer → Result (Unit {0})
+settleOf settle.Settled = done tt
+settleOf settle.Fenced = refused refusal.Fenced
+settleOf settle.Shed = refused refusal.Shed
+
+abbrev pub nackOf : NackAnswer → Result ℕ
+nackOf (nack.Requeued deadline) = done deadline
+nackOf nack.Fenced = refused refusal.Fenced
+nackOf nack.Exhausted = refused refusal.Exhausted
+nackOf nack.CheckpointDue = refused refusal.CheckpointDue
+
+abbrev pub progressOf : ProgressAnswer → Result ℕ
+progressOf (progress.Extended deadline) = done deadline
+progressOf progress.Fenced = refused refusal.Fenced
+progressOf progress.CapReached = refused refusal.CapReached
+
+abbrev pub commitOf : CommitAnswer → Result Bool
+commitOf commit.Committed = done true
+commitOf commit.Unchanged = done false
+commitOf commit.Held = refused refusal.Held

@@ -1,0 +1,37 @@
+// The delivery state of one consumer: which offsets are settled, who holds which until when, how often each was handed out,
+// and where the next checkpoint goes. Every call takes the state by value and gives it back beside its answer; a refusal gives
+// back the very state that it was handed. Times are nanoseconds of any clock: it may stand still or run backwards.
+use cursor::AckCursor;
+use delivery::DeliveryConfig;
+use lease::LeaseConfig;
+use lease::LeaseTable;
+use types::Generation;
+
+pub mod calls;
+pub mod queries;
+mod starts;
+
+// What a consumer is started with.
+#[repr(C)]
+pub struct Settings {
+    pub delivery: DeliveryConfig,
+    pub lease: LeaseConfig,
+}
+
+// Where the next checkpoint goes: its group number, and the block of its header.
+#[repr(C)]
+pub struct Seat {
+    pub number: u64,
+    pub block: usize,
+}
+
+// Generations are given out below the ceiling alone. The area is the journal's, in bytes.
+#[repr(C)]
+pub struct Consumer {
+    pub cursor: AckCursor,
+    pub table: LeaseTable,
+    pub ceiling: Generation,
+    pub seat: Seat,
+    pub area_len: usize,
+    pub delivery: DeliveryConfig,
+}

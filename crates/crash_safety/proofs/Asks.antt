@@ -1,0 +1,205 @@
+-- Each call on the state keeps the invariant and the law: a refusal leaves everything as it was, and what an effect does to
+-- settled offsets and counts is what the book notes of it. The journal is untouched. Assumes nothing.
+use Prim.Native.Nat.{ℕ, _+_, _≤_}
+use native.Mathlib.Omega.{arith}
+use mathlib.Core.Path.{_≡_, refl, sym, ap, _∙_}
+use mathlib.Core.Bool.{Bool, true, false, cond, _&&_, _||_, true≢false}
+use mathlib.Core.List.{List}
+use mathlib.Core.Option.{Option}
+use lib.Dec.{ltb, leb, eqb}
+use borrow.Author.Tests.{leb-true}
+use Rattle.types.specs.Limits.{MAX, sat32}
+use Rattle.types.specs.Refusal.{Result, done}
+use Rattle.types.specs.Table.{Answer}
+use Rattle.types.proofs.Cases.{split}
+use Rattle.cursor.specs.Cursor.{Cursor}
+use Rattle.delivery.specs.Policy.{disposition}
+use Rattle.lease.specs.State.{Table}
+use Rattle.lease.specs.Claim as lease
+use Rattle.lease.specs.Claim.{nextCount, afterGrant}
+use Rattle.consumer.specs.State.{Settings, State, withBoth}
+use Rattle.consumer.specs.Calls as consumer
+use Rattle.consumer.specs.Calls.{handOut, nackDeadline, committedTo}
+use Rattle.consumer.specs.Questions.{countOf}
+use Rattle.consumer.specs.Valid.{Valid}
+use Rattle.consumer.proofs.Valid.{claimed-valid, acked-settled, acked-valid, nacked-valid, progressed-valid, committed-settled, committed-valid}
+use Rattle.consumer.proofs.Counts.{next-count}
+use Rattle.consumer.proofs.Effects.{claimed-count, acked-count, nacked-count, progressed-count, committed-count, unchanged-settled, unchanged-count}
+use Rattle.consumer.proofs.Open.{ClaimOpen, claim-cases, AckOpen, ack-cases, nack-cases, progressed, progress-cases, commit-cases}
+use Rattle.machine.specs.Calls.{Ask, claim, ack, term, nack, progress, commit, look, fits, u64, Event, claimed, acked, termed, nacked, extended, committed}
+use Rattle.machine.specs.Door.{idle, asked}
+use Rattle.crash_safety.specs.Book.{turnedTo, handedOut, settle, settleBelow}
+use Rattle.crash_safety.specs.Runs.{world}
+use Rattle.crash_safety.proofs.Law.{Ledger, ledger, noted, Law, Lawful}
+use Rattle.crash_safety.proofs.Runs.{Made, Answered}
+use Rattle.crash_safety.proofs.Invariant.{Agrees, Stands, Inv}
+
+both : (p q : Bool) → (p && q) ≡ true → (p ≡ true) × (q ≡ true)
+both true q e = (refl, e)
+both false q e = absurd (true≢false (sym e))
+
+module _ (c : Settings) (n : ℕ) (l : Ledger) (s : State) (a : List ℕ) (inv : Inv c n l (world (idle s) a)) where
+  -- what an answer says and leaves
+  abbrev Kept : {A : Type 0} → (Result A → Event) → Answer A State → Type 0
+  Kept event r =
+      Made noted (Law (c .policy)) (Inv c n) l (record { event = event (r .outcome); phase = idle (r .state); area = a })
+
+  abbrev now : Stands c n (inv .saved) l s
+  now = inv .callable
+
+  -- cursor and table change with the ledger, which keeps its copy
+  with-ledger : (l′ : Ledger) (k : Cursor) (t : Table) → l′ .book .copy ≡ l .book .copy → Valid (withBoth s k t)
+      → Agrees (l′ .book .page) (withBoth s k t) → t .redeliveries ≡ l′ .redeliveries → l′ .floor ≤ t .nextGeneration
+      → Inv c n l′ (world (idle (withBoth s k t)) a)
+  with-ledger l′ k t copy v agrees r f =
+      record {
+        saved = inv .saved;
+        journal = inv .journal;
+        finds = rw copy (inv .finds);
+        callable = record {
+          valid = v;
+          size = now .size;
+          policy = now .policy;
+          ceiling = now .ceiling;
+          seat = now .seat;
+          agrees = agrees;
+          redeliveries = r;
+          floor = f;
+        };
+      }
+
+  -- ## claim
+  module _ (o clock : ℕ) (m : o ≤ MAX) (p : ClaimOpen s o clock) where
+    lawful : Lawful (c .policy) l o (handOut s o)
+    lawful =
+        record {
+          offset = refl;
+          unsettled = sym (now .agrees .settles o) ∙ p .unsettled;
+          counted = next-count s (now .valid) o ∙ ap (λ k. sat32 k 1) (now .agrees .counts o);
+          destined = ap (λ q. disposition q (nextCount (s .table) o)) (now .policy);
+          under = omega (arith, p .below-threshold, now .redeliveries, ap (λ q. q .flushRedeliveries) (now .policy));
+          fresh = now .floor;
+        }
+
+    counts-after : (x : ℕ) → countOf (consumer.claimed s o clock) x ≡ handedOut (l .book .page) o .count x
+    counts-after x = claimed-count s o clock (now .valid) p m x ∙ rw (now .agrees .counts x)
+
+    raised : afterGrant (s .table .redeliveries) (nextCount (s .table) o) ≡ cond (leb 2 (nextCount (s .table) o)) (l .redeliveries + 1) (l .redeliveries)
+    raised =
+        split (leb 2 (nextCount (s .table) o))
+        (λ t. rw t (omega (arith, p .below-threshold, now .valid .policy .fits .threshold-fits, now .redeliveries)))
+        (λ t. rw t (now .redeliveries))
+
+    handed-out : Inv c n (noted l (claimed o clock (done (handOut s o)))) (world (idle (consumer.claimed s o clock)) a)
+    handed-out =
+        with-ledger (noted l (claimed o clock (done (handOut s o)))) (s .cursor) (lease.grant (s .table) o clock) refl
+        (claimed-valid s o clock (now .valid) p m)
+        (record { settles = now .agrees .settles; counts = counts-after })
+        raised
+        (omega arith)
+
+  claim-kept : (o clock : ℕ) → o ≤ MAX → Kept (claimed o clock) (consumer.claim s o clock)
+  claim-kept o clock m =
+      claim-cases s o clock (Kept (claimed o clock)) (λ r. record { says = tt; keeps = inv })
+      (λ p. record { says = lawful o clock m p; keeps = handed-out o clock m p })
+
+  -- ## Ack and Term
+  abbrev settledOne : ℕ → Ledger
+  settledOne o = ledger (turnedTo (l .book) (settle (l .book .page) o)) (l .redeliveries) (l .floor)
+
+  settles-one : (o g : ℕ) → AckOpen s o g → Inv c n (settledOne o) (world (idle (consumer.acked s o)) a)
+  settles-one o g p =
+      with-ledger (settledOne o) (consumer.acked s o .cursor) (consumer.acked s o .table) refl
+      (acked-valid s o g (now .valid) p)
+      (record {
+        settles = λ x. acked-settled s o g (now .valid) p x ∙ ap (λ t. eqb x o || t) (now .agrees .settles x);
+        counts = λ x. acked-count s o g (now .valid) p x ∙ ap (cond (eqb x o) 0) (now .agrees .counts x);
+      })
+      (now .redeliveries)
+      (now .floor)
+
+  ack-kept : (o g : ℕ) → Kept (acked o g) (consumer.ack s o g)
+  ack-kept o g =
+      ack-cases s o g (Kept (acked o g)) (λ r. record { says = tt; keeps = inv })
+      (λ p. record { says = tt; keeps = settles-one o g p })
+
+  term-kept : (o g : ℕ) → Kept (termed o g) (consumer.ack s o g)
+  term-kept o g =
+      ack-cases s o g (Kept (termed o g)) (λ r. record { says = tt; keeps = inv })
+      (λ p. record { says = tt; keeps = settles-one o g p })
+
+  -- ## Nack and Progress
+  nack-kept : (o g clock : ℕ) (d : Option ℕ) → Kept (nacked o g clock d) (consumer.nack s o g clock d)
+  nack-kept o g clock d =
+      nack-cases s o g clock d (Kept (nacked o g clock d)) (λ r. record { says = tt; keeps = inv })
+      (λ p. let deadline : ℕ = nackDeadline s o clock d in
+      record {
+        says = tt;
+        keeps = with-ledger l (s .cursor) (lease.requeue (s .table) o deadline) refl
+            (nacked-valid s o g deadline (now .valid) p)
+            (record {
+              settles = now .agrees .settles;
+              counts = λ x. nacked-count s o g deadline (now .valid) p x ∙ now .agrees .counts x;
+            })
+            (now .redeliveries)
+            (omega (arith, now .floor));
+      })
+
+  progress-kept : (o g clock : ℕ) → Kept (extended o g clock) (consumer.progress s o g clock)
+  progress-kept o g clock =
+      progress-cases s o g clock (Kept (extended o g clock)) (λ r. record { says = tt; keeps = inv })
+      (λ p. let deadline : ℕ = lease.extended (s .table) o clock in
+      record {
+        says = tt;
+        keeps = with-ledger l (s .cursor) (progressed s o deadline .table) refl
+            (progressed-valid s o g clock deadline (now .valid) p)
+            (record {
+              settles = now .agrees .settles;
+              counts = λ x. progressed-count s o g clock deadline (now .valid) p x ∙ now .agrees .counts x;
+            })
+            (now .redeliveries)
+            (now .floor);
+      })
+
+  -- ## Commit
+  module _ (bound : ℕ) where
+    abbrev settledBelow : Ledger
+    settledBelow = ledger (turnedTo (l .book) (settleBelow (l .book .page) bound)) (l .redeliveries) (l .floor)
+
+    -- all below the bound is settled already, and has no count
+    unchanged : bound ≤ s .cursor .committed → Inv c n settledBelow (world (idle s) a)
+    unchanged h =
+        with-ledger settledBelow (s .cursor) (s .table) refl (now .valid)
+        (record {
+          settles = λ x. unchanged-settled s bound h x ∙ ap (λ t. ltb x bound || t) (now .agrees .settles x);
+          counts = λ x. unchanged-count s bound h (now .valid) x ∙ ap (cond (ltb x bound) 0) (now .agrees .counts x);
+        })
+        (now .redeliveries)
+        (now .floor)
+
+    moved : bound ≤ MAX → Inv c n settledBelow (world (idle (committedTo s bound)) a)
+    moved m =
+        with-ledger settledBelow (committedTo s bound .cursor) (committedTo s bound .table) refl
+        (committed-valid s bound (now .valid) m)
+        (record {
+          settles = λ x. committed-settled s bound (now .valid) x ∙ ap (λ t. ltb x bound || t) (now .agrees .settles x);
+          counts = λ x. committed-count s bound (now .valid) m x ∙ ap (cond (ltb x bound) 0) (now .agrees .counts x);
+        })
+        (now .redeliveries)
+        (now .floor)
+
+    commit-kept : bound ≤ MAX → Kept (committed bound) (consumer.commit s bound)
+    commit-kept m =
+        commit-cases s bound (Kept (committed bound)) (λ r. record { says = tt; keeps = inv })
+        (λ h. record { says = tt; keeps = unchanged h })
+        (λ p. record { says = tt; keeps = moved m })
+
+  -- ## all of them; a question changes nothing
+  pub ask-kept : (q : Ask) → fits q ≡ true → Answered noted (Law (c .policy)) (Inv c n) l (asked s a q)
+  ask-kept (claim o clock) f = claim-kept o clock (leb-true o MAX (both (u64 o) (u64 clock) f .0))
+  ask-kept (ack o g) f = ack-kept o g
+  ask-kept (term o g) f = term-kept o g
+  ask-kept (nack o g clock d) f = nack-kept o g clock d
+  ask-kept (progress o g clock) f = progress-kept o g clock
+  ask-kept (commit bound) f = commit-kept bound (leb-true bound MAX f)
+  ask-kept (look q) f = record { says = tt; keeps = inv }

@@ -1,0 +1,42 @@
+-- Demand 3 holds: a fresh consumer on a zeroed journal is within the invariant, each item of a list keeps it and obeys the law
+-- of the events, and the law gives the bound, the generations and what restarts find. Assumes nothing.
+use Prim.Native.Nat.{ℕ, _<_}
+use native.Mathlib.Omega.{arith}
+use mathlib.Core.Path.{_≡_}
+use mathlib.Core.List.{List}
+use Rattle.types.specs.Limits.{MAX32}
+use Rattle.types.specs.Refusal.{done}
+use Rattle.consumer.specs.State.{Settings, State}
+use Rattle.consumer.specs.Restart.{start}
+use Rattle.consumer.specs.Valid.{Fits}
+use Rattle.crash_safety.specs.Runs.{Item, run, begins}
+use Rattle.crash_safety.specs.Demand3.{Premises, Demand3}
+use Rattle.crash_safety.proofs.Law.{emptyLedger, noted, Law, Along, restarts-right}
+use Rattle.crash_safety.proofs.Generations.{none-shared}
+use Rattle.crash_safety.proofs.Bound.{bounded}
+use Rattle.crash_safety.proofs.Runs.{along}
+use Rattle.crash_safety.proofs.Restarts.{all-made}
+use Rattle.crash_safety.proofs.Invariant.{Inv}
+use Rattle.crash_safety.proofs.Items.{item-kept}
+use Rattle.crash_safety.proofs.Start.{begins-well}
+
+-- M lies strictly between 0 and the largest u32, so that counts pass it before they stop
+limits : (c : Settings) → Premises c → (0 < c .policy .maxDeliver) × (c .policy .maxDeliver < MAX32)
+limits c p = omega (arith, p .limit-not-0, p .limit-not-max, p .fits .limit-fits)
+
+-- the events of every list obey the law
+lawfully : (c : Settings) (n : ℕ) (s : State) (items : List Item) → Fits (c .policy) → start c n ≡ done s
+    → Along noted (Law (c .policy)) emptyLedger (run c (begins s n) items)
+lawfully c n s items f e =
+    let b = begins-well c n s f e in
+    along noted (Law (c .policy)) (Inv c n) c (item-kept c n (b .accepted)) items emptyLedger (begins s n) (b .inv)
+
+pub demand-3 : Demand3
+unfolding Demand3
+demand-3 c n s items p e =
+    let obeyed = lawfully c n s items (p .fits) e in
+    record {
+      bound = λ o. rw (all-made c items (begins s n)) at (bounded (c .policy) (limits c p .0) (limits c p .1) (run c (begins s n) items) obeyed o);
+      generations = none-shared (c .policy) (run c (begins s n) items) emptyLedger obeyed;
+      found = restarts-right (c .policy) (run c (begins s n) items) emptyLedger obeyed;
+    }

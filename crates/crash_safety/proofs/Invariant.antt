@@ -1,0 +1,86 @@
+-- The invariant of demand 3's lists, in its parts: the groups on the journal, with nothing behind them that could be taken for
+-- a header; the state that a restart would answer now, which is read from the last group and is the book's copy; and who can be
+-- called, in agreement with the book's page.
+-- Assumes nothing.
+use Prim.Native.Nat.{ℕ, suc, _+_, _/_, _≤_, _<_}
+use mathlib.Core.Path.{_≡_}
+use mathlib.Core.Bool.{false}
+use mathlib.Core.List.{List}
+use mathlib.Core.Option.{Option}
+use lib.ListN.{length}
+use Rattle.types.specs.Refusal.{done}
+use Rattle.types.specs.Keyed.{Entry}
+use Rattle.cursor.specs.Cursor.{Cursor, settled}
+use Rattle.journal.specs.Area.{blockAt}
+use Rattle.journal.specs.Sound.{heads}
+use Rattle.journal.specs.Walks.{stop, walk}
+use Rattle.consumer.specs.State.{Settings, State, Seat, blocksOf}
+use Rattle.consumer.specs.Questions.{countOf}
+use Rattle.consumer.specs.Checkpoint.{Writing, bodies, bodyOf}
+use Rattle.consumer.specs.Restart.{resumed, origin, lastGroup}
+use Rattle.consumer.specs.Valid.{Valid}
+use Rattle.machine.specs.Door.{Phase, idle, writing, off}
+use Rattle.crash_safety.specs.Runs.{World}
+use Rattle.crash_safety.specs.Book.{Page}
+use Rattle.crash_safety.specs.Demand3.{Finds}
+use Rattle.crash_safety.proofs.Law.{Ledger}
+
+-- ## the journal
+-- between blocks lo and hi the groups from number k₀ on, the last with its header at `last`, end at the seat; from there on no
+-- block has kind 1 and a right check
+pub record Groups (a : List ℕ) (hi k₀ lo : ℕ) (last : Option ℕ) (seat : Seat) : Type 0 where
+  pub walks : walk a hi k₀ lo ≡ stop last (seat .number) (seat .block)
+  pub clear : (j : ℕ) → seat .block ≤ j → j < hi → heads (blockAt a j) ≡ false
+
+-- what the last group says, and the seat behind it
+pub record Saved : Type 0 where
+  pub cursor : Cursor
+  pub counts : List (Entry ℕ)
+  pub ceiling : ℕ
+  pub seat : Seat
+
+-- the state that a restart makes of it on an area of n bytes
+abbrev pub restored : Settings → ℕ → Saved → State
+restored c n v = resumed c n (v .cursor) (v .counts) (v .ceiling) (v .seat)
+
+pub record Journal (c : Settings) (n : ℕ) (a : List ℕ) (v : Saved) : Type 0 where
+  pub size : length a ≡ n
+  pub last : Option ℕ
+  pub groups : Groups a (n / 512) (origin a .number) (origin a .block) last (v .seat)
+  pub reads : lastGroup c a last (v .seat) ≡ done (restored c n v)
+  pub valid : Valid (restored c n v)
+
+-- ## who can be called
+-- settled offsets and counts are the page's
+pub record Agrees (p : Page) (s : State) : Type 0 where
+  pub settles : (o : ℕ) → settled (s .cursor) o ≡ p .settled o
+  pub counts : (o : ℕ) → countOf s o ≡ p .count o
+
+-- a state whose next checkpoint goes behind the groups
+pub record Stands (c : Settings) (n : ℕ) (v : Saved) (l : Ledger) (s : State) : Type 0 where
+  pub valid : Valid s
+  pub size : s .size ≡ n
+  pub policy : s .policy ≡ c .policy
+  pub ceiling : s .ceiling ≡ v .ceiling
+  pub seat : s .seat ≡ v .seat
+  pub agrees : Agrees (l .book .page) s
+  pub redeliveries : s .table .redeliveries ≡ l .redeliveries
+  pub floor : l .floor ≤ s .table .nextGeneration
+
+-- the bodies that a record has written; there is room for the rest
+pub record Written (a : List ℕ) (w : Writing) : Type 0 where
+  pub room : w .state .seat .block + suc (bodies (w .state)) ≤ blocksOf (w .state)
+  pub few : w .written ≤ bodies (w .state)
+  pub behind : (j : ℕ) → j < w .written → blockAt a (w .state .seat .block + suc j) ≡ bodyOf (w .state) (suc j)
+
+abbrev pub Callable : Settings → ℕ → Saved → Ledger → List ℕ → Phase → Type 0
+Callable c n v l a (idle s) = Stands c n v l s
+Callable c n v l a (writing w) = Stands c n v l (w .state) × Written a w
+Callable c n v l a off = l .floor ≤ v .ceiling
+
+-- ## all of it
+pub record Inv (c : Settings) (n : ℕ) (l : Ledger) (w : World) : Type 0 where
+  pub saved : Saved
+  pub journal : Journal c n (w .journal) saved
+  pub finds : Finds (l .book .copy) (restored c n saved)
+  pub callable : Callable c n saved l (w .journal) (w .phase)

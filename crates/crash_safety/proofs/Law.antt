@@ -1,0 +1,104 @@
+-- The law of the events: what holds of each event of a list, in terms of the events before it alone. A hand-out is of an
+-- offset that the book has unsettled, with the book's next count, at a generation above all before, and only while fewer
+-- redeliveries than the threshold were made since the last flush; a restart finds the book's copy. The bound and the
+-- generations follow from this law without a look at the consumer, and so would any other bound on hand-outs.
+-- Assumes nothing.
+use Prim.Native.Nat.{ℕ, suc, _+_, _≤_, _<_}
+use mathlib.Core.Path.{_≡_}
+use mathlib.Core.Bool.{false, cond}
+use mathlib.Core.List.{List, [], _∷_}
+use mathlib.Core.Option.{Option, none, some}
+use lib.Dec.{leb}
+use Rattle.types.specs.Limits.{sat32}
+use Rattle.types.specs.Refusal.{refused, done}
+use Rattle.delivery.specs.Policy.{Policy, disposition}
+use Rattle.consumer.specs.Calls.{HandOut}
+use Rattle.machine.specs.Calls.{Event, claimed, acked, termed, nacked, extended, committed, looked, begun, stepped, restarted, failed}
+use Rattle.crash_safety.specs.Book.{Book, emptyBook, note}
+use Rattle.crash_safety.specs.Demand3.{handed, Right, RestartsRight}
+
+-- ## what the events before tell
+-- the redeliveries since the last flush, which a finished checkpoint and a restart make 0
+abbrev pub since : ℕ → Event → ℕ
+since n (claimed o now (refused r)) = n
+since n (claimed o now (done h)) = cond (leb 2 (h .deliveries)) (n + 1) n
+since n (acked o g a) = n
+since n (termed o g a) = n
+since n (nacked o g now d a) = n
+since n (extended o g now a) = n
+since n (committed bound a) = n
+since n (looked q a) = n
+since n (begun a) = n
+since n (stepped (refused r)) = n
+since n (stepped (done w)) = cond (w .last) 0 n
+since n (restarted (refused r)) = n
+since n (restarted (done s)) = 0
+since n (failed new) = n
+
+-- a number above every generation handed out
+abbrev pub above : ℕ → Option HandOut → ℕ
+above g none = g
+above g (some h) = suc (h .generation)
+
+pub record Ledger : Type 0 where
+  pub book : Book
+  pub redeliveries : ℕ
+  pub floor : ℕ
+
+abbrev pub ledger : Book → ℕ → ℕ → Ledger
+ledger b n g = record { book = b; redeliveries = n; floor = g }
+
+abbrev pub noted : Ledger → Event → Ledger
+noted l e = ledger (note (l .book) e) (since (l .redeliveries) e) (above (l .floor) (handed e))
+
+abbrev pub emptyLedger : Ledger
+emptyLedger = ledger emptyBook 0 0
+
+-- ## the law
+-- a hand-out that answers a claim of offset o
+pub record Lawful (p : Policy) (l : Ledger) (o : ℕ) (h : HandOut) : Type 0 where
+  pub offset : h .offset ≡ o
+  pub unsettled : l .book .page .settled o ≡ false
+  pub counted : h .deliveries ≡ sat32 (l .book .page .count o) 1
+  pub destined : h .destination ≡ disposition p (h .deliveries)
+  pub under : l .redeliveries < p .flushRedeliveries
+  pub fresh : l .floor ≤ h .generation
+
+abbrev pub Law : Policy → Ledger → Event → Type 0
+Law p l (claimed o now (refused r)) = Unit {0}
+Law p l (claimed o now (done h)) = Lawful p l o h
+Law p l (acked o g a) = Unit {0}
+Law p l (termed o g a) = Unit {0}
+Law p l (nacked o g now d a) = Unit {0}
+Law p l (extended o g now a) = Unit {0}
+Law p l (committed bound a) = Unit {0}
+Law p l (looked q a) = Unit {0}
+Law p l (begun a) = Unit {0}
+Law p l (stepped a) = Unit {0}
+Law p l (restarted a) = Right (l .book .copy) (restarted a)
+Law p l (failed new) = Unit {0}
+
+-- ## along a list of events
+-- P holds of each event, beside what `fold` makes of those before it
+unfoldable pub Along : {G : Type 0} → (G → Event → G) → (G → Event → Type 0) → G → List Event → Type 0
+Along fold P g [] = Unit {0}
+Along fold P g (e ∷ es) = P g e × Along fold P (fold g e) es
+
+-- the law has in it that restarts are right
+law-right : (p : Policy) (l : Ledger) (e : Event) → Law p l e → Right (l .book .copy) e
+law-right p l (claimed o now a) h = tt
+law-right p l (acked o g a) h = tt
+law-right p l (termed o g a) h = tt
+law-right p l (nacked o g now d a) h = tt
+law-right p l (extended o g now a) h = tt
+law-right p l (committed bound a) h = tt
+law-right p l (looked q a) h = tt
+law-right p l (begun a) h = tt
+law-right p l (stepped a) h = tt
+law-right p l (restarted a) h = h
+law-right p l (failed new) h = tt
+
+pub restarts-right : (p : Policy) (es : List Event) (l : Ledger) → Along noted (Law p) l es → RestartsRight (l .book) es
+unfolding Along RestartsRight
+restarts-right p [] l h = tt
+restarts-right p (e ∷ es) l h = (law-right p l e (h .0), restarts-right p es (noted l e) (h .1))

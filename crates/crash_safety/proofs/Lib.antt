@@ -1,0 +1,14 @@
+pub mod Law
+pub mod Generations
+pub mod Bound
+pub mod Runs
+pub mod Restarts
+pub mod Invariant
+pub mod Groups
+pub mod Asks
+pub mod Checkpoints
+pub mod Steps
+pub mod Items
+pub mod Start
+pub mod Demand3
+pub mod Tokens

@@ -1,0 +1,91 @@
+-- A fresh consumer on a zeroed journal is within the invariant: there are no groups, no block could be taken for a header, and
+-- the book is empty. Assumes nothing.
+use Prim.Native.Nat.{ℕ, _+_, _*_, _/_, _≤_}
+use native.Mathlib.Omega.{arith}
+use mathlib.Core.Path.{_≡_, refl}
+use mathlib.Core.Bool.{false, _||_}
+use mathlib.Core.List.{List, []}
+use mathlib.Core.Option.{none}
+use lib.Dec.{ltb, lit<}
+use lib.ListN.{drop, replicate, length-replicate, getD-replicate}
+use lib.Seq.{getD-take, getD-drop}
+use borrow.Author.Tests.{le-ltb}
+use Rattle.types.specs.Refusal.{done}
+use Rattle.types.specs.Table.{Passed}
+use Rattle.types.proofs.Table.{checked-done}
+use Rattle.cursor.specs.Cursor.{resume}
+use Rattle.journal.specs.Area.{blockAt}
+use Rattle.journal.specs.Blocks.{kindOf}
+use Rattle.journal.specs.Sound.{heads}
+use Rattle.journal.proofs.Sound.{other-kind}
+use Rattle.consumer.specs.State.{Settings, State, seatAt}
+use Rattle.consumer.specs.Restart.{startTable, fresh, start}
+use Rattle.consumer.specs.Valid.{Fits, Valid}
+use Rattle.consumer.proofs.Open.{start-open}
+use Rattle.consumer.proofs.Restart.{walk-zeros, fresh-valid}
+use Rattle.crash_safety.specs.Runs.{begins}
+use Rattle.crash_safety.specs.Book.{blank}
+use Rattle.crash_safety.specs.Demand3.{Finds}
+use Rattle.crash_safety.proofs.Law.{emptyLedger}
+use Rattle.crash_safety.proofs.Invariant.{Saved, Journal, Inv}
+use Rattle.crash_safety.proofs.Steps.{restored-agrees}
+
+abbrev nothing : Saved
+nothing = record { cursor = resume 0; counts = []; ceiling = 0; seat = seatAt 1 0 }
+
+-- no block of a zeroed area is a header
+zeroed-kind : (n j : ℕ) → 512 * j + 512 ≤ n → kindOf (blockAt (replicate n 0) j) ≡ 0
+unfolding blockAt
+zeroed-kind n j h =
+    let zeros : List ℕ = replicate n 0 in
+    rw (getD-take 512 (drop (512 * j) zeros) 0 0 (lit< tt), getD-drop (512 * j) zeros 0 0)
+    (getD-replicate n (512 * j + 0) 0 0 (omega arith))
+
+zeroed-clear : (n j : ℕ) → 512 * j + 512 ≤ n → heads (blockAt (replicate n 0) j) ≡ false
+zeroed-clear n j h = other-kind 1 (blockAt (replicate n 0) j) (λ q. omega (arith, zeroed-kind n j h))
+
+module _ (c : Settings) (n : ℕ) (v : Valid (fresh c n)) where
+  zeroed-journal : Journal c n (replicate n 0) nothing
+  zeroed-journal =
+      record {
+        size = length-replicate n 0;
+        last = none;
+        groups = record { walks = walk-zeros n (n / 512); clear = λ j l h. zeroed-clear n j (omega arith) };
+        reads = rw (length-replicate {A = ℕ} n 0);
+        valid = v;
+      }
+
+  fresh-begins : Inv c n emptyLedger (begins (fresh c n) n)
+  fresh-begins =
+      record {
+        saved = nothing;
+        journal = zeroed-journal;
+        finds = finds;
+        callable = record {
+          valid = v;
+          size = refl;
+          policy = refl;
+          ceiling = refl;
+          seat = refl;
+          agrees = restored-agrees c n nothing blank finds;
+          redeliveries = refl;
+          floor = omega arith;
+        };
+      }
+    where
+      none-settled : (o : ℕ) → (ltb o 0 || false) ≡ false
+      none-settled o = rw (le-ltb o 0 (omega arith))
+
+      finds : Finds blank (fresh c n)
+      finds = record { settles = none-settled; counts = λ o. refl }
+
+-- what an accepted start gives: its tests passed, and the invariant holds
+pub record Begins (c : Settings) (n : ℕ) (s : State) : Type 0 where
+  pub accepted : Passed (startTable c n)
+  pub inv : Inv c n emptyLedger (begins s n)
+
+pub begins-well : (c : Settings) (n : ℕ) (s : State) → Fits (c .policy) → start c n ≡ done s → Begins c n s
+unfolding start
+begins-well c n s f e =
+    let d = checked-done (startTable c n) (fresh c n) s e in
+    record { accepted = d .0; inv = rw (← d .1) (fresh-begins c n (fresh-valid c n (start-open c n (d .0)) f)) }

@@ -1,0 +1,363 @@
+-- No stale token. Beside demand 3's invariant: every token that was given lies below the floor of the generations to come, and a
+-- lease under a generation that was given is the one that its offset is held under. A claim's generation is the floor at least; a
+-- nack's is so too and was given to nobody. Assumes nothing.
+use Prim.Native.Nat.{ℕ, suc, _≤_, _<_}
+use native.Mathlib.Omega.{arith}
+use mathlib.Core.Path.{_≡_, refl, sym, _∙_}
+use mathlib.Core.Bool.{Bool, true, false, _&&_, _||_, true≢false, or-true}
+use mathlib.Core.List.{List, [], _∷_}
+use mathlib.Core.Option.{Option, none, some, Option·none-ne-some}
+use lib.Dec.{ltb, eqb}
+use lib.ListN.{length}
+use borrow.Author.Tests.{ltb-true, eqb-true, ne-eqb, lt-ltb}
+use Rattle.types.specs.Refusal.{Result, refused, done, Fenced}
+use Rattle.types.specs.Table.{Answer, Passed}
+use Rattle.types.specs.Keyed.{Entry, lookup, put, update, delete, dropBelow}
+use Rattle.types.proofs.Cases.{split}
+use Rattle.types.proofs.Keyed.{lookup-put-same, lookup-put-other, lookup-delete-same, lookup-delete-other, lookup-update-same, lookup-update-other, lookup-drop-below, lookup-keep-above}
+use Rattle.cursor.specs.Cursor.{settled}
+use Rattle.lease.specs.declared.Lease.{Lease}
+use Rattle.lease.specs.Claim as lease
+use Rattle.lease.specs.Claim.{leaseOf, owns, dueAt, requeuedAs, extend}
+use Rattle.consumer.specs.State.{Settings, State}
+use Rattle.consumer.specs.Calls as consumer
+use Rattle.consumer.specs.Calls.{HandOut, handOut, nackDeadline}
+use Rattle.consumer.specs.Checkpoint as checkpoint
+use Rattle.consumer.specs.Checkpoint.{Writing, isLast}
+use Rattle.consumer.specs.Restart as restarts
+use Rattle.consumer.specs.Restart.{startTable}
+use Rattle.consumer.proofs.Open.{claim-cases, ack-cases, Owned, nack-cases, progress-cases, commit-cases, begin-says}
+use Rattle.machine.specs.Calls.{Ask, claim, ack, term, nack, progress, commit, look, Event, claimed, acked, termed, nacked, extended, committed, begin, step, restart}
+use Rattle.machine.specs.Door.{Phase, idle, writing, off, Turn, asked, beganAs, steppedAs, restartedAs}
+use Rattle.crash_safety.specs.Runs.{Cut, old, new, torn, Item, isTorn, cutAt, keepsJournal, World, world, next, run, begins}
+use Rattle.crash_safety.specs.Tokens.{Tokens, noTokens, givesOut, givesUp, givesUpBelow, losesAll, tokensAfter, StaleRefused, TokenRight, TokensRight, NoStaleToken}
+use Rattle.crash_safety.proofs.Law.{Ledger, emptyLedger, noted, Law, Along}
+use Rattle.crash_safety.proofs.Runs.{along, foldBoth, Second, Says, Keeps, beside}
+use Rattle.crash_safety.proofs.Invariant.{Inv}
+use Rattle.crash_safety.proofs.Steps.{restart-finds}
+use Rattle.crash_safety.proofs.Items.{Shown, next-cases, item-kept}
+use Rattle.crash_safety.proofs.Start.{begins-well}
+
+-- ## what is known of tokens
+pub record Known (t : Tokens) (floor : ℕ) (leases : List (Entry Lease)) : Type 0 where
+  pub given-below : (o g : ℕ) → t .given o g ≡ true → g < floor
+  pub lost-given : (o g : ℕ) → t .lost o g ≡ true → t .given o g ≡ true
+  pub held-new : (o g : ℕ) → t .held o ≡ some g → t .lost o g ≡ true → ⊥
+  pub held-lease : (o : ℕ) (l : Lease) → lookup o leases ≡ some l → t .given o (l .generation .0) ≡ true → t .held o ≡ some (l .generation .0)
+
+abbrev leasesOf : Phase → List (Entry Lease)
+leasesOf (idle s) = s .table .leases
+leasesOf (writing w) = w .state .table .leases
+leasesOf off = []
+
+either : (p q : Bool) → (p || q) ≡ true → (p ≡ false → q ≡ true)
+either true q e n = absurd (true≢false n)
+either false q e n = e
+
+both : (p q : Bool) → (p && q) ≡ true → (p ≡ true) × (q ≡ true)
+both true q e = (refl, e)
+both false q e = absurd (true≢false (sym e))
+
+some-inj : {A : Type 0} {x y : A} → some x ≡ some y → x ≡ y
+some-inj e = cc
+
+module _ (t : Tokens) (floor : ℕ) (leases : List (Entry Lease)) (k : Known t floor leases) where
+  -- a token that is stale or lost is not the lease's
+  module _ (o g : ℕ) where
+    stale-unowned : t .given o g ≡ true → (t .held o ≡ some g → ⊥) → owns (lookup o leases) g ≡ false
+    stale-unowned d h = go (lookup o leases) refl
+      where
+        go : (x : Option Lease) → lookup o leases ≡ x → owns x g ≡ false
+        go none e = refl
+        go (some l) e = ne-eqb (l .generation .0) g (λ q. h (rw (← q) (k .held-lease o l e (rw q d))))
+
+    stale-refused : {A : Type 0} (a : Result A) → (owns (lookup o leases) g ≡ false → a ≡ refused Fenced) → StaleRefused t o g a
+    stale-refused a fenced =
+        record {
+          stale = λ d h. fenced (stale-unowned d h);
+          lost = λ l. fenced (stale-unowned (k .lost-given o g l) (λ q. k .held-new o g q l));
+        }
+
+  -- ## what becomes of it
+  -- a hand-out, under a generation of at least the floor
+  gives-out : (h : HandOut) (l : Lease) → floor ≤ h .generation → l .generation .0 ≡ h .generation
+      → Known (givesOut t h) (suc (h .generation)) (put (h .offset) l leases)
+  gives-out h l f e =
+      record {
+        given-below = λ o g d. split (eqb o (h .offset) && eqb g (h .generation))
+            (λ q. omega (arith, eqb-true g (h .generation) (both (eqb o (h .offset)) (eqb g (h .generation)) q .1)))
+            (λ q. omega (arith, k .given-below o g (either (eqb o (h .offset) && eqb g (h .generation)) (t .given o g) d q)));
+        lost-given = λ o g d. rw (k .lost-given o g d) (or-true (eqb o (h .offset) && eqb g (h .generation)));
+        held-new = λ o g q d. split (eqb o (h .offset))
+            (λ s. let same : h .generation ≡ g = some-inj (rw s at q) in omega (arith, k .given-below o g (k .lost-given o g d)))
+            (λ s. k .held-new o g (rw s at q) d);
+        held-lease = λ o x q d. split (eqb o (h .offset))
+            (λ s. let same : l ≡ x = some-inj (sym (lookup-put-same (h .offset) l leases) ∙ (rw (eqb-true o (h .offset) s) at q)) in rw (s, ← same, e))
+            (λ s. rw s (k .held-lease o x (sym (lookup-put-other o (h .offset) l leases s) ∙ q) (rw s at d)));
+      }
+
+  -- an offset is given up: it has no lease any more, or one under a generation that was not given
+  gives-up : (o : ℕ) (m : List (Entry Lease)) → ((x : ℕ) → eqb x o ≡ false → lookup x m ≡ lookup x leases)
+      → ((l : Lease) → lookup o m ≡ some l → t .given o (l .generation .0) ≡ true → ⊥)
+      → Known (givesUp t o) floor m
+  gives-up o m other own =
+      record {
+        given-below = k .given-below;
+        lost-given = k .lost-given;
+        held-new = λ x g q d. split (eqb x o)
+            (λ s. absurd (Option·none-ne-some g (rw s at q)))
+            (λ s. k .held-new x g (rw s at q) d);
+        held-lease = λ x l q d. split (eqb x o)
+            (λ s. let e : x ≡ o = eqb-true x o s in absurd (own l (rw e at q) (rw e at d)))
+            (λ s. rw s (k .held-lease x l (sym (other x s) ∙ q) d));
+      }
+
+  -- the same of all below a bound
+  gives-up-below : (bound : ℕ) (m : List (Entry Lease)) → ((x : ℕ) → ltb x bound ≡ true → lookup x m ≡ none)
+      → ((x : ℕ) → ltb x bound ≡ false → lookup x m ≡ lookup x leases)
+      → Known (givesUpBelow t bound) floor m
+  gives-up-below bound m below above =
+      record {
+        given-below = k .given-below;
+        lost-given = k .lost-given;
+        held-new = λ x g q d. split (ltb x bound)
+            (λ s. absurd (Option·none-ne-some g (rw s at q)))
+            (λ s. k .held-new x g (rw s at q) d);
+        held-lease = λ x l q d. split (ltb x bound)
+            (λ s. absurd (Option·none-ne-some l (sym (below x s) ∙ q)))
+            (λ s. rw s (k .held-lease x l (sym (above x s) ∙ q) d));
+      }
+
+  -- a lease changed, and not its generation
+  keeps-generation : (o : ℕ) (v : Lease) (f : Lease → Lease) → lookup o leases ≡ some v → f v .generation .0 ≡ v .generation .0 → Known t floor (update o f leases)
+  keeps-generation o v f own same =
+      record {
+        given-below = k .given-below;
+        lost-given = k .lost-given;
+        held-new = k .held-new;
+        held-lease = λ x l q d. split (eqb x o)
+            (λ s.
+            let e : x ≡ o = eqb-true x o s in
+            let is : f v ≡ l = some-inj (sym (lookup-update-same o f v leases own) ∙ (rw e at q)) in
+            let g : l .generation .0 ≡ v .generation .0 = rw (← is) same in
+            rw (g, e) (k .held-lease o v own (rw (g, e) at d)))
+            (λ s. k .held-lease x l (sym (lookup-update-other x o f leases s) ∙ q) d);
+      }
+
+  -- nothing is leased any more
+  none-leased : Known t floor []
+  none-leased =
+      record {
+        given-below = k .given-below;
+        lost-given = k .lost-given;
+        held-new = k .held-new;
+        held-lease = λ o l q d. absurd (Option·none-ne-some l q);
+      }
+
+  loses-all : Known (losesAll t) floor []
+  loses-all =
+      record {
+        given-below = k .given-below;
+        lost-given = λ o g d. d;
+        held-new = λ o g q d. Option·none-ne-some g q;
+        held-lease = λ o l q d. absurd (Option·none-ne-some l q);
+      }
+
+nothing-given : (floor : ℕ) (leases : List (Entry Lease)) → Known noTokens floor leases
+nothing-given floor leases =
+    record {
+      given-below = λ o g d. absurd (true≢false (sym d));
+      lost-given = λ o g d. d;
+      held-new = λ o g q d. Option·none-ne-some g q;
+      held-lease = λ o l q d. absurd (true≢false (sym d));
+    }
+
+-- ## each call
+abbrev Knows : Ledger → Tokens → World → Type 0
+Knows l t w = Known t (l .floor) (leasesOf (w .phase))
+
+module _ (c : Settings) (n : ℕ) (l : Ledger) (t : Tokens) where
+  abbrev Next : Option Turn → Type 0
+  Next = Second noted (Law (c .policy)) (Inv c n) tokensAfter TokenRight Knows (l, t)
+
+  module _ (s : State) (a : List ℕ) (inv : Inv c n l (world (idle s) a)) (k : Known t (l .floor) (s .table .leases)) where
+    abbrev Kept : {A : Type 0} → (Result A → Event) → Answer A State → Type 0
+    Kept event r = Next (some (record { event = event (r .outcome); phase = idle (r .state); area = a }))
+
+    -- a token that is not the lease's is refused first of all
+    module _ (o g : ℕ) (e : owns (leaseOf (s .table) o) g ≡ false) where
+      ack-fenced : consumer.ack s o g .outcome ≡ refused Fenced
+      unfolding consumer.ack
+      ack-fenced = rw e
+
+      nack-fenced : (clock : ℕ) (d : Option ℕ) → consumer.nack s o g clock d .outcome ≡ refused Fenced
+      unfolding consumer.nack
+      nack-fenced clock d = rw e
+
+      progress-fenced : (clock : ℕ) → consumer.progress s o g clock .outcome ≡ refused Fenced
+      unfolding consumer.progress extend
+      progress-fenced clock = rw e
+
+    abbrev here : List (Entry Lease)
+    here = s .table .leases
+
+    -- what is known after an answer
+    abbrev After : {A : Type 0} → (Result A → Event) → Answer A State → Type 0
+    After event r = Known (tokensAfter t (event (r .outcome))) (l .floor) (r .state .table .leases)
+
+    stale : {A : Type 0} (o g : ℕ) (x : Result A) → (owns (leaseOf (s .table) o) g ≡ false → x ≡ refused Fenced) → StaleRefused t o g x
+    stale o g = stale-refused t (l .floor) here k o g
+
+    claim-knows : (o clock : ℕ) → Kept (claimed o clock) (consumer.claim s o clock)
+    claim-knows o clock =
+        claim-cases s o clock (Kept (claimed o clock)) (λ r. record { says = tt; keeps = k })
+        (λ p. record { says = tt; keeps = gives-out t (l .floor) here k (handOut s o) _ (inv .callable .floor) refl })
+
+    acked-up : (o : ℕ) → Known (givesUp t o) (l .floor) (delete o here)
+    acked-up o =
+        gives-up t (l .floor) here k o (delete o here)
+        (λ x e. lookup-delete-other x o here e)
+        (λ x q d. Option·none-ne-some x (sym (lookup-delete-same o here) ∙ q))
+
+    ack-knows : (o g : ℕ) → Kept (acked o g) (consumer.ack s o g)
+    ack-knows o g =
+        record {
+          says = stale o g _ (ack-fenced o g);
+          keeps = ack-cases s o g (After (acked o g)) (λ r. k) (λ p. acked-up o);
+        }
+
+    term-knows : (o g : ℕ) → Kept (termed o g) (consumer.ack s o g)
+    term-knows o g =
+        record {
+          says = stale o g _ (ack-fenced o g);
+          keeps = ack-cases s o g (After (termed o g)) (λ r. k) (λ p. acked-up o);
+        }
+
+    -- the generation that a nack takes is at least the floor, so that nobody was given it
+    nacked-up : (o g deadline : ℕ) → Owned (s .table) o g → Known (givesUp t o) (l .floor) (consumer.nacked s o deadline .table .leases)
+    nacked-up o g deadline p =
+        let f : Lease → Lease = requeuedAs (s .table .nextGeneration) deadline in
+        gives-up t (l .floor) here k o (update o f here)
+        (λ x e. lookup-update-other x o f here e)
+        (λ x q d.
+        let is : f (p .lease) ≡ x = some-inj (sym (lookup-update-same o f (p .lease) here (p .held)) ∙ q) in
+        omega (arith, k .given-below o (s .table .nextGeneration) (rw (← is) at d), inv .callable .floor))
+
+    nack-knows : (o g clock : ℕ) (d : Option ℕ) → Kept (nacked o g clock d) (consumer.nack s o g clock d)
+    nack-knows o g clock d =
+        record {
+          says = stale o g _ (λ e. nack-fenced o g e clock d);
+          keeps = nack-cases s o g clock d (After (nacked o g clock d)) (λ r. k)
+              (λ p. nacked-up o g (nackDeadline s o clock d) (p .token));
+        }
+
+    progress-knows : (o g clock : ℕ) → Kept (extended o g clock) (consumer.progress s o g clock)
+    progress-knows o g clock =
+        record {
+          says = stale o g _ (λ e. progress-fenced o g e clock);
+          keeps = progress-cases s o g clock (After (extended o g clock)) (λ r. k)
+              (λ p. keeps-generation t (l .floor) here k o (p .token .lease) (dueAt (lease.extended (s .table) o clock)) (p .token .held) refl);
+        }
+
+    -- no lease lies below committed
+    none-below : (bound x : ℕ) → bound ≤ s .cursor .committed → ltb x bound ≡ true → lookup x here ≡ none
+    none-below bound x h e = go (lookup x here) refl
+      where
+        go : (y : Option Lease) → lookup x here ≡ y → y ≡ none
+        go none q = refl
+        go (some v) q =
+            let u : settled (s .cursor) x ≡ false = inv .callable .valid .leased x v q .unsettled in
+            absurd (true≢false (sym (rw (lt-ltb x (s .cursor .committed) (omega (arith, ltb-true x bound e)))) ∙ u))
+
+    commit-knows : (bound : ℕ) → Kept (committed bound) (consumer.commit s bound)
+    commit-knows bound =
+        record {
+          says = tt;
+          keeps = commit-cases s bound (After (committed bound)) (λ r. k)
+              (λ h. gives-up-below t (l .floor) here k bound here (λ x e. none-below bound x h e) (λ x e. refl))
+              (λ p. gives-up-below t (l .floor) here k bound (dropBelow bound here)
+              (λ x e. lookup-drop-below x bound here e)
+              (λ x e. lookup-keep-above x bound here e));
+        }
+
+    ask-knows : (q : Ask) → Next (asked s a q)
+    ask-knows (claim o clock) = claim-knows o clock
+    ask-knows (ack o g) = ack-knows o g
+    ask-knows (term o g) = term-knows o g
+    ask-knows (nack o g clock d) = nack-knows o g clock d
+    ask-knows (progress o g clock) = progress-knows o g clock
+    ask-knows (commit bound) = commit-knows bound
+    ask-knows (look q) = record { says = tt; keeps = k }
+
+    began-knows : (r : Result Writing) → checkpoint.begin s ≡ r → Next (beganAs s a r)
+    began-knows (refused r) e = record { says = tt; keeps = k }
+    began-knows (done w) e = record { says = tt; keeps = rw (← begin-says s w e .1) k }
+
+  -- ## steps, cuts and restarts
+  module _ (w : Writing) (a : List ℕ) (k : Known t (l .floor) (w .state .table .leases)) where
+    step-knows : Next (steppedAs (checkpoint.step w a))
+    unfolding checkpoint.step
+    step-knows =
+        split (eqb (length a) (w .state .size))
+        (λ e. rw e (split (isLast w) (λ q. rw q (record { says = tt; keeps = k })) (λ q. rw q (record { says = tt; keeps = k }))))
+        (λ e. rw e (record { says = tt; keeps = k }))
+
+    cut-knows : (x : Cut) → Next (cutAt w a x)
+    cut-knows old = record { says = tt; keeps = none-leased t (l .floor) (w .state .table .leases) k }
+    cut-knows new = record { says = tt; keeps = none-leased t (l .floor) (w .state .table .leases) k }
+    cut-knows (torn b) =
+        split (isTorn b)
+        (λ e. rw e (record { says = tt; keeps = none-leased t (l .floor) (w .state .table .leases) k }))
+        (λ e. rw e tt)
+
+  elsewhere-knows : (a : List ℕ) (x : Option Turn) → Next x → Next (keepsJournal a x)
+  elsewhere-knows a none h = tt
+  elsewhere-knows a (some u) h = record { says = h .says; keeps = h .keeps }
+
+  restart-knows : (accepted : Passed (startTable c n)) (p : Phase) (a : List ℕ) → Inv c n l (world p a) → Known t (l .floor) (leasesOf p)
+      → Next (restartedAs p a (restarts.restart c a))
+  restart-knows accepted p a inv k =
+      rw (restart-finds c n l a accepted (inv .saved) (inv .journal))
+      (record { says = tt; keeps = loses-all t (l .floor) (leasesOf p) k })
+
+  -- ## each item
+  knows : (p : Phase) (a : List ℕ) → Inv c n l (world p a) → Known t (l .floor) (leasesOf p) → Shown Next a p
+  knows (idle s) a inv k = (λ q e. ask-knows s a inv k q, began-knows s a inv k (checkpoint.begin s) refl)
+  knows (writing w) a inv k =
+      (step-knows w a k, λ b e. elsewhere-knows a (steppedAs (checkpoint.step w b)) (step-knows w b k), cut-knows w a k)
+  knows off a inv k = tt
+
+  item-knows : Passed (startTable c n) → (w : World) (i : Item) → Inv c n l w → Knows l t w → Next (next c w i)
+  item-knows accepted w i inv k =
+      next-cases c Next tt (w .phase) (w .journal)
+      (restart-knows accepted (w .phase) (w .journal) inv k)
+      (knows (w .phase) (w .journal) inv k) i
+
+-- ## every list
+module _ (c : Settings) (n : ℕ) (accepted : Passed (startTable c n)) where
+  abbrev P : Ledger → Event → Type 0
+  P = Law (c .policy)
+
+  abbrev I : Ledger → World → Type 0
+  I = Inv c n
+
+  tokens-right : (es : List Event) (l : Ledger) (t : Tokens)
+      → Along (foldBoth noted P I tokensAfter TokenRight Knows) (Says noted P I tokensAfter TokenRight Knows) (l, t) es → TokensRight t es
+  unfolding Along TokensRight
+  tokens-right [] l t h = tt
+  tokens-right (e ∷ es) l t h = (h .0 .1, tokens-right es (noted l e) (tokensAfter t e) (h .1))
+
+  all-right : (items : List Item) (w : World) → I emptyLedger w → Knows emptyLedger noTokens w → TokensRight noTokens (run c w items)
+  all-right items w inv k =
+      tokens-right (run c w items) emptyLedger noTokens
+      (along (foldBoth noted P I tokensAfter TokenRight Knows) (Says noted P I tokensAfter TokenRight Knows) (Keeps noted P I tokensAfter TokenRight Knows) c
+      (λ b v i h. beside noted P I tokensAfter TokenRight Knows b (next c v i)
+      (item-kept c n accepted (b .0) v i (h .0))
+      (item-knows c n (b .0) (b .1) accepted v i (h .0) (h .1)))
+      items (emptyLedger, noTokens) w (inv, k))
+
+pub no-stale-token : NoStaleToken
+unfolding NoStaleToken
+no-stale-token c n s items f e =
+    let b = begins-well c n s f e in
+    all-right c n (b .accepted) items (begins s n) (b .inv) (nothing-given 0 (s .table .leases))

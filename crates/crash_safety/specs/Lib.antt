@@ -1,0 +1,4 @@
+pub mod Runs
+pub mod Book
+pub mod Demand3
+pub mod Tokens

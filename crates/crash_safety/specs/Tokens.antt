@@ -1,0 +1,94 @@
+-- No stale token: what went wrong in the clinics can't. A token that a hand-out gave is refused 24 once its offset was handed out
+-- again, nacked, settled, or a restart came; and one from before a restart is refused 24 ever after. A nack gives its lease a
+-- generation that nobody is handed: the statement is about tokens that were given, and a worker who guesses such a generation is
+-- accepted, as in the Rust.
+use Prim.Native.Nat.{ℕ}
+use mathlib.Core.Path.{_≡_}
+use mathlib.Core.Bool.{Bool, true, false, cond, _&&_, _||_}
+use mathlib.Core.List.{List, [], _∷_}
+use mathlib.Core.Option.{Option, none, some}
+use lib.Dec.{ltb, eqb}
+use Rattle.types.specs.Refusal.{Result, refused, done, Fenced}
+use Rattle.consumer.specs.State.{Settings, State}
+use Rattle.consumer.specs.Calls.{HandOut}
+use Rattle.consumer.specs.Restart.{start}
+use Rattle.consumer.specs.Valid.{Fits}
+use Rattle.machine.specs.Calls.{Event, claimed, acked, termed, nacked, extended, committed, looked, begun, stepped, restarted, failed}
+use Rattle.crash_safety.specs.Runs.{Item, run, begins}
+
+-- what the events tell of tokens, each an offset and a generation
+pub record Tokens : Type 0 where
+  -- a hand-out gave it
+  pub given : ℕ → ℕ → Bool
+  -- it was given before the last restart
+  pub lost : ℕ → ℕ → Bool
+  -- the generation of the offset's latest hand-out, unless the offset was nacked or settled or a restart came since
+  pub held : ℕ → Option ℕ
+
+abbrev pub noTokens : Tokens
+noTokens = record { given = λ o g. false; lost = λ o g. false; held = λ o. none }
+
+abbrev pub givesOut : Tokens → HandOut → Tokens
+givesOut t h =
+    record {
+      given = λ o g. (eqb o (h .offset) && eqb g (h .generation)) || t .given o g;
+      lost = t .lost;
+      held = λ o. cond (eqb o (h .offset)) (some (h .generation)) (t .held o);
+    }
+
+abbrev pub givesUp : Tokens → ℕ → Tokens
+givesUp t o = record { given = t .given; lost = t .lost; held = λ x. cond (eqb x o) none (t .held x) }
+
+abbrev pub givesUpBelow : Tokens → ℕ → Tokens
+givesUpBelow t bound = record { given = t .given; lost = t .lost; held = λ x. cond (ltb x bound) none (t .held x) }
+
+abbrev pub losesAll : Tokens → Tokens
+losesAll t = record { given = t .given; lost = t .given; held = λ x. none }
+
+abbrev pub tokensAfter : Tokens → Event → Tokens
+tokensAfter t (claimed o now (refused r)) = t
+tokensAfter t (claimed o now (done h)) = givesOut t h
+tokensAfter t (acked o g (refused r)) = t
+tokensAfter t (acked o g (done u)) = givesUp t o
+tokensAfter t (termed o g (refused r)) = t
+tokensAfter t (termed o g (done u)) = givesUp t o
+tokensAfter t (nacked o g now d (refused r)) = t
+tokensAfter t (nacked o g now d (done deadline)) = givesUp t o
+tokensAfter t (extended o g now a) = t
+tokensAfter t (committed bound (refused r)) = t
+tokensAfter t (committed bound (done moved)) = givesUpBelow t bound
+tokensAfter t (looked q a) = t
+tokensAfter t (begun a) = t
+tokensAfter t (stepped a) = t
+tokensAfter t (restarted (refused r)) = t
+tokensAfter t (restarted (done s)) = losesAll t
+tokensAfter t (failed new) = t
+
+-- the answer to a call with the token (o, g)
+pub record StaleRefused {A : Type 0} (t : Tokens) (o g : ℕ) (a : Result A) : Type 0 where
+  -- a token that was given and is not the one that its offset is held under
+  pub stale : t .given o g ≡ true → (t .held o ≡ some g → ⊥) → a ≡ refused Fenced
+  pub lost : t .lost o g ≡ true → a ≡ refused Fenced
+
+abbrev pub TokenRight : Tokens → Event → Type 0
+TokenRight t (claimed o now a) = Unit {0}
+TokenRight t (acked o g a) = StaleRefused t o g a
+TokenRight t (termed o g a) = StaleRefused t o g a
+TokenRight t (nacked o g now d a) = StaleRefused t o g a
+TokenRight t (extended o g now a) = StaleRefused t o g a
+TokenRight t (committed bound a) = Unit {0}
+TokenRight t (looked q a) = Unit {0}
+TokenRight t (begun a) = Unit {0}
+TokenRight t (stepped a) = Unit {0}
+TokenRight t (restarted a) = Unit {0}
+TokenRight t (failed new) = Unit {0}
+
+unfoldable pub TokensRight : Tokens → List Event → Type 0
+TokensRight t [] = Unit {0}
+TokensRight t (e ∷ es) = TokenRight t e × TokensRight (tokensAfter t e) es
+
+-- every list, from every fresh consumer on a zeroed journal
+unfoldable pub NoStaleToken : Type 0
+NoStaleToken =
+    (c : Settings) (size : ℕ) (s : State) (items : List Item) → Fits (c .policy) → start c size ≡ done s
+    → TokensRight noTokens (run c (begins s size) items)

@@ -1,0 +1,16 @@
+-- `LeaseTable::carried` meets its contract.
+-- Assumes nothing.
+use borrow.Author.Needs.{needs}
+use Rattle.lease.proofs.Slots.{length-mapped, Full}
+use Rattle.lease.proofs.Searches.{carried-length}
+use Rattle.lease.proofs.LeaseTable.carried.Statement.{statement}
+use Rattle.lease.proofs.LeaseTable.carried.Tie as tie
+
+full : (c : tie.Start) → Full (c .args .self)
+full c = record { offsets = search needs; leases = search (needs, length-mapped); carried-offsets = search needs; carried-counts = search needs }
+
+returns : tie.Need-returns
+returns c = carried-length (c .args .self) (full c) (c .pre)
+
+pub carried-spec : {M : Type 1} → statement M
+carried-spec = tie.close (tie.spec returns)

@@ -1,0 +1,48 @@
+-- `LeaseTable::lease_of` meets its contract.
+-- Assumes nothing.
+use native.Mathlib.Omega.{arith}
+use mathlib.Core.Path.{sym}
+use borrow.Author.Needs.{needs}
+use Rattle.lease.proofs.Slots.{length-mapped, Full, Leased, ascending, leased, free}
+use Rattle.lease.proofs.LeaseTable.lease_of.Statement.{statement}
+use Rattle.lease.proofs.LeaseTable.lease_of.Tie as tie
+
+full : (c : tie.Start) → Full (c .args .t1)
+full c = record { offsets = search needs; leases = search (needs, length-mapped); carried-offsets = search needs; carried-counts = search needs }
+
+abbrev start : tie.After-place → tie.Start
+start c = c .before .before .before .before .before .before
+
+here : (c : tie.After-place) → Leased (start c .args .t1) (start c .args .offset .0) (c .place .given .0 .0)
+here c = let s = start c in leased (s .args .t1) (full s) (s .pre) (c .before .before .find .ensures) (c .place .given .1)
+
+find-requires : tie.Need-find-requires
+find-requires c κs =
+    let s = c .before .before .before in
+    let f = full s in
+    (omega (arith, f .offsets, s .pre .len), ascending (s .args .t1) f (s .pre))
+
+enum-known-place : tie.Need-enum-known-place
+enum-known-place c = search needs
+
+enum-told : tie.Need-enum-told
+enum-told c = search needs
+
+returns : tie.Need-returns
+returns c =
+    let s = c .before .before .before .before .before .before in
+    sym (free (s .args .t1) (full s) (s .pre) (c .before .before .find .ensures) (c .enum-told .given .1) .is)
+
+mul-t8 : tie.Need-mul-t8
+mul-t8 c = let p = c .before in omega (arith, here p .inside, start p .pre .len)
+
+element-copy-out-t11 : tie.Need-element-copy-out-t11
+element-copy-out-t11 c = let p = c .before in omega (arith, here p .inside, start p .pre .len)
+
+returns-2 : tie.Need-returns-2
+returns-2 c = sym (here (c .before .before) .is)
+
+pub lease-of-spec : {M : Type 1} → statement M
+lease-of-spec =
+    tie.close
+    (tie.spec find-requires enum-known-place enum-told returns mul-t8 element-copy-out-t11 returns-2)

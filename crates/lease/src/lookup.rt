@@ -1,0 +1,65 @@
+// What a table says of one offset, and whether anything is in flight below a bound.
+ghost use mathlib.Core.Path.{_≡_};
+ghost use lib.ListN.{length};
+ghost use Rattle.types.specs.Keyed.{lookup, anyBelow};
+ghost use Rattle.lease.specs.State.{Sound, view};
+ghost use Rattle.lease.specs.Claim.{leaseOf};
+ghost use Rattle.lease.specs.Answers.{attemptsOf};
+ghost use Rattle.lease.specs.Lookup.{leaseAt};
+use crate::Attempts;
+use crate::Lease;
+use crate::LeaseTable;
+use crate::columns;
+use crate::columns::Place;
+use types::Offset;
+
+// The lease of an offset, where it has one.
+pub enum LeaseAt {
+    Some(Lease),
+    None,
+}
+
+impl LeaseTable {
+    // The lease of an offset, run out or not.
+    pub fn lease_of(self, offset: Offset) -> LeaseAt
+        requires { ⌜ Sound self ⌝ }
+        ensures { λ r. ⌜ leaseAt r ≡ leaseOf (view self) (offset .0) ⌝ }
+    {
+        let place = columns::find(&self.offsets, self.len, offset.0);
+        let Place::Found(at) = place else {
+            return LeaseAt::None;
+        };
+        LeaseAt::Some(self.leases[at])
+    }
+
+    // The count that a restart carried over for an offset, until it is claimed.
+    pub fn carried_count(self, offset: Offset) -> Attempts
+        requires { ⌜ Sound self ⌝ }
+        ensures { λ r. ⌜ attemptsOf r ≡ lookup (offset .0) (view self .carried) ⌝ }
+    {
+        let place = columns::find(&self.carried_offsets, self.carried_len, offset.0);
+        let Place::Found(at) = place else {
+            return Attempts::None;
+        };
+        Attempts::Some(self.carried_counts[at])
+    }
+
+    // How many counts are carried.
+    pub fn carried(self) -> usize
+        requires { ⌜ Sound self ⌝ }
+        ensures { λ r. ⌜ r ≡ length (view self .carried) ⌝ }
+    {
+        self.carried_len
+    }
+
+    // Whether an offset below the bound is in flight. The leases are sorted, so the first one tells.
+    pub fn holds_below(self, bound: Offset) -> bool
+        requires { ⌜ Sound self ⌝ }
+        ensures { λ r. ⌜ r ≡ anyBelow (bound .0) (view self .leases) ⌝ }
+    {
+        if self.len == 0 {
+            return false;
+        }
+        self.offsets[0] < bound.0
+    }
+}
