@@ -28,7 +28,7 @@ use Rattle.consumer.proofs.Effects.{claimed-count, acked-count, nacked-count, p
 use Rattle.consumer.proofs.Open.{ClaimOpen, claim-cases, AckOpen, ack-cases, nack-cases, progressed, progress-cases, commit-cases}
 use Rattle.machine.specs.Calls.{Ask, claim, ack, term, nack, progress, commit, look, fits, u64, Event, claimed, acked, termed, nacked, extended, committed}
 use Rattle.machine.specs.Door.{idle, asked}
-use Rattle.crash_safety.specs.Book.{turnedTo, handedOut, settle, settleBelow}
+use Rattle.crash_safety.specs.Book.{turnedTo, handedOut, settle, only, below}
 use Rattle.crash_safety.specs.Runs.{world}
 use Rattle.crash_safety.proofs.Law.{Ledger, ledger, noted, Law, Lawful}
 use Rattle.crash_safety.proofs.Runs.{Made, Answered}
@@ -78,13 +78,13 @@ module _ (c : Settings) (n : ℕ) (l : Ledger) (s : State) (a : List ℕ) (inv :
           counted = next-count s (now .valid) o ∙ ap (λ k. sat32 k 1) (now .agrees .counts o);
           destined = ap (λ q. disposition q (nextCount (s .table) o)) (now .policy);
           under = omega (arith, p .below-threshold, now .redeliveries, ap (λ q. q .flushRedeliveries) (now .policy));
-          fresh = now .floor;
         }
 
     counts-after : (x : ℕ) → countOf (consumer.claimed s o clock) x ≡ handedOut (l .book .page) o .count x
     counts-after x = claimed-count s o clock (now .valid) p m x ∙ rw (now .agrees .counts x)
 
-    raised : afterGrant (s .table .redeliveries) (nextCount (s .table) o) ≡ cond (leb 2 (nextCount (s .table) o)) (l .redeliveries + 1) (l .redeliveries)
+    raised : afterGrant (s .table .redeliveries) (nextCount (s .table) o)
+        ≡ cond (leb 2 (nextCount (s .table) o)) (l .redeliveries + 1) (l .redeliveries)
     raised =
         split (leb 2 (nextCount (s .table) o))
         (λ t. rw t (omega (arith, p .below-threshold, now .valid .policy .fits .threshold-fits, now .redeliveries)))
@@ -100,16 +100,17 @@ module _ (c : Settings) (n : ℕ) (l : Ledger) (s : State) (a : List ℕ) (inv :
 
   claim-kept : (o clock : ℕ) → o ≤ MAX → Kept (claimed o clock) (consumer.claim s o clock)
   claim-kept o clock m =
-      claim-cases s o clock (Kept (claimed o clock)) (λ r. record { says = tt; keeps = inv })
-      (λ p. record { says = lawful o clock m p; keeps = handed-out o clock m p })
+      claim-cases s o clock (Kept (claimed o clock)) (λ r. record { says = (tt, tt, tt); keeps = inv })
+      (λ p. record { says = (tt, now .floor, lawful o clock m p); keeps = handed-out o clock m p })
+
+  -- the ledger with more offsets settled
+  abbrev settledMore : (ℕ → Bool) → Ledger
+  settledMore named = ledger (turnedTo (l .book) (settle (l .book .page) named)) (l .redeliveries) (l .floor)
 
   -- ## Ack and Term
-  abbrev settledOne : ℕ → Ledger
-  settledOne o = ledger (turnedTo (l .book) (settle (l .book .page) o)) (l .redeliveries) (l .floor)
-
-  settles-one : (o g : ℕ) → AckOpen s o g → Inv c n (settledOne o) (world (idle (consumer.acked s o)) a)
+  settles-one : (o g : ℕ) → AckOpen s o g → Inv c n (settledMore (only o)) (world (idle (consumer.acked s o)) a)
   settles-one o g p =
-      with-ledger (settledOne o) (consumer.acked s o .cursor) (consumer.acked s o .table) refl
+      with-ledger (settledMore (only o)) (consumer.acked s o .cursor) (consumer.acked s o .table) refl
       (acked-valid s o g (now .valid) p)
       (record {
         settles = λ x. acked-settled s o g (now .valid) p x ∙ ap (λ t. eqb x o || t) (now .agrees .settles x);
@@ -120,21 +121,21 @@ module _ (c : Settings) (n : ℕ) (l : Ledger) (s : State) (a : List ℕ) (inv :
 
   ack-kept : (o g : ℕ) → Kept (acked o g) (consumer.ack s o g)
   ack-kept o g =
-      ack-cases s o g (Kept (acked o g)) (λ r. record { says = tt; keeps = inv })
-      (λ p. record { says = tt; keeps = settles-one o g p })
+      ack-cases s o g (Kept (acked o g)) (λ r. record { says = (tt, tt, tt); keeps = inv })
+      (λ p. record { says = (tt, tt, tt); keeps = settles-one o g p })
 
   term-kept : (o g : ℕ) → Kept (termed o g) (consumer.ack s o g)
   term-kept o g =
-      ack-cases s o g (Kept (termed o g)) (λ r. record { says = tt; keeps = inv })
-      (λ p. record { says = tt; keeps = settles-one o g p })
+      ack-cases s o g (Kept (termed o g)) (λ r. record { says = (tt, tt, tt); keeps = inv })
+      (λ p. record { says = (tt, tt, tt); keeps = settles-one o g p })
 
   -- ## Nack and Progress
   nack-kept : (o g clock : ℕ) (d : Option ℕ) → Kept (nacked o g clock d) (consumer.nack s o g clock d)
   nack-kept o g clock d =
-      nack-cases s o g clock d (Kept (nacked o g clock d)) (λ r. record { says = tt; keeps = inv })
+      nack-cases s o g clock d (Kept (nacked o g clock d)) (λ r. record { says = (tt, tt, tt); keeps = inv })
       (λ p. let deadline : ℕ = nackDeadline s o clock d in
       record {
-        says = tt;
+        says = (tt, tt, tt);
         keeps = with-ledger l (s .cursor) (lease.requeue (s .table) o deadline) refl
             (nacked-valid s o g deadline (now .valid) p)
             (record {
@@ -147,10 +148,10 @@ module _ (c : Settings) (n : ℕ) (l : Ledger) (s : State) (a : List ℕ) (inv :
 
   progress-kept : (o g clock : ℕ) → Kept (extended o g clock) (consumer.progress s o g clock)
   progress-kept o g clock =
-      progress-cases s o g clock (Kept (extended o g clock)) (λ r. record { says = tt; keeps = inv })
+      progress-cases s o g clock (Kept (extended o g clock)) (λ r. record { says = (tt, tt, tt); keeps = inv })
       (λ p. let deadline : ℕ = lease.extended (s .table) o clock in
       record {
-        says = tt;
+        says = (tt, tt, tt);
         keeps = with-ledger l (s .cursor) (progressed s o deadline .table) refl
             (progressed-valid s o g clock deadline (now .valid) p)
             (record {
@@ -163,13 +164,10 @@ module _ (c : Settings) (n : ℕ) (l : Ledger) (s : State) (a : List ℕ) (inv :
 
   -- ## Commit
   module _ (bound : ℕ) where
-    abbrev settledBelow : Ledger
-    settledBelow = ledger (turnedTo (l .book) (settleBelow (l .book .page) bound)) (l .redeliveries) (l .floor)
-
     -- all below the bound is settled already, and has no count
-    unchanged : bound ≤ s .cursor .committed → Inv c n settledBelow (world (idle s) a)
+    unchanged : bound ≤ s .cursor .committed → Inv c n (settledMore (below bound)) (world (idle s) a)
     unchanged h =
-        with-ledger settledBelow (s .cursor) (s .table) refl (now .valid)
+        with-ledger (settledMore (below bound)) (s .cursor) (s .table) refl (now .valid)
         (record {
           settles = λ x. unchanged-settled s bound h x ∙ ap (λ t. ltb x bound || t) (now .agrees .settles x);
           counts = λ x. unchanged-count s bound h (now .valid) x ∙ ap (cond (ltb x bound) 0) (now .agrees .counts x);
@@ -177,9 +175,9 @@ module _ (c : Settings) (n : ℕ) (l : Ledger) (s : State) (a : List ℕ) (inv :
         (now .redeliveries)
         (now .floor)
 
-    moved : bound ≤ MAX → Inv c n settledBelow (world (idle (committedTo s bound)) a)
+    moved : bound ≤ MAX → Inv c n (settledMore (below bound)) (world (idle (committedTo s bound)) a)
     moved m =
-        with-ledger settledBelow (committedTo s bound .cursor) (committedTo s bound .table) refl
+        with-ledger (settledMore (below bound)) (committedTo s bound .cursor) (committedTo s bound .table) refl
         (committed-valid s bound (now .valid) m)
         (record {
           settles = λ x. committed-settled s bound (now .valid) x ∙ ap (λ t. ltb x bound || t) (now .agrees .settles x);
@@ -190,9 +188,9 @@ module _ (c : Settings) (n : ℕ) (l : Ledger) (s : State) (a : List ℕ) (inv :
 
     commit-kept : bound ≤ MAX → Kept (committed bound) (consumer.commit s bound)
     commit-kept m =
-        commit-cases s bound (Kept (committed bound)) (λ r. record { says = tt; keeps = inv })
-        (λ h. record { says = tt; keeps = unchanged h })
-        (λ p. record { says = tt; keeps = moved m })
+        commit-cases s bound (Kept (committed bound)) (λ r. record { says = (tt, tt, tt); keeps = inv })
+        (λ h. record { says = (tt, tt, tt); keeps = unchanged h })
+        (λ p. record { says = (tt, tt, tt); keeps = moved m })
 
   -- ## all of them; a question changes nothing
   pub ask-kept : (q : Ask) → fits q ≡ true → Answered noted (Law (c .policy)) (Inv c n) l (asked s a q)
@@ -202,4 +200,4 @@ module _ (c : Settings) (n : ℕ) (l : Ledger) (s : State) (a : List ℕ) (inv :
   ask-kept (nack o g clock d) f = nack-kept o g clock d
   ask-kept (progress o g clock) f = progress-kept o g clock
   ask-kept (commit bound) f = commit-kept bound (leb-true bound MAX f)
-  ask-kept (look q) f = record { says = tt; keeps = inv }
+  ask-kept (look q) f = record { says = (tt, tt, tt); keeps = inv }

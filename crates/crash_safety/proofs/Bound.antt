@@ -11,7 +11,7 @@ use native.Mathlib.Omega.{arith}
 use mathlib.Core.Path.{_≡_, refl}
 use mathlib.Core.Bool.{Bool, true, false, cond, _&&_, _||_, true≢false}
 use mathlib.Core.List.{List, [], _∷_}
-use lib.Dec.{ltb, leb, eqb}
+use lib.Dec.{leb, eqb}
 use borrow.Author.Tests.{leb-true, leb-false, eqb-true, ne-eqb, lt-ltb, le-ltb}
 use Rattle.types.specs.Limits.{MAX32, sat32}
 use Rattle.types.specs.Refusal.{refused, done}
@@ -19,9 +19,9 @@ use Rattle.types.proofs.Cases.{split}
 use Rattle.delivery.specs.Policy.{Policy, disposition}
 use Rattle.consumer.specs.Calls.{HandOut}
 use Rattle.machine.specs.Calls.{Event, claimed, acked, termed, nacked, extended, committed, looked, begun, stepped, restarted, failed}
-use Rattle.crash_safety.specs.Book.{Page, Book, handedOut, settle, settleBelow, turnedTo, renewed, wentBack, note}
-use Rattle.crash_safety.specs.Demand3.{handed, forDelivery, delivered, deliveries}
-use Rattle.crash_safety.proofs.Law.{Ledger, emptyLedger, noted, Lawful, Law, Along, since}
+use Rattle.crash_safety.specs.Book.{Page, Book, handedOut, settle, only, below, turnedTo, renewed, wentBack, note}
+use Rattle.crash_safety.specs.Demand3.{handed, forDelivery, delivers, counted, handOuts}
+use Rattle.crash_safety.proofs.Law.{Ledger, emptyLedger, noted, Lawful, HandsOut, Law, Along, since}
 
 -- the restarts among the events
 abbrev pub isRestart : Event → ℕ
@@ -51,18 +51,11 @@ record Fewer (p q : Page) : Type 0 where
   unsettled : (o : ℕ) → q .settled o ≡ false → p .settled o ≡ false
   count : (o : ℕ) → q .settled o ≡ false → q .count o ≡ p .count o
 
-fewer-settle : (p : Page) (o : ℕ) → Fewer p (settle p o)
-fewer-settle p o =
+fewer-settled : (p : Page) (named : ℕ → Bool) → Fewer p (settle p named)
+fewer-settled p named =
     record {
-      unsettled = λ x e. neither (eqb x o) (p .settled x) e .1;
-      count = λ x e. rw (neither (eqb x o) (p .settled x) e .0);
-    }
-
-fewer-below : (p : Page) (bound : ℕ) → Fewer p (settleBelow p bound)
-fewer-below p bound =
-    record {
-      unsettled = λ x e. neither (ltb x bound) (p .settled x) e .1;
-      count = λ x e. rw (neither (ltb x bound) (p .settled x) e .0);
+      unsettled = λ x e. neither (named x) (p .settled x) e .1;
+      count = λ x e. rw (neither (named x) (p .settled x) e .0);
     }
 
 -- ## the bounds
@@ -161,13 +154,19 @@ module _ (p : Policy) (limited : 0 < p .maxDeliver) (fires : p .maxDeliver < MAX
           }
 
   abbrev After : Ledger → (ℕ → ℕ) → ℕ → Event → Type 0
-  After l D C e = Bounds (note (l .book) e) (λ x. D x + delivered x (handed e)) (C + isRestart e) (since (l .redeliveries) e)
+  After l D C e = Bounds (note (l .book) e) (λ x. D x + counted (delivers x) (handed e)) (C + isRestart e) (since (l .redeliveries) e)
 
   module _ (l : Ledger) (D : ℕ → ℕ) (C : ℕ) (k : Bounds (l .book) D C (l .redeliveries)) where
     lawful-hands : (o now : ℕ) (h : HandOut) → Lawful p l o h → After l D C (claimed o now (done h))
     lawful-hands o now h w =
         rw (w .offset, w .destined, for-delivery (h .deliveries))
         (hands (l .book) D C (l .redeliveries) k o (h .deliveries) (w .unsettled) (w .counted) (w .under))
+
+    settled-more : (named : ℕ → Bool) → Bounds (turnedTo (l .book) (settle (l .book .page) named)) (λ x. D x + 0) (C + 0) (l .redeliveries)
+    settled-more named = settles (l .book) D C (l .redeliveries) k (settle (l .book .page) named) (fewer-settled (l .book .page) named)
+
+    unmoved : Bounds (l .book) (λ x. D x + 0) (C + 0) (l .redeliveries)
+    unmoved = same (l .book) D C (l .redeliveries) k
 
     step-ends : (last : Bool) → Bounds (cond last (renewed (l .book)) (l .book)) (λ x. D x + 0) (C + 0) (cond last 0 (l .redeliveries))
     step-ends true = renews (l .book) D C (l .redeliveries) k 0 (omega arith)
@@ -177,34 +176,33 @@ module _ (p : Policy) (limited : 0 < p .maxDeliver) (fires : p .maxDeliver < MAX
     cut-ends true = renews (l .book) D C (l .redeliveries) k (l .redeliveries) (k .low)
     cut-ends false = same (l .book) D C (l .redeliveries) k
 
-    one : (e : Event) → Law p l e → After l D C e
-    one (claimed o now (refused r)) w = same (l .book) D C (l .redeliveries) k
+    one : (e : Event) → HandsOut p l e → After l D C e
+    one (claimed o now (refused r)) w = unmoved
     one (claimed o now (done h)) w = lawful-hands o now h w
-    one (acked o g (refused r)) w = same (l .book) D C (l .redeliveries) k
-    one (acked o g (done u)) w = settles (l .book) D C (l .redeliveries) k (settle (l .book .page) o) (fewer-settle (l .book .page) o)
-    one (termed o g (refused r)) w = same (l .book) D C (l .redeliveries) k
-    one (termed o g (done u)) w = settles (l .book) D C (l .redeliveries) k (settle (l .book .page) o) (fewer-settle (l .book .page) o)
-    one (nacked o g now d a) w = same (l .book) D C (l .redeliveries) k
-    one (extended o g now a) w = same (l .book) D C (l .redeliveries) k
-    one (committed bound (refused r)) w = same (l .book) D C (l .redeliveries) k
-    one (committed bound (done moved)) w =
-        settles (l .book) D C (l .redeliveries) k (settleBelow (l .book .page) bound) (fewer-below (l .book .page) bound)
-    one (looked q a) w = same (l .book) D C (l .redeliveries) k
-    one (begun a) w = same (l .book) D C (l .redeliveries) k
-    one (stepped (refused r)) w = same (l .book) D C (l .redeliveries) k
+    one (acked o g (refused r)) w = unmoved
+    one (acked o g (done u)) w = settled-more (only o)
+    one (termed o g (refused r)) w = unmoved
+    one (termed o g (done u)) w = settled-more (only o)
+    one (nacked o g now d a) w = unmoved
+    one (extended o g now a) w = unmoved
+    one (committed bound (refused r)) w = unmoved
+    one (committed bound (done moved)) w = settled-more (below bound)
+    one (looked q a) w = unmoved
+    one (begun a) w = unmoved
+    one (stepped (refused r)) w = unmoved
     one (stepped (done x)) w = step-ends (x .last)
     one (restarted (refused r)) w = refuses (l .book) D C (l .redeliveries) k
     one (restarted (done s)) w = goes-back (l .book) D C (l .redeliveries) k
     one (failed new) w = cut-ends new
 
   all : (es : List Event) (l : Ledger) (D : ℕ → ℕ) (C : ℕ) → Bounds (l .book) D C (l .redeliveries) → Along noted (Law p) l es
-      → (o : ℕ) → D o + deliveries o es ≤ M + (C + restartsSeen es) * (N + 1)
-  unfolding Along deliveries restartsSeen
+      → (o : ℕ) → D o + handOuts (delivers o) es ≤ M + (C + restartsSeen es) * (N + 1)
+  unfolding Along handOuts restartsSeen
   all [] l D C k h o = omega (arith, k .always o)
   all (e ∷ es) l D C k h o =
-      omega (arith, all es (noted l e) (λ x. D x + delivered x (handed e)) (C + isRestart e) (one l D C k e (h .0)) (h .1) o)
+      omega (arith, all es (noted l e) (λ x. D x + counted (delivers x) (handed e)) (C + isRestart e) (one l D C k e (h .0 .2)) (h .1) o)
 
-  pub bounded : (es : List Event) → Along noted (Law p) emptyLedger es → (o : ℕ) → deliveries o es ≤ M + restartsSeen es * (N + 1)
+  pub bounded : (es : List Event) → Along noted (Law p) emptyLedger es → (o : ℕ) → handOuts (delivers o) es ≤ M + restartsSeen es * (N + 1)
   bounded es h o = omega (arith, all es emptyLedger (λ x. 0) 0 nothing-yet h o)
     where
       nothing-yet : Bounds (emptyLedger .book) (λ x. 0) 0 0

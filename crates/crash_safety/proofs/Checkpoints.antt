@@ -1,133 +1,149 @@
--- What each block write of a checkpoint makes of the journal. A block that is no header, whole or torn, leaves it as it was. With
--- the header in its place behind the groups, the journal holds the state that was taken at begin, without its leases and with
--- their counts carried. Assumes nothing.
-use Prim.Native.Nat.{ℕ, suc, _+_, _*_, _/_, _≤_, _<_, _^_}
+-- A checkpoint made step by step: from a state with room for one more group, begin and each step are made as they should be, the
+-- journal holds what it held until the header is there, and the last step leaves the state. Assumes nothing.
+use Prim.Native.Nat.{ℕ, zero, suc, _+_, _≤_, _<_}
 use native.Mathlib.Omega.{arith}
-use mathlib.Core.Path.{_≡_, refl, ap, _∙_}
-use mathlib.Core.Bool.{false}
-use mathlib.Core.List.{List}
+use mathlib.Core.Path.{_≡_, refl, sym, ap, _∙_}
+use mathlib.Core.Bool.{true, false}
+use mathlib.Core.List.{List, [], _∷_, _++_}
 use mathlib.Core.Option.{some}
-use lib.ListN.{length}
-use lib.Seq.{take-at, drop-at, take-all}
+use lib.ListN.{length, replicate}
+use borrow.Author.Tests.{eq-eqb, le-ltb, lt-leb, le-leb}
 use Rattle.types.specs.Refusal.{done}
-use Rattle.cursor.proofs.Snapshot.{cursor-back}
-use Rattle.attempt.proofs.Snapshot.{attempts-back}
-use Rattle.lease.specs.Counts.{allAttemptCounts}
-use Rattle.journal.specs.Area.{blockAt, writeAt}
-use Rattle.journal.specs.Sound.{heads}
-use Rattle.journal.specs.Walks.{payload}
-use Rattle.journal.specs.Blocks.{cursorLength, attemptLength, ceilingOf}
-use Rattle.journal.proofs.Area.{whole-says, write-length}
-use Rattle.journal.proofs.Blocks.{header-length, header-ceiling, header-cursor, header-attempt}
-use Rattle.consumer.specs.State.{Settings, State}
-use Rattle.consumer.specs.Checkpoint.{cursorBytes, attemptBytes, payloadOf, bodies, newCeiling, bodyOf, headerOf, flushed}
-use Rattle.consumer.specs.Restart.{readGroup}
-use Rattle.consumer.specs.Valid.{Accepted, Valid}
-use Rattle.consumer.proofs.Payload.{PayloadFits, payload-fits}
-use Rattle.consumer.proofs.Restart.{resumed-valid}
-use Rattle.consumer.proofs.Counts.{counts-rising, counts-fit, counts-few, counts-counted, counts-unsettled, counts-carried}
-use Rattle.crash_safety.proofs.Invariant.{Groups, Saved, restored, Journal}
-use Rattle.crash_safety.proofs.Groups.{read-same, write-outside, groups-kept, one-more}
+use Rattle.journal.specs.Area.{writeAt}
+use Rattle.consumer.specs.State.{Settings, State, blocksOf}
+use Rattle.consumer.specs.Checkpoint as checkpoint
+use Rattle.consumer.specs.Checkpoint.{bodies, bodyOf, headerOf, flushed}
+use Rattle.machine.specs.Calls.{begin, step, begun, stepped}
+use Rattle.machine.specs.Door.{idle, writing, Turn, door}
+use Rattle.crash_safety.specs.Runs.{Item, call, World, world, next, after, run, ends}
+use Rattle.crash_safety.specs.Recovery as recovery
+use Rattle.crash_safety.specs.Recovery.{HasRoom}
+use Rattle.crash_safety.specs.Useful.{Wrote, AllWrote}
+use Rattle.crash_safety.proofs.Law.{Ledger}
+use Rattle.crash_safety.proofs.Runs.{run-made, ends-made}
+use Rattle.crash_safety.proofs.Invariant.{Saved, Journal, Stands, Written}
+use Rattle.crash_safety.proofs.Journals.{stored}
+use Rattle.crash_safety.proofs.Writes.{none-written, body-journal, body-written, header-journal}
 
--- ## a block that is no header, behind the groups
-module _ (c : Settings) (n : ℕ) (a : List ℕ) (w : Saved) (j : Journal c n a w) (i : ℕ) (b : List ℕ)
-    (from : w .seat .block ≤ i) (to : i < n / 512) (whole : length b ≡ 512) where
-  inside : 512 * i + 512 ≤ length a
-  inside = omega (arith, j .size)
+-- ## items that write
+-- the items lead from the one world to the other, and none of them is refused
+pub record Leads (c : Settings) (w : World) (items : List Item) (v : World) : Type 0 where
+  pub ends-there : (is : List Item) → ends c w (items ++ is) ≡ ends c v is
+  pub wrote : (is : List Item) → AllWrote (run c v is) → AllWrote (run c w (items ++ is))
 
-  pub block-kept : heads b ≡ false → Journal c n (writeAt a i b) w
-  block-kept h =
-      let long : length (writeAt a i b) ≡ length a = write-length a i b inside whole in
-      record {
-        size = long ∙ j .size;
-        last = j .last;
-        groups = groups-kept a (n / 512) 1 0 (j .last) (w .seat) (j .groups) i b inside whole (λ q. absurd (omega arith)) h;
-        reads = read-same a (n / 512) 1 0 (j .last) (w .seat) (j .groups) c (writeAt a i b) long
-            (write-outside a (n / 512) 1 0 (j .last) (w .seat) (j .groups) i b inside whole (λ q. absurd (omega arith)))
-            ∙ j .reads;
-        valid = j .valid;
-      }
+leads-none : (c : Settings) (w : World) → Leads c w [] w
+leads-none c w = record { ends-there = λ is. refl; wrote = λ is h. h }
 
--- ## the header
--- what a checkpoint of this state stores
-abbrev pub stored : State → Saved
-stored s =
+leads-one : (c : Settings) (w : World) (i : Item) (items : List Item) (v : World) (t : Turn) → next c w i ≡ some t → Wrote (t .event)
+    → Leads c (after t) items v → Leads c w (i ∷ items) v
+unfolding AllWrote
+leads-one c w i items v t e h l =
     record {
-      cursor = s .cursor;
-      counts = allAttemptCounts (s .table);
-      ceiling = newCeiling s;
-      seat = flushed s .seat;
+      ends-there = λ is. ends-made c w i (items ++ is) t e ∙ l .ends-there is;
+      wrote = λ is k. rw (run-made c w i (items ++ is) t e) (h, l .wrote is k);
     }
 
-module _ (s : State) (v : Valid s) where
-  abbrev lc : ℕ
-  lc = length (cursorBytes s)
+-- one step more
+pub begun-more : (k : ℕ) (is : List Item) → recovery.begun (suc k) ++ is ≡ recovery.begun k ++ call step ∷ is
+begun-more k is = ap (λ (l : List Item). call begin ∷ l) (go k)
+  where
+    go : (m : ℕ) → replicate (suc m) (call step) ++ is ≡ replicate m (call step) ++ call step ∷ is
+    go zero = refl
+    go (suc m) = ap (λ (l : List Item). call step ∷ l) (go m)
 
-  abbrev la : ℕ
-  la = length (attemptBytes s)
+-- ## a checkpoint under way
+module _ (c : Settings) (n : ℕ) (v : Saved) (l : Ledger) (s : State) (now : Stands c n v l s) where
+  -- so many of its bodies are written, and the journal holds what it held
+  pub record Midway (k : ℕ) (a : List ℕ) : Type 0 where
+    pub journal : Journal c n a v
+    pub written : Written a (checkpoint.writing s k)
 
-  abbrev sizes : PayloadFits s
-  sizes = payload-fits s v
+  abbrev at : ℕ → List ℕ → World
+  at k a = world (writing (checkpoint.writing s k)) a
 
-  -- the header's group reads as the state
-  module _ (c : Settings) (a : List ℕ) (i : ℕ) (header : blockAt a i ≡ headerOf s) (content : payload a i ≡ payloadOf s) where
-    reads-stored : readGroup c a i (flushed s .seat) ≡ done (restored c (length a) (stored s))
-    reads-stored =
-        let k : ℕ = s .seat .number in
-        let lc-is : cursorLength (blockAt a i) ≡ lc = rw header (header-cursor k (newCeiling s) lc la (omega (arith, sizes .cursor-high))) in
-        let la-is : attemptLength (blockAt a i) ≡ la = rw header (header-attempt k (newCeiling s) lc la (omega (arith, sizes .attempt-high))) in
-        let ceiling-is : ceilingOf (blockAt a i) ≡ newCeiling s = rw header (header-ceiling k (newCeiling s) lc la (omega arith)) in
-        rw (
-          content,
-          lc-is,
-          la-is,
-          ceiling-is,
-          take-at (cursorBytes s) (attemptBytes s) lc refl,
-          drop-at (cursorBytes s) (attemptBytes s) lc refl,
-          take-all la (attemptBytes s) (omega arith),
-          cursor-back (s .cursor) (v .cursor),
-          attempts-back (allAttemptCounts (s .table)) (counts-rising s v) (counts-fit s v) (counts-few s v),
-          counts-carried s v,
-        )
+  -- m steps more lead to where e bodies are written
+  pub record Further (k e m : ℕ) (a : List ℕ) : Type 0 where
+    pub area : List ℕ
+    pub midway : Midway e area
+    pub leads : Leads c (at k a) (replicate m (call step)) (at e area)
 
-  -- the journal with the header
-  module _ (c : Settings) (n : ℕ) (size : s .size ≡ n) (policy : s .policy ≡ c .policy) (room : s .seat .block + suc (bodies s) ≤ n / 512) where
-    stored-valid : Valid (restored c n (stored s))
-    stored-valid =
-        let p : Accepted (c .policy) = rw policy at (v .policy) in
-        resumed-valid c n
-        (record { allowed = p .allowed; few-steps = p .few-steps; some-threshold = p .some-threshold; area = rw size at (v .area) })
-        (p .fits)
-        (s .cursor)
-        (allAttemptCounts (s .table))
-        (newCeiling s)
-        (flushed s .seat)
-        (v .cursor)
-        (record { rising = counts-rising s v; few = counts-few s v; counted = counts-counted s v; unsettled = counts-unsettled s v })
-        (omega arith)
-        (record { within = room; numbered = omega (arith, v .numbered) })
+  module _ (k : ℕ) (a : List ℕ) (mid : Midway k a) where
+    same-length : length a ≡ s .size
+    same-length = mid .journal .size ∙ sym (now .size)
 
-    module _ (a : List ℕ) (w : Saved) (j : Journal c n a w) (seat : s .seat ≡ w .seat)
-        (behind : (i : ℕ) → i < bodies s → blockAt a (s .seat .block + suc i) ≡ bodyOf s (suc i)) where
-      groups : Groups a (n / 512) 1 0 (j .last) (s .seat)
-      groups = rw seat (j .groups)
+    -- a step before the last
+    module _ (more : k < bodies s) where
+      abbrev longer : List ℕ
+      longer = writeAt a (s .seat .block + suc k) (bodyOf s (suc k))
 
-      small : s .seat .number < 256 ^ 4
-      small = omega (arith, v .numbered, v .within, whole-says (s .size) (v .area) .most)
+      body-step : next c (at k a) (call step) ≡ some (record {
+        event = stepped (done (record { block = s .seat .block + suc k; last = false }));
+        phase = writing (checkpoint.writing s (suc k));
+        area = longer;
+      })
+      unfolding next door checkpoint.step
+      body-step = rw (eq-eqb (length a) (s .size) same-length, lt-leb (bodies s) k more)
 
-      within : 512 * (n / 512) ≤ length a
-      within = omega (arith, j .size)
-
-      pub header-kept : Journal c n (writeAt a (s .seat .block) (headerOf s)) (stored s)
-      header-kept =
-          let more = one-more a (n / 512) 1 0 (j .last) (s .seat) groups (newCeiling s) lc la (payloadOf s)
-          (sizes .cursor-low) (sizes .cursor-high) (sizes .attempt-low) (sizes .attempt-high) (sizes .total) small room within behind in
-          let long : length (writeAt a (s .seat .block) (headerOf s)) ≡ n = write-length a (s .seat .block) (headerOf s) (omega (arith, within)) (header-length (s .seat .number) (newCeiling s) lc la) ∙ j .size in
+      midway-more : Midway (suc k) longer
+      midway-more =
           record {
-            size = long;
-            last = some (s .seat .block);
-            groups = more .groups;
-            reads = reads-stored c (writeAt a (s .seat .block) (headerOf s)) (s .seat .block) (more .header-is) (more .payload-is)
-                ∙ ap (λ m. done (restored c m (stored s))) long;
-            valid = stored-valid;
+            journal = body-journal c n v l a (checkpoint.writing s k) (mid .journal) now (mid .written) more;
+            written = body-written c n v l a (checkpoint.writing s k) (mid .journal) now (mid .written) more;
           }
+
+    -- the last step
+    module _ (all : bodies s ≤ k) where
+      abbrev full : List ℕ
+      full = writeAt a (s .seat .block) (headerOf s)
+
+      pub last-step : next c (at k a) (call step) ≡ some (record {
+        event = stepped (done (record { block = s .seat .block; last = true }));
+        phase = idle (flushed s);
+        area = full;
+      })
+      unfolding next door checkpoint.step
+      last-step = rw (eq-eqb (length a) (s .size) same-length, le-leb (bodies s) k all)
+
+      pub full-journal : Journal c n full (stored s)
+      full-journal = header-journal c n v l a (checkpoint.writing s k) (mid .journal) now (mid .written) all
+
+  pub further : (m k e : ℕ) → k + m ≡ e → e ≤ bodies s → (a : List ℕ) → Midway k a → Further k e m a
+  further zero k e q h a mid =
+      let same : e ≡ k = omega arith in
+      rw same (record { area = a; midway = mid; leads = leads-none c (at k a) })
+  further (suc m) k e q h a mid =
+      let more : k < bodies s = omega arith in
+      let rest = further m (suc k) e (omega arith) h (longer k a mid more) (midway-more k a mid more) in
+      record {
+        area = rest .area;
+        midway = rest .midway;
+        leads = leads-one c (at k a) (call step) (replicate m (call step)) (at e (rest .area)) _ (body-step k a mid more) tt (rest .leads);
+      }
+
+  -- ## from begin on
+  module _ (room : HasRoom s) (a : List ℕ) (journal : Journal c n a v) where
+    begin-step : next c (world (idle s) a) (call begin) ≡ some (record {
+      event = begun (done (suc (bodies s)));
+      phase = writing (checkpoint.writing s 0);
+      area = a;
+    })
+    unfolding next door checkpoint.begin
+    begin-step = rw (le-ltb (blocksOf s) (s .seat .block + suc (bodies s)) room)
+
+    midway-none : Midway 0 a
+    midway-none = record { journal = journal; written = none-written s a (now .valid) room }
+
+    -- begin and k steps
+    pub record Begun (k : ℕ) : Type 0 where
+      pub area : List ℕ
+      pub midway : Midway k area
+      pub leads : Leads c (world (idle s) a) (recovery.begun k) (at k area)
+
+    pub has-begun : (k : ℕ) → k ≤ bodies s → Begun k
+    has-begun k h =
+        let rest = further k 0 k (omega arith) h a midway-none in
+        record {
+          area = rest .area;
+          midway = rest .midway;
+          leads = leads-one c (world (idle s) a) (call begin) (replicate k (call step)) (at k (rest .area)) _ begin-step tt (rest .leads);
+        }

@@ -17,7 +17,7 @@ use Rattle.crash_safety.proofs.Bound.{bounded}
 use Rattle.crash_safety.proofs.Runs.{along}
 use Rattle.crash_safety.proofs.Restarts.{all-made}
 use Rattle.crash_safety.proofs.Invariant.{Inv}
-use Rattle.crash_safety.proofs.Items.{item-kept}
+use Rattle.crash_safety.proofs.Kept.{item-kept}
 use Rattle.crash_safety.proofs.Start.{begins-well}
 
 -- M lies strictly between 0 and the largest u32, so that counts pass it before they stop
@@ -36,7 +36,10 @@ unfolding Demand3
 demand-3 c n s items p e =
     let obeyed = lawfully c n s items (p .fits) e in
     record {
-      bound = λ o. rw (all-made c items (begins s n)) at (bounded (c .policy) (limits c p .0) (limits c p .1) (run c (begins s n) items) obeyed o);
+      bound = λ o. omega (
+        arith,
+        rw (all-made c items (begins s n)) at (bounded (c .policy) (limits c p .0) (limits c p .1) (run c (begins s n) items) obeyed o),
+      );
       generations = none-shared (c .policy) (run c (begins s n) items) emptyLedger obeyed;
       found = restarts-right (c .policy) (run c (begins s n) items) emptyLedger obeyed;
     }

@@ -35,7 +35,8 @@ module _ (a : List ℕ) (hi k₀ lo : ℕ) (last : Option ℕ) (seat : Seat) (g 
     pub read-same : lastGroup c a′ last seat ≡ lastGroup c a last seat
     read-same = go last refl (walk-ended a hi none k₀ lo last (seat .number) (seat .block) (g .walks) .last-is)
       where
-        go : (l : Option ℕ) → last ≡ l → LastIs a hi none k₀ lo last (seat .number) (seat .block) → lastGroup c a′ l seat ≡ lastGroup c a l seat
+        go : (l : Option ℕ) → last ≡ l → LastIs a hi none k₀ lo last (seat .number) (seat .block)
+            → lastGroup c a′ l seat ≡ lastGroup c a l seat
         go none e x = rw size
         go (some h) e (at-once p q r) = absurd (Option·none-ne-some h (sym p ∙ e))
         go (some h) e (behind i m p q r s t) =
@@ -59,11 +60,13 @@ module _ (a : List ℕ) (hi k₀ lo : ℕ) (last : Option ℕ) (seat : Seat) (g 
         }
 
   -- ## the header, behind which the bodies of its group stand
-  module _ (ceiling lc la : ℕ) (p : List ℕ) (c₁ : 13 ≤ lc) (c₂ : lc ≤ 2061) (a₁ : 9 ≤ la) (a₂ : la ≤ 1545) (total : length p ≡ lc + la)
+  module _ (ceiling lc la : ℕ) (p : List ℕ) (c₁ : 13 ≤ lc) (c₂ : lc ≤ 2061) (a₁ : 9 ≤ la) (a₂ : la ≤ 1545)
+      (total : length p ≡ lc + la)
       (small : seat .number < 256 ^ 4)
       (room : seat .block + suc (bodiesFor (length p)) ≤ hi)
       (within : 512 * hi ≤ length a)
-      (bodies : (j : ℕ) → j < bodiesFor (length p) → blockAt a (seat .block + suc j) ≡ bodyBlock (seat .number) (suc j) (chunkOf (suc j) p)) where
+      (bodies : (j : ℕ) → j < bodiesFor (length p)
+      → blockAt a (seat .block + suc j) ≡ bodyBlock (seat .number) (suc j) (chunkOf (suc j) p)) where
     abbrev header : List ℕ
     header = headerBlock (seat .number) ceiling lc la
 

@@ -14,11 +14,11 @@ use Rattle.cursor.specs.Cursor.{Cursor, settled}
 use Rattle.journal.specs.Area.{blockAt}
 use Rattle.journal.specs.Sound.{heads}
 use Rattle.journal.specs.Walks.{stop, walk}
-use Rattle.consumer.specs.State.{Settings, State, Seat, blocksOf}
+use Rattle.consumer.specs.State.{Settings, State, Seat}
 use Rattle.consumer.specs.Questions.{countOf}
-use Rattle.consumer.specs.Checkpoint.{Writing, bodies, bodyOf}
+use Rattle.consumer.specs.Checkpoint.{Writing, bodyOf}
 use Rattle.consumer.specs.Restart.{resumed, origin, lastGroup}
-use Rattle.consumer.specs.Valid.{Valid}
+use Rattle.consumer.specs.Valid.{Valid, ValidWriting}
 use Rattle.machine.specs.Door.{Phase, idle, writing, off}
 use Rattle.crash_safety.specs.Runs.{World}
 use Rattle.crash_safety.specs.Book.{Page}
@@ -67,12 +67,12 @@ pub record Stands (c : Settings) (n : ℕ) (v : Saved) (l : Ledger) (s : State) 
   pub redeliveries : s .table .redeliveries ≡ l .redeliveries
   pub floor : l .floor ≤ s .table .nextGeneration
 
--- the bodies that a record has written; there is room for the rest
+-- a record, whose first bodies stand behind the header's place
 pub record Written (a : List ℕ) (w : Writing) : Type 0 where
-  pub room : w .state .seat .block + suc (bodies (w .state)) ≤ blocksOf (w .state)
-  pub few : w .written ≤ bodies (w .state)
+  pub valid : ValidWriting w
   pub behind : (j : ℕ) → j < w .written → blockAt a (w .state .seat .block + suc j) ≡ bodyOf (w .state) (suc j)
 
+-- the state, a record, or nobody: then no generation was handed out that a restart's first one is not above
 abbrev pub Callable : Settings → ℕ → Saved → Ledger → List ℕ → Phase → Type 0
 Callable c n v l a (idle s) = Stands c n v l s
 Callable c n v l a (writing w) = Stands c n v l (w .state) × Written a w

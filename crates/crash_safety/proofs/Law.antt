@@ -4,7 +4,7 @@
 -- generations follow from this law without a look at the consumer, and so would any other bound on hand-outs.
 -- Assumes nothing.
 use Prim.Native.Nat.{ℕ, suc, _+_, _≤_, _<_}
-use mathlib.Core.Path.{_≡_}
+use mathlib.Core.Path.{_≡_, refl}
 use mathlib.Core.Bool.{false, cond}
 use mathlib.Core.List.{List, [], _∷_}
 use mathlib.Core.Option.{Option, none, some}
@@ -14,7 +14,7 @@ use Rattle.types.specs.Refusal.{refused, done}
 use Rattle.delivery.specs.Policy.{Policy, disposition}
 use Rattle.consumer.specs.Calls.{HandOut}
 use Rattle.machine.specs.Calls.{Event, claimed, acked, termed, nacked, extended, committed, looked, begun, stepped, restarted, failed}
-use Rattle.crash_safety.specs.Book.{Book, emptyBook, note}
+use Rattle.crash_safety.specs.Book.{Book, emptyBook, note, bookAfter}
 use Rattle.crash_safety.specs.Demand3.{handed, Right, RestartsRight}
 
 -- ## what the events before tell
@@ -40,6 +40,7 @@ abbrev pub above : ℕ → Option HandOut → ℕ
 above g none = g
 above g (some h) = suc (h .generation)
 
+-- the book, and both numbers
 pub record Ledger : Type 0 where
   pub book : Book
   pub redeliveries : ℕ
@@ -62,21 +63,29 @@ pub record Lawful (p : Policy) (l : Ledger) (o : ℕ) (h : HandOut) : Type 0 whe
   pub counted : h .deliveries ≡ sat32 (l .book .page .count o) 1
   pub destined : h .destination ≡ disposition p (h .deliveries)
   pub under : l .redeliveries < p .flushRedeliveries
-  pub fresh : l .floor ≤ h .generation
 
+abbrev pub HandsOut : Policy → Ledger → Event → Type 0
+HandsOut p l (claimed o now (refused r)) = Unit {0}
+HandsOut p l (claimed o now (done h)) = Lawful p l o h
+HandsOut p l (acked o g a) = Unit {0}
+HandsOut p l (termed o g a) = Unit {0}
+HandsOut p l (nacked o g now d a) = Unit {0}
+HandsOut p l (extended o g now a) = Unit {0}
+HandsOut p l (committed bound a) = Unit {0}
+HandsOut p l (looked q a) = Unit {0}
+HandsOut p l (begun a) = Unit {0}
+HandsOut p l (stepped a) = Unit {0}
+HandsOut p l (restarted a) = Unit {0}
+HandsOut p l (failed new) = Unit {0}
+
+-- what is handed out has a generation of at least g
+abbrev pub AtLeast : ℕ → Option HandOut → Type 0
+AtLeast g none = Unit {0}
+AtLeast g (some h) = g ≤ h .generation
+
+-- what a restart finds, the generation and the rest of a hand-out
 abbrev pub Law : Policy → Ledger → Event → Type 0
-Law p l (claimed o now (refused r)) = Unit {0}
-Law p l (claimed o now (done h)) = Lawful p l o h
-Law p l (acked o g a) = Unit {0}
-Law p l (termed o g a) = Unit {0}
-Law p l (nacked o g now d a) = Unit {0}
-Law p l (extended o g now a) = Unit {0}
-Law p l (committed bound a) = Unit {0}
-Law p l (looked q a) = Unit {0}
-Law p l (begun a) = Unit {0}
-Law p l (stepped a) = Unit {0}
-Law p l (restarted a) = Right (l .book .copy) (restarted a)
-Law p l (failed new) = Unit {0}
+Law p l e = Right (l .book .copy) e × AtLeast (l .floor) (handed e) × HandsOut p l e
 
 -- ## along a list of events
 -- P holds of each event, beside what `fold` makes of those before it
@@ -84,21 +93,17 @@ unfoldable pub Along : {G : Type 0} → (G → Event → G) → (G → Event →
 Along fold P g [] = Unit {0}
 Along fold P g (e ∷ es) = P g e × Along fold P (fold g e) es
 
--- the law has in it that restarts are right
-law-right : (p : Policy) (l : Ledger) (e : Event) → Law p l e → Right (l .book .copy) e
-law-right p l (claimed o now a) h = tt
-law-right p l (acked o g a) h = tt
-law-right p l (termed o g a) h = tt
-law-right p l (nacked o g now d a) h = tt
-law-right p l (extended o g now a) h = tt
-law-right p l (committed bound a) h = tt
-law-right p l (looked q a) h = tt
-law-right p l (begun a) h = tt
-law-right p l (stepped a) h = tt
-law-right p l (restarted a) h = h
-law-right p l (failed new) h = tt
+-- what `fold` makes of all of them
+unfoldable pub folded : {G : Type 0} → (G → Event → G) → G → List Event → G
+folded fold g [] = g
+folded fold g (e ∷ es) = folded fold (fold g e) es
+
+pub folded-book : (es : List Event) (l : Ledger) → folded noted l es .book ≡ bookAfter (l .book) es
+unfolding folded bookAfter
+folded-book [] l = refl
+folded-book (e ∷ es) l = folded-book es (noted l e)
 
 pub restarts-right : (p : Policy) (es : List Event) (l : Ledger) → Along noted (Law p) l es → RestartsRight (l .book) es
 unfolding Along RestartsRight
 restarts-right p [] l h = tt
-restarts-right p (e ∷ es) l h = (law-right p l e (h .0), restarts-right p es (noted l e) (h .1))
+restarts-right p (e ∷ es) l h = (h .0 .0, restarts-right p es (noted l e) (h .1))

@@ -30,12 +30,14 @@ use Rattle.consumer.proofs.Open.{claim-cases, ack-cases, Owned, nack-cases, pro
 use Rattle.machine.specs.Calls.{Ask, claim, ack, term, nack, progress, commit, look, Event, claimed, acked, termed, nacked, extended, committed, begin, step, restart}
 use Rattle.machine.specs.Door.{Phase, idle, writing, off, Turn, asked, beganAs, steppedAs, restartedAs}
 use Rattle.crash_safety.specs.Runs.{Cut, old, new, torn, Item, isTorn, cutAt, keepsJournal, World, world, next, run, begins}
-use Rattle.crash_safety.specs.Tokens.{Tokens, noTokens, givesOut, givesUp, givesUpBelow, losesAll, tokensAfter, StaleRefused, TokenRight, TokensRight, NoStaleToken}
+use Rattle.crash_safety.specs.Book.{only, below}
+use Rattle.crash_safety.specs.Tokens.{Tokens, noTokens, givesOut, givesUp, losesAll, tokensAfter, StaleRefused, TokenRight, TokensRight, NoStaleToken}
 use Rattle.crash_safety.proofs.Law.{Ledger, emptyLedger, noted, Law, Along}
-use Rattle.crash_safety.proofs.Runs.{along, foldBoth, Second, Says, Keeps, beside}
+use Rattle.crash_safety.proofs.Runs.{Answered, along, foldBoth, SaysBoth, KeepsBoth, Second, beside}
 use Rattle.crash_safety.proofs.Invariant.{Inv}
-use Rattle.crash_safety.proofs.Steps.{restart-finds}
-use Rattle.crash_safety.proofs.Items.{Shown, next-cases, item-kept}
+use Rattle.crash_safety.proofs.Journals.{restart-finds}
+use Rattle.crash_safety.proofs.Items.{Shown, next-cases}
+use Rattle.crash_safety.proofs.Kept.{item-kept}
 use Rattle.crash_safety.proofs.Start.{begins-well}
 
 -- ## what is known of tokens
@@ -43,7 +45,8 @@ pub record Known (t : Tokens) (floor : ℕ) (leases : List (Entry Lease)) : Type
   pub given-below : (o g : ℕ) → t .given o g ≡ true → g < floor
   pub lost-given : (o g : ℕ) → t .lost o g ≡ true → t .given o g ≡ true
   pub held-new : (o g : ℕ) → t .held o ≡ some g → t .lost o g ≡ true → ⊥
-  pub held-lease : (o : ℕ) (l : Lease) → lookup o leases ≡ some l → t .given o (l .generation .0) ≡ true → t .held o ≡ some (l .generation .0)
+  pub held-lease : (o : ℕ) (l : Lease) → lookup o leases ≡ some l → t .given o (l .generation .0) ≡ true
+      → t .held o ≡ some (l .generation .0)
 
 abbrev leasesOf : Phase → List (Entry Lease)
 leasesOf (idle s) = s .table .leases
@@ -92,44 +95,32 @@ module _ (t : Tokens) (floor : ℕ) (leases : List (Entry Lease)) (k : Known t f
             (λ s. let same : h .generation ≡ g = some-inj (rw s at q) in omega (arith, k .given-below o g (k .lost-given o g d)))
             (λ s. k .held-new o g (rw s at q) d);
         held-lease = λ o x q d. split (eqb o (h .offset))
-            (λ s. let same : l ≡ x = some-inj (sym (lookup-put-same (h .offset) l leases) ∙ (rw (eqb-true o (h .offset) s) at q)) in rw (s, ← same, e))
+            (λ s.
+            let same : l ≡ x = some-inj (sym (lookup-put-same (h .offset) l leases) ∙ (rw (eqb-true o (h .offset) s) at q)) in
+            rw (s, ← same, e))
             (λ s. rw s (k .held-lease o x (sym (lookup-put-other o (h .offset) l leases s) ∙ q) (rw s at d)));
       }
 
-  -- an offset is given up: it has no lease any more, or one under a generation that was not given
-  gives-up : (o : ℕ) (m : List (Entry Lease)) → ((x : ℕ) → eqb x o ≡ false → lookup x m ≡ lookup x leases)
-      → ((l : Lease) → lookup o m ≡ some l → t .given o (l .generation .0) ≡ true → ⊥)
-      → Known (givesUp t o) floor m
-  gives-up o m other own =
+  -- offsets are given up: they have no lease any more, or one under a generation that was not given
+  gives-up : (named : ℕ → Bool) (m : List (Entry Lease))
+      → ((x : ℕ) (l : Lease) → named x ≡ true → lookup x m ≡ some l → t .given x (l .generation .0) ≡ true → ⊥)
+      → ((x : ℕ) → named x ≡ false → lookup x m ≡ lookup x leases)
+      → Known (givesUp t named) floor m
+  gives-up named m own other =
       record {
         given-below = k .given-below;
         lost-given = k .lost-given;
-        held-new = λ x g q d. split (eqb x o)
+        held-new = λ x g q d. split (named x)
             (λ s. absurd (Option·none-ne-some g (rw s at q)))
             (λ s. k .held-new x g (rw s at q) d);
-        held-lease = λ x l q d. split (eqb x o)
-            (λ s. let e : x ≡ o = eqb-true x o s in absurd (own l (rw e at q) (rw e at d)))
+        held-lease = λ x l q d. split (named x)
+            (λ s. absurd (own x l s q d))
             (λ s. rw s (k .held-lease x l (sym (other x s) ∙ q) d));
       }
 
-  -- the same of all below a bound
-  gives-up-below : (bound : ℕ) (m : List (Entry Lease)) → ((x : ℕ) → ltb x bound ≡ true → lookup x m ≡ none)
-      → ((x : ℕ) → ltb x bound ≡ false → lookup x m ≡ lookup x leases)
-      → Known (givesUpBelow t bound) floor m
-  gives-up-below bound m below above =
-      record {
-        given-below = k .given-below;
-        lost-given = k .lost-given;
-        held-new = λ x g q d. split (ltb x bound)
-            (λ s. absurd (Option·none-ne-some g (rw s at q)))
-            (λ s. k .held-new x g (rw s at q) d);
-        held-lease = λ x l q d. split (ltb x bound)
-            (λ s. absurd (Option·none-ne-some l (sym (below x s) ∙ q)))
-            (λ s. rw s (k .held-lease x l (sym (above x s) ∙ q) d));
-      }
-
   -- a lease changed, and not its generation
-  keeps-generation : (o : ℕ) (v : Lease) (f : Lease → Lease) → lookup o leases ≡ some v → f v .generation .0 ≡ v .generation .0 → Known t floor (update o f leases)
+  keeps-generation : (o : ℕ) (v : Lease) (f : Lease → Lease) → lookup o leases ≡ some v → f v .generation .0 ≡ v .generation .0
+      → Known t floor (update o f leases)
   keeps-generation o v f own same =
       record {
         given-below = k .given-below;
@@ -178,7 +169,7 @@ Knows l t w = Known t (l .floor) (leasesOf (w .phase))
 
 module _ (c : Settings) (n : ℕ) (l : Ledger) (t : Tokens) where
   abbrev Next : Option Turn → Type 0
-  Next = Second noted (Law (c .policy)) (Inv c n) tokensAfter TokenRight Knows (l, t)
+  Next = Second noted tokensAfter TokenRight Knows (l, t)
 
   module _ (s : State) (a : List ℕ) (inv : Inv c n l (world (idle s) a)) (k : Known t (l .floor) (s .table .leases)) where
     abbrev Kept : {A : Type 0} → (Result A → Event) → Answer A State → Type 0
@@ -213,11 +204,11 @@ module _ (c : Settings) (n : ℕ) (l : Ledger) (t : Tokens) where
         claim-cases s o clock (Kept (claimed o clock)) (λ r. record { says = tt; keeps = k })
         (λ p. record { says = tt; keeps = gives-out t (l .floor) here k (handOut s o) _ (inv .callable .floor) refl })
 
-    acked-up : (o : ℕ) → Known (givesUp t o) (l .floor) (delete o here)
+    acked-up : (o : ℕ) → Known (givesUp t (only o)) (l .floor) (delete o here)
     acked-up o =
-        gives-up t (l .floor) here k o (delete o here)
+        gives-up t (l .floor) here k (only o) (delete o here)
+        (λ x v e q d. Option·none-ne-some v (sym (lookup-delete-same o here) ∙ (rw (eqb-true x o e) at q)))
         (λ x e. lookup-delete-other x o here e)
-        (λ x q d. Option·none-ne-some x (sym (lookup-delete-same o here) ∙ q))
 
     ack-knows : (o g : ℕ) → Kept (acked o g) (consumer.ack s o g)
     ack-knows o g =
@@ -234,14 +225,14 @@ module _ (c : Settings) (n : ℕ) (l : Ledger) (t : Tokens) where
         }
 
     -- the generation that a nack takes is at least the floor, so that nobody was given it
-    nacked-up : (o g deadline : ℕ) → Owned (s .table) o g → Known (givesUp t o) (l .floor) (consumer.nacked s o deadline .table .leases)
+    nacked-up : (o g deadline : ℕ) → Owned (s .table) o g → Known (givesUp t (only o)) (l .floor) (consumer.nacked s o deadline .table .leases)
     nacked-up o g deadline p =
         let f : Lease → Lease = requeuedAs (s .table .nextGeneration) deadline in
-        gives-up t (l .floor) here k o (update o f here)
+        gives-up t (l .floor) here k (only o) (update o f here)
+        (λ x v e q d.
+        let is : f (p .lease) ≡ v = some-inj (sym (lookup-update-same o f (p .lease) here (p .held)) ∙ (rw (eqb-true x o e) at q)) in
+        omega (arith, k .given-below x (s .table .nextGeneration) (rw (← is) at d), inv .callable .floor))
         (λ x e. lookup-update-other x o f here e)
-        (λ x q d.
-        let is : f (p .lease) ≡ x = some-inj (sym (lookup-update-same o f (p .lease) here (p .held)) ∙ q) in
-        omega (arith, k .given-below o (s .table .nextGeneration) (rw (← is) at d), inv .callable .floor))
 
     nack-knows : (o g clock : ℕ) (d : Option ℕ) → Kept (nacked o g clock d) (consumer.nack s o g clock d)
     nack-knows o g clock d =
@@ -274,9 +265,11 @@ module _ (c : Settings) (n : ℕ) (l : Ledger) (t : Tokens) where
         record {
           says = tt;
           keeps = commit-cases s bound (After (committed bound)) (λ r. k)
-              (λ h. gives-up-below t (l .floor) here k bound here (λ x e. none-below bound x h e) (λ x e. refl))
-              (λ p. gives-up-below t (l .floor) here k bound (dropBelow bound here)
-              (λ x e. lookup-drop-below x bound here e)
+              (λ h. gives-up t (l .floor) here k (below bound) here
+              (λ x v e q d. Option·none-ne-some v (sym (none-below bound x h e) ∙ q))
+              (λ x e. refl))
+              (λ p. gives-up t (l .floor) here k (below bound) (dropBelow bound here)
+              (λ x v e q d. Option·none-ne-some v (sym (lookup-drop-below x bound here e) ∙ q))
               (λ x e. lookup-keep-above x bound here e));
         }
 
@@ -317,11 +310,11 @@ module _ (c : Settings) (n : ℕ) (l : Ledger) (t : Tokens) where
   restart-knows : (accepted : Passed (startTable c n)) (p : Phase) (a : List ℕ) → Inv c n l (world p a) → Known t (l .floor) (leasesOf p)
       → Next (restartedAs p a (restarts.restart c a))
   restart-knows accepted p a inv k =
-      rw (restart-finds c n l a accepted (inv .saved) (inv .journal))
+      rw (restart-finds c n a (inv .saved) accepted (inv .journal))
       (record { says = tt; keeps = loses-all t (l .floor) (leasesOf p) k })
 
   -- ## each item
-  knows : (p : Phase) (a : List ℕ) → Inv c n l (world p a) → Known t (l .floor) (leasesOf p) → Shown Next a p
+  knows : (p : Phase) (a : List ℕ) → Inv c n l (world p a) → Known t (l .floor) (leasesOf p) → Shown (λ i. Next) a p
   knows (idle s) a inv k = (λ q e. ask-knows s a inv k q, began-knows s a inv k (checkpoint.begin s) refl)
   knows (writing w) a inv k =
       (step-knows w a k, λ b e. elsewhere-knows a (steppedAs (checkpoint.step w b)) (step-knows w b k), cut-knows w a k)
@@ -329,35 +322,38 @@ module _ (c : Settings) (n : ℕ) (l : Ledger) (t : Tokens) where
 
   item-knows : Passed (startTable c n) → (w : World) (i : Item) → Inv c n l w → Knows l t w → Next (next c w i)
   item-knows accepted w i inv k =
-      next-cases c Next tt (w .phase) (w .journal)
+      next-cases c (λ j. Next) (λ j e. tt) (w .phase) (w .journal)
       (restart-knows accepted (w .phase) (w .journal) inv k)
       (knows (w .phase) (w .journal) inv k) i
 
 -- ## every list
 module _ (c : Settings) (n : ℕ) (accepted : Passed (startTable c n)) where
-  abbrev P : Ledger → Event → Type 0
-  P = Law (c .policy)
+  abbrev fold : Ledger × Tokens → Event → Ledger × Tokens
+  fold = foldBoth noted tokensAfter
 
-  abbrev I : Ledger → World → Type 0
-  I = Inv c n
+  abbrev Says : Ledger × Tokens → Event → Type 0
+  Says = SaysBoth (Law (c .policy)) TokenRight
 
-  tokens-right : (es : List Event) (l : Ledger) (t : Tokens)
-      → Along (foldBoth noted P I tokensAfter TokenRight Knows) (Says noted P I tokensAfter TokenRight Knows) (l, t) es → TokensRight t es
+  abbrev Keeps : Ledger × Tokens → World → Type 0
+  Keeps = KeepsBoth (Inv c n) Knows
+
+  each : (b : Ledger × Tokens) (w : World) (i : Item) → Keeps b w → Answered fold Says Keeps b (next c w i)
+  each b w i h =
+      beside noted tokensAfter (Law (c .policy)) TokenRight (Inv c n) Knows b (next c w i)
+      (item-kept c n accepted (b .0) w i (h .0))
+      (item-knows c n (b .0) (b .1) accepted w i (h .0) (h .1))
+
+  all-along : (items : List Item) (w : World) → Keeps (emptyLedger, noTokens) w → Along fold Says (emptyLedger, noTokens) (run c w items)
+  all-along items w h = along fold Says Keeps c each items (emptyLedger, noTokens) w h
+
+  tokens-right : (es : List Event) (l : Ledger) (t : Tokens) → Along fold Says (l, t) es → TokensRight t es
   unfolding Along TokensRight
   tokens-right [] l t h = tt
   tokens-right (e ∷ es) l t h = (h .0 .1, tokens-right es (noted l e) (tokensAfter t e) (h .1))
-
-  all-right : (items : List Item) (w : World) → I emptyLedger w → Knows emptyLedger noTokens w → TokensRight noTokens (run c w items)
-  all-right items w inv k =
-      tokens-right (run c w items) emptyLedger noTokens
-      (along (foldBoth noted P I tokensAfter TokenRight Knows) (Says noted P I tokensAfter TokenRight Knows) (Keeps noted P I tokensAfter TokenRight Knows) c
-      (λ b v i h. beside noted P I tokensAfter TokenRight Knows b (next c v i)
-      (item-kept c n accepted (b .0) v i (h .0))
-      (item-knows c n (b .0) (b .1) accepted v i (h .0) (h .1)))
-      items (emptyLedger, noTokens) w (inv, k))
 
 pub no-stale-token : NoStaleToken
 unfolding NoStaleToken
 no-stale-token c n s items f e =
     let b = begins-well c n s f e in
-    all-right c n (b .accepted) items (begins s n) (b .inv) (nothing-given 0 (s .table .leases))
+    tokens-right c n (b .accepted) (run c (begins s n) items) emptyLedger noTokens
+    (all-along c n (b .accepted) items (begins s n) (b .inv, nothing-given 0 (s .table .leases)))

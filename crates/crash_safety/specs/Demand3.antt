@@ -39,31 +39,21 @@ abbrev pub forDelivery : Destination → Bool
 forDelivery Deliver = true
 forDelivery DeadLetter = false
 
-abbrev pub delivered : ℕ → Option HandOut → ℕ
-delivered o none = 0
-delivered o (some h) = cond (forDelivery (h .destination) && eqb o (h .offset)) 1 0
+-- a hand-out of an offset for delivery, and one under a generation
+abbrev pub delivers : ℕ → HandOut → Bool
+delivers o h = forDelivery (h .destination) && eqb o (h .offset)
 
--- how often an offset was handed out for delivery
-unfoldable pub deliveries : ℕ → List Event → ℕ
-deliveries o [] = 0
-deliveries o (e ∷ es) = delivered o (handed e) + deliveries o es
+abbrev pub isUnder : ℕ → HandOut → Bool
+isUnder g h = eqb g (h .generation)
 
--- no later hand-out has this generation
-abbrev pub Apart : ℕ → Option HandOut → Type 0
-Apart g none = Unit {0}
-Apart g (some h) = h .generation ≡ g → ⊥
+-- how many hand-outs a test names
+abbrev pub counted : (HandOut → Bool) → Option HandOut → ℕ
+counted named none = 0
+counted named (some h) = cond (named h) 1 0
 
-unfoldable pub NeverAgain : ℕ → List Event → Type 0
-NeverAgain g [] = Unit {0}
-NeverAgain g (e ∷ es) = Apart g (handed e) × NeverAgain g es
-
-abbrev pub Fresh : Option HandOut → List Event → Type 0
-Fresh none es = Unit {0}
-Fresh (some h) es = NeverAgain (h .generation) es
-
-unfoldable pub NoneShared : List Event → Type 0
-NoneShared [] = Unit {0}
-NoneShared (e ∷ es) = Fresh (handed e) es × NoneShared es
+unfoldable pub handOuts : (HandOut → Bool) → List Event → ℕ
+handOuts named [] = 0
+handOuts named (e ∷ es) = counted named (handed e) + handOuts named es
 
 -- ## restarts
 -- what a restart finds: the settled offsets and the carried counts of the state that it answers
@@ -86,10 +76,12 @@ Right p (restarted (refused r)) = ⊥
 Right p (restarted (done s)) = Finds p s
 Right p (failed new) = Unit {0}
 
+-- so of each restart among events that begin with this book
 unfoldable pub RestartsRight : Book → List Event → Type 0
 RestartsRight b [] = Unit {0}
 RestartsRight b (e ∷ es) = Right (b .copy) e × RestartsRight (note b e) es
 
+-- the restarts in a list
 abbrev pub restartIn : Item → ℕ
 restartIn (call (ask q)) = 0
 restartIn (call begin) = 0
@@ -98,7 +90,6 @@ restartIn (call restart) = 1
 restartIn (stepOn b) = 0
 restartIn (cut k) = 0
 
--- the restarts in a list
 unfoldable pub restartsIn : List Item → ℕ
 restartsIn [] = 0
 restartsIn (i ∷ is) = restartIn i + restartsIn is
@@ -111,9 +102,11 @@ pub record Premises (c : Settings) : Type 0 where
   pub fits : Fits (c .policy)
 
 pub record Holds (c : Settings) (items : List Item) (es : List Event) : Type 0 where
-  -- each offset at most M + C × (N + 1) times
-  pub bound : (o : ℕ) → deliveries o es ≤ c .policy .maxDeliver + restartsIn items * (c .policy .flushRedeliveries + 1)
-  pub generations : NoneShared es
+  -- each offset was handed out for delivery at most M + C × (N + 1) times
+  pub bound : (o : ℕ) → handOuts (delivers o) es ≤ c .policy .maxDeliver + restartsIn items * (c .policy .flushRedeliveries + 1)
+  -- no two hand-outs share a generation
+  pub generations : (g : ℕ) → handOuts (isUnder g) es ≤ 1
+  -- no restart was refused, and each found the book's copy
   pub found : RestartsRight emptyBook es
 
 -- every list, from every fresh consumer on a zeroed journal

@@ -68,6 +68,11 @@ unfoldable pub run : Settings → World → List Item → List Event
 run c w [] = []
 run c w (i ∷ is) = elim (next c w i) [ none ↦ run c w is | some t ↦ t .event ∷ run c (after t) is ]
 
+-- who can be called after a list, and the journal then
+unfoldable pub ends : Settings → World → List Item → World
+ends c w [] = w
+ends c w (i ∷ is) = elim (next c w i) [ none ↦ ends c w is | some t ↦ ends c (after t) is ]
+
 -- a fresh consumer on a zeroed journal of so many bytes
 abbrev pub begins : State → ℕ → World
 begins s n = world (idle s) (replicate n 0)

@@ -7,13 +7,14 @@ use mathlib.Core.Path.{_≡_}
 use mathlib.Core.Bool.{Bool, true, false, cond, _&&_, _||_}
 use mathlib.Core.List.{List, [], _∷_}
 use mathlib.Core.Option.{Option, none, some}
-use lib.Dec.{ltb, eqb}
+use lib.Dec.{eqb}
 use Rattle.types.specs.Refusal.{Result, refused, done, Fenced}
 use Rattle.consumer.specs.State.{Settings, State}
 use Rattle.consumer.specs.Calls.{HandOut}
 use Rattle.consumer.specs.Restart.{start}
 use Rattle.consumer.specs.Valid.{Fits}
 use Rattle.machine.specs.Calls.{Event, claimed, acked, termed, nacked, extended, committed, looked, begun, stepped, restarted, failed}
+use Rattle.crash_safety.specs.Book.{only, below}
 use Rattle.crash_safety.specs.Runs.{Item, run, begins}
 
 -- what the events tell of tokens, each an offset and a generation
@@ -28,6 +29,7 @@ pub record Tokens : Type 0 where
 abbrev pub noTokens : Tokens
 noTokens = record { given = λ o g. false; lost = λ o g. false; held = λ o. none }
 
+-- a hand-out gives its token, under which its offset is held
 abbrev pub givesOut : Tokens → HandOut → Tokens
 givesOut t h =
     record {
@@ -36,12 +38,11 @@ givesOut t h =
       held = λ o. cond (eqb o (h .offset)) (some (h .generation)) (t .held o);
     }
 
-abbrev pub givesUp : Tokens → ℕ → Tokens
-givesUp t o = record { given = t .given; lost = t .lost; held = λ x. cond (eqb x o) none (t .held x) }
+-- the offsets that a test names are given up
+abbrev pub givesUp : Tokens → (ℕ → Bool) → Tokens
+givesUp t named = record { given = t .given; lost = t .lost; held = λ x. cond (named x) none (t .held x) }
 
-abbrev pub givesUpBelow : Tokens → ℕ → Tokens
-givesUpBelow t bound = record { given = t .given; lost = t .lost; held = λ x. cond (ltb x bound) none (t .held x) }
-
+-- a restart
 abbrev pub losesAll : Tokens → Tokens
 losesAll t = record { given = t .given; lost = t .given; held = λ x. none }
 
@@ -49,14 +50,14 @@ abbrev pub tokensAfter : Tokens → Event → Tokens
 tokensAfter t (claimed o now (refused r)) = t
 tokensAfter t (claimed o now (done h)) = givesOut t h
 tokensAfter t (acked o g (refused r)) = t
-tokensAfter t (acked o g (done u)) = givesUp t o
+tokensAfter t (acked o g (done u)) = givesUp t (only o)
 tokensAfter t (termed o g (refused r)) = t
-tokensAfter t (termed o g (done u)) = givesUp t o
+tokensAfter t (termed o g (done u)) = givesUp t (only o)
 tokensAfter t (nacked o g now d (refused r)) = t
-tokensAfter t (nacked o g now d (done deadline)) = givesUp t o
+tokensAfter t (nacked o g now d (done deadline)) = givesUp t (only o)
 tokensAfter t (extended o g now a) = t
 tokensAfter t (committed bound (refused r)) = t
-tokensAfter t (committed bound (done moved)) = givesUpBelow t bound
+tokensAfter t (committed bound (done moved)) = givesUp t (below bound)
 tokensAfter t (looked q a) = t
 tokensAfter t (begun a) = t
 tokensAfter t (stepped a) = t

@@ -25,12 +25,14 @@ pub data Ask : Type 0 where
   commit : ℕ → Ask
   look : Question → Ask
 
+-- a call: on the state, a checkpoint's begin and steps, and a restart
 pub data Call : Type 0 where
   ask : Ask → Call
   begin : Call
   step : Call
   restart : Call
 
+-- a number is a u64
 abbrev pub u64 : ℕ → Bool
 u64 n = leb n MAX
 
@@ -58,6 +60,7 @@ fits (progress o g now) = u64 o && u64 g && u64 now
 fits (commit bound) = u64 bound
 fits (look q) = questionFits q
 
+-- what is seen of a call: its arguments and its answer; and of a power failure
 pub data Event : Type 0 where
   claimed : ℕ → ℕ → Result HandOut → Event
   acked : ℕ → ℕ → Result (Unit {0}) → Event
@@ -72,5 +75,5 @@ pub data Event : Type 0 where
   begun : Result ℕ → Event
   stepped : Result Wrote → Event
   restarted : Result State → Event
-  -- a power failure in a step, and whether it left a header block new
+  -- the power failed in a step; whether that left a header block new
   failed : Bool → Event

@@ -40,7 +40,7 @@ onRecord (idle s) f = none
 onRecord (writing w) f = f w
 onRecord off f = none
 
--- what an answer makes
+-- what each answer makes
 abbrev pub answered : {A : Type 0} → List ℕ → (Result A → Event) → Answer A State → Option Turn
 answered a e r = turn (e (r .outcome)) (idle (r .state)) a
 

@@ -1,0 +1,33 @@
+-- What every list from a fresh consumer leaves is within demand 3's invariant, with the book that its events make. Assumes
+-- nothing.
+use Prim.Native.Nat.{ℕ}
+use mathlib.Core.Path.{_≡_}
+use mathlib.Core.List.{List}
+use Rattle.types.specs.Refusal.{done}
+use Rattle.types.specs.Table.{Passed}
+use Rattle.consumer.specs.State.{Settings, State}
+use Rattle.consumer.specs.Restart.{startTable, start}
+use Rattle.consumer.specs.Valid.{Fits}
+use Rattle.crash_safety.specs.Book.{emptyBook, bookAfter}
+use Rattle.crash_safety.specs.Runs.{Item, run, ends, begins}
+use Rattle.crash_safety.proofs.Law.{Ledger, emptyLedger, noted, Law, folded, folded-book}
+use Rattle.crash_safety.proofs.Runs.{at-end}
+use Rattle.crash_safety.proofs.Invariant.{Inv}
+use Rattle.crash_safety.proofs.Kept.{item-kept}
+use Rattle.crash_safety.proofs.Start.{begins-well}
+
+pub record Reached (c : Settings) (n : ℕ) (s : State) (items : List Item) : Type 0 where
+  pub accepted : Passed (startTable c n)
+  pub ledger : Ledger
+  pub books : ledger .book ≡ bookAfter emptyBook (run c (begins s n) items)
+  pub inv : Inv c n ledger (ends c (begins s n) items)
+
+pub reached : (c : Settings) (n : ℕ) (s : State) (items : List Item) → Fits (c .policy) → start c n ≡ done s → Reached c n s items
+reached c n s items f e =
+    let b = begins-well c n s f e in
+    record {
+      accepted = b .accepted;
+      ledger = folded noted emptyLedger (run c (begins s n) items);
+      books = folded-book (run c (begins s n) items) emptyLedger;
+      inv = at-end noted (Law (c .policy)) (Inv c n) c (item-kept c n (b .accepted)) items emptyLedger (begins s n) (b .inv);
+    }

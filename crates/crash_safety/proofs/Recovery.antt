@@ -1,0 +1,154 @@
+-- Recovery: a restart reads the journal and nothing else, so that it is the same wherever the journal is; and no block write of a
+-- checkpoint but the whole header changes what it reads. Assumes nothing.
+use Prim.Native.Nat.{ℕ, suc, _≤_}
+use native.Mathlib.Omega.{arith}
+use mathlib.Core.Path.{_≡_, refl, sym, ap, _∙_}
+use mathlib.Core.Bool.{true, false}
+use mathlib.Core.List.{List, [], _∷_, _++_}
+use mathlib.Core.Option.{some}
+use borrow.Author.Tests.{le-leb}
+use Rattle.types.specs.Refusal.{Result, refused, done}
+use Rattle.types.specs.Table.{Passed}
+use Rattle.journal.specs.Area.{writeAt}
+use Rattle.consumer.specs.State.{Settings, State}
+use Rattle.consumer.specs.Checkpoint as checkpoint
+use Rattle.consumer.specs.Checkpoint.{bodies, headerOf, flushed, Writing, nextPlace}
+use Rattle.consumer.specs.Restart as restarts
+use Rattle.consumer.specs.Restart.{startTable}
+use Rattle.machine.specs.Calls.{step, restart, restarted, failed}
+use Rattle.machine.specs.Door.{Phase, idle, writing, off, Turn, restartedAs, door}
+use Rattle.crash_safety.specs.Runs.{Cut, old, new, torn, Item, call, cut, isTorn, World, world, next, after, run, ends, begins}
+use Rattle.crash_safety.specs.Recovery.{DeterministicRecovery, begun, thenCut, HasRoom, WritesCount, EveryWriteCounts}
+use Rattle.crash_safety.proofs.Law.{Ledger}
+use Rattle.crash_safety.proofs.Runs.{run-made, ends-made, run-none, ends-none}
+use Rattle.crash_safety.proofs.Invariant.{Saved, restored, Journal, Stands, Inv}
+use Rattle.crash_safety.proofs.Journals.{restart-finds, stored}
+use Rattle.crash_safety.proofs.Writes.{torn-journal}
+use Rattle.crash_safety.proofs.Checkpoints.{Begun, has-begun, begun-more, last-step, full-journal}
+use Rattle.crash_safety.proofs.Reached.{reached}
+
+-- ## a restart
+-- who can be called after a restart that answered so
+abbrev called : Phase → Result State → Phase
+called p (refused r) = p
+called p (done s) = idle s
+
+abbrev again : Phase → List ℕ → Result State → Turn
+again p a r = record { event = restarted r; phase = called p r; area = a }
+
+restarted-again : (p : Phase) (a : List ℕ) (r : Result State) → restartedAs p a r ≡ some (again p a r)
+restarted-again p a (refused r) = refl
+restarted-again p a (done s) = refl
+
+module _ (c : Settings) (w : World) where
+  abbrev answer : Result State
+  answer = restarts.restart c (w .journal)
+
+  restart-made : next c w (call restart) ≡ some (again (w .phase) (w .journal) answer)
+  unfolding next door
+  restart-made = restarted-again (w .phase) (w .journal) answer
+
+  abbrev next-world : World
+  next-world = world (called (w .phase) answer) (w .journal)
+
+  restart-run : (is : List Item) → run c w (call restart ∷ is) ≡ restarted answer ∷ run c next-world is
+  restart-run is = run-made c w (call restart) is (again (w .phase) (w .journal) answer) restart-made
+
+  restart-ends : (is : List Item) → ends c w (call restart ∷ is) ≡ ends c next-world is
+  restart-ends is = ends-made c w (call restart) is (again (w .phase) (w .journal) answer) restart-made
+
+restart-alone : (c : Settings) (w : World) → run c w (call restart ∷ []) ≡ restarted (restarts.restart c (w .journal)) ∷ []
+restart-alone c w = restart-run c w [] ∙ rw (run-none c (world (called (w .phase) (restarts.restart c (w .journal))) (w .journal)))
+
+pub deterministic-recovery : DeterministicRecovery
+unfolding DeterministicRecovery
+deterministic-recovery c w =
+    record {
+      same = λ v e. restart-alone c v ∙ ap (λ a. restarted (restarts.restart c a) ∷ []) e ∙ sym (restart-alone c w);
+      twice = restart-run c w (call restart ∷ [])
+          ∙ rw (restart-alone c w, restart-alone c (world (called (w .phase) (restarts.restart c (w .journal))) (w .journal)));
+      no-byte = ap (λ (v : World). v .journal) (restart-ends c w [] ∙ ends-none c _);
+    }
+
+-- ## a checkpoint
+-- a restart gives the consumer that the journal holds
+restart-gives : (c : Settings) (n : ℕ) → Passed (startTable c n) → (w : World) (v : Saved) → Journal c n (w .journal) v
+    → ends c w (call restart ∷ []) .phase ≡ idle (restored c n v)
+restart-gives c n accepted w v j =
+    ap (λ (u : World). u .phase) (restart-ends c w [] ∙ ends-none c _) ∙ rw (restart-finds c n (w .journal) v accepted j)
+
+module _ (c : Settings) (n : ℕ) (accepted : Passed (startTable c n)) (v : Saved) (l : Ledger) (s : State) (now : Stands c n v l s)
+    (room : HasRoom s)
+    (a : List ℕ)
+    (journal : Journal c n a v) where
+  abbrev start : World
+  start = world (idle s) a
+
+  -- k steps, a power failure that leaves this journal, and a restart
+  module _ (k : ℕ) (h : k ≤ bodies s) (x : Cut) where
+    abbrev so-far : Begun c n v l s now room a journal k
+    so-far = has-begun c n v l s now room a journal k h
+
+    abbrev mid : World
+    mid = world (writing (checkpoint.writing s k)) (so-far .area)
+
+    after-cut : (t : Turn) → next c mid (cut x) ≡ some t → ends c start (begun k ++ thenCut x) ≡ ends c (after t) (call restart ∷ [])
+    after-cut t e = so-far .leads .ends-there (thenCut x) ∙ ends-made c mid (cut x) (call restart ∷ []) t e
+
+  in-place : ends c start (call restart ∷ []) .phase ≡ idle (restored c n v)
+  in-place = restart-gives c n accepted start v journal
+
+  -- a cut that leaves the journal holding what it held
+  cut-unfinished : (k : ℕ) (h : k ≤ bodies s) (x : Cut) (t : Turn) → next c (mid k h x) (cut x) ≡ some t → Journal c n (t .area) v
+      → ends c start (begun k ++ thenCut x) .phase ≡ ends c start (call restart ∷ []) .phase
+  cut-unfinished k h x t e j =
+      ap (λ (u : World). u .phase) (after-cut k h x t e) ∙ restart-gives c n accepted (after t) v j ∙ sym in-place
+
+  cut-old : (k : ℕ) → k ≤ bodies s → ends c start (begun k ++ thenCut old) .phase ≡ ends c start (call restart ∷ []) .phase
+  unfolding next
+  cut-old k h =
+      let b = so-far k h old in
+      cut-unfinished k h old (record { event = failed false; phase = off; area = b .area }) refl (b .midway .journal)
+
+  cut-torn : (k : ℕ) (y : List ℕ) → k ≤ bodies s → isTorn y ≡ true
+      → ends c start (begun k ++ thenCut (torn y)) .phase ≡ ends c start (call restart ∷ []) .phase
+  unfolding next
+  cut-torn k y h t =
+      let b = so-far k h (torn y) in
+      let w : Writing = checkpoint.writing s k in
+      cut-unfinished k h (torn y) (record { event = failed false; phase = off; area = writeAt (b .area) (nextPlace w) y }) (rw t)
+      (torn-journal c n v l (b .area) w (b .midway .journal) now (b .midway .written) y t)
+
+  -- the header wholly written, by a cut or by the last step
+  cut-new : ends c start (begun (bodies s) ++ thenCut new) .phase ≡ ends c start (begun (suc (bodies s)) ++ call restart ∷ []) .phase
+  unfolding next
+  cut-new =
+      let k : ℕ = bodies s in
+      let h : k ≤ bodies s = omega arith in
+      let b = so-far k h new in
+      let full : List ℕ = writeAt (b .area) (s .seat .block) (headerOf s) in
+      let j : Journal c n full (stored s) = full-journal c n v l s now k (b .area) (b .midway) h in
+      let made : next c (mid k h new) (cut new) ≡ some (record { event = failed true; phase = off; area = full }) = rw (le-leb k k h) in
+      ap (λ (u : World). u .phase) (after-cut k h new _ made)
+      ∙ restart-gives c n accepted (world off full) (stored s) j
+      ∙ sym (ap (λ (u : World). u .phase) (
+      ap (ends c start) (begun-more k (call restart ∷ []))
+      ∙ b .leads .ends-there (call step ∷ call restart ∷ [])
+      ∙ ends-made c (mid k h new) (call step) (call restart ∷ []) _ (last-step c n v l s now k (b .area) (b .midway) h))
+      ∙ restart-gives c n accepted (world (idle (flushed s)) full) (stored s) j)
+
+writes-count : (c : Settings) (n : ℕ) → Passed (startTable c n) → (l : Ledger) (p : Phase) (a : List ℕ) (left : State) → p ≡ idle left
+    → HasRoom left → Inv c n l (world p a) → WritesCount c (world p a) left
+writes-count c n accepted l p a left e room =
+    rw e (λ inv. record {
+      left-old = cut-old c n accepted (inv .saved) l left (inv .callable) room a (inv .journal);
+      left-torn = cut-torn c n accepted (inv .saved) l left (inv .callable) room a (inv .journal);
+      left-new = cut-new c n accepted (inv .saved) l left (inv .callable) room a (inv .journal);
+    })
+
+pub every-write-counts : EveryWriteCounts
+unfolding EveryWriteCounts
+every-write-counts c n s items f e left here room =
+    let r = reached c n s items f e in
+    let w = ends c (begins s n) items in
+    writes-count c n (r .accepted) (r .ledger) (w .phase) (w .journal) left here room (r .inv)

@@ -1,0 +1,179 @@
+-- Not useless: a checkpoint is made where there is room, after it no claim waits for another, and the waiting list is what the
+-- book and the leases say. Assumes nothing.
+use Prim.Native.Nat.{ℕ, suc, _+_, _≤_, _<_}
+use native.Mathlib.Omega.{arith}
+use mathlib.Core.Path.{_≡_, refl, sym, ap, ap₂, _∙_}
+use mathlib.Core.Bool.{false, cond, not, _&&_, _||_, and-false}
+use mathlib.Core.List.{List, [], _∷_, _++_, append-nil}
+use mathlib.Core.Option.{Option, none, some}
+use lib.Dec.{ltb, leb, eqb}
+use borrow.Author.Tests.{ltb-true, ltb-false, eqb-true, eqb-false, ne-eqb, le-leb, lt-leb}
+use Rattle.types.specs.Limits.{MAX}
+use Rattle.types.specs.Refusal.{Refusal, Result, refused, done, LastOffset, Settled, InFlight, Exhausted, CheckpointDue, Full, numbered}
+use Rattle.types.proofs.Cases.{split}
+use Rattle.types.specs.Keyed.{Entry, lookup, Rising}
+use Rattle.types.specs.Table.{Passed}
+use Rattle.types.proofs.Table.{guarded-passed}
+use Rattle.types.proofs.Keyed.{lookup-under, lookup-all}
+use Rattle.cursor.specs.Cursor.{settled}
+use Rattle.lease.specs.declared.Lease.{Lease}
+use Rattle.lease.specs.State.{Counted}
+use Rattle.lease.specs.Claim.{leaseOf, running, handedOut}
+use Rattle.lease.specs.Rest.{dueOffsets}
+use Rattle.consumer.specs.State.{Settings, State}
+use Rattle.consumer.specs.Calls.{HandOut, handOut, isFull, claimTable, claim, atCeiling, atThreshold}
+use Rattle.consumer.specs.Questions.{keysOf, waitingAt, countOf}
+use Rattle.consumer.specs.Checkpoint as checkpoints
+use Rattle.consumer.specs.Checkpoint.{bodies, flushed}
+use Rattle.consumer.specs.Valid.{Valid}
+use Rattle.consumer.proofs.Counts.{count-is, lease-count, carried-count}
+use Rattle.machine.specs.Door.{Phase, idle, writing}
+use Rattle.machine.specs.Calls.{step}
+use Rattle.crash_safety.specs.Book.{Page}
+use Rattle.crash_safety.specs.Runs.{call, World, world, run, ends, begins}
+use Rattle.crash_safety.specs.Recovery.{begun, HasRoom}
+use Rattle.crash_safety.specs.Useful.{AllWrote, checkpoint, Checkpointed, Claimable, waits, times, Useful, NotUseless}
+use Rattle.crash_safety.proofs.Law.{Ledger}
+use Rattle.crash_safety.proofs.Invariant.{Agrees, Inv}
+use Rattle.crash_safety.proofs.Runs.{run-made, ends-made, ends-none}
+use Rattle.crash_safety.proofs.Checkpoints.{has-begun, begun-more, last-step}
+use Rattle.crash_safety.proofs.Reached.{reached}
+
+-- ## claims after a checkpoint
+module _ (s : State) (v : Valid s) where
+  -- generations are left below the new ceiling, and no redelivery was counted since
+  nothing-due : eqb (s .table .nextGeneration) MAX ≡ false → (atCeiling (flushed s) || atThreshold (flushed s)) ≡ false
+  nothing-due g =
+      let left : s .table .nextGeneration < flushed s .ceiling = omega (arith, eqb-false (s .table .nextGeneration) MAX g, v .table .generation-fits) in
+      rw (lt-leb (flushed s .ceiling) (s .table .nextGeneration) left)
+      (lt-leb (s .policy .flushRedeliveries) 0 (v .policy .some-threshold))
+
+  claims-granted : (o now : ℕ) → Claimable s o now → claim (flushed s) o now .outcome ≡ done (handOut (flushed s) o)
+  unfolding claim
+  claims-granted o now p =
+      let passed : Passed (claimTable (flushed s) o now) = (p .not-last, (p .unsettled, (p .not-held, (p .generations, (nothing-due (p .generations), (p .room, tt)))))) in
+      rw (guarded-passed (claimTable (flushed s) o now) (flushed s) _ passed)
+
+  -- 25 stands in front of 26, so that what is due after a checkpoint is never told
+  never-due : (o now : ℕ) → claim (flushed s) o now .outcome ≡ refused CheckpointDue → ⊥
+  unfolding claim
+  never-due o now e =
+      split (eqb o MAX)
+      (λ t. other LastOffset (λ z. omega arith) (rw t at e))
+      (λ t₁. split (settled (s .cursor) o)
+      (λ t. other Settled (λ z. omega arith) (rw (t₁, t) at e))
+      (λ t₂. split (running (leaseOf (s .table) o) now)
+      (λ t. other InFlight (λ z. omega arith) (rw (t₁, t₂, t) at e))
+      (λ t₃. split (eqb (s .table .nextGeneration) MAX)
+      (λ t. other Exhausted (λ z. omega arith) (rw (t₁, t₂, t₃, t) at e))
+      (λ t₄. split (isFull (s .table) o)
+      (λ t. other Full (λ z. omega arith) (rw (t₁, t₂, t₃, t₄, nothing-due t₄, t) at e))
+      (λ t₅. granted (rw (t₁, t₂, t₃, t₄, nothing-due t₄, t₅) at e))))))
+    where
+      granted : done (handOut (flushed s) o) ≡ refused CheckpointDue → ⊥
+      granted q = absurd (let z : _≡_ {A = ℕ} 0 1 = cc in omega arith)
+
+      other : (r : Refusal) → (numbered r .number ≡ 26 → ⊥) → _≡_ {A = Result HandOut} (refused r) (refused CheckpointDue) → ⊥
+      other r n q = let same : r ≡ CheckpointDue = cc in n (ap (λ (x : Refusal). numbered x .number) same)
+
+-- ## the waiting list
+times-append : (o : ℕ) (l m : List ℕ) → times o (l ++ m) ≡ times o l + times o m
+times-append o [] m = omega arith
+times-append o (x ∷ l) m = omega (arith, times-append o l m)
+
+abbrev once : {A : Type 0} → Option A → ℕ
+once none = 0
+once (some a) = 1
+
+abbrev onceDue : ℕ → Option Lease → ℕ
+onceDue now none = 0
+onceDue now (some l) = cond (leb (l .deadline) now) 1 0
+
+-- a key of a sorted list stands in it once
+times-carried : (lo o : ℕ) (l : List (Entry ℕ)) → Rising lo l → times o (keysOf l) ≡ once (lookup o l)
+times-carried lo o [] r = refl
+times-carried lo o (e ∷ l) r =
+    split (eqb o (e .key))
+    (λ t. rw (t, times-carried (suc (e .key)) o l (r .1), lookup-under (suc (e .key)) o l (r .1) (omega (arith, eqb-true o (e .key) t))))
+    (λ t. rw (t, times-carried (suc (e .key)) o l (r .1)) (omega arith))
+
+times-due : (lo now o : ℕ) (l : List (Entry Lease)) → Rising lo l → times o (dueOffsets now l) ≡ onceDue now (lookup o l)
+times-due lo now o [] r = refl
+times-due lo now o (e ∷ l) r =
+    let rest = times-due (suc (e .key)) now o l (r .1) in
+    split (eqb o (e .key))
+    (λ t.
+    let gone : times o (dueOffsets now l) ≡ 0 = rest ∙ rw (lookup-under (suc (e .key)) o l (r .1) (omega (arith, eqb-true o (e .key) t))) in
+    split (leb (e .value .deadline) now) (λ d. rw (t, d, t, gone)) (λ d. rw (t, d, gone)))
+    (λ t. split (leb (e .value .deadline) now) (λ d. rw (t, d, t) (omega (arith, rest))) (λ d. rw (t, d) rest))
+
+-- a lease that doesn't run is due
+due-unless-running : (d now : ℕ) → not (ltb now d) ≡ leb d now
+due-unless-running d now =
+    split (ltb now d)
+    (λ t. rw (t, lt-leb d now (ltb-true now d t)))
+    (λ t. rw (t, le-leb d now (ltb-false now d t)))
+
+module _ (s : State) (v : Valid s) (p : Page) (agrees : Agrees p s) (now o : ℕ) where
+  waiting-right : times o (waitingAt s now) ≡ cond (waits p s now o) 1 0
+  waiting-right =
+      times-append o (keysOf (s .table .carried)) (dueOffsets now (s .table .leases))
+      ∙ rw (times-carried 0 o (s .table .carried) (v .table .carried-rising), times-due 0 now o (s .table .leases) (v .table .rising))
+      (rw (← agrees .settles o, ← agrees .counts o) (go (leaseOf (s .table) o) refl (lookup o (s .table .carried)) refl))
+    where
+      go : (x : Option Lease) → leaseOf (s .table) o ≡ x → (y : Option ℕ) → lookup o (s .table .carried) ≡ y
+          → once y + onceDue now x ≡ cond (not (settled (s .cursor) o) && not (eqb (countOf s o) 0) && not (running x now)) 1 0
+      go none e none f =
+          let zero : countOf s o ≡ 0 = count-is s v o ∙ ap₂ handedOut e f in
+          rw (zero, and-false (not (settled (s .cursor) o)))
+      go none e (some m) f =
+          let fine = lookup-all Counted o m (s .table .carried) (v .table .carried-counted) f in
+          rw (v .carried o m f, carried-count s v o m f, ne-eqb m 0 (λ z. omega (arith, fine .once)))
+      go (some k) e y f =
+          let own = v .leased o k e in
+          let fine = lookup-all (λ x l. Counted x (l .deliveries)) o k (s .table .leases) (v .table .counted) e in
+          let no-count : y ≡ none = sym f ∙ own .alone in
+          rw (no-count, own .unsettled, lease-count s v o k e, ne-eqb (k .deliveries) 0 (λ z. omega (arith, fine .once)))
+          (rw (due-unless-running (k .deadline) now) (omega arith))
+
+-- ## a checkpoint
+none-wrote : (c : Settings) (w : World) → AllWrote (run c w [])
+unfolding run AllWrote
+none-wrote c w = tt
+
+module _ (c : Settings) (n : ℕ) (l : Ledger) (s : State) (a : List ℕ) (inv : Inv c n l (world (idle s) a)) where
+  checkpointed : HasRoom s → Checkpointed c (world (idle s) a) s
+  unfolding AllWrote
+  checkpointed room =
+      let k : ℕ = bodies s in
+      let h : k ≤ bodies s = omega arith in
+      let b = has-begun c n (inv .saved) l s (inv .callable) room a (inv .journal) k h in
+      let last = last-step c n (inv .saved) l s (inv .callable) k (b .area) (b .midway) h in
+      let w : World = world (idle s) a in
+      let mid : World = world (writing (checkpoints.writing s k)) (b .area) in
+      let items : checkpoint s ≡ begun k ++ call step ∷ [] = sym (append-nil (checkpoint s)) ∙ begun-more k [] in
+      record {
+        wrote = rw items (b .leads .wrote (call step ∷ []) (rw (run-made c mid (call step) [] _ last) (tt, none-wrote c _)));
+        leaves = rw items (ap (λ (u : World). u .phase)
+            (b .leads .ends-there (call step ∷ []) ∙ ends-made c mid (call step) [] _ last ∙ ends-none c _));
+      }
+
+  useful : (p : Page) → l .book .page ≡ p → Useful c (world (idle s) a) s p
+  useful p e =
+      record {
+        checkpoints = checkpointed;
+        claims = claims-granted s (inv .callable .valid);
+        not-due = never-due s (inv .callable .valid);
+        waiting = λ now o. waiting-right s (inv .callable .valid) p (rw (← e) (inv .callable .agrees)) now o;
+      }
+
+useful-after : (c : Settings) (n : ℕ) (l : Ledger) (q : Phase) (a : List ℕ) (left : State) (p : Page) → q ≡ idle left → l .book .page ≡ p
+    → Inv c n l (world q a) → Useful c (world q a) left p
+useful-after c n l q a left p e f = rw e (λ inv. useful c n l left a inv p f)
+
+pub not-useless : NotUseless
+unfolding NotUseless
+not-useless c n s items f e left here =
+    let r = reached c n s items f e in
+    let w = ends c (begins s n) items in
+    useful-after c n (r .ledger) (w .phase) (w .journal) left _ here (ap (λ b. b .page) (r .books)) (r .inv)

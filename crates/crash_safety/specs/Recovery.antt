@@ -1,0 +1,54 @@
+-- Recovery. A restart depends on the settings and the journal alone, changes no byte, and made twice answers the same twice. Every
+-- block write of a checkpoint counts: with the power failing in any of its steps, and the block not wholly written, a restart
+-- gives the consumer that a restart would have given in place of the checkpoint; with the header wholly written it gives the one
+-- that a restart gives after the finished checkpoint.
+use Prim.Native.Nat.{ℕ, suc, _+_, _≤_}
+use mathlib.Core.Path.{_≡_}
+use mathlib.Core.Bool.{true}
+use mathlib.Core.List.{List, [], _∷_, _++_}
+use lib.ListN.{replicate}
+use Rattle.types.specs.Refusal.{done}
+use Rattle.consumer.specs.State.{Settings, State, blocksOf}
+use Rattle.consumer.specs.Checkpoint.{bodies}
+use Rattle.consumer.specs.Restart.{start}
+use Rattle.consumer.specs.Valid.{Fits}
+use Rattle.machine.specs.Calls.{begin, step, restart}
+use Rattle.machine.specs.Door.{idle}
+use Rattle.crash_safety.specs.Runs.{Cut, old, new, torn, Item, call, cut, isTorn, World, run, ends, begins}
+
+-- ## a restart
+pub record Deterministic (c : Settings) (w : World) : Type 0 where
+  -- the same journal, the same answer
+  pub same : (v : World) → v .journal ≡ w .journal → run c v (call restart ∷ []) ≡ run c w (call restart ∷ [])
+  pub twice : run c w (call restart ∷ call restart ∷ []) ≡ run c w (call restart ∷ []) ++ run c w (call restart ∷ [])
+  pub no-byte : ends c w (call restart ∷ []) .journal ≡ w .journal
+
+-- whoever can be called, on whatever journal
+unfoldable pub DeterministicRecovery : Type 0
+DeterministicRecovery = (c : Settings) (w : World) → Deterministic c w
+
+-- ## a checkpoint
+-- begin, and so many steps
+abbrev pub begun : ℕ → List Item
+begun k = call begin ∷ replicate k (call step)
+
+-- the power fails in the next step, and a restart comes
+abbrev pub thenCut : Cut → List Item
+thenCut k = cut k ∷ call restart ∷ []
+
+-- the journal has room for one more group
+abbrev pub HasRoom : State → Type 0
+HasRoom s = s .seat .block + suc (bodies s) ≤ blocksOf s
+
+pub record WritesCount (c : Settings) (w : World) (s : State) : Type 0 where
+  pub left-old : (k : ℕ) → k ≤ bodies s → ends c w (begun k ++ thenCut old) .phase ≡ ends c w (call restart ∷ []) .phase
+  pub left-torn : (k : ℕ) (b : List ℕ) → k ≤ bodies s → isTorn b ≡ true
+      → ends c w (begun k ++ thenCut (torn b)) .phase ≡ ends c w (call restart ∷ []) .phase
+  pub left-new : ends c w (begun (bodies s) ++ thenCut new) .phase ≡ ends c w (begun (suc (bodies s)) ++ call restart ∷ []) .phase
+
+-- after every list that leaves a state with room for one more group
+unfoldable pub EveryWriteCounts : Type 0
+EveryWriteCounts =
+    (c : Settings) (size : ℕ) (s : State) (items : List Item) → Fits (c .policy) → start c size ≡ done s
+    → (left : State) → ends c (begins s size) items .phase ≡ idle left → HasRoom left
+    → WritesCount c (ends c (begins s size) items) left

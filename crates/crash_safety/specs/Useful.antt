@@ -1,0 +1,84 @@
+-- Not useless. After every list that leaves a state with room for one more group, begin and its steps are not refused; a claim
+-- then is granted, but for the last offset, a settled one, one that is held, when generations or room for it are used up. And
+-- the waiting list of every state holds each offset just once that the book has unsettled with a count, and that no lease holds.
+use Prim.Native.Nat.{ℕ, suc, _+_}
+use mathlib.Core.Path.{_≡_}
+use mathlib.Core.Bool.{Bool, false, cond, not, _&&_}
+use mathlib.Core.List.{List, [], _∷_}
+use lib.Dec.{eqb}
+use Rattle.types.specs.Limits.{MAX}
+use Rattle.types.specs.Refusal.{refused, done, CheckpointDue}
+use Rattle.cursor.specs.Cursor.{settled}
+use Rattle.lease.specs.Claim.{leaseOf, running}
+use Rattle.consumer.specs.State.{Settings, State}
+use Rattle.consumer.specs.Calls.{isFull, handOut, claim}
+use Rattle.consumer.specs.Questions.{waitingAt}
+use Rattle.consumer.specs.Checkpoint.{bodies, flushed}
+use Rattle.consumer.specs.Restart.{start}
+use Rattle.consumer.specs.Valid.{Fits}
+use Rattle.machine.specs.Calls.{Event, claimed, acked, termed, nacked, extended, committed, looked, begun, stepped, restarted, failed}
+use Rattle.machine.specs.Door.{idle}
+use Rattle.crash_safety.specs.Book.{Page, emptyBook, bookAfter}
+use Rattle.crash_safety.specs.Runs.{Item, World, run, ends, begins}
+use Rattle.crash_safety.specs.Recovery as recovery
+use Rattle.crash_safety.specs.Recovery.{HasRoom}
+
+-- a begin or a step that is not refused
+abbrev pub Wrote : Event → Type 0
+Wrote (claimed o now a) = ⊥
+Wrote (acked o g a) = ⊥
+Wrote (termed o g a) = ⊥
+Wrote (nacked o g now d a) = ⊥
+Wrote (extended o g now a) = ⊥
+Wrote (committed bound a) = ⊥
+Wrote (looked q a) = ⊥
+Wrote (begun (refused r)) = ⊥
+Wrote (begun (done k)) = Unit {0}
+Wrote (stepped (refused r)) = ⊥
+Wrote (stepped (done w)) = Unit {0}
+Wrote (restarted a) = ⊥
+Wrote (failed new) = ⊥
+
+unfoldable pub AllWrote : List Event → Type 0
+AllWrote [] = Unit {0}
+AllWrote (e ∷ es) = Wrote e × AllWrote es
+
+-- begin and a step for each block of the group
+abbrev pub checkpoint : State → List Item
+checkpoint s = recovery.begun (suc (bodies s))
+
+-- the checkpoint is made, and the consumer is then its state with a new ceiling and a cleared counter
+pub record Checkpointed (c : Settings) (w : World) (s : State) : Type 0 where
+  pub wrote : AllWrote (run c w (checkpoint s))
+  pub leaves : ends c w (checkpoint s) .phase ≡ idle (flushed s)
+
+-- nothing speaks against a claim of the offset: not 21, 22, 23, 25 or 27
+pub record Claimable (s : State) (o now : ℕ) : Type 0 where
+  pub not-last : eqb o MAX ≡ false
+  pub unsettled : settled (s .cursor) o ≡ false
+  pub not-held : running (leaseOf (s .table) o) now ≡ false
+  pub generations : eqb (s .table .nextGeneration) MAX ≡ false
+  pub room : isFull (s .table) o ≡ false
+
+-- an offset that waits at a clock, by the book
+abbrev pub waits : Page → State → ℕ → ℕ → Bool
+waits p s now o = not (p .settled o) && not (eqb (p .count o) 0) && not (running (leaseOf (s .table) o) now)
+
+-- how often an offset stands in a list
+abbrev pub times : ℕ → List ℕ → ℕ
+times o [] = 0
+times o (x ∷ l) = cond (eqb o x) 1 0 + times o l
+
+pub record Useful (c : Settings) (w : World) (s : State) (p : Page) : Type 0 where
+  pub checkpoints : HasRoom s → Checkpointed c w s
+  -- right after a checkpoint
+  pub claims : (o now : ℕ) → Claimable s o now → claim (flushed s) o now .outcome ≡ done (handOut (flushed s) o)
+  pub not-due : (o now : ℕ) → claim (flushed s) o now .outcome ≡ refused CheckpointDue → ⊥
+  pub waiting : (now o : ℕ) → times o (waitingAt s now) ≡ cond (waits p s now o) 1 0
+
+-- after every list that leaves a state
+unfoldable pub NotUseless : Type 0
+NotUseless =
+    (c : Settings) (size : ℕ) (s : State) (items : List Item) → Fits (c .policy) → start c size ≡ done s
+    → (left : State) → ends c (begins s size) items .phase ≡ idle left
+    → Useful c (ends c (begins s size) items) left (bookAfter emptyBook (run c (begins s size) items) .page)
