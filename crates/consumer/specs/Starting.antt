@@ -42,9 +42,10 @@ settingsOf s =
 abbrev pub keptOf : Settings → state.Settings
 keptOf s = record { policy = delivery.view (s .delivery); lease = s .lease }
 
-abbrev pub faultOf : {A : Type 0} → Result A → Option Refusal
-faultOf (refused r) = some r
-faultOf (done a) = none
+-- the refusal of an attempt decoder's answer; pairs are none, so that no start answers with them
+abbrev pub refusalIn : Result ℕ → Refusal
+refusalIn (refused r) = r
+refusalIn (done n) = refusal.AttemptTruncated
 
 -- the refusal that an answer is, if it is one
 abbrev pub startFault : StartAnswer → Option Refusal
@@ -55,7 +56,7 @@ startFault answers.ZeroThreshold = some refusal.ZeroThreshold
 startFault answers.BadArea = some refusal.BadArea
 startFault (answers.Damaged block) = some (refusal.Damaged block)
 startFault (answers.Cursor error) = some (snapshotError error)
-startFault (answers.Attempts decoded) = faultOf (decodeOf decoded)
+startFault (answers.Attempts decoded) = some (refusalIn (decodeOf decoded))
 
 -- the answer, with the state that stands beside it
 abbrev pub startOf : StartAnswer → State → Result State

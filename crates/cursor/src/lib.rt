@@ -1,7 +1,7 @@
 // The commit cursor of a work group: how one shared cursor advances under acks that come out of order. `committed` is
 // the offset below which all are acked; what is acked ahead of it is kept as ranges, in order and apart from each other.
-// An ack at committed moves it over the range that begins there. No function keeps anything elsewhere: a cursor goes in
-// by value and comes back.
+// An ack at committed moves it over that offset and over the range that begins right behind it. A cursor goes in by value
+// and comes back; nothing is kept elsewhere.
 ghost use mathlib.Core.Path.{_≡_};
 ghost use Prim.Native.Nat.{ℕ, _+_, _-_, _*_, _≤_, _<_, min, max};
 ghost use mathlib.Core.Bool.{_&&_};

@@ -8,7 +8,7 @@ use lib.ListN.{take, replicate}
 use Rattle.types.specs.Refusal.{Result, refused, done}
 use Rattle.types.specs.Refusal as refusal
 use Rattle.types.specs.Table.{Kept}
-use Rattle.delivery.specs.Policy.{Policy, policy, newPolicy, Destination}
+use Rattle.delivery.specs.Policy.{Policy, policy, newPolicy, withFlushRedeliveries, Destination}
 use Rattle.delivery.specs.Policy.{DEFAULT_MAX_DELIVER, DEFAULT_ATTEMPTS_FLUSH_REDELIVERIES}
 use Rattle.delivery.specs.Policy as policies
 use Rattle.delivery.specs.declared.DeliveryConfig.{DeliveryConfig}
@@ -68,7 +68,19 @@ pub record RefusedIs (o : ConfigOutcome) (r : Configured) : Type 0 where
   pub outcome : r .outcome ≡ o
   pub config : r .config ≡ defaults
 
--- a config after a change: what it is seen as, and that it stays sound
-pub record ChangedIs (before : DeliveryConfig) (p : Policy) (after : DeliveryConfig) : Type 0 where
-  pub is : view after ≡ p
+-- a config with another flush threshold, every other field as it was
+abbrev pub flushingAfter : DeliveryConfig → ℕ → DeliveryConfig
+flushingAfter c n =
+    record {
+      «max_deliver» = c .«max_deliver»;
+      «allow_unlimited» = c .«allow_unlimited»;
+      «backoff_nanos» = c .«backoff_nanos»;
+      «backoff_len» = c .«backoff_len»;
+      «attempts_flush_redeliveries» = n;
+    }
+
+-- it is the policy with that threshold, and stays sound
+pub record FlushingIs (before : DeliveryConfig) (n : ℕ) (after : DeliveryConfig) : Type 0 where
+  pub literal : after ≡ flushingAfter before n
+  pub is : view after ≡ withFlushRedeliveries (view before) n
   pub sound : Sound before → Sound after

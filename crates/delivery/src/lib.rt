@@ -4,8 +4,8 @@ ghost use mathlib.Core.Bool.{not, _&&_};
 ghost use Prim.Native.Nat.{_-_, _≤_, min, max};
 ghost use lib.ListN.{length, take};
 ghost use Rattle.types.specs.Refusal.{done};
-ghost use Rattle.delivery.specs.Policy.{unlimited, disposition, nackBackoff, effectiveNackDelay, withFlushRedeliveries};
-ghost use Rattle.delivery.specs.Config.{view, Sound, dispositionOf, delayOf, ConfiguredIs, RefusedIs, ChangedIs};
+ghost use Rattle.delivery.specs.Policy.{unlimited, disposition, nackBackoff, effectiveNackDelay};
+ghost use Rattle.delivery.specs.Config.{view, Sound, dispositionOf, delayOf, ConfiguredIs, RefusedIs, FlushingIs};
 
 // What a consumer says of a message that it was handed.
 pub enum AckVerb {
@@ -146,7 +146,7 @@ impl DeliveryConfig {
 
     // The same config with another flush threshold. 0 is taken here and refused (3) where a consumer starts.
     pub fn with_attempts_flush_redeliveries(mut self, n: u32) -> DeliveryConfig
-        ensures { λ r. ⌜ ChangedIs self (withFlushRedeliveries (view self) n) r ⌝ }
+        ensures { λ r. ⌜ FlushingIs self n r ⌝ }
     {
         self.attempts_flush_redeliveries = n;
         self
