@@ -16,7 +16,7 @@ use Rattle.lease.specs.State.{Table, withLeases, Valid}
 use Rattle.lease.specs.Claim.{lease, leaseOf, owns, deadlineFrom, nextCount, Grant, grant, granted, claim, requeuedAs, requeue, nack}
 use Rattle.lease.specs.Rest.{releaseBelow, shiftedBy, shiftDeadlines}
 use Rattle.lease.specs.declared.Lease.{Lease}
-use Rattle.lease.proofs.Lookup.{lease-after-grant, lease-after-requeue}
+use Rattle.lease.proofs.Lookups.{lease-after-grant, lease-after-requeue}
 use Rattle.lease.proofs.Passed.{claim-cases, nack-cases}
 
 -- ## they rise

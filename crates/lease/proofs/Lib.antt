@@ -11,7 +11,7 @@ pub mod Lists
 pub mod Merge
 pub mod Carried
 pub mod Passed
-pub mod Lookup
+pub mod Lookups
 pub mod Generations
 pub mod Counts
 pub mod Examples
