@@ -2,11 +2,11 @@
 -- Assumes nothing.
 use Prim.Native.Nat.{ℕ, _+_, _≤_, _<_}
 use native.Mathlib.Omega.{arith}
-use mathlib.Core.Path.{_≡_, refl, sym, ap, subst, _∙_}
-use mathlib.Core.Bool.{Bool, true, false, not, _&&_, _||_, true≢false}
+use mathlib.Core.Path.{_≡_, refl, sym, ap, _∙_}
+use mathlib.Core.Bool.{Bool, true, false, not, _&&_, true≢false}
 use mathlib.Core.List.{List}
 use mathlib.Core.Option.{Option, none, some, Option·none-ne-some}
-use lib.Dec.{leb, eqb}
+use lib.Dec.{leb}
 use lib.ListN.{length}
 use borrow.Author.Tests.{eq-eqb, ne-eqb, le-leb, lt-leb}
 use Rattle.types.specs.Limits.{MAX, LEASES, CARRIED}
@@ -23,7 +23,6 @@ use Rattle.lease.specs.declared.LeaseToken.{LeaseToken}
 use Rattle.lease.specs.declared.Claim.{Claim}
 use Rattle.lease.specs.declared.Claim.the-variants.{Granted}
 use Rattle.lease.specs.State.{Table}
-use Rattle.lease.specs.State as state
 use Rattle.lease.specs.Claim.{Grant, granted, grant, leaseOf, isNone, running, claimRows}
 use Rattle.lease.specs.Claim as leases
 use Rattle.lease.specs.Answers as answers

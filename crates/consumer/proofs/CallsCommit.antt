@@ -3,11 +3,10 @@
 use Prim.Native.Nat.{ℕ, _≤_, _<_}
 use mathlib.Core.Path.{_≡_, ap, _∙_}
 use mathlib.Core.Bool.{Bool, true, false}
-use lib.Dec.{leb}
 use borrow.Author.Tests.{le-leb, lt-leb}
 use Rattle.types.specs.Limits.{MAX}
 use Rattle.types.specs.Refusal.{Result, refused, done, Held}
-use Rattle.types.specs.Table.{Passed, Answer}
+use Rattle.types.specs.Table.{Answer}
 use Rattle.types.specs.Keyed.{anyBelow}
 use Rattle.cursor.specs.Cursor.{Cursor, commitUpTo}
 use Rattle.cursor.specs.Answers as cursor

@@ -27,7 +27,6 @@ use Rattle.lease.specs.Rest.{deliveriesOf, deliveries}
 use Rattle.lease.specs.Answers as answers
 use Rattle.consumer.specs.State.{State, withTable, withBoth}
 use Rattle.consumer.specs.Calls.{isShed, ackTable, acked, ack, attemptOf, nackDeadline, nackTable, nacked, nack, onTable, progress}
-use Rattle.consumer.specs.Valid.{Valid}
 use Rattle.consumer.specs.View.{view, Sound, Answers, holding, holdingBoth}
 use Rattle.consumer.specs.declared.Consumer.{Consumer}
 use Rattle.consumer.proofs.Open.{ack-open, nack-open}

@@ -1,6 +1,5 @@
 // The calls that change the state and write nothing: claim, Ack, Term, Nack, Progress and Commit.
 ghost use mathlib.Core.Path.{_≡_};
-ghost use Rattle.types.specs.Limits.{RANGES};
 ghost use Rattle.types.specs.Refusal.{done};
 ghost use Rattle.types.specs.Table.{first, Passed};
 ghost use Rattle.cursor.specs.Answers.{ackOf};
@@ -188,11 +187,11 @@ impl Consumer {
         if !self.table.is_claimable(offset, now) {
             return ClaimTest::Refused(ClaimAnswer::InFlight);
         }
-        let generation = self.table.next_generation.0;
-        if generation == 18446744073709551615 {
+        let next = self.table.next_generation.0;
+        if next == 18446744073709551615 {
             return ClaimTest::Refused(ClaimAnswer::Exhausted);
         }
-        if self.ceiling.0 <= generation {
+        if self.ceiling.0 <= next {
             return ClaimTest::Refused(ClaimAnswer::CheckpointDue);
         }
         if self.delivery.attempts_flush_redeliveries <= self.table.redeliveries_since_flush {

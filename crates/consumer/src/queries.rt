@@ -104,4 +104,23 @@ impl Consumer {
     {
         self.area_len / 512 - self.seat.block
     }
+
+    // The waiting list at a clock, from the first place on: the carried offsets, then those whose lease's deadline has come. 20
+    // where they don't fit, and then nothing is changed.
+    pub fn waiting(self, now: u64, out: &mut [u64]) -> Listed
+        requires { ⌜ Sound self ⌝ }
+        ensures { λ r. ⌜ answer (listedOf r) (out .exit .now) ≡ listed (waitingAt (view self) now) (out .entry .now) ⌝ }
+    {
+        let table = self.table;
+        let n = table.carried();
+        if out.len() < n {
+            return Listed::OutTooShort;
+        }
+        let due = table.expired(now, &mut out[n..]);
+        let Listed::Filled(m) = due else {
+            return Listed::OutTooShort;
+        };
+        fill(out, &table.carried_offsets, n);
+        Listed::Filled(n + m)
+    }
 }

@@ -1,4 +1,5 @@
 -- `Consumer::claim_test` meets its contract: each test of the table in its order. Assumes nothing.
+use native.Mathlib.Omega.{arith}
 use mathlib.Core.Path.{_≡_, sym, _∙_}
 use mathlib.Core.Bool.{false}
 use borrow.Author.Needs.{needs}
@@ -59,7 +60,7 @@ returns-5 c =
     let g = c .before .before in
     let d = g .before in
     let a = start (first d) .args in
-    is-at-ceiling (view (a .self)) (a .offset .0) (a .now) (first d .if1 .left) (unsettled (second d)) (due d) (g .if4 .left) (c .if5 .taken)
+    is-at-ceiling (view (a .self)) (a .offset .0) (a .now) (first d .if1 .left) (unsettled (second d)) (due d) (g .if4 .left) (omega (arith, c .if5 .taken))
 
 returns-6 : tie.Need-returns-6
 returns-6 c =
@@ -67,7 +68,7 @@ returns-6 c =
     let g = h .before .before in
     let d = g .before in
     let a = start (first d) .args in
-    is-at-threshold (view (a .self)) (a .offset .0) (a .now) (first d .if1 .left) (unsettled (second d)) (due d) (g .if4 .left) (h .if5 .left)
+    is-at-threshold (view (a .self)) (a .offset .0) (a .now) (first d .if1 .left) (unsettled (second d)) (due d) (g .if4 .left) (omega (arith, h .if5 .left))
     (c .if6 .taken)
 
 is-full-requires : tie.Need-is-full-requires
@@ -81,7 +82,7 @@ returns-7 c =
     let g = h .before .before in
     let d = g .before in
     let a = start (first d) .args in
-    is-full (view (a .self)) (a .offset .0) (a .now) (first d .if1 .left) (unsettled (second d)) (due d) (g .if4 .left) (h .if5 .left)
+    is-full (view (a .self)) (a .offset .0) (a .now) (first d .if1 .left) (unsettled (second d)) (due d) (g .if4 .left) (omega (arith, h .if5 .left))
     (k .if6 .left) (sym (f .is-full .ensures) ∙ c .if7 .taken)
 
 returns-8 : tie.Need-returns-8
@@ -92,7 +93,7 @@ returns-8 c =
     let g = h .before .before in
     let d = g .before in
     let a = start (first d) .args in
-    is-open (view (a .self)) (a .offset .0) (a .now) (first d .if1 .left) (unsettled (second d)) (due d) (g .if4 .left) (h .if5 .left)
+    is-open (view (a .self)) (a .offset .0) (a .now) (first d .if1 .left) (unsettled (second d)) (due d) (g .if4 .left) (omega (arith, h .if5 .left))
     (k .if6 .left) (sym (f .is-full .ensures) ∙ c .if7 .left)
 
 pub claim-test-spec : {M : Type 1} → statement M

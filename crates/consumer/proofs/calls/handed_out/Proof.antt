@@ -1,5 +1,5 @@
 -- `handed_out` meets its contract: each case of the disposition is that of the answer. Assumes nothing.
-use mathlib.Core.Path.{_≡_, sym, ap, _∙_}
+use mathlib.Core.Path.{sym, ap, _∙_}
 use borrow.Author.Needs.{needs}
 use Rattle.delivery.specs.Config.{dispositionOf}
 use Rattle.consumer.proofs.CallsClaim.{handed}
