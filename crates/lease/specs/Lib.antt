@@ -5,4 +5,4 @@ pub mod Counts
 pub mod Rest
 pub mod Answers
 pub mod Columns
-pub mod Lookups
+pub mod Lookup
