@@ -479,56 +479,47 @@ impl LeaseTable {
     {
         let len = self.len;
         let place = columns::find(&self.offsets, len, offset.0);
-        match place {
-            Place::Found(at) => self.claim_again(at, offset, now),
-            Place::Missing(at) => {
-                let generation = self.next_generation;
-                if generation.0 == 18446744073709551615 {
-                    return Claimed {
-                        outcome: Claim::Exhausted,
-                        table: self,
-                    };
-                }
-                if 64 <= len {
-                    return Claimed {
-                        outcome: Claim::Full,
-                        table: self,
-                    };
-                }
-                let n = self.carried_len;
-                let prior = columns::count_of(
-                    &self.carried_offsets,
-                    &self.carried_counts,
-                    n,
-                    offset.0,
-                );
-                let from = prior.from;
-                let to = prior.to;
-                columns::remove_128(&mut self.carried_offsets, n, from, to);
-                columns::remove_counts_128(&mut self.carried_counts, n, from, to);
-                self.carried_len = n - (to - from);
-                let deliveries = saturating_next(prior.count);
-                columns::insert_64(&mut self.offsets, len, at, offset.0);
-                let mut held = self.config.lease(generation, now, deliveries);
-                let mut i = at;
-                while i < len {
-                    let next = self.leases[i];
-                    self.leases[i] = held;
-                    held = next;
-                    i += 1;
-                }
-                self.leases[i] = held;
-                self.len = len + 1;
-                self.next_generation.0 = generation.0 + 1;
-                self.redeliveries_since_flush = after_grant(
-                    self.redeliveries_since_flush,
-                    deliveries,
-                );
-                Claimed {
-                    outcome: granted(offset, generation, deliveries),
-                    table: self,
-                }
+        let at = match place {
+            Place::Found(at) => {
+                return self.claim_again(at, offset, now);
             }
+            Place::Missing(at) => at,
+        };
+        let generation = self.next_generation;
+        if generation.0 == 18446744073709551615 {
+            return Claimed {
+                outcome: Claim::Exhausted,
+                table: self,
+            };
+        }
+        if 64 <= len {
+            return Claimed {
+                outcome: Claim::Full,
+                table: self,
+            };
+        }
+        let n = self.carried_len;
+        let prior = columns::count_of(&self.carried_offsets, &self.carried_counts, n, offset.0);
+        columns::remove_128(&mut self.carried_offsets, n, prior.from, prior.to);
+        columns::remove_counts_128(&mut self.carried_counts, n, prior.from, prior.to);
+        self.carried_len = n - (prior.to - prior.from);
+        let deliveries = saturating_next(prior.count);
+        columns::insert_64(&mut self.offsets, len, at, offset.0);
+        let mut held = self.config.lease(generation, now, deliveries);
+        let mut i = at;
+        while i < len {
+            let next = self.leases[i];
+            self.leases[i] = held;
+            held = next;
+            i += 1;
+        }
+        self.leases[i] = held;
+        self.len = len + 1;
+        self.next_generation.0 = generation.0 + 1;
+        self.redeliveries_since_flush = after_grant(self.redeliveries_since_flush, deliveries);
+        Claimed {
+            outcome: granted(offset, generation, deliveries),
+            table: self,
         }
     }
 

@@ -17,10 +17,10 @@ use Rattle.lease.proofs.LeaseTable.claim.Statement.{statement}
 use Rattle.lease.proofs.LeaseTable.claim.Tie as tie
 
 abbrev Inv-loop : tie.InvT-loop
-Inv-loop offset now self₀ len at generation n from to deliveries held₀ i₀ self held i = Opening (self₀ .leases) (self .leases) len at held₀ held i × (self ≡ holding self₀ (self .leases))
+Inv-loop offset now self₀ len at generation n deliveries held₀ i₀ self held i = Opening (self₀ .leases) (self .leases) len at held₀ held i × (self ≡ holding self₀ (self .leases))
 
 abbrev μ-loop : tie.MeasureT-loop
-μ-loop offset now self₀ len at generation n from to deliveries held₀ i₀ self held i = len - i
+μ-loop offset now self₀ len at generation n deliveries held₀ i₀ self held i = len - i
 
 full : (c : tie.Start Inv-loop μ-loop) → Full (c .args .t1)
 full c = record { offsets = search needs; leases = search (needs, length-mapped); carried-offsets = search needs; carried-counts = search needs }
@@ -39,7 +39,7 @@ abbrev passed : tie.After-count-of Inv-loop μ-loop → tie.Else2 Inv-loop μ-lo
 passed c = c .before .before .before .before .before .before
 
 abbrev counted : tie.After-lease Inv-loop μ-loop → tie.After-count-of Inv-loop μ-loop
-counted c = c .before .before .before .before .before .before .before .before .before
+counted c = c .before .before .before .before .before .before .before .before .before .before
 
 here : (c : tie.After-place2 Inv-loop μ-loop) → Free (start c .args .t1) (start c .args .offset .0) (c .place2 .given .0 .0)
 here c = let s = start c in free (s .args .t1) (full s) (s .pre) (c .before .before .find .ensures) (c .place2 .given .1)
@@ -69,17 +69,20 @@ claim-again-requires c κs =
       found-at (s .args .t1) f (s .pre) (p .before .before .find .ensures) (p .place .given .1),
     )
 
+returns : tie.Need-returns Inv-loop μ-loop
+returns c = c .claim-again .ensures
+
 enum-known-place-2 : tie.Need-enum-known-place-2 Inv-loop μ-loop
 enum-known-place-2 c = search needs
 
-returns : tie.Need-returns Inv-loop μ-loop
-returns c =
+returns-2 : tie.Need-returns-2 Inv-loop μ-loop
+returns-2 c =
     let p = c .before .before .before .before in
     let s = start p in
     claim-exhausted (s .args .t1) (s .pre) (s .args .offset .0) (s .args .now) (rw (here p .is)) (c .if1 .taken)
 
-returns-2 : tie.Need-returns-2 Inv-loop μ-loop
-returns-2 c =
+returns-3 : tie.Need-returns-3 Inv-loop μ-loop
+returns-3 c =
     let p = c .before .before .before .before .before in
     let s = start p in
     claim-full (s .args .t1) (s .pre) (s .args .offset .0) (s .args .now) (rw (here p .is)) (c .before .if1 .left) (here p .is) (rw (in-flight (s .args .t1) (full s) (s .pre)) (c .if2 .taken))
@@ -97,17 +100,17 @@ remove-counts-128-requires : tie.Need-remove-counts-128-requires Inv-loop μ-loo
 remove-counts-128-requires c κs = span (c .before .before .before)
 
 sub-self : tie.Need-sub-self Inv-loop μ-loop
-sub-self c = span (c .before .before .before .before) .0
+sub-self c = span (c .before .before .before .before .before) .0
 
 sub-self-2 : tie.Need-sub-self-2 Inv-loop μ-loop
-sub-self-2 c = omega (arith, span (c .before .before .before .before))
+sub-self-2 c = omega (arith, span (c .before .before .before .before .before))
 
 saturating-next-requires : tie.Need-saturating-next-requires Inv-loop μ-loop
 saturating-next-requires c κs = search needs
 
 insert-64-requires : tie.Need-insert-64-requires Inv-loop μ-loop
 insert-64-requires c κs =
-    let e = passed (c .before .before .before .before .before .before) in
+    let e = passed (c .before .before .before .before .before .before .before) in
     (here (place e) .inside, e .if2 .left)
 
 lease-requires : tie.Need-lease-requires Inv-loop μ-loop
@@ -165,9 +168,6 @@ after-grant-requires c κs = search needs
 granted-requires : tie.Need-granted-requires Inv-loop μ-loop
 granted-requires c κs = search needs
 
-returns-3 : tie.Need-returns-3 Inv-loop μ-loop
-returns-3 c = c .claim-again .ensures
-
 returns-4 : tie.Need-returns-4 Inv-loop μ-loop
 returns-4 c =
     let a = c .before in
@@ -175,6 +175,7 @@ returns-4 c =
     let l = k .loop in
     let b = k .before in
     let n = b .before .before .before .before in
+    let m = n .before .before in
     let o = counted b in
     let e = passed o in
     let p = place e in
@@ -185,8 +186,8 @@ returns-4 c =
     (count-first (s .args .t1) (s .args .offset .0) (p .place2 .given .0 .0) (n .saturating-next .result) h (o .count-of .result) (o .count-of .ensures) (n .saturating-next .ensures)) _ (c .granted .ensures)
     (granted-first (s .args .t1) (s .pre) (s .args .offset .0) (p .place2 .given .0 .0) (s .args .now) (n .saturating-next .result) (b .lease .result) (b .lease .ensures) (a .after-grant .result) (a .after-grant .ensures ∙ ap (λ (t : LeaseTable). afterGrant (t .«redeliveries_since_flush») (n .saturating-next .result)) (l .inv .1))
     h (e .if2 .left) (o .count-of .result) (o .count-of .ensures) (n .saturating-next .ensures)
-    (b .before .before .insert-64 .last .0) (set (l .self .leases) (l .i) (l .held)) (n .before .before .before .remove-128 .last .0) (n .before .remove-counts-128 .last .0)
-    (b .before .before .insert-64 .ensures) (opened nil (l .inv .0) (a .before .before .before .loop-test .left)) (n .before .before .before .remove-128 .ensures) (n .before .remove-counts-128 .ensures)
+    (b .before .before .insert-64 .last .0) (set (l .self .leases) (l .i) (l .held)) (m .before .before .remove-128 .last .0) (m .remove-counts-128 .last .0)
+    (b .before .before .insert-64 .ensures) (opened nil (l .inv .0) (a .before .before .before .loop-test .left)) (m .before .before .remove-128 .ensures) (m .remove-counts-128 .ensures)
     (ap (λ (t : LeaseTable). finished t (set (l .self .leases) (l .i) (l .held)) (s .args .t1 .len + 1) (s .args .t1 .«next_generation» .0 + 1) (a .after-grant .result)) (l .inv .1)))
 
 pub claim-spec : {M : Type 1} → statement M
@@ -198,9 +199,10 @@ claim-spec =
     find-requires
     enum-known-place
     claim-again-requires
-    enum-known-place-2
     returns
+    enum-known-place-2
     returns-2
+    returns-3
     count-of-requires
     remove-128-requires
     remove-counts-128-requires
@@ -223,5 +225,4 @@ claim-spec =
     add-self-2
     after-grant-requires
     granted-requires
-    returns-3
     returns-4)
