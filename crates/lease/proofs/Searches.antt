@@ -11,7 +11,7 @@ use lib.Dec.{ltb}
 use lib.ListN.{length, take, getD}
 use lib.Seq.{length-take-le, getD-take}
 use borrow.Author.Tests.{ltb-false, le-ltb}
-use Rattle.types.specs.Keyed.{Entry, entry, entries, lookup, anyBelow, Rising}
+use Rattle.types.specs.Keyed.{Entry, entries, lookup, anyBelow, Rising}
 use Rattle.types.proofs.Cases.{split}
 use Rattle.types.proofs.Columns.{length-entries, lookup-found, lookup-missing}
 use Rattle.lease.specs.State.{Sound, leasesOf, carriedOf}
