@@ -10,7 +10,7 @@ use borrow.Author.Tests.{ltb-true, eqb-true, lt-ltb}
 use Rattle.types.specs.Limits.{MAX, sat32}
 use Rattle.types.specs.Keyed.{lookup, update}
 use Rattle.types.proofs.Cases.{split}
-use Rattle.types.proofs.Keyed.{lookup-put-same, lookup-put-other, lookup-delete-same, lookup-delete-other, lookup-update-same, lookup-update-other, lookup-drop-below, lookup-keep-above}
+use Rattle.types.proofs.Keyed.{lookup-put-same, lookup-put-other, lookup-delete-same, lookup-delete-other, lookup-update, lookup-drop-below, lookup-keep-above}
 use Rattle.cursor.specs.Cursor.{settled}
 use Rattle.lease.specs.declared.Lease.{Lease}
 use Rattle.lease.specs.Claim.{leaseOf, handedOut, dueAt, requeuedAs}
@@ -46,9 +46,10 @@ acked-count s o g v p x =
 module _ (s : State) (o : ℕ) (l : Lease) (held : leaseOf (s .table) o ≡ some l) (f : Lease → Lease) (same : f l .deliveries ≡ l .deliveries) where
   updated-count : (x : ℕ) (c : Option ℕ) → handedOut (lookup x (update o f (s .table .leases))) c ≡ handedOut (leaseOf (s .table) x) c
   updated-count x c =
-      split (eqb x o)
-      (λ e. rw (eqb-true x o e, lookup-update-same o f l (s .table .leases) held, held) same)
-      (λ e. rw (lookup-update-other x o f (s .table .leases) e))
+      rw (lookup-update x o f (s .table .leases))
+      (split (eqb x o)
+      (λ e. rw (e, eqb-true x o e, held) same)
+      (λ e. rw e))
 
 pub nacked-count : (s : State) (o g deadline : ℕ) → Valid s → NackOpen s o g → (x : ℕ) → countOf (nacked s o deadline) x ≡ countOf s x
 nacked-count s o g deadline v p x =
