@@ -21,11 +21,11 @@ use Rattle.lease.specs.declared.Lease.{Lease}
 use Rattle.lease.specs.declared.LeaseTable.{LeaseTable}
 use Rattle.lease.specs.State.{Table, withLeases}
 use Rattle.lease.specs.State as state
-use Rattle.lease.specs.Claim.{leaseOf, owns, tokenRow, countOr0, nackRows, requeue}
+use Rattle.lease.specs.Claim.{leaseOf, owns, tokenRow, nackRows, requeue}
 use Rattle.lease.specs.Claim as leases
 use Rattle.lease.specs.Rest.{deliveriesOf, deliveries}
 use Rattle.lease.specs.Answers as answers
-use Rattle.consumer.specs.State.{State, withTable, withBoth}
+use Rattle.consumer.specs.State.{State, withTable, withBoth, countOr0}
 use Rattle.consumer.specs.Calls.{isShed, ackTable, acked, ack, attemptOf, nackDeadline, nackTable, nacked, nack, onTable, progress}
 use Rattle.consumer.specs.View.{view, Sound, Answers, holding, holdingBoth}
 use Rattle.consumer.specs.declared.Consumer.{Consumer}

@@ -11,7 +11,7 @@ use lib.Dec.{eqb}
 use lib.ListN.{length}
 use borrow.Author.Tests.{eqb-true, ne-eqb}
 use Rattle.types.specs.Limits.{MAX, MAX32, PAIRS, sat32}
-use Rattle.types.specs.Keyed.{Entry, lookup, put, Rising, All}
+use Rattle.types.specs.Keyed.{Entry, lookup, put, Rising, All, mapValues}
 use Rattle.types.proofs.Cases.{split}
 use Rattle.types.proofs.Keyed.{lookup-put-same, lookup-put-other, lookup-under, rising-put, length-put, all-put, all-of-lookup, lookup-all}
 use Rattle.types.proofs.Entries.{absent, all-imply}
@@ -19,20 +19,24 @@ use Rattle.cursor.specs.Cursor.{settled}
 use Rattle.attempt.specs.Snapshot.{PairsFit}
 use Rattle.lease.specs.declared.Lease.{Lease}
 use Rattle.lease.specs.State.{Counted}
-use Rattle.lease.specs.Claim.{leaseOf, handedOut, nextCount, countOr0}
+use Rattle.lease.specs.Claim.{leaseOf, handedOut, nextCount}
 use Rattle.lease.specs.Counts.{raiseAll, allAttemptCounts}
-use Rattle.consumer.specs.State.{State}
+use Rattle.consumer.specs.State.{State, countOr0}
 use Rattle.consumer.specs.Questions.{countOf}
 use Rattle.consumer.specs.Restart.{unsettledCounts}
 use Rattle.consumer.specs.Valid.{Valid}
 
 -- ## What the leases make of the carried counts
+-- the carried counts raised to those of leases
+abbrev raised : List (Entry Lease) → List (Entry ℕ) → List (Entry ℕ)
+raised l c = raiseAll (mapValues (λ x. x .deliveries) l) c
+
 -- the count of an offset with this lease and this carried count: the larger where it has both
 abbrev merged : Option Lease → Option ℕ → Option ℕ
 merged none c = c
 merged (some l) c = some (max (countOr0 c) (l .deliveries))
 
-raised-lookup : (lo o : ℕ) (l : List (Entry Lease)) (c : List (Entry ℕ)) → Rising lo l → lookup o (raiseAll l c) ≡ merged (lookup o l) (lookup o c)
+raised-lookup : (lo o : ℕ) (l : List (Entry Lease)) (c : List (Entry ℕ)) → Rising lo l → lookup o (raised l c) ≡ merged (lookup o l) (lookup o c)
 raised-lookup lo o [] c r = refl
 raised-lookup lo o (e ∷ l) c r =
     let n = max (countOr0 (lookup (e .key) c)) (e .value .deliveries) in
@@ -41,13 +45,13 @@ raised-lookup lo o (e ∷ l) c r =
     (λ q. rw (q, eqb-true o (e .key) q, lookup-under (suc (e .key)) (e .key) l (r .1) (omega arith), lookup-put-same (e .key) n c))
     (λ q. rw (q, lookup-put-other o (e .key) n c q))
 
-raised-rising : (l : List (Entry Lease)) (c : List (Entry ℕ)) → Rising 0 c → Rising 0 (raiseAll l c)
+raised-rising : (l : List (Entry Lease)) (c : List (Entry ℕ)) → Rising 0 c → Rising 0 (raised l c)
 raised-rising [] c r = r
 raised-rising (e ∷ l) c r =
     let n = max (countOr0 (lookup (e .key) c)) (e .value .deliveries) in
     raised-rising l (put (e .key) n c) (rising-put 0 (e .key) n c (omega arith) r)
 
-raised-length : (l : List (Entry Lease)) (c : List (Entry ℕ)) → length (raiseAll l c) ≤ length l + length c
+raised-length : (l : List (Entry Lease)) (c : List (Entry ℕ)) → length (raised l c) ≤ length l + length c
 raised-length [] c = omega arith
 raised-length (e ∷ l) c =
     let n = max (countOr0 (lookup (e .key) c)) (e .value .deliveries) in
@@ -59,7 +63,7 @@ module _ (P : ℕ → ℕ → Type 0) (larger : (o m n : ℕ) → P o m → P o 
   raised-one o n none h p = only o n p
   raised-one o n (some m) h p = larger o m n (h m refl) p
 
-  raised-all : (l : List (Entry Lease)) (c : List (Entry ℕ)) → All (λ o v. P o (v .deliveries)) l → All P c → All P (raiseAll l c)
+  raised-all : (l : List (Entry Lease)) (c : List (Entry ℕ)) → All (λ o v. P o (v .deliveries)) l → All P c → All P (raised l c)
   raised-all [] c a b = b
   raised-all (e ∷ l) c a b =
       let n = max (countOr0 (lookup (e .key) c)) (e .value .deliveries) in

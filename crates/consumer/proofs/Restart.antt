@@ -26,7 +26,6 @@ use Rattle.cursor.proofs.Snapshot.{decoded-valid}
 use Rattle.cursor.specs.Snapshot.{decodeCursor}
 use Rattle.attempt.specs.Snapshot.{PairsFit, decodeAttempts}
 use Rattle.attempt.proofs.Snapshot.{decoded-rising, decoded-fit, decoded-few}
-use Rattle.lease.specs.Claim.{countOr0}
 use Rattle.lease.specs.State.{startingAt, Counted}
 use Rattle.lease.proofs.Valid.{valid-start, valid-carried}
 use Rattle.journal.specs.Area.{blocks, blockAt}
@@ -35,7 +34,7 @@ use Rattle.journal.specs.Sound.{allZero}
 use Rattle.journal.specs.Walks.{Stop, stop, walk, contents, payload}
 use Rattle.journal.proofs.Sound.{zero-header}
 use Rattle.journal.proofs.Walks.{says-nothing, walk-turn, walk-ended}
-use Rattle.consumer.specs.State.{Settings, State, Seat, seatAt}
+use Rattle.consumer.specs.State.{Settings, State, Seat, seatAt, countOr0}
 use Rattle.consumer.specs.Restart.{startTable, resumed, fresh, start, isDropped, unsettledCounts, fromSnapshots, readGroup, lastGroup, fromWalk, restart}
 use Rattle.consumer.specs.Valid.{Fits, Accepted, Valid}
 use Rattle.consumer.proofs.Open.{StartOpen, start-open, start-says}

@@ -15,7 +15,8 @@ use Rattle.types.specs.Table.{Answer}
 use Rattle.types.specs.Keyed.{Entry, lookup, put, update}
 use Rattle.types.proofs.Cases.{split}
 use Rattle.types.proofs.Table.{guarded-cases}
-use Rattle.types.proofs.Keyed.{lookup-put-other, lookup-delete-same, lookup-delete-other, lookup-update-other, lookup-drop-below, lookup-keep-above, length-put, length-put-old, length-delete, length-delete-old, length-update, length-dropBelow}
+use Rattle.types.proofs.Keyed.{lookup-put-other, lookup-delete-same, lookup-delete-other, lookup-drop-below, lookup-keep-above, length-put, length-put-old, length-delete, length-delete-old, length-update, length-dropBelow}
+use Rattle.consumer.proofs.Updates.{lookup-update-other}
 use Rattle.types.proofs.Entries.{absent}
 use Rattle.cursor.specs.Cursor.{Cursor, settled, ackBounded}
 use Rattle.cursor.specs.Cursor as cursor

@@ -10,10 +10,10 @@ use Rattle.types.specs.Table.{_⇒_, checked}
 use Rattle.types.specs.Keyed.{Entry, lookup}
 use Rattle.cursor.specs.Cursor.{settled}
 use Rattle.lease.specs.declared.Lease.{Lease}
-use Rattle.lease.specs.Claim.{leaseOf, countOr0}
+use Rattle.lease.specs.Claim.{leaseOf}
 use Rattle.lease.specs.Rest.{dueOffsets, inFlight}
 use Rattle.lease.specs.Counts.{allAttemptCounts}
-use Rattle.consumer.specs.State.{State, blocksOf}
+use Rattle.consumer.specs.State.{State, blocksOf, countOr0}
 use Rattle.consumer.specs.Calls.{atCeiling, atThreshold}
 
 -- the keys of entries, in their order

@@ -1,9 +1,14 @@
 -- The consumer's state, as document 01 lists it under "consumer", and the settings that it is started with.
 use Prim.Native.Nat.{ℕ, _/_}
+use mathlib.Core.Option.{Option, Option·getD}
 use Rattle.cursor.specs.Cursor.{Cursor}
 use Rattle.lease.specs.declared.LeaseConfig.{LeaseConfig}
 use Rattle.lease.specs.State.{Table}
 use Rattle.delivery.specs.Policy.{Policy}
+
+-- a count that may be missing
+abbrev pub countOr0 : Option ℕ → ℕ
+countOr0 n = Option·getD n 0
 
 -- what a consumer is started with
 pub record Settings : Type 0 where

@@ -14,7 +14,8 @@ use Rattle.types.specs.Refusal.{Result, refused, done, Fenced}
 use Rattle.types.specs.Table.{Answer, Passed}
 use Rattle.types.specs.Keyed.{Entry, lookup, put, update, delete, dropBelow}
 use Rattle.types.proofs.Cases.{split}
-use Rattle.types.proofs.Keyed.{lookup-put-same, lookup-put-other, lookup-delete-same, lookup-delete-other, lookup-update-same, lookup-update-other, lookup-drop-below, lookup-keep-above}
+use Rattle.types.proofs.Keyed.{lookup-put-same, lookup-put-other, lookup-delete-same, lookup-delete-other, lookup-drop-below, lookup-keep-above}
+use Rattle.consumer.proofs.Updates.{lookup-update-same, lookup-update-other}
 use Rattle.cursor.specs.Cursor.{settled}
 use Rattle.lease.specs.declared.Lease.{Lease}
 use Rattle.lease.specs.Claim as lease

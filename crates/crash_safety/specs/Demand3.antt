@@ -10,8 +10,7 @@ use Rattle.types.specs.Refusal.{refused, done}
 use Rattle.types.specs.Keyed.{lookup}
 use Rattle.cursor.specs.Cursor.{settled}
 use Rattle.delivery.specs.Policy.{Destination, Deliver, DeadLetter}
-use Rattle.lease.specs.Claim.{countOr0}
-use Rattle.consumer.specs.State.{Settings, State}
+use Rattle.consumer.specs.State.{Settings, State, countOr0}
 use Rattle.consumer.specs.Calls.{HandOut}
 use Rattle.consumer.specs.Restart.{start}
 use Rattle.consumer.specs.Valid.{Fits}
