@@ -623,6 +623,22 @@ impl AckCursor {
         }
     }
 
+    // A cursor at a committed offset with ranges ahead of it, of which there may be any number. Refused range by range: an
+    // empty one (10), one not above the end before it (11); then over 128 ranges (12).
+    pub fn resume_with_ahead(committed: Offset, ahead: &[Range]) -> Resumed
+        ensures { λ r. ⌜ ResumedIs (committed .0) (now (ahead .entry)) r ⌝ }
+    {
+        let n = ahead.len();
+        let mut under_way = begin(committed.0);
+        let mut i: usize = 0;
+        while i < n {
+            let r = ahead[i];
+            under_way = take_range(under_way, r.start, r.end);
+            i += 1;
+        }
+        finish(under_way)
+    }
+
     // The range at a place.
     fn range_at(self, at: usize) -> Range
         requires { ⌜ at < 128 ⌝ }
