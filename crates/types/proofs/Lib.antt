@@ -5,3 +5,4 @@ pub mod Zipped
 pub mod Search
 pub mod Shift
 pub mod Scan
+pub mod Lists
