@@ -8,3 +8,5 @@ pub mod Snapshot
 pub mod Reading
 pub mod Writing
 pub mod Taking
+pub mod Listing
+pub mod Walk

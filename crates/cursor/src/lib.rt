@@ -9,8 +9,9 @@ ghost use mathlib.Core.List.{List, [], _∷_, _++_};
 ghost use lib.Dec.{ltb, eqb};
 ghost use lib.ListN.{length, take, getD, set};
 ghost use Rattle.types.specs.Identifiers.{offset};
-ghost use Rattle.types.specs.Refusal.{done, OutTooShort};
-ghost use Rattle.types.specs.Table.{_⇒_, answer, checked, first};
+ghost use Rattle.types.specs.Refusal.{done};
+ghost use Rattle.types.specs.Lists.{listed};
+ghost use Rattle.types.specs.Table.{answer, first};
 ghost use Rattle.raw.specs.Bytes.{overwrite, write, outcomeOf};
 ghost use Rattle.types.specs.Zipped.{zipped, inserted, removed};
 ghost use Rattle.types.specs.Search.{Sorted, upTo};
@@ -18,10 +19,10 @@ ghost use Rattle.cursor.specs.Ranges.{range, offsets};
 ghost use Rattle.cursor.specs.Snapshot.{rangesBytes, bodyBytes, encodeCursor, readRanges, decodeTable};
 ghost use Rattle.cursor.specs.Cursor.{settled, ackBounded, commitUpTo, rangeTable, resumeTable};
 ghost use Rattle.cursor.specs.View.{ackCursor, view, Sound, Whole, Fresh};
-ghost use Rattle.cursor.specs.Answers.{ackOf, Updated, resumeFault, ResumedIs, listedOf, counted, decodeFault, DecodedIs};
+ghost use Rattle.cursor.specs.Answers.{ackOf, Updated, resumeFault, ResumedIs, listedOf, roomFor, counted, decodeFault, DecodedIs};
 ghost use Rattle.cursor.specs.Taking.{Taken};
 ghost use Rattle.cursor.specs.declared.Range.{Range};
-ghost use Rattle.cursor.specs.Place.{Spotted, joinedAt};
+ghost use Rattle.cursor.specs.Place.{Spotted, rangeAt, joinedAt};
 use raw::Write;
 use types::Offset;
 
@@ -476,16 +477,6 @@ fn finish(all: Resuming) -> Resumed
     }
 }
 
-// Whether a lent list of a length has room for the ranges.
-fn room_for(runs: usize, len: usize) -> Listed
-    ensures { λ r. ⌜ listedOf r ≡ checked (ltb len runs ⇒ OutTooShort ∷ []) (done runs) ⌝ }
-{
-    if len < runs {
-        return Listed::OutTooShort;
-    }
-    Listed::Ranges(runs)
-}
-
 // How many places of the list are filled.
 fn count_of(listed: Listed) -> usize
     ensures { λ r. ⌜ r ≡ counted (listedOf listed) ⌝ }
@@ -623,15 +614,58 @@ impl AckCursor {
         }
     }
 
+    // A cursor at a committed offset with ranges ahead of it, of which there may be any number. Refused range by range: an
+    // empty one (10), one not above the end before it (11); then over 128 ranges (12).
+    pub fn resume_with_ahead(committed: Offset, ahead: &[Range]) -> Resumed
+        ensures { λ r. ⌜ ResumedIs (committed .0) (now (ahead .entry)) r ⌝ }
+    {
+        let n = ahead.len();
+        let mut under_way = begin(committed.0);
+        let mut i: usize = 0;
+        while i < n {
+            let r = ahead[i];
+            under_way = take_range(under_way, r.start, r.end);
+            i += 1;
+        }
+        finish(under_way)
+    }
+
     // The range at a place.
     fn range_at(self, at: usize) -> Range
-        requires { ⌜ at < 128 ⌝ }
-        ensures { λ r. ⌜ r ≡ range (getD (self .starts) at 0) (getD (self .ends) at 0) ⌝ }
+        requires { ⌜ Sound self × (at < length (view self .ahead)) ⌝ }
+        ensures { λ r. ⌜ r ≡ rangeAt at (view self .ahead) ⌝ }
     {
         Range {
             start: self.starts[at],
             end: self.ends[at],
         }
+    }
+
+    // Whether the ranges fit into a list of this length.
+    fn room_for(self, len: usize) -> Listed
+        requires { ⌜ Sound self ⌝ }
+        ensures { λ r. ⌜ listedOf r ≡ roomFor (view self .ahead) len ⌝ }
+    {
+        if len < self.runs {
+            return Listed::OutTooShort;
+        }
+        Listed::Ranges(self.runs)
+    }
+
+    // Lists the ranges ahead from the first place on and answers their number; later places stay. Refused, with the list
+    // as it was, where they don't fit (20).
+    pub fn ahead_ranges(self, out: &mut [Range]) -> Listed
+        requires { ⌜ Sound self ⌝ }
+        ensures { λ r. ⌜ answer (listedOf r) (now (out .exit)) ≡ listed (view self .ahead) (now (out .entry)) ⌝ }
+    {
+        let outcome = self.room_for(out.len());
+        let n = count_of(outcome);
+        let mut i: usize = 0;
+        while i < n {
+            out[i] = self.range_at(i);
+            i += 1;
+        }
+        outcome
     }
 
     // Writes the snapshot from a position on, and answers the position behind it. Refused without room (20).
