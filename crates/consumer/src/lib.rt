@@ -8,6 +8,7 @@ use lease::LeaseTable;
 use types::Generation;
 
 mod calls;
+mod checkpoint;
 mod starts;
 
 // What a consumer is started with.
