@@ -15,11 +15,15 @@ use Rattle.journal.specs.Area.{badLength, outside, writeAt}
 use Rattle.journal.specs.Answers.{writeBlock}
 use Rattle.journal.specs.declared.Block.the-variants as block
 use Rattle.journal.proofs.Area.{Whole, whole-says}
+use Rattle.cursor.specs.View as cursor
+use Rattle.delivery.specs.Config as delivery
 use Rattle.lease.specs.State as lease
+use Rattle.lease.specs.Rest.{attemptsFlushed}
+use Rattle.lease.specs.Answers.{Becomes}
 use Rattle.lease.specs.declared.LeaseTable.{LeaseTable}
-use Rattle.consumer.specs.State.{State, blocksOf}
+use Rattle.consumer.specs.State.{stateOf, seatAt}
 use Rattle.consumer.specs.Checkpoint.{bodies, newCeiling, bodyOf, headerOf, flushed, step}
-use Rattle.consumer.specs.View.{view, Sound}
+use Rattle.consumer.specs.View.{view}
 use Rattle.consumer.specs.Writing.{viewWriting, SoundWriting, SteppedIs, Into, HeaderIs, Fitting, FlushedIs}
 use Rattle.consumer.specs.declared.Consumer.{Consumer}
 use Rattle.consumer.specs.declared.checkpoint.Writing.{Writing}
@@ -71,20 +75,38 @@ unfolding writeBlock
 block-written a after b i o inside e = ap (λ (x : Answer (Unit {0}) (List ℕ)). x .state) (rw inside at e)
 
 -- ## Behind the last write
--- a consumer with the fields that the last write changes
-pub flushed-sound : (c after : Consumer) (n : ℕ) → Fitting c n → view after ≡ flushed (view c) → lease.Sound (after .table)
-    → after .cursor ≡ c .cursor → after .delivery ≡ c .delivery → FlushedIs c after
-flushed-sound c after n f is table same-cursor same-delivery =
+-- the group of a record fits, with its bodies counted as the code does
+pub record-fits : (w : Writing) → SoundWriting w → Fitting (w .consumer) ((w .«cursor_len» + w .«attempt_len» + 499) / 500)
+record-fits w s =
+    let e = small w s .count in
+    record { sound = s .consumer; count = e; room = rw e (s .valid .room) }
+
+-- the consumer with the fields that the last write changes
+pub flushed-is : (c : Consumer) (n : ℕ) → Fitting c n → (t : LeaseTable) → Becomes t (attemptsFlushed (lease.view (c .table)))
+    → (ceiling : ℕ) → ceiling ≡ newCeiling (view c)
+    → FlushedIs c (record {
+      cursor = c .cursor;
+      table = t;
+      ceiling = record { 0 = ceiling };
+      seat = record { number = c .seat .number + 1; block = c .seat .block + (n + 1) };
+      «area_len» = c .«area_len»;
+      delivery = c .delivery;
+    })
+flushed-is c n f t b ceiling e =
     record {
       is = is;
       sound =
           record {
-            cursor = rw same-cursor (f .sound .cursor);
-            table = table;
-            delivery = rw same-delivery (f .sound .delivery);
+            cursor = f .sound .cursor;
+            table = b .sound;
+            delivery = f .sound .delivery;
             valid = rw is (flushed-valid (view c) (record { room = rw (← f .count) (f .room) }) (f .sound .valid));
           };
     }
+  where
+    is : stateOf (cursor.view (c .cursor)) (lease.view t) ceiling (seatAt (c .seat .number + 1) (c .seat .block + (n + 1))) (c .«area_len») (delivery.view (c .delivery))
+        ≡ flushed (view c)
+    is = rw (b .is, e, add-one n, f .count)
 
 -- ## A step
 abbrev moved : Writing → Writing
@@ -102,23 +124,31 @@ module _ (w : Writing) (s : SoundWriting w) (a : List ℕ) where
   unfolding step
   step-refused n = record { is = rw (ne-eqb (length a) (w .consumer .«area_len») n); sound = s; kept = refl }
 
-  module _ (area : length a ≡ w .consumer .«area_len») (after : List ℕ) where
-    pub step-last : bodies (view (w .consumer)) ≤ w .written → (v : Writing) → FlushedIs (w .consumer) (v .consumer)
+  module _ (area : length a ≡ w .consumer .«area_len») where
+    -- the next body lies in the area
+    pub body-inside : w .written < bodies (view (w .consumer)) → Into w a (w .consumer .seat .block + (w .written + 1))
+    body-inside h = record { sound = s; area = area; inside = omega (arith, s .valid .room) }
+
+    -- and so does the header
+    pub header-inside : Into w a (w .consumer .seat .block)
+    header-inside = record { sound = s; area = area; inside = omega (arith, s .valid .room) }
+
+    pub step-last : (after : List ℕ) → bodies (view (w .consumer)) ≤ w .written → (v : Writing) → FlushedIs (w .consumer) (v .consumer)
         → after ≡ writeAt a (w .consumer .seat .block) (headerOf (view (w .consumer)))
         → SteppedIs w a (record { answer = Finished (w .consumer .seat .block); writing = v }) after
     unfolding step
-    step-last h v f e =
+    step-last after h v f e =
         record {
           is = rw (eq-eqb (length a) (w .consumer .«area_len») area, le-leb (bodies (view (w .consumer))) (w .written) h, e, f .is);
           sound = f .sound;
           kept = tt;
         }
 
-    pub step-body : w .written < bodies (view (w .consumer))
+    pub step-body : (after : List ℕ) → w .written < bodies (view (w .consumer))
         → after ≡ writeAt a (w .consumer .seat .block + (w .written + 1)) (bodyOf (view (w .consumer)) (w .written + 1))
         → SteppedIs w a (record { answer = Wrote (w .consumer .seat .block + (w .written + 1)); writing = moved w }) after
     unfolding step
-    step-body h e =
+    step-body after h e =
         record {
           is = rw (eq-eqb (length a) (w .consumer .«area_len») area, lt-leb (bodies (view (w .consumer))) (w .written) h, e, add-one (w .written));
           sound =
