@@ -7,3 +7,5 @@ pub mod Questions
 pub mod Claims
 pub mod Changes
 pub mod Lists
+pub mod Merge
+pub mod Carried

@@ -6,18 +6,18 @@ use native.Mathlib.Numerals.{add-one}
 use mathlib.Core.Path.{_≡_, refl, sym, ap, _∙_}
 use mathlib.Core.List.{List, [], _∷_, _++_, map, append-nil}
 use lib.Dec.{leb}
-use lib.ListN.{length, take, drop, getD, set, length-set, drop-of-length-le}
-use lib.Seq.{length-take-le, getD-take, take-suc-set, append-snoc}
+use lib.ListN.{length, take, drop, getD, set, length-set}
+use lib.Seq.{take-suc-set, append-snoc}
 use borrow.Author.Tests.{le-leb, lt-leb}
 use Rattle.types.specs.Limits.{LEASES}
 use Rattle.types.specs.Keyed.{Entry, entry, entries, mapValues}
-use Rattle.types.proofs.Columns.{drop-entry, entries-map}
+use Rattle.types.proofs.Columns.{drop-used, drop-unused, entries-map}
 use Rattle.lease.specs.State.{Sound, view, leasesOf}
 use Rattle.lease.specs.Counts.{attemptCounts}
 use Rattle.lease.specs.Rest.{dueOffsets}
 use Rattle.lease.specs.declared.Lease.{Lease}
 use Rattle.lease.specs.declared.LeaseTable.{LeaseTable}
-use Rattle.lease.proofs.Slots.{nil, Full, in-flight}
+use Rattle.lease.proofs.Slots.{nil, Full}
 
 -- ## the counts of the leases
 abbrev pub counts : LeaseTable → List ℕ
@@ -43,11 +43,7 @@ pub record Listing (t : LeaseTable) (now : ℕ) (offsets : List ℕ) (n i : ℕ)
 
 module _ (t : LeaseTable) (full : Full t) (ok : Sound t) (now : ℕ) where
   head : (i : ℕ) → i < t .len → drop i (leasesOf t) ≡ entry (getD (t .offsets) i 0) (getD (t .leases) i nil) ∷ drop (i + 1) (leasesOf t)
-  head i h =
-      let ks = length-take-le (t .len) (t .offsets) (omega (arith, full .offsets, ok .len)) in
-      let vs = length-take-le (t .len) (t .leases) (omega (arith, full .leases, ok .len)) in
-      rw (add-one, ← getD-take (t .len) (t .offsets) i 0 h, ← getD-take (t .len) (t .leases) i nil h)
-      (drop-entry nil i (take (t .len) (t .offsets)) (take (t .len) (t .leases)) (ks ∙ sym vs) (omega arith))
+  head = drop-used nil (t .len) (t .offsets) (t .leases) (omega (arith, full .offsets, ok .len)) (omega (arith, full .leases, ok .len))
 
   pub listing : (offsets : List ℕ) → length offsets ≡ LEASES → Listing t now offsets 0 0
   listing offsets h = record { inside = omega arith; few = omega arith; full-list = h; is = refl }
@@ -74,5 +70,5 @@ module _ (t : LeaseTable) (full : Full t) (ok : Sound t) (now : ℕ) where
 
   pub due-listed : {offsets : List ℕ} {n i : ℕ} → Listing t now offsets n i → t .len ≤ i → take n offsets ≡ dueOffsets now (leasesOf t)
   due-listed {offsets} {n} {i} inv h =
-      let e : drop i (leasesOf t) ≡ [] = drop-of-length-le (leasesOf t) {i = i} (rw (in-flight t full ok) h) in
+      let e : drop i (leasesOf t) ≡ [] = drop-unused nil (t .len) (t .offsets) (t .leases) (omega (arith, full .offsets, ok .len)) (omega (arith, full .leases, ok .len)) i h in
       sym (append-nil (take n offsets)) ∙ rw e at (inv .is)

@@ -84,10 +84,10 @@ module _ {A : Type 0} (d : A) (n : ℕ) (ks : List ℕ) (vs : List A) (fits : n 
   even : length (take n ks) ≡ length (take n vs)
   even = length-take-le n ks fits ∙ sym (length-take-le n vs fits′)
 
-  keys-ascend : Ascending 0 (take n ks)
+  pub keys-ascend : Ascending 0 (take n ks)
   keys-ascend = rising-ascending 0 (take n ks) (take n vs) even rise
 
-  stands : (x at : ℕ) → Placed x (take n ks) (Found at) → Stands d n ks vs x at
+  pub stands : (x at : ℕ) → Placed x (take n ks) (Found at) → Stands d n ks vs x at
   stands x at p =
       let h : at < n = rw (length-take-le n ks fits) at (p .0) in
       record {
@@ -97,7 +97,7 @@ module _ {A : Type 0} (d : A) (n : ℕ) (ks : List ℕ) (vs : List A) (fits : n 
         gone = rw add-one (sym (delete-found x at 0 (take n ks) (take n vs) even keys-ascend (p .0) (p .1)));
       }
 
-  lacks : (x at : ℕ) → Placed x (take n ks) (Missing at) → Lacks n ks vs x at
+  pub lacks : (x at : ℕ) → Placed x (take n ks) (Missing at) → Lacks n ks vs x at
   lacks x at p =
       let e : lookup x (entries (take n ks) (take n vs)) ≡ none = lookup-missing x 0 (take n ks) (take n vs) even keys-ascend (rw (p .0) at (p .1)) in
       record {
@@ -113,6 +113,9 @@ module _ (n : ℕ) (ks vs : List ℕ) (fits : n ≤ length ks) (fits′ : n ≤ 
 
   pub found-inside : (x : ℕ) {at : ℕ} {r : Place} → Placed x (take n ks) r → r ≡ Found at → at < n
   found-inside x {at} p e = stands 0 n ks vs fits fits′ rise x at (subst (Placed x (take n ks)) e p) .inside
+
+  pub missing-inside : (x : ℕ) {at : ℕ} {r : Place} → Placed x (take n ks) r → r ≡ Missing at → at ≤ n
+  missing-inside x {at} p e = lacks 0 n ks vs fits fits′ rise x at (subst (Placed x (take n ks)) e p) .inside
 
   module _ {x at : ℕ} {r : Place} (p : Placed x (take n ks) r) where
     pub spans-found : r ≡ Found at → Spans x (take n ks) (take n vs) (record { from = at; to = at + 1; count = getD vs at 0 })

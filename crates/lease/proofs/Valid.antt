@@ -8,10 +8,10 @@ use mathlib.Core.Bool.{Bool, true, false, _&&_}
 use mathlib.Core.List.{List, [], _∷_}
 use mathlib.Core.Option.{Option, none, some}
 use lib.Dec.{ltb, leb, eqb}
-use lib.ListN.{length}
+use lib.ListN.{length, getD}
 use borrow.Author.Tests.{ltb-false, leb-false, eqb-false}
 use Rattle.types.specs.Limits.{MAX, MAX32, LEASES, CARRIED, sat32}
-use Rattle.types.specs.Keyed.{Entry, lookup, put, update, delete, dropBelow, Rising, All, mapValues}
+use Rattle.types.specs.Keyed.{Entry, entries, lookup, put, update, delete, dropBelow, Rising, All, mapValues}
 use Rattle.types.proofs.Cases.{split}
 use Rattle.types.proofs.Keyed.{rising-put, length-put, length-put-old, all-put, rising-delete, length-delete, all-delete, rising-update, length-update, all-update, rising-dropBelow, length-dropBelow, all-dropBelow, rising-mapValues, length-mapValues, all-mapValues}
 use Rattle.lease.specs.State.{Table, withLeases, withCarried, startingAt, Counted, Valid}
@@ -140,7 +140,7 @@ valid-grant t o now h n f v =
     }
 
 -- ## counts carried over
-carry-rising : (o n : ℕ) (c : List (Entry ℕ)) → Rising 0 c → Rising 0 (carry o n c)
+pub carry-rising : (o n : ℕ) (c : List (Entry ℕ)) → Rising 0 c → Rising 0 (carry o n c)
 carry-rising o n c r = split (eqb n 0) (λ q. rw q r) (λ q. rw q (rising-put 0 o n c (omega arith) r))
 
 carry-counted : (o n : ℕ) (c : List (Entry ℕ)) → o ≤ MAX → n ≤ MAX32 → All Counted c → All Counted (carry o n c)
@@ -168,3 +168,9 @@ valid-resume t ps f n v =
     (carry-all-rising ps (t .carried) (v .carried-rising))
     (omega (arith, ltb-false CARRIED (length (carryAll ps (t .carried))) n))
     (carry-all-counted ps (t .carried) f (v .carried-counted))
+
+-- the numbers of two columns are of their types
+pub all-fit : (ks vs : List ℕ) → ((i : ℕ) → getD ks i 0 ≤ MAX) → ((i : ℕ) → getD vs i 0 ≤ MAX32) → All Fits (entries ks vs)
+all-fit [] vs h g = tt
+all-fit (k ∷ ks) [] h g = tt
+all-fit (k ∷ ks) (v ∷ vs) h g = ((h 0, g 0), all-fit ks vs (λ i. h (suc i)) (λ i. g (suc i)))

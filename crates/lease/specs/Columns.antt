@@ -1,14 +1,20 @@
 -- What the helpers on columns answer: the place of a key, and a column with an element put in or with places taken out.
-use Prim.Native.Nat.{ℕ, _≤_, _<_}
+use Prim.Native.Nat.{ℕ, _+_, _≤_, _<_, max}
 use mathlib.Core.Path.{_≡_}
-use mathlib.Core.List.{List, _∷_, _++_}
+use mathlib.Core.Bool.{cond}
+use mathlib.Core.List.{List, [], _∷_, _++_}
+use lib.Dec.{ltb, eqb}
 use lib.ListN.{length, take, drop, getD}
-use Rattle.types.specs.Keyed.{entries, lookup, delete}
+use Rattle.types.specs.Limits.{CARRIED}
+use Rattle.types.specs.Keyed.{Entry, entry, entries, lookup, delete}
 use Rattle.types.specs.Sorted.{below}
 use Rattle.lease.specs.Claim.{countOr0}
 use Rattle.lease.specs.declared.columns.Place.{Place}
 use Rattle.lease.specs.declared.columns.Place.the-variants.{Found, Missing}
 use Rattle.lease.specs.declared.columns.Span.{Span}
+use Rattle.lease.specs.declared.columns.Pick.{Pick}
+use Rattle.lease.specs.declared.columns.CarryOutcome.{CarryOutcome}
+use Rattle.lease.specs.declared.columns.CarryOutcome.the-variants.{Kept, Full}
 
 -- x put in at a place
 abbrev pub inserted : {A : Type 0} → ℕ → A → List A → List A
@@ -29,3 +35,28 @@ pub record Spans (x : ℕ) (ks vs : List ℕ) (r : Span) : Type 0 where
   pub inside : r .to ≤ length ks
   pub count : r .count ≡ countOr0 (lookup x (entries ks vs))
   pub gone : entries (without (r .from) (r .to) ks) (without (r .from) (r .to) vs) ≡ delete x (entries ks vs)
+
+-- ## two sorted lists of counts in one, the larger count where a key stands in both
+-- an entry before the rest of its own list, merged with another list
+abbrev pub mergeEntry : Entry ℕ → (List (Entry ℕ) → List (Entry ℕ)) → List (Entry ℕ) → List (Entry ℕ)
+mergeEntry e rest [] = e ∷ rest []
+mergeEntry e rest (c ∷ l) =
+    cond (ltb (e .key) (c .key)) (e ∷ rest (c ∷ l))
+    (cond (eqb (e .key) (c .key)) (entry (e .key) (max (c .value) (e .value)) ∷ rest l) (c ∷ mergeEntry e rest l))
+
+abbrev pub merge : List (Entry ℕ) → List (Entry ℕ) → List (Entry ℕ)
+merge [] l = l
+merge (e ∷ k) l = mergeEntry e (merge k) l
+
+-- the first of what is left of the two lists, from places i and j on, and how many entries of each it takes
+pub record Picked (k l : List (Entry ℕ)) (i j : ℕ) (r : Pick) : Type 0 where
+  pub left : i + r .left ≤ length k
+  pub right : j + r .right ≤ length l
+  pub some : 1 ≤ r .left + r .right
+  pub is : merge (drop i k) (drop j l) ≡ entry (r .offset) (r .attempt) ∷ merge (drop (i + r .left) k) (drop (j + r .right) l)
+
+-- ## a count carried
+-- the columns afterwards hold the list with the pair in it, or it would have more than 128 entries
+abbrev pub Carries : List (Entry ℕ) → CarryOutcome → List ℕ → List ℕ → Type 0
+Carries right (Kept n) ks vs = (n ≤ CARRIED) × (entries (take n ks) (take n vs) ≡ right)
+Carries right Full ks vs = CARRIED < length right

@@ -10,7 +10,6 @@ use Rattle.types.specs.Table.{_⇒_, Answer, answer, guarded}
 use Rattle.types.specs.Keyed.{Entry, lookup, put, mapValues}
 use Rattle.lease.specs.State.{Table, withCarried}
 use Rattle.lease.specs.Claim.{countOr0}
-use Rattle.lease.specs.declared.Lease.{Lease}
 
 -- ## counts carried over
 -- the carried counts with one pair more: a zero says nothing, and of two counts for an offset the last stays
@@ -35,10 +34,10 @@ attemptCounts t = mapValues (λ l. l .deliveries) (t .leases)
 abbrev pub raise : ℕ → ℕ → List (Entry ℕ) → List (Entry ℕ)
 raise o n c = put o (max (countOr0 (lookup o c)) n) c
 
-abbrev pub raiseAll : List (Entry Lease) → List (Entry ℕ) → List (Entry ℕ)
+abbrev pub raiseAll : List (Entry ℕ) → List (Entry ℕ) → List (Entry ℕ)
 raiseAll [] c = c
-raiseAll (e ∷ l) c = raiseAll l (raise (e .key) (e .value .deliveries) c)
+raiseAll (e ∷ l) c = raiseAll l (raise (e .key) (e .value) c)
 
 -- the carried counts and the leases', the larger where an offset has both
 unfoldable pub allAttemptCounts : Table → List (Entry ℕ)
-allAttemptCounts t = raiseAll (t .leases) (t .carried)
+allAttemptCounts t = raiseAll (attemptCounts t) (t .carried)

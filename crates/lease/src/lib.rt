@@ -3,7 +3,7 @@
 // generation, so that whoever held the message before is fenced off. The caller brings the time, in nanoseconds of any
 // clock: it may stand still or run backwards.
 ghost use mathlib.Core.Path.{_≡_};
-ghost use Prim.Native.Nat.{_<_};
+ghost use Prim.Native.Nat.{_<_, min};
 ghost use lib.ListN.{getD};
 ghost use Rattle.types.specs.Limits.{sat64, sat32};
 ghost use Rattle.lease.specs.Config.{nanos, fromMillis, defaultConfig};
@@ -11,10 +11,12 @@ ghost use Rattle.lease.specs.State.{Sound, view, startingAt};
 ghost use Rattle.types.specs.Refusal.{done};
 ghost use Rattle.lease.specs.Claim.{lease, claim, ack, extend, nack, capFrom, deadlineFrom, afterGrant, afterFlush};
 ghost use Rattle.types.specs.Table.{answer};
+ghost use Rattle.types.specs.Keyed.{entries};
 ghost use Rattle.types.specs.Lists.{listed};
 ghost use Rattle.lease.specs.Rest.{shiftedBy, attemptsFlushed, releaseBelow, resealFromTo, deferRedelivery, shiftDeadlines, inFlight, isClaimable, deliveries, holdsActive, pendingRedeliveryAttempt, expired};
 ghost use Rattle.lease.specs.Counts.{resumeAttempts, attemptCounts, allAttemptCounts};
 ghost use Rattle.lease.specs.Answers.{claimOf, ackOf, extendOf, nackOf, resumeOf, listedOf, attemptsOf, Answers, Tries, Becomes, Lists, Offsets};
+use columns::CarryOutcome;
 use columns::Place;
 use types::Generation;
 use types::Offset;
@@ -121,6 +123,12 @@ fn saturating_add(a: u64, b: u64) -> u64
     } else {
         18446744073709551615
     }
+}
+
+fn shorter(a: usize, b: usize) -> usize
+    ensures { λ r. ⌜ r ≡ min a b ⌝ }
+{
+    if a < b { a } else { b }
 }
 
 // One more, at most the largest number.
@@ -344,6 +352,39 @@ impl LeaseTable {
         self.len
     }
 
+    // Carries attempt counts over from before a restart, pairs of an offset and a count at the same places of the two columns:
+    // the next claim of an offset goes on from its count. Where one column is longer, its rest is no pair. A count of 0 says
+    // nothing, and of two counts for an offset the last stays.
+    pub fn resume_attempts<'a>(self, offsets: &'a [u64], attempts: &'a [u32]) -> Resumed
+        requires { ⌜ Sound self ⌝ }
+        ensures { λ r. ⌜ Answers (resumeOf (r .outcome)) self (r .table) (resumeAttempts (view self) (entries (now (offsets .entry)) (now (attempts .entry)))) ⌝ }
+    {
+        let len = shorter(offsets.len(), attempts.len());
+        let mut keys = self.carried_offsets;
+        let mut counts = self.carried_counts;
+        let mut n = self.carried_len;
+        let mut i: usize = 0;
+        while i < len {
+            let carried = columns::carry(&mut keys, &mut counts, n, offsets[i], attempts[i]);
+            let CarryOutcome::Kept(m) = carried else {
+                return Resumed {
+                    outcome: ResumeOutcome::TooManyPairs,
+                    table: self,
+                };
+            };
+            n = m;
+            i += 1;
+        }
+        let mut table = self;
+        table.carried_offsets = keys;
+        table.carried_counts = counts;
+        table.carried_len = n;
+        Resumed {
+            outcome: ResumeOutcome::Resumed,
+            table: table,
+        }
+    }
+
     // How often each message in flight was handed out.
     pub fn attempt_counts(self) -> AttemptCounts
         requires { ⌜ Sound self ⌝ }
@@ -362,6 +403,44 @@ impl LeaseTable {
             offsets: offsets,
             attempts: attempts,
             len: len,
+        }
+    }
+
+    // The counts of all messages that were handed out and are not done: those in flight and the carried ones, the larger count
+    // where an offset has both.
+    pub fn all_attempt_counts(self) -> AttemptCounts
+        requires { ⌜ Sound self ⌝ }
+        ensures { λ r. ⌜ Lists r (allAttemptCounts (view self)) ⌝ }
+    {
+        let leased = self.attempt_counts();
+        let len = leased.len;
+        let n = self.carried_len;
+        let mut offsets = [0u64; 192];
+        let mut attempts = [0u32; 192];
+        let mut i: usize = 0;
+        let mut j: usize = 0;
+        let mut k: usize = 0;
+        while i + j < len + n {
+            let next = columns::pick_next(
+                &leased.offsets,
+                &leased.attempts,
+                len,
+                i,
+                &self.carried_offsets,
+                &self.carried_counts,
+                n,
+                j,
+            );
+            offsets[k] = next.offset;
+            attempts[k] = next.attempt;
+            i += next.left;
+            j += next.right;
+            k += 1;
+        }
+        AttemptCounts {
+            offsets: offsets,
+            attempts: attempts,
+            len: k,
         }
     }
 

@@ -1,16 +1,18 @@
 -- A keyed list held as two columns, of keys and of values: what each operation on the list does to the columns at the
 -- place of the key.
 -- Assumes nothing.
-use Prim.Native.Nat.{ℕ, zero, suc, _≤_, _<_}
+use Prim.Native.Nat.{ℕ, zero, suc, _+_, _≤_, _<_, min}
 use native.Mathlib.Omega.{arith}
 use native.Mathlib.Nat.{le-of-suc-le-suc}
+use native.Mathlib.Numerals.{add-one}
 use native.Mathlib.Decide.{ℕ-discrete}
 use mathlib.Core.Path.{_≡_, refl, sym, ap, _∙_}
 use mathlib.Core.Bool.{Bool, true, false, cond}
 use mathlib.Core.List.{List, [], _∷_, _++_, map}
 use mathlib.Core.Option.{Option, none, some, Option·none-ne-some}
 use lib.Dec.{ltb, eqb}
-use lib.ListN.{length, take, drop, getD, set}
+use lib.ListN.{length, take, drop, getD, set, drop-of-length-le}
+use lib.Seq.{length-take-le, getD-take, drop-nil}
 use borrow.Author.Tests.{ltb-true, ltb-false, eqb-true, lt-ltb, le-ltb, eq-eqb, ne-eqb}
 use Rattle.types.specs.Keyed.{Entry, entry, lookup, put, delete, dropBelow, Rising, entries, mapValues}
 use Rattle.types.specs.Sorted.{Ascending, below}
@@ -28,19 +30,47 @@ module _ {A : Type 0} where
   no-values [] = refl
   no-values (k ∷ ks) = refl
 
+  pub entries-snoc : (x : ℕ) (v : A) (ks : List ℕ) (vs : List A) → length ks ≡ length vs → entries (ks ++ (x ∷ [])) (vs ++ (v ∷ [])) ≡ entries ks vs ++ (entry x v ∷ [])
+  entries-snoc x v [] [] n = refl
+  entries-snoc x v [] (w ∷ vs) n = absurd (omega arith)
+  entries-snoc x v (k ∷ ks) [] n = absurd (omega arith)
+  entries-snoc x v (k ∷ ks) (w ∷ vs) n = ap (λ (l : List (Entry A)). entry k w ∷ l) (entries-snoc x v ks vs (omega arith))
+
   pub drop-entries : (i : ℕ) (ks : List ℕ) (vs : List A) → drop i (entries ks vs) ≡ entries (drop i ks) (drop i vs)
   drop-entries zero ks vs = refl
   drop-entries (suc i) [] vs = refl
   drop-entries (suc i) (k ∷ ks) [] = sym (no-values (drop i ks))
   drop-entries (suc i) (k ∷ ks) (v ∷ vs) = drop-entries i ks vs
 
-  -- the entries from place i on begin with the one there
-  pub drop-entry : (d : A) (i : ℕ) (ks : List ℕ) (vs : List A) → length ks ≡ length vs → i < length ks
+  -- the entries from place i on begin with the one there, and there are none past the shorter column
+  pub drop-entry : (d : A) (i : ℕ) (ks : List ℕ) (vs : List A) → i < length ks → i < length vs
       → drop i (entries ks vs) ≡ entry (getD ks i 0) (getD vs i d) ∷ drop (suc i) (entries ks vs)
-  drop-entry d i [] vs n h = absurd (omega arith)
-  drop-entry d i (k ∷ ks) [] n h = absurd (omega arith)
-  drop-entry d zero (k ∷ ks) (v ∷ vs) n h = refl
-  drop-entry d (suc i) (k ∷ ks) (v ∷ vs) n h = drop-entry d i ks vs (omega arith) (le-of-suc-le-suc h)
+  drop-entry d i [] vs h g = absurd (omega arith)
+  drop-entry d i (k ∷ ks) [] h g = absurd (omega arith)
+  drop-entry d zero (k ∷ ks) (v ∷ vs) h g = refl
+  drop-entry d (suc i) (k ∷ ks) (v ∷ vs) h g = drop-entry d i ks vs (le-of-suc-le-suc h) (le-of-suc-le-suc g)
+
+  pub drop-entries-past : (i : ℕ) (ks : List ℕ) (vs : List A) → min (length ks) (length vs) ≤ i → drop i (entries ks vs) ≡ []
+  drop-entries-past i [] vs h = drop-nil i
+  drop-entries-past i (k ∷ ks) [] h = drop-nil i
+  drop-entries-past zero (k ∷ ks) (v ∷ vs) h = absurd (omega arith)
+  drop-entries-past (suc i) (k ∷ ks) (v ∷ vs) h = drop-entries-past i ks vs (omega arith)
+
+  -- the same where the first n places of two arrays are in use, and nothing from n on
+  module _ (d : A) (n : ℕ) (ks : List ℕ) (vs : List A) (fits : n ≤ length ks) (fits′ : n ≤ length vs) where
+    even : length (take n ks) ≡ length (take n vs)
+    even = length-take-le n ks fits ∙ sym (length-take-le n vs fits′)
+
+    pub length-used : length (entries (take n ks) (take n vs)) ≡ n
+    length-used = length-entries (take n ks) (take n vs) even ∙ length-take-le n ks fits
+
+    pub drop-used : (i : ℕ) → i < n → drop i (entries (take n ks) (take n vs)) ≡ entry (getD ks i 0) (getD vs i d) ∷ drop (i + 1) (entries (take n ks) (take n vs))
+    drop-used i h =
+        rw (add-one, ← getD-take n ks i 0 h, ← getD-take n vs i d h)
+        (drop-entry d i (take n ks) (take n vs) (rw (length-take-le n ks fits) h) (rw (length-take-le n vs fits′) h))
+
+    pub drop-unused : (i : ℕ) → n ≤ i → drop i (entries (take n ks) (take n vs)) ≡ []
+    drop-unused i h = drop-of-length-le (entries (take n ks) (take n vs)) {i = i} (rw length-used h)
 
   pub rising-ascending : (lo : ℕ) (ks : List ℕ) (vs : List A) → length ks ≡ length vs → Rising lo (entries ks vs) → Ascending lo ks
   rising-ascending lo [] vs e r = tt

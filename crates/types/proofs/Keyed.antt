@@ -100,6 +100,16 @@ module _ {A : Type 0} where
       (λ p. absurd (Option·none-ne-some w (sym (lookup-under (e .key) k (e ∷ l) (omega arith, r .1) (ltb-true k (e .key) p)) ∙ h)))
       (λ p. split (eqb k (e .key)) (λ q. rw (p, q)) (λ q. rw (p, q) (ap suc (length-put-old (suc (e .key)) k v w l (r .1) (rw q at h)))))
 
+  -- a new one adds a place
+  pub length-put-new : (k : ℕ) (v : A) (l : List (Entry A)) → lookup k l ≡ none → length (put k v l) ≡ suc (length l)
+  length-put-new k v [] h = refl
+  length-put-new k v (e ∷ l) h =
+      split (ltb k (e .key))
+      (λ p. rw p)
+      (λ p. split (eqb k (e .key))
+      (λ q. absurd (Option·none-ne-some (e .value) (sym (rw q at h))))
+      (λ q. rw (p, q) (ap suc (length-put-new k v l (rw q at h)))))
+
   pub rising-delete : (lo k : ℕ) (l : List (Entry A)) → Rising lo l → Rising lo (delete k l)
   rising-delete lo k [] r = tt
   rising-delete lo k (e ∷ l) r =
