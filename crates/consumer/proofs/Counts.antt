@@ -6,51 +6,58 @@ use native.Mathlib.Omega.{arith}
 use mathlib.Core.Path.{_≡_, refl, sym, ap, _∙_}
 use mathlib.Core.Bool.{true, false, true≢false}
 use mathlib.Core.List.{List, [], _∷_}
-use mathlib.Core.Option.{Option, none, some}
+use mathlib.Core.Option.{Option, none, some, Option·map}
 use lib.Dec.{eqb}
 use lib.ListN.{length}
 use borrow.Author.Tests.{eqb-true, ne-eqb}
 use Rattle.types.specs.Limits.{MAX, MAX32, PAIRS, sat32}
-use Rattle.types.specs.Keyed.{Entry, lookup, put, Rising, All}
+use Rattle.types.specs.Keyed.{Entry, lookup, put, Rising, All, mapValues}
 use Rattle.types.proofs.Cases.{split}
-use Rattle.types.proofs.Keyed.{lookup-put-same, lookup-put-other, lookup-under, rising-put, length-put, all-put, all-of-lookup, lookup-all}
+use Rattle.types.proofs.Keyed.{lookup-put-same, lookup-put-other, lookup-under, rising-put, length-put, all-put, all-of-lookup, lookup-all, rising-mapValues, length-mapValues, all-mapValues}
 use Rattle.types.proofs.Entries.{absent, all-imply}
 use Rattle.cursor.specs.Cursor.{settled}
 use Rattle.attempt.specs.Snapshot.{PairsFit}
 use Rattle.lease.specs.declared.Lease.{Lease}
 use Rattle.lease.specs.State.{Counted}
 use Rattle.lease.specs.Claim.{leaseOf, handedOut, nextCount, countOr0}
-use Rattle.lease.specs.Counts.{raiseAll, allAttemptCounts}
+use Rattle.lease.specs.Counts.{raiseAll, attemptCounts, allAttemptCounts}
 use Rattle.consumer.specs.State.{State}
 use Rattle.consumer.specs.Questions.{countOf}
 use Rattle.consumer.specs.Restart.{unsettledCounts}
 use Rattle.consumer.specs.Valid.{Valid}
 
+abbrev deliveriesIn : Lease → ℕ
+deliveriesIn l = l .deliveries
+
+lookup-deliveries : (o : ℕ) (l : List (Entry Lease)) → lookup o (mapValues deliveriesIn l) ≡ Option·map deliveriesIn (lookup o l)
+lookup-deliveries o [] = refl
+lookup-deliveries o (e ∷ l) = split (eqb o (e .key)) (λ q. rw q) (λ q. rw q (lookup-deliveries o l))
+
 -- ## What the leases make of the carried counts
 -- the count of an offset with this lease and this carried count: the larger where it has both
-abbrev merged : Option Lease → Option ℕ → Option ℕ
+abbrev merged : Option ℕ → Option ℕ → Option ℕ
 merged none c = c
-merged (some l) c = some (max (countOr0 c) (l .deliveries))
+merged (some n) c = some (max (countOr0 c) n)
 
-raised-lookup : (lo o : ℕ) (l : List (Entry Lease)) (c : List (Entry ℕ)) → Rising lo l → lookup o (raiseAll l c) ≡ merged (lookup o l) (lookup o c)
+raised-lookup : (lo o : ℕ) (l c : List (Entry ℕ)) → Rising lo l → lookup o (raiseAll l c) ≡ merged (lookup o l) (lookup o c)
 raised-lookup lo o [] c r = refl
 raised-lookup lo o (e ∷ l) c r =
-    let n = max (countOr0 (lookup (e .key) c)) (e .value .deliveries) in
+    let n = max (countOr0 (lookup (e .key) c)) (e .value) in
     raised-lookup (suc (e .key)) o l (put (e .key) n c) (r .1)
     ∙ split (eqb o (e .key))
     (λ q. rw (q, eqb-true o (e .key) q, lookup-under (suc (e .key)) (e .key) l (r .1) (omega arith), lookup-put-same (e .key) n c))
     (λ q. rw (q, lookup-put-other o (e .key) n c q))
 
-raised-rising : (l : List (Entry Lease)) (c : List (Entry ℕ)) → Rising 0 c → Rising 0 (raiseAll l c)
+raised-rising : (l c : List (Entry ℕ)) → Rising 0 c → Rising 0 (raiseAll l c)
 raised-rising [] c r = r
 raised-rising (e ∷ l) c r =
-    let n = max (countOr0 (lookup (e .key) c)) (e .value .deliveries) in
+    let n = max (countOr0 (lookup (e .key) c)) (e .value) in
     raised-rising l (put (e .key) n c) (rising-put 0 (e .key) n c (omega arith) r)
 
-raised-length : (l : List (Entry Lease)) (c : List (Entry ℕ)) → length (raiseAll l c) ≤ length l + length c
+raised-length : (l c : List (Entry ℕ)) → length (raiseAll l c) ≤ length l + length c
 raised-length [] c = omega arith
 raised-length (e ∷ l) c =
-    let n = max (countOr0 (lookup (e .key) c)) (e .value .deliveries) in
+    let n = max (countOr0 (lookup (e .key) c)) (e .value) in
     omega (arith, raised-length l (put (e .key) n c), length-put (e .key) n c)
 
 -- what holds of each lease's count, of each carried one, and of the larger of the two
@@ -59,22 +66,24 @@ module _ (P : ℕ → ℕ → Type 0) (larger : (o m n : ℕ) → P o m → P o 
   raised-one o n none h p = only o n p
   raised-one o n (some m) h p = larger o m n (h m refl) p
 
-  raised-all : (l : List (Entry Lease)) (c : List (Entry ℕ)) → All (λ o v. P o (v .deliveries)) l → All P c → All P (raiseAll l c)
+  raised-all : (l c : List (Entry ℕ)) → All P l → All P c → All P (raiseAll l c)
   raised-all [] c a b = b
   raised-all (e ∷ l) c a b =
-      let n = max (countOr0 (lookup (e .key) c)) (e .value .deliveries) in
+      let n = max (countOr0 (lookup (e .key) c)) (e .value) in
       raised-all l (put (e .key) n c) (a .1)
-      (all-put P (e .key) n c (raised-one (e .key) (e .value .deliveries) (lookup (e .key) c) (λ m q. lookup-all P (e .key) m c b q) (a .0)) b)
+      (all-put P (e .key) n c (raised-one (e .key) (e .value) (lookup (e .key) c) (λ m q. lookup-all P (e .key) m c b q) (a .0)) b)
 
 -- ## The count of an offset
 module _ (s : State) (v : Valid s) where
   pub count-is : (o : ℕ) → countOf s o ≡ handedOut (leaseOf (s .table) o) (lookup o (s .table .carried))
   unfolding allAttemptCounts
   count-is o =
-      ap countOr0 (raised-lookup 0 o (s .table .leases) (s .table .carried) (v .table .rising))
+      ap countOr0
+      (raised-lookup 0 o (attemptCounts (s .table)) (s .table .carried) (rising-mapValues deliveriesIn 0 (s .table .leases) (v .table .rising)))
+      ∙ ap (λ (x : Option ℕ). countOr0 (merged x (lookup o (s .table .carried)))) (lookup-deliveries o (s .table .leases))
       ∙ go (leaseOf (s .table) o) (lookup o (s .table .carried)) (λ l e. v .leased o l e .alone)
     where
-      go : (x : Option Lease) (y : Option ℕ) → ((l : Lease) → x ≡ some l → y ≡ none) → countOr0 (merged x y) ≡ handedOut x y
+      go : (x : Option Lease) (y : Option ℕ) → ((l : Lease) → x ≡ some l → y ≡ none) → countOr0 (merged (Option·map deliveriesIn x) y) ≡ handedOut x y
       go none none alone = refl
       go none (some n) alone = refl
       go (some l) y alone = rw (alone l refl) (omega arith)
@@ -110,20 +119,21 @@ module _ (s : State) (v : Valid s) where
       raised-all Unsettled
       (λ o m n h k. (record { offset-fits = h .0 .offset-fits; once = omega (arith, h .0 .once); count-fits = omega (arith, h .0 .count-fits, k .0 .count-fits) }, h .1))
       (λ o n h. (record { offset-fits = h .0 .offset-fits; once = omega (arith, h .0 .once); count-fits = omega (arith, h .0 .count-fits) }, h .1))
-      (s .table .leases)
+      (attemptCounts (s .table))
       (s .table .carried)
+      (all-mapValues deliveriesIn (λ o l. Unsettled o (l .deliveries)) Unsettled (s .table .leases) (λ o l h. h)
       (all-of-lookup (λ o l. Unsettled o (l .deliveries)) 0 (s .table .leases) (v .table .rising)
-      (λ o l e. (lookup-all (λ k m. Counted k (m .deliveries)) o l (s .table .leases) (v .table .counted) e, v .leased o l e .unsettled)))
+      (λ o l e. (lookup-all (λ k m. Counted k (m .deliveries)) o l (s .table .leases) (v .table .counted) e, v .leased o l e .unsettled))))
       (all-of-lookup Unsettled 0 (s .table .carried) (v .table .carried-rising)
       (λ o n e. (lookup-all Counted o n (s .table .carried) (v .table .carried-counted) e, v .carried o n e)))
 
   pub counts-rising : Rising 0 (allAttemptCounts (s .table))
   unfolding allAttemptCounts
-  counts-rising = raised-rising (s .table .leases) (s .table .carried) (v .table .carried-rising)
+  counts-rising = raised-rising (attemptCounts (s .table)) (s .table .carried) (v .table .carried-rising)
 
   pub counts-few : length (allAttemptCounts (s .table)) ≤ PAIRS
   unfolding allAttemptCounts
-  counts-few = omega (arith, raised-length (s .table .leases) (s .table .carried), v .together)
+  counts-few = omega (arith, raised-length (attemptCounts (s .table)) (s .table .carried), length-mapValues deliveriesIn (s .table .leases), v .together)
 
   pub counts-counted : All Counted (allAttemptCounts (s .table))
   counts-counted = all-imply Unsettled Counted (allAttemptCounts (s .table)) (λ o n h. h .0) counts-all
