@@ -12,3 +12,5 @@ pub mod Restart
 pub mod Questions
 pub mod Starting
 pub mod Asked
+pub mod Writing
+pub mod Encoding

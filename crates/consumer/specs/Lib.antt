@@ -7,3 +7,4 @@ pub mod Valid
 pub mod View
 pub mod Examples
 pub mod Starting
+pub mod Writing
