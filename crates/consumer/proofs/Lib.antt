@@ -6,3 +6,4 @@ pub mod Payload
 pub mod Restart
 pub mod Questions
 pub mod Starting
+pub mod Carrying

@@ -1,6 +1,6 @@
 -- What a start and a restart are handed and answer in the code: the settings that the struct stands for, 01's refusals for the
 -- cases of the answer, and the parts of the contracts.
-use Prim.Native.Nat.{ℕ, _-_}
+use Prim.Native.Nat.{ℕ, _-_, _≤_}
 use mathlib.Core.Path.{_≡_}
 use mathlib.Core.List.{List, _++_}
 use mathlib.Core.Option.{Option, none, some}
@@ -8,6 +8,8 @@ use lib.ListN.{take, replicate}
 use Rattle.types.specs.Refusal.{Refusal, Result, refused, done}
 use Rattle.types.specs.Refusal as refusal
 use Rattle.types.specs.Table.{unless}
+use Rattle.types.specs.Limits.{CARRIED}
+use Rattle.types.specs.Keyed.{Entry, entries}
 use Rattle.cursor.specs.Answers.{snapshotError}
 use Rattle.cursor.specs.View as cursor
 use Rattle.attempt.specs.Codec.{decodeOf}
@@ -15,12 +17,18 @@ use Rattle.delivery.specs.declared.DeliveryConfig.{DeliveryConfig}
 use Rattle.delivery.specs.Config as delivery
 use Rattle.delivery.specs.Policy.{policy}
 use Rattle.lease.specs.State as lease
+use Rattle.lease.specs.State.{startingAt, withCarried}
+use Rattle.lease.specs.declared.LeaseConfig.{LeaseConfig}
+use Rattle.lease.specs.declared.LeaseTable.{LeaseTable}
+use Rattle.cursor.specs.declared.AckCursor.{AckCursor}
 use Rattle.consumer.specs.State.{State}
 use Rattle.consumer.specs.State as state
 use Rattle.consumer.specs.Restart.{fresh}
 use Rattle.consumer.specs.View.{view, Sound}
 use Rattle.consumer.specs.declared.Settings.{Settings}
+use Rattle.consumer.specs.declared.Seat.{Seat}
 use Rattle.consumer.specs.declared.Consumer.{Consumer}
+use Rattle.consumer.specs.declared.starts.Carried.{Carried}
 use Rattle.consumer.specs.declared.starts.Started.{Started}
 use Rattle.consumer.specs.declared.starts.StartAnswer.{StartAnswer}
 use Rattle.consumer.specs.declared.starts.StartAnswer.the-variants as answers
@@ -76,3 +84,26 @@ Beside (done t) s size c = Sound c
 pub record StartedIs (s : Settings) (size : ℕ) (right : Result State) (r : Started) : Type 0 where
   pub is : startOf (r .answer) (view (r .consumer)) ≡ right
   pub beside : Beside right s size (r .consumer)
+
+-- ## a restart's parts
+-- the counts that are carried, in two columns
+pub record CarriedIs (counts : List (Entry ℕ)) (r : Carried) : Type 0 where
+  pub is : entries (take (r .len) (r .offsets)) (take (r .len) (r .counts)) ≡ counts
+  pub few : r .len ≤ CARRIED
+
+-- a table that carries them, without leases
+pub record TableIs (c : LeaseConfig) (ceiling : ℕ) (carried : Carried) (r : LeaseTable) : Type 0 where
+  pub is : lease.view r ≡ withCarried (startingAt c ceiling) (entries (take (carried .len) (carried .offsets)) (take (carried .len) (carried .counts)))
+  pub none : r .len ≡ 0
+  pub len : r .«carried_len» ≡ carried .len
+
+abbrev pub consumerOf : AckCursor → LeaseTable → ℕ → Seat → ℕ → DeliveryConfig → Consumer
+consumerOf cursor table ceiling seat size delivery =
+    record {
+      cursor = cursor;
+      table = table;
+      ceiling = record { 0 = ceiling };
+      seat = seat;
+      «area_len» = size;
+      delivery = delivery;
+    }

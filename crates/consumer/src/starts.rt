@@ -1,16 +1,25 @@
 // How a consumer starts: fresh, or from what its journal has.
 ghost use mathlib.Core.Path.{_≡_};
+ghost use Prim.Native.Nat.{_≤_};
+ghost use mathlib.Core.Bool.{not};
+ghost use lib.ListN.{take};
 ghost use Rattle.types.specs.Table.{first};
-ghost use Rattle.consumer.specs.Restart.{startTable, start};
-ghost use Rattle.consumer.specs.Starting.{settingsOf, startFault, FreshIs, StartedIs};
+ghost use Rattle.cursor.specs.View as cursors;
+ghost use Rattle.attempt.specs.Codec.{entryOf, entriesOf};
+ghost use Rattle.consumer.specs.Restart.{startTable, start, isDropped, unsettledCounts};
+ghost use Rattle.consumer.specs.Starting.{settingsOf, startFault, FreshIs, StartedIs, CarriedIs, TableIs, consumerOf};
 use crate::Consumer;
 use crate::Seat;
 use crate::Settings;
 use attempt::Decode;
+use attempt::Pair;
 use cursor::AckCursor;
 use cursor::SnapshotError;
+use lease::Lease;
+use lease::LeaseConfig;
 use lease::LeaseTable;
 use types::Generation;
+use types::Offset;
 
 // What a start or a restart answers: a consumer, or a refusal: 1 to 5, the cursor snapshot's (6 to 12), or the attempt
 // snapshot's (13 to 19), as its decoder has it.
@@ -65,6 +74,89 @@ fn fresh(settings: Settings, area_len: usize) -> Consumer
             number: 1,
             block: 0,
         },
+        area_len: area_len,
+        delivery: delivery,
+    }
+}
+
+// The counts that a restart carries, by offset: the first `len` places of each array.
+struct Carried {
+    offsets: [u64; 128],
+    counts: [u32; 128],
+    len: usize,
+}
+
+// Whether a count is carried: it isn't zero, and its offset isn't settled.
+fn is_carried(cursor: AckCursor, pair: Pair) -> bool
+    requires { ⌜ cursors.Sound cursor ⌝ }
+    ensures { λ r. ⌜ r ≡ not (isDropped (cursors.view cursor) (entryOf pair)) ⌝ }
+{
+    if pair.attempt == 0 {
+        return false;
+    }
+    !cursor.is_acked(Offset(pair.offset))
+}
+
+// The nonzero counts of offsets that are not settled, of the first `count` pairs.
+fn carry(cursor: AckCursor, pairs: [Pair; 128], count: usize) -> Carried
+    requires { ⌜ cursors.Sound cursor × (count ≤ 128) ⌝ }
+    ensures { λ r. ⌜ CarriedIs (unsettledCounts (cursors.view cursor) (entriesOf (take count pairs))) r ⌝ }
+{
+    let mut offsets = [0u64; 128];
+    let mut counts = [0u32; 128];
+    let mut len: usize = 0;
+    let mut i: usize = 0;
+    while i < count {
+        let pair = pairs[i];
+        if is_carried(cursor, pair) {
+            offsets[len] = pair.offset;
+            counts[len] = pair.attempt;
+            len += 1;
+        }
+        i += 1;
+    }
+    Carried {
+        offsets: offsets,
+        counts: counts,
+        len: len,
+    }
+}
+
+// A table without leases whose generations begin at the ceiling.
+fn resumed_table(config: LeaseConfig, ceiling: u64, carried: Carried) -> LeaseTable
+    ensures { λ r. ⌜ TableIs config ceiling carried r ⌝ }
+{
+    let none = Lease {
+        generation: Generation(0),
+        attempt_start: 0,
+        deadline: 0,
+        deliveries: 0,
+    };
+    let carried_offsets = carried.offsets;
+    let carried_counts = carried.counts;
+    LeaseTable {
+        config: config,
+        offsets: [0; 64],
+        leases: [none; 64],
+        len: 0,
+        carried_offsets: carried_offsets,
+        carried_counts: carried_counts,
+        carried_len: carried.len,
+        next_generation: Generation(ceiling),
+        redeliveries_since_flush: 0,
+    }
+}
+
+// The consumer that goes on from a cursor and counts.
+fn resumed(settings: Settings, area_len: usize, cursor: AckCursor, table: LeaseTable, ceiling: u64, seat: Seat) -> Consumer
+    ensures { λ r. ⌜ r ≡ consumerOf cursor table ceiling seat «area_len» (settings .delivery) ⌝ }
+{
+    let delivery = settings.delivery;
+    Consumer {
+        cursor: cursor,
+        table: table,
+        ceiling: Generation(ceiling),
+        seat: seat,
         area_len: area_len,
         delivery: delivery,
     }
