@@ -1,4 +1,5 @@
 pub mod Snapshot
+pub mod Codec
 mod Writing
 mod Reading
 mod Walk

@@ -19,12 +19,14 @@ use Rattle.types.proofs.Table.{checked-done, checked-refused}
 use Rattle.types.proofs.Scan.{map-set}
 use Rattle.raw.specs.Bytes.{numberAt}
 use Rattle.crc.specs.Seal.{isSealed}
-use Rattle.attempt.specs.Snapshot.{readPair, readPairs, pairCount, pairsIn, orderAfter, orderTable, limitTable, pairsTable, decodeTable, decodeAttempts, decodeInto}
+use Rattle.attempt.specs.Snapshot.{readPair, readPairs, pairCount, pairsIn, orderAfter, orderTable, limitTable, pairsTable}
+use Rattle.attempt.specs.Snapshot.{decodeTable, decodeAttempts, decodeInto}
 use Rattle.attempt.specs.Codec.{entryOf, entriesOf, blank, decodeOf, counted, DecodedIs, RefusedIs, RoomIs}
 use Rattle.attempt.specs.declared.Pair.{Pair}
 use Rattle.attempt.specs.declared.Decoded.{Decoded}
 use Rattle.attempt.specs.declared.Decode.{Decode}
-use Rattle.attempt.specs.declared.Decode.the-variants.{Pairs, Truncated, UnsupportedVersion, BadLength, CountMismatch, BadCrc, NotSorted, TooManyPairs, OutTooShort}
+use Rattle.attempt.specs.declared.Decode.the-variants.{Pairs, Truncated, UnsupportedVersion, BadLength, CountMismatch}
+use Rattle.attempt.specs.declared.Decode.the-variants.{BadCrc, NotSorted, TooManyPairs, OutTooShort}
 use Rattle.attempt.proofs.Decode.{the-type}
 use Rattle.attempt.proofs.Snapshot.{length-read, accepted, accepts, fill-room, fill-short}
 
@@ -96,7 +98,8 @@ module _ (b : List ℕ) (n i pos : ℕ) where
         ≡ take i (entriesOf a) ++ (readPairs (n - i) pos b ++ drop n (entriesOf a))
     get-more p h fits e =
         let l : i < length (entriesOf a) = rw length-map (omega arith) in
-        rw (map-set entryOf a i p, e, add-one, take-suc-set (entriesOf a) i (readPair pos b) l, drop-set-lt n (entriesOf a) i (readPair pos b) h)
+        let q : Entry ℕ = readPair pos b in
+        rw (map-set entryOf a i p, e, add-one, take-suc-set (entriesOf a) i q l, drop-set-lt n (entriesOf a) i q h)
         (rw (append-snoc, read-more h, add-one))
 
     pub get-end : i ≡ n → take i (entriesOf a) ++ (readPairs (n - i) pos b ++ drop n (entriesOf a)) ≡ entriesOf a
@@ -171,7 +174,8 @@ module _ (b : List ℕ) where
   pub refuses : (d : Decode) (r : Decoded) → Other d → decodeOf d ≡ answered b → RefusedIs d r → DecodedIs b r
   refuses d r h e k =
       let f = other-refused d h in
-      record { is = rw (k .outcome-is, k .pairs, f .1, refused-bytes (f .0) (sym (f .1) ∙ e)); count = rw (k .outcome-is, f .1) (k .count) }
+      let bytes = refused-bytes (f .0) (sym (f .1) ∙ e) in
+      record { is = rw (k .outcome-is, k .pairs, f .1, bytes); count = rw (k .outcome-is, f .1) (k .count) }
 
   pub decodes : (n : ℕ) (pairs : List Pair) → done n ≡ answered b → entriesOf pairs ≡ readPairs n 5 b ++ drop n (entriesOf blank)
       → DecodedIs b (record { outcome = Pairs n; pairs = pairs; count = n })
@@ -197,7 +201,12 @@ module _ (b : List ℕ) where
     room-enough d e h = go (decodeOf d) refl e h
       where
         go : (a : Result ℕ) → decodeOf d ≡ a → a ≡ answered b → counted a ≤ room → RoomIs b room d
-        go (refused q) p e h = record { is = λ lent size. rw (p, refused-bytes q e); within = rw p (omega arith); fits = rw p (omega arith) }
+        go (refused q) p e h =
+            record {
+              is = λ lent size. rw (p, refused-bytes q e);
+              within = rw p (omega arith);
+              fits = rw p (omega arith);
+            }
         go (done n) p e h =
             record {
               is = λ lent size. rw p (sym (into n e lent (omega arith)));

@@ -1,5 +1,5 @@
--- Laws of the attempt snapshot. Above this crate two are needed: its length, and that decoding gives the pairs back.
--- Assumes nothing.
+-- Laws of the attempt snapshot: its length, what bytes that are accepted say, that decoding gives the pairs back, and that
+-- encoding gives the bytes back. Above this crate the length and the first of these two are enough. Assumes nothing.
 use Prim.Native.Nat.{ℕ, zero, suc, _+_, _-_, _*_, _%_, _^_, _<_, _≤_}
 use native.Mathlib.Omega.{arith}
 use native.Mathlib.Nat.{add-assoc}
@@ -20,7 +20,8 @@ use Rattle.raw.specs.Bytes.{IsBytes, le, numberAt}
 use Rattle.raw.proofs.Bytes.{bytes-append, bytes-le, unle-le, number-lt, le-number}
 use Rattle.crc.specs.Seal.{sealed, isSealed}
 use Rattle.crc.proofs.Seal.{length-sealed, bytes-sealed, sealed-ok, sealed-of}
-use Rattle.attempt.specs.Snapshot.{PairsFit, pairBytes, pairsBytes, bodyBytes, encodeAttempts1, readPairs, pairCount, pairsIn, frameTable, orderAfter, orderTable, limitTable, pairsTable, decodeTable, decodeAttempts, fill}
+use Rattle.attempt.specs.Snapshot.{PairsFit, pairBytes, pairsBytes, bodyBytes, encodeAttempts1, readPairs, pairCount, pairsIn}
+use Rattle.attempt.specs.Snapshot.{frameTable, orderAfter, orderTable, limitTable, pairsTable, decodeTable, decodeAttempts, fill}
 
 -- ---- lengths
 
@@ -39,8 +40,9 @@ pub length-read : (n pos : ℕ) (b : List ℕ) → length (readPairs n pos b) �
 length-read zero pos b = refl
 length-read (suc n) pos b = ap suc (length-read n (pos + 12) b)
 
--- ---- what bytes that are accepted say, and what is read from them
+-- ---- what bytes that are accepted say
 
+-- no offset is refused just where they rise
 pub rising-ordered : (prev : ℕ) (l : List (Entry ℕ)) → Passed (orderAfter prev l) → Rising (suc prev) l
 rising-ordered prev [] p = tt
 rising-ordered prev (e ∷ l) p = (leb-false (e .key) prev (p .0), rising-ordered (e .key) l (p .1))
@@ -68,8 +70,9 @@ pub record Accepted (b : List ℕ) : Type 0 where
 
 pub accepted : (b : List ℕ) → Passed (decodeTable b) → Accepted b
 accepted b p =
-    let frame = passed-append (frameTable b) (pairsTable (pairsIn b)) p .0 in
-    let pairs = passed-append (orderTable (pairsIn b)) (limitTable (pairsIn b)) (passed-append (frameTable b) (pairsTable (pairsIn b)) p .1) in
+    let both = passed-append (frameTable b) (pairsTable (pairsIn b)) p in
+    let frame = both .0 in
+    let pairs = passed-append (orderTable (pairsIn b)) (limitTable (pairsIn b)) (both .1) in
     record {
       long = ltb-false (length b) 9 (frame .0);
       version = eqb-true (getD b 0 0) 1 (not-false _ (frame .1 .0));
@@ -130,7 +133,8 @@ module _ (l : List (Entry ℕ)) (fit : PairsFit l) (few : length l < 256 ^ 4) wh
   written-frame =
       let size = attempts-length l in
       let n = length (encodeAttempts1 l) in
-      (le-ltb n 9 (omega arith), (refl, (ap not (eq-eqb ((n - 9) % 12) 0 (omega arith)), (declared, (ap not (sealed-ok (bodyBytes l)), tt)))))
+      let whole : not (eqb ((n - 9) % 12) 0) ≡ false = ap not (eq-eqb ((n - 9) % 12) 0 (omega arith)) in
+      (le-ltb n 9 (omega arith), (refl, (whole, (declared, (ap not (sealed-ok (bodyBytes l)), tt)))))
     where
       declared : not (eqb (numberAt 4 1 (encodeAttempts1 l)) (pairCount (encodeAttempts1 l))) ≡ false
       declared = ap not (eq-eqb _ _ (written-declared ∙ sym written-count))
@@ -145,10 +149,12 @@ module _ (l : List (Entry ℕ)) (fit : PairsFit l) (few : length l < 256 ^ 4) wh
       ∙ rw written-pairs
 
 -- the pairs come back
-pub attempts-back : (l : List (Entry ℕ)) → Rising 0 l → PairsFit l → length l ≤ PAIRS → decodeAttempts (encodeAttempts1 l) ≡ done l
+pub attempts-back : (l : List (Entry ℕ)) → Rising 0 l → PairsFit l → length l ≤ PAIRS
+    → decodeAttempts (encodeAttempts1 l) ≡ done l
 attempts-back l r fit few =
-    attempts-read l fit (omega arith)
-    ∙ checked-passed (pairsTable l) (done l) (append-passed (orderTable l) (limitTable l) (table-rising l r) (le-ltb PAIRS (length l) few, tt))
+    let limit : Passed (limitTable l) = (le-ltb PAIRS (length l) few, tt) in
+    let passed : Passed (pairsTable l) = append-passed (orderTable l) (limitTable l) (table-rising l r) limit in
+    attempts-read l fit (omega arith) ∙ checked-passed (pairsTable l) (done l) passed
 
 -- ---- writing what was read
 
@@ -162,12 +168,19 @@ pairs-fit (suc n) pos b h =
 joined : {x u y v z w : List ℕ} → x ≡ u → y ≡ v → z ≡ w → x ++ (y ++ z) ≡ u ++ (v ++ w)
 joined p q r = rw (p, q, r)
 
-pairs-again : (n pos : ℕ) (b : List ℕ) → IsBytes b → pos + 12 * n ≤ length b → pairsBytes (readPairs n pos b) ≡ take (12 * n) (drop pos b)
+-- a front of a list in three parts
+three : (a c n : ℕ) (l : List ℕ) → take (a + (c + n)) l ≡ take a l ++ (take c (drop a l) ++ take n (drop (a + c) l))
+three a c n l = rw (take-add a (c + n) l, take-add c n (drop a l), drop-drop c a l)
+
+pairs-again : (n pos : ℕ) (b : List ℕ) → IsBytes b → pos + 12 * n ≤ length b
+    → pairsBytes (readPairs n pos b) ≡ take (12 * n) (drop pos b)
 pairs-again zero pos b h room = refl
 pairs-again (suc n) pos b h room =
-    let e : 12 * suc n ≡ 8 + (4 + 12 * n) = omega arith in
-    let parts : take (12 * suc n) (drop pos b) ≡ take 8 (drop pos b) ++ (take 4 (drop (pos + 8) b) ++ take (12 * n) (drop (pos + 12) b)) = rw (e, take-add 8 (4 + 12 * n) (drop pos b), take-add 4 (12 * n) (drop 8 (drop pos b)), drop-drop 4 8 (drop pos b), drop-drop 8 pos b, drop-drop 12 pos b) in
-    joined (le-number 8 pos b h (omega arith)) (le-number 4 (pos + 8) b h (omega arith)) (pairs-again n (pos + 12) b h (omega arith)) ∙ sym parts
+    let size : 12 * suc n ≡ 8 + (4 + 12 * n) = omega arith in
+    let offset = le-number 8 pos b h (omega arith) in
+    let attempt = le-number 4 (pos + 8) b h (omega arith) in
+    let others = pairs-again n (pos + 12) b h (omega arith) in
+    joined offset attempt others ∙ rw (size, three 8 4 (12 * n) (drop pos b), drop-drop 8 pos b, drop-drop 12 pos b)
 
 first-byte : (b : List ℕ) (v : ℕ) → 0 < length b → getD b 0 0 ≡ v → take 1 b ≡ v ∷ []
 first-byte [] v h e = absurd (omega arith)
@@ -177,10 +190,11 @@ body-again : (b : List ℕ) → IsBytes b → Accepted b → bodyBytes (pairsIn 
 body-again b h a =
     let n : ℕ = pairCount b in
     let size : length b - 4 ≡ 1 + (4 + 12 * n) = omega (arith, a .long, a .whole) in
-    let parts : take (length b - 4) b ≡ take 1 b ++ (take 4 (drop 1 b) ++ take (12 * n) (drop 5 b)) = rw (size, take-add 1 (4 + 12 * n) b, take-add 4 (12 * n) (drop 1 b), drop-drop 4 1 b) in
     let version : 1 ∷ [] ≡ take 1 b = sym (first-byte b 1 (omega (arith, a .long)) (a .version)) in
-    let count : le 4 (length (pairsIn b)) ≡ take 4 (drop 1 b) = rw (length-read n 5 b, ← a .counted) (le-number 4 1 b h (omega (arith, a .long))) in
-    joined {x = 1 ∷ []} version count (pairs-again n 5 b h (omega (arith, a .long))) ∙ sym parts
+    let declared = le-number 4 1 b h (omega (arith, a .long)) in
+    let count : le 4 (length (pairsIn b)) ≡ take 4 (drop 1 b) = rw (length-read n 5 b, ← a .counted) declared in
+    let pairs = pairs-again n 5 b h (omega (arith, a .long)) in
+    joined {x = 1 ∷ []} version count pairs ∙ rw (size, three 1 4 (12 * n) b)
 
 -- bytes that are accepted are those that encoding their pairs gives
 pub attempts-again : (b : List ℕ) (l : List (Entry ℕ)) → IsBytes b → decodeAttempts b ≡ done l → encodeAttempts1 l ≡ b
@@ -203,10 +217,14 @@ decoded-few b l e =
     let d = decoded b l e in
     rw (← d .1, length-read (pairCount b) 5 b) (d .0 .few)
 
+bytes-pairs : (l : List (Entry ℕ)) → IsBytes (pairsBytes l)
+bytes-pairs [] = tt
+bytes-pairs (p ∷ l) =
+    let pair = bytes-append (le 8 (p .key)) (le 4 (p .value)) (bytes-le 8 (p .key)) (bytes-le 4 (p .value)) in
+    bytes-append (pairBytes p) (pairsBytes l) pair (bytes-pairs l)
+
 pub bytes-attempts : (l : List (Entry ℕ)) → IsBytes (encodeAttempts1 l)
 unfolding encodeAttempts1
-bytes-attempts l = bytes-sealed (bodyBytes l) (omega arith, bytes-append (le 4 (length l)) (pairsBytes l) (bytes-le 4 (length l)) (bytes-pairs l))
-  where
-    bytes-pairs : (m : List (Entry ℕ)) → IsBytes (pairsBytes m)
-    bytes-pairs [] = tt
-    bytes-pairs (p ∷ m) = bytes-append (pairBytes p) (pairsBytes m) (bytes-append (le 8 (p .key)) (le 4 (p .value)) (bytes-le 8 (p .key)) (bytes-le 4 (p .value))) (bytes-pairs m)
+bytes-attempts l =
+    let rest = bytes-append (le 4 (length l)) (pairsBytes l) (bytes-le 4 (length l)) (bytes-pairs l) in
+    bytes-sealed (bodyBytes l) (omega arith, rest)

@@ -41,18 +41,19 @@ pub count-entries : (pairs : List Pair) (n : ℕ) → n ≤ length pairs → len
 count-entries pairs n fits = length-map (take n pairs) entryOf ∙ length-take-le n pairs fits
 
 -- `put_body`: the version, then the count, then the pairs
-pub body-put : (l : List (Entry ℕ)) (n at : ℕ) (bs o₁ o₂ : List ℕ) {o : Result ℕ} → length l ≡ n → at + (5 + 12 * n) ≤ length bs
+pub body-put : (l : List (Entry ℕ)) (n at : ℕ) (bs o₁ o₂ : List ℕ) {o : Result ℕ} → length l ≡ n
+    → at + (5 + 12 * n) ≤ length bs
     → answer o o₁ ≡ write (at + 1) (le 4 n) (set bs at 1)
     → o₂ ≡ overwrite (at + 5) (pairsBytes l) o₁
     → o₂ ≡ overwrite at (bodyBytes l) bs
 body-put l n at bs o₁ o₂ size room count pairs =
     let byte : set bs at 1 ≡ overwrite at (1 ∷ []) bs = overwrite-byte at 1 bs (omega arith) in
-    let head : o₁ ≡ overwrite at (1 ∷ le 4 n) bs = wrote-behind (at + 1) (le 4 n) (set bs at 1) count at (1 ∷ []) bs refl byte (omega arith) in
+    let head = wrote-behind (at + 1) (le 4 n) (set bs at 1) count at (1 ∷ []) bs refl byte (omega arith) in
     pairs ∙ rw (head, size) (overwrite-append at (1 ∷ le 4 n) (pairsBytes l) bs (omega arith))
 
 -- ---- what `encode_pairs` answers, test by test
-same : {p q : ℕ} {x y : List ℕ} → p ≡ q → x ≡ y → answer (done p) x ≡ answer (done q) y
-same e f = rw (e, f)
+same : {p q : ℕ} {x : List ℕ} → p ≡ q → answer (done p) x ≡ answer (done q) x
+same e = rw e
 
 module _ (pairs : List Pair) (n at : ℕ) (bs : List ℕ) where
   pub too-many : PAIRS < n → answer (refused refusal.TooManyPairs) bs ≡ encodeFirst n pairs at bs
@@ -68,6 +69,12 @@ module _ (pairs : List Pair) (n at : ℕ) (bs : List ℕ) where
     pub too-short : length bs < at + (9 + 12 * n) → answer (refused refusal.OutTooShort) bs ≡ encodeFirst n pairs at bs
     too-short h = sym (within ∙ write-short at (encodeAttempts1 list) bs (omega (arith, attempts-length list)))
 
+    pub whole : at + (9 + 12 * n) ≤ length bs
+        → encodeFirst n pairs at bs ≡ answer (done (at + (9 + 12 * n))) (overwrite at (encodeAttempts1 list) bs)
+    whole room =
+        let size = attempts-length list in
+        within ∙ write-room at (encodeAttempts1 list) bs (omega arith) ∙ same (omega arith)
+
     pub encoded : (o₁ o₂ : List ℕ) (check k : ℕ) {o : Result ℕ} → at + (9 + 12 * n) ≤ length bs → k ≡ 5 + 12 * n
         → o₁ ≡ overwrite at (bodyBytes list) bs
         → check ≡ crc (take k (drop at o₁))
@@ -76,10 +83,8 @@ module _ (pairs : List Pair) (n at : ℕ) (bs : List ℕ) where
     unfolding encodeAttempts1
     encoded o₁ o₂ check k room part body sum seal =
         let size : length (bodyBytes list) ≡ 5 + 12 * n = omega (arith, length-body list) in
-        let whole = attempts-length list in
-        let e : o₂ ≡ overwrite at (encodeAttempts1 list) bs = sealed-put (bodyBytes list) (5 + 12 * n) at bs o₁ o₂ check size (omega arith) body (rw part at sum) seal in
-        let end : at + length (encodeAttempts1 list) ≡ at + (9 + 12 * n) = omega arith in
-        sym (within ∙ write-room at (encodeAttempts1 list) bs (omega arith) ∙ same end (sym e))
+        let put = sealed-put (bodyBytes list) (5 + 12 * n) at bs o₁ o₂ check size (omega arith) body (rw part at sum) seal in
+        rw put (sym (whole room))
 
 -- ---- a lent list, of which an array holds as many pairs as fit
 pub lent-encoded : (ps first : List Pair) (m at : ℕ) (bs : List ℕ) → m ≡ min (length ps) 128 → take m first ≡ take m ps

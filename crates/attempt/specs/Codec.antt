@@ -14,7 +14,8 @@ use Rattle.attempt.specs.declared.Pair.{Pair}
 use Rattle.attempt.specs.declared.Encode.{Encode}
 use Rattle.attempt.specs.declared.Encode.the-variants as encodes
 use Rattle.attempt.specs.declared.Decode.{Decode}
-use Rattle.attempt.specs.declared.Decode.the-variants.{Pairs, Truncated, UnsupportedVersion, BadLength, CountMismatch, BadCrc, NotSorted, TooManyPairs, OutTooShort}
+use Rattle.attempt.specs.declared.Decode.the-variants.{Pairs, Truncated, UnsupportedVersion, BadLength, CountMismatch}
+use Rattle.attempt.specs.declared.Decode.the-variants.{BadCrc, NotSorted, TooManyPairs, OutTooShort}
 use Rattle.attempt.specs.declared.Decoded.{Decoded}
 
 abbrev pub entryOf : Pair → Entry ℕ

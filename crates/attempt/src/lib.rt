@@ -7,8 +7,10 @@ ghost use lib.ListN.{length, take, drop};
 ghost use Rattle.types.specs.Refusal.{done};
 ghost use Rattle.types.specs.Table.{answer, checked};
 ghost use Rattle.raw.specs.Bytes.{overwrite};
-ghost use Rattle.attempt.specs.Snapshot.{pairBytes, pairsBytes, bodyBytes, encodeInto, readPair, readPairs, pairCount, pairsTable, decodeTable, decodeInto};
-ghost use Rattle.attempt.specs.Codec.{entryOf, entriesOf, blank, encodeOf, decodeOf, counted, encodeFirst, DecodedIs, RefusedIs, RoomIs};
+ghost use Rattle.attempt.specs.Snapshot.{pairBytes, pairsBytes, bodyBytes, encodeInto};
+ghost use Rattle.attempt.specs.Snapshot.{readPair, readPairs, pairCount, pairsTable, decodeTable, decodeInto};
+ghost use Rattle.attempt.specs.Codec.{entryOf, entriesOf, blank, encodeOf, decodeOf, counted};
+ghost use Rattle.attempt.specs.Codec.{encodeFirst, DecodedIs, RefusedIs, RoomIs};
 
 // The length of a snapshot without pairs: version, count and check.
 pub const ATTEMPT_SNAPSHOT_MIN_LEN: usize = 9;

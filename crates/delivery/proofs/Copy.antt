@@ -8,7 +8,8 @@ use lib.ListN.{length, take, drop, getD, set, drop-of-length-le}
 use lib.Seq.{drop-cons, take-suc-set, append-snoc}
 
 module _ {A : Type 0} (d : A) (array list : List A) (i : ℕ) where
-  pub copy-more : i < length array → i < length list → take (i + 1) (set array i (getD list i d)) ++ drop (i + 1) list ≡ take i array ++ drop i list
+  pub copy-more : i < length array → i < length list
+      → take (i + 1) (set array i (getD list i d)) ++ drop (i + 1) list ≡ take i array ++ drop i list
   copy-more fits more = rw (add-one, take-suc-set array i (getD list i d) fits, append-snoc, drop-cons list i d more)
 
   pub copy-end : length list ≤ i → take i array ++ drop i list ≡ take i array

@@ -12,20 +12,43 @@ use borrow.Author.Tests.{ltb-false, eq-eqb, ne-eqb, lt-ltb, le-ltb}
 use Rattle.types.specs.Limits.{STEPS}
 use Rattle.types.specs.Table.{Passed}
 use Rattle.delivery.specs.Policy.{Policy, unlimited, policyTable, disposition, Deliver, DeadLetter, nackBackoff}
-use Rattle.delivery.specs.Config.{view, ConfiguredIs, RefusedIs}
+use Rattle.delivery.specs.Config.{backoffs, view, Sound, defaults, ConfiguredIs, RefusedIs}
 use Rattle.delivery.specs.declared.DeliveryConfig.{DeliveryConfig}
 use Rattle.delivery.specs.declared.Configured.{Configured}
 use Rattle.delivery.specs.declared.ConfigOutcome.the-variants.{Built, UnlimitedDeliverNotAllowed, TooManySteps}
 
+defaults-sound : Sound defaults
+defaults-sound = record { few = omega arith }
+
 module _ (m : ℕ) (u : Bool) (b : List ℕ) where
-  pub not-allowed : (r : Configured) → (unlimited m && not u) ≡ true → RefusedIs UnlimitedDeliverNotAllowed r → ConfiguredIs m u b r
-  not-allowed r t e = record { is = rw (e .outcome, t); sound = rw (e .config) (record { few = omega arith }); kept = rw (e .outcome) (e .config) }
+  -- the answer that holds b at the front of an array
+  abbrev of : List ℕ → Configured
+  of all = record {
+    outcome = Built;
+    config = record {
+      «max_deliver» = m;
+      «allow_unlimited» = u;
+      «backoff_nanos» = all;
+      «backoff_len» = length b;
+      «attempts_flush_redeliveries» = 1;
+    };
+  }
+
+  pub not-allowed : (r : Configured) → (unlimited m && not u) ≡ true → RefusedIs UnlimitedDeliverNotAllowed r
+      → ConfiguredIs m u b r
+  not-allowed r t e =
+      record { is = rw (e .outcome, t); sound = rw (e .config) defaults-sound; kept = rw (e .outcome) (e .config) }
 
   module _ (passed : (unlimited m && not u) ≡ false) where
     pub too-many : (r : Configured) → 16 < length b → RefusedIs TooManySteps r → ConfiguredIs m u b r
-    too-many r h e = record { is = rw (e .outcome, passed, lt-ltb 16 (length b) h); sound = rw (e .config) (record { few = omega arith }); kept = rw (e .outcome) (e .config) }
+    too-many r h e =
+        record {
+          is = rw (e .outcome, passed, lt-ltb 16 (length b) h);
+          sound = rw (e .config) defaults-sound;
+          kept = rw (e .outcome) (e .config);
+        }
 
-    pub built : (all : List ℕ) → length b ≤ 16 → take (length b) all ≡ b → ConfiguredIs m u b (record { outcome = Built; config = record { «max_deliver» = m; «allow_unlimited» = u; «backoff_nanos» = all; «backoff_len» = length b; «attempts_flush_redeliveries» = 1 } })
+    pub built : (all : List ℕ) → length b ≤ 16 → take (length b) all ≡ b → ConfiguredIs m u b (of all)
     built all h e = record { is = rw (passed, le-ltb 16 (length b) h, e); sound = record { few = h }; kept = tt }
 
 -- what an accepted policy says
@@ -52,8 +75,10 @@ at-same : (l : List ℕ) (i j : ℕ) → i ≡ j → getD l i 0 ≡ getD l j 0
 at-same l i j e = rw e
 
 -- the place that the code computes is the definition's
-pub backoff-at : (c : DeliveryConfig) (attempt i : ℕ) → c .«backoff_len» ≤ length (c .«backoff_nanos») → (c .«backoff_len» ≡ 0 → ⊥) → i ≡ min (max attempt 1 - 1) (c .«backoff_len» - 1) → getD (c .«backoff_nanos») i 0 ≡ nackBackoff (view c) attempt
+pub backoff-at : (c : DeliveryConfig) (attempt i : ℕ) → c .«backoff_len» ≤ length (c .«backoff_nanos»)
+    → (c .«backoff_len» ≡ 0 → ⊥) → i ≡ min (max attempt 1 - 1) (c .«backoff_len» - 1)
+    → getD (c .«backoff_nanos») i 0 ≡ nackBackoff (view c) attempt
 backoff-at c attempt i fits some e =
     let count = length-take-le (c .«backoff_len») (c .«backoff_nanos») fits in
-    let within : getD (take (c .«backoff_len») (c .«backoff_nanos»)) i 0 ≡ getD (c .«backoff_nanos») i 0 = getD-take (c .«backoff_len») (c .«backoff_nanos») i 0 (omega arith) in
-    sym within ∙ at-same (take (c .«backoff_len») (c .«backoff_nanos»)) i _ (rw count e)
+    let below : i < c .«backoff_len» = omega arith in
+    sym (getD-take (c .«backoff_len») (c .«backoff_nanos») i 0 below) ∙ at-same (backoffs c) i _ (rw count e)

@@ -8,7 +8,8 @@ use lib.ListN.{take, replicate}
 use Rattle.types.specs.Refusal.{Result, refused, done}
 use Rattle.types.specs.Refusal as refusal
 use Rattle.types.specs.Table.{Kept}
-use Rattle.delivery.specs.Policy.{Policy, policy, newPolicy, DEFAULT_MAX_DELIVER, DEFAULT_ATTEMPTS_FLUSH_REDELIVERIES, Destination}
+use Rattle.delivery.specs.Policy.{Policy, policy, newPolicy, Destination}
+use Rattle.delivery.specs.Policy.{DEFAULT_MAX_DELIVER, DEFAULT_ATTEMPTS_FLUSH_REDELIVERIES}
 use Rattle.delivery.specs.Policy as policies
 use Rattle.delivery.specs.declared.DeliveryConfig.{DeliveryConfig}
 use Rattle.delivery.specs.declared.Configured.{Configured}
@@ -19,8 +20,12 @@ use Rattle.delivery.specs.declared.Disposition.the-variants.{Deliver, De
 use Rattle.delivery.specs.declared.Delay.{Delay}
 use Rattle.delivery.specs.declared.Delay.the-variants.{Explicit, Schedule}
 
+-- the backoffs of a config, and the policy that it is
+abbrev pub backoffs : DeliveryConfig → List ℕ
+backoffs c = take (c .«backoff_len») (c .«backoff_nanos»)
+
 abbrev pub view : DeliveryConfig → Policy
-view c = policy (c .«max_deliver») (c .«allow_unlimited») (take (c .«backoff_len») (c .«backoff_nanos»)) (c .«attempts_flush_redeliveries»)
+view c = policy (c .«max_deliver») (c .«allow_unlimited») (backoffs c) (c .«attempts_flush_redeliveries»)
 
 -- the backoffs lie within the array
 pub record Sound (c : DeliveryConfig) : Type 0 where

@@ -36,7 +36,9 @@ shared-slice-read-version : tie.Need-shared-slice-read-version
 shared-slice-read-version c = search needs
 
 returns-2 : tie.Need-returns-2
-returns-2 c = sym (other-version (c .before .before .before .before .args .input .now) (c .before .before .if1 .left) (c .if2 .taken))
+returns-2 c =
+    let b = c .before .before .before .before .args .input .now in
+    sym (other-version b (c .before .before .if1 .left) (c .if2 .taken))
 
 returns-3 : tie.Need-returns-3
 returns-3 c =
@@ -61,7 +63,8 @@ is-sealed-requires c κs = search needs
 returns-5 : tie.Need-returns-5
 returns-5 c =
     let e = c .before .before .before .before in
-    sym (bad-crc (bytes e) (long e) (version e) (whole e) (counted (c .before .before)) (sym (c .before .is-sealed .ensures) ∙ not-true _ (c .if5 .taken)))
+    let unsealed = sym (c .before .is-sealed .ensures) ∙ not-true _ (c .if5 .taken) in
+    sym (bad-crc (bytes e) (long e) (version e) (whole e) (counted (c .before .before)) unsealed)
 
 check-pairs-requires : tie.Need-check-pairs-requires
 check-pairs-requires c κs =
@@ -72,7 +75,8 @@ returns-6 : tie.Need-returns-6
 returns-6 c =
     let s = c .before .before in
     let e = s .before .before .before in
-    c .check-pairs .ensures ∙ sym (framed (bytes e) (long e) (version e) (whole e) (counted (s .before)) (sym (s .is-sealed .ensures) ∙ not-false _ (c .before .if5 .left)))
+    let sealed = sym (s .is-sealed .ensures) ∙ not-false _ (c .before .if5 .left) in
+    c .check-pairs .ensures ∙ sym (framed (bytes e) (long e) (version e) (whole e) (counted (s .before)) sealed)
 
 pub check-spec : {M : Type 1} → statement M
 check-spec =

@@ -27,8 +27,8 @@ limit s = limitTable (readPairs (s .args .count) 5 (s .args .input .now))
 
 -- behind the loop only that row is left
 end : (c : tie.After-loop Inv-loop μ-loop)
-    → let s = c .before .before .before .before in
-    checked (limit s) (done (s .args .count)) ≡ checked (pairsTable (readPairs (s .args .count) 5 (s .args .input .now))) (done (s .args .count))
+    → let s = c .before .before .before .before in let n = s .args .count in
+    checked (limit s) (done n) ≡ checked (pairsTable (readPairs n 5 (s .args .input .now))) (done n)
 end c =
     let s = c .before .before .before .before in
     let l = c .before .loop in
@@ -50,7 +50,8 @@ returns c =
     let s = c .before .before .before .before .before .before in
     let l = c .before .before .before .loop in
     let read = c .before .read-u642 .ensures in
-    rw read (sym (falls (s .args .input .now) (s .args .count) (l .i) (l .pos) (l .prev) (limit s) (omega arith) (rw read at (c .if1 .taken))) ∙ l .inv .1)
+    let law = falls (s .args .input .now) (s .args .count) (l .i) (l .pos) (l .prev) (limit s) (omega arith) in
+    rw read (sym (law (rw read at (c .if1 .taken))) ∙ l .inv .1)
 
 add-pos : tie.Need-add-pos Inv-loop μ-loop
 add-pos c = omega arith
@@ -66,7 +67,8 @@ loop-again c =
     let s = c .before .before .before .before .before .before in
     let l = c .before .before .before .loop in
     let read = c .before .read-u642 .ensures in
-    (omega arith, rw read (sym (rises (s .args .input .now) (s .args .count) (l .i) (l .pos) (l .prev) (limit s) (omega arith) (rw read at (c .if1 .left))) ∙ l .inv .1))
+    let law = rises (s .args .input .now) (s .args .count) (l .i) (l .pos) (l .prev) (limit s) (omega arith) in
+    (omega arith, rw read (sym (law (rw read at (c .if1 .left))) ∙ l .inv .1))
 
 returns-2 : tie.Need-returns-2 Inv-loop μ-loop
 returns-2 c =

@@ -1,5 +1,4 @@
 -- `check_room` meets its contract: both returns are laws of what the bytes hold. Assumes nothing.
-use mathlib.Core.Path.{sym}
 use borrow.Author.Needs.{needs}
 use Rattle.attempt.proofs.Reading.{room-short, room-enough}
 use Rattle.attempt.proofs.check_room.Statement.{statement}

@@ -26,7 +26,8 @@ told c = sym (ap decodeOf (c .outcome .given .1)) ∙ c .before .before .check .
 returns : tie.Need-returns
 returns c =
     let k = c .before .before in
-    refuses (k .before .before .args .input .now) (k .check .result) (c .refused .result) (c .before .match .keys2) (k .check .ensures) (c .refused .ensures)
+    let b = k .before .before .args .input .now in
+    refuses b (k .check .result) (c .refused .result) (c .before .match .keys2) (k .check .ensures) (c .refused .ensures)
 
 get-pairs-requires : tie.Need-get-pairs-requires
 get-pairs-requires c κs =
@@ -36,7 +37,8 @@ get-pairs-requires c κs =
 returns-2 : tie.Need-returns-2
 returns-2 c =
     let o = c .before .before in
-    decodes (o .before .before .before .before .args .input .now) (o .outcome .given .0 .0) (c .get-pairs .result) (told o) (c .get-pairs .ensures)
+    let b = o .before .before .before .before .args .input .now in
+    decodes b (o .outcome .given .0 .0) (c .get-pairs .result) (told o) (c .get-pairs .ensures)
 
 pub decode-pairs-spec : {M : Type 1} → statement M
 decode-pairs-spec =

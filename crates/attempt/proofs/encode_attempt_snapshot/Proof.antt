@@ -51,7 +51,7 @@ use Rattle.attempt.proofs.Pair.Laws as T′
 use Rattle.attempt.proofs.Encode as E
 use Rattle.attempt.proofs.Encode.Laws as E′
 use Rattle.attempt.proofs.Writing.{lent-encoded}
-use Rattle.attempt.proofs.Walk.{vals, val}
+use Rattle.attempt.proofs.Walk.{vals}
 use Rattle.attempt.proofs.at_most_128 as at-most
 use Rattle.attempt.proofs.at_most_128.Symbol as at-most-def
 use Rattle.attempt.proofs.at_most_128.Symbol.{name as #at-most}

@@ -81,7 +81,13 @@ returns-4 c =
     let b = k .before .before .before .before .before in
     let e = b .before .before .before .before in
     let a = e .before .before .args in
-    encoded (a .pairs) (a .count) (a .at) (a .out .now) (count e) (e .if1 .left) (b .put-body .last .1 .1 .0) _ (k .crc32c .result) (a .at + (5 + 12 * a .count) - a .at) (omega (arith, b .before .before .before .if2 .left, b .before .before .if3 .left)) (omega arith) (b .put-body .ensures) (k .crc32c .ensures) (w .write-u32 .ensures)
+    let part : a .at + (5 + 12 * a .count) - a .at ≡ 5 + 12 * a .count = omega arith in
+    encoded (a .pairs) (a .count) (a .at) (a .out .now) (count e) (e .if1 .left) (b .put-body .last .1 .1 .0) _ (k .crc32c .result) _
+    (omega (arith, b .before .before .before .if2 .left, b .before .before .if3 .left))
+    part
+    (b .put-body .ensures)
+    (k .crc32c .ensures)
+    (w .write-u32 .ensures)
 
 pub encode-pairs-spec : {M : Type 1} → statement M
 encode-pairs-spec =

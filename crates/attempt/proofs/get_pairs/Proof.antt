@@ -18,7 +18,8 @@ Inv-loop input count pairs₀ pos₀ i₀ pairs pos i =
     (i ≤ count)
     × (pos ≡ 5 + 12 * i)
     × (length pairs ≡ 128)
-    × (take i (entriesOf pairs) ++ (readPairs (count - i) pos input ++ drop count (entriesOf pairs)) ≡ readPairs count 5 input ++ drop count (entriesOf blank))
+    × (take i (entriesOf pairs) ++ (readPairs (count - i) pos input ++ drop count (entriesOf pairs))
+    ≡ readPairs count 5 input ++ drop count (entriesOf blank))
 
 abbrev μ-loop : tie.MeasureT-loop
 μ-loop input count pairs₀ pos₀ i₀ pairs pos i = count - i

@@ -47,7 +47,11 @@ returns c =
     let a = s .args in
     let full : length (a .pairs) ≡ 128 = search (needs, length-mapped) in
     let count = count-entries (a .pairs) (a .count) (omega (arith, s .pre .0)) in
-    body-put (entriesOf (take (a .count) (a .pairs))) (a .count) (a .at) (a .out .now) (w .write-u32 .last .0) _ count (s .pre .1) (w .write-u32 .ensures) (p .put-pairs .ensures)
+    body-put (entriesOf (take (a .count) (a .pairs))) (a .count) (a .at) (a .out .now) (w .write-u32 .last .0) _
+    count
+    (s .pre .1)
+    (w .write-u32 .ensures)
+    (p .put-pairs .ensures)
 
 pub put-body-spec : {M : Type 1} → statement M
 put-body-spec =

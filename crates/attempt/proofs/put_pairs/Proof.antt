@@ -18,7 +18,8 @@ Inv-loop count out₀ at pairs pos₀ i₀ out pos i =
     (i ≤ count)
     × (pos ≡ at + 12 * i)
     × (length out ≡ length out₀)
-    × (overwrite pos (pairsBytes (entriesOf (drop i (take count pairs)))) out ≡ overwrite at (pairsBytes (entriesOf (take count pairs))) out₀)
+    × (overwrite pos (pairsBytes (entriesOf (drop i (take count pairs)))) out
+    ≡ overwrite at (pairsBytes (entriesOf (take count pairs))) out₀)
 
 abbrev μ-loop : tie.MeasureT-loop
 μ-loop count out₀ at pairs pos₀ i₀ out pos i = count - i
@@ -53,7 +54,8 @@ loop-again c =
       omega arith,
       omega arith,
       put .put-pair .kept .0 ∙ l .inv .2,
-      put-more (a .t1) (a .count) (l .i) (omega arith) (l .out) _ (l .pos) (omega arith) (omega arith) (put .put-pair .ensures) ∙ l .inv .3,
+      put-more (a .t1) (a .count) (l .i) (omega arith) (l .out) _ (l .pos) (omega arith) (omega arith) (put .put-pair .ensures)
+          ∙ l .inv .3,
     )
 
 same-length : tie.Need-same-length Inv-loop μ-loop

@@ -26,7 +26,8 @@ returns-2 : tie.Need-returns-2
 returns-2 c =
     let s = c .before .before .before in
     let full : length (s .args .t1 .«backoff_nanos») ≡ 16 = search needs in
-    backoff-at (s .args .t1) (s .args .attempt) (c .before .place .result) (omega (arith, s .pre .few)) (c .before .before .if1 .left) (c .before .place .ensures)
+    let p = c .before .place in
+    backoff-at (s .args .t1) (s .args .attempt) (p .result) (omega (arith, s .pre .few)) (c .before .before .if1 .left) (p .ensures)
 
 pub nack-backoff-spec : {M : Type 1} → statement M
 nack-backoff-spec =

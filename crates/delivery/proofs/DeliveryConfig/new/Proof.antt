@@ -14,8 +14,8 @@ refused-requires c κs = search needs
 returns : tie.Need-returns
 returns c =
     let a = c .before .before .before .before .args in
-    let asked = c .before .before .lacks-opt-in .ensures in
-    not-allowed (a .max-deliver) (a .allow-unlimited) (a .backoff-nanos .now) (c .refused .result) (sym asked ∙ c .before .if1 .taken) (c .refused .ensures)
+    let lacks = sym (c .before .before .lacks-opt-in .ensures) ∙ c .before .if1 .taken in
+    not-allowed (a .max-deliver) (a .allow-unlimited) (a .backoff-nanos .now) (c .refused .result) lacks (c .refused .ensures)
 
 refused-requires-2 : tie.Need-refused-requires-2
 refused-requires-2 c κs = search needs
@@ -23,8 +23,9 @@ refused-requires-2 c κs = search needs
 returns-2 : tie.Need-returns-2
 returns-2 c =
     let a = c .before .before .before .before .before .args in
-    let asked = c .before .before .before .lacks-opt-in .ensures in
-    too-many (a .max-deliver) (a .allow-unlimited) (a .backoff-nanos .now) (sym asked ∙ c .before .before .if1 .left) (c .refused2 .result) (c .before .if2 .taken) (c .refused2 .ensures)
+    let passed = sym (c .before .before .before .lacks-opt-in .ensures) ∙ c .before .before .if1 .left in
+    let law = too-many (a .max-deliver) (a .allow-unlimited) (a .backoff-nanos .now) passed in
+    law (c .refused2 .result) (c .before .if2 .taken) (c .refused2 .ensures)
 
 steps-requires : tie.Need-steps-requires
 steps-requires c κs = search needs
@@ -32,8 +33,9 @@ steps-requires c κs = search needs
 returns-3 : tie.Need-returns-3
 returns-3 c =
     let a = c .before .before .before .before .before .args in
-    let asked = c .before .before .before .lacks-opt-in .ensures in
-    built (a .max-deliver) (a .allow-unlimited) (a .backoff-nanos .now) (sym asked ∙ c .before .before .if1 .left) (c .steps .result) (c .before .if2 .left) (c .steps .ensures)
+    let passed = sym (c .before .before .before .lacks-opt-in .ensures) ∙ c .before .before .if1 .left in
+    let law = built (a .max-deliver) (a .allow-unlimited) (a .backoff-nanos .now) passed in
+    law (c .steps .result) (c .before .if2 .left) (c .steps .ensures)
 
 pub new-spec : {M : Type 1} → statement M
 new-spec =

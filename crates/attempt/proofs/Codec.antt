@@ -1,0 +1,55 @@
+-- What the contracts of the codec say, for its callers: that entries tell pairs, the outcome and what was written, and the
+-- pairs that the array holds. Assumes nothing.
+use Prim.Native.Nat.{ℕ, _+_, _*_, _≤_}
+use native.Mathlib.Omega.{arith}
+use mathlib.Core.Path.{_≡_, refl, ap, _∙_}
+use mathlib.Core.List.{List, [], _∷_}
+use lib.ListN.{length, take, drop, length-map}
+use lib.Seq.{take-at}
+use Rattle.types.specs.Limits.{PAIRS}
+use Rattle.types.specs.Refusal.{Refusal, Result, refused, done}
+use Rattle.types.specs.Table.{Answer, answer}
+use Rattle.types.specs.Keyed.{Entry}
+use Rattle.types.proofs.Scan.{map-take}
+use Rattle.raw.specs.Bytes.{overwrite}
+use Rattle.attempt.specs.Snapshot.{encodeAttempts1, decodeAttempts}
+use Rattle.attempt.specs.Codec.{entryOf, entriesOf, blank, decodeOf, counted, encodeFirst, DecodedIs}
+use Rattle.attempt.specs.declared.Pair.{Pair}
+use Rattle.attempt.specs.declared.Decoded.{Decoded}
+use Rattle.attempt.proofs.Snapshot.{decoded-few, fill-room}
+use Rattle.attempt.proofs.Writing.{count-entries, whole}
+use Rattle.attempt.proofs.Reading.{length-blank}
+
+-- pairs with the same entries are the same
+pub entries-same : (ps qs : List Pair) → entriesOf ps ≡ entriesOf qs → ps ≡ qs
+entries-same [] [] e = refl
+entries-same [] (q ∷ qs) e = absurd (omega (arith, ap length e))
+entries-same (p ∷ ps) [] e = absurd (omega (arith, ap length e))
+entries-same (p ∷ ps) (q ∷ qs) e =
+    let tail : entriesOf ps ≡ entriesOf qs = cc in
+    let head : entryOf p ≡ entryOf q = cc in
+    λ i. record { offset = head i .key; attempt = head i .value } ∷ entries-same ps qs tail i
+
+-- with room for it the whole snapshot was written
+pub encoded : (pairs : List Pair) (n at : ℕ) (bs after : List ℕ) (o : Result ℕ) → answer o after ≡ encodeFirst n pairs at bs
+    → n ≤ PAIRS → n ≤ length pairs → at + (9 + 12 * n) ≤ length bs
+    → (o ≡ done (at + (9 + 12 * n))) × (after ≡ overwrite at (encodeAttempts1 (entriesOf (take n pairs))) bs)
+encoded pairs n at bs after o is few fits room =
+    let e = is ∙ whole pairs n at bs (count-entries pairs n fits) few room in
+    (ap (λ (a : Answer ℕ (List ℕ)). a .outcome) e, ap (λ (a : Answer ℕ (List ℕ)). a .state) e)
+
+module _ (b : List ℕ) (r : Decoded) (is : DecodedIs b r) where
+  pub decoded-refused : (q : Refusal) → decodeAttempts b ≡ refused q → decodeOf (r .outcome) ≡ refused q
+  decoded-refused q e = ap (λ (a : Answer ℕ (List (Entry ℕ))). a .outcome) (rw e at (is .is))
+
+  -- the pairs, and how many they are
+  pub decoded-pairs : (l : List (Entry ℕ)) → decodeAttempts b ≡ done l
+      → (decodeOf (r .outcome) ≡ done (length l)) × (r .count ≡ length l) × (entriesOf (take (r .count) (r .pairs)) ≡ l)
+  decoded-pairs l e =
+      let n : ℕ = length l in
+      let room : n ≤ length (entriesOf blank) = omega (arith, decoded-few b l e, length-map blank entryOf, length-blank) in
+      let filled = rw e at (is .is) ∙ fill-room l (entriesOf blank) n refl room in
+      let outcome = ap (λ (a : Answer ℕ (List (Entry ℕ))). a .outcome) filled in
+      let array = ap (λ (a : Answer ℕ (List (Entry ℕ))). a .state) filled in
+      let count : r .count ≡ n = is .count ∙ ap counted outcome in
+      (outcome, count, rw (count, map-take entryOf n (r .pairs), array) (take-at l (drop n (entriesOf blank)) n refl))
