@@ -13,7 +13,7 @@ use Rattle.types.specs.Refusal.{Refusal, Result, refused, done, Shed}
 use Rattle.types.specs.Table.{_⇒_, Answer, answer, guarded}
 use Rattle.types.proofs.Cases.{split}
 use Rattle.cursor.specs.Ranges.{range, Above, inside, touches, joined, insert}
-use Rattle.cursor.specs.Cursor.{Cursor, cursor, Valid, settled, advanced, recorded, fragments, ackBounded, committedTo, commitUpTo}
+use Rattle.cursor.specs.Cursor.{Cursor, cursor, Valid, settled, advanced, recorded, fragments, ackBounded, committedTo, commitUpTo, resume}
 use Rattle.cursor.specs.declared.Range.{Range}
 use Rattle.cursor.proofs.Ranges.{or-none, or-left, below-join, below-next, inside-above, above-weaken, insert-in, insert-above, insert-length, insert-touching}
 
@@ -143,6 +143,17 @@ module _ (c : Cursor) (o limit : ℕ) where
     ack-valid m =
         ack-cases c o limit (λ (a : Answer Bool Cursor). Valid (a .state))
         (λ p. v) (λ p q f. v) (λ p q f. recorded-valid c o v p limit (omega (arith, q)) f)
+
+pub resume-valid : (n : ℕ) → n ≤ MAX → Valid (resume n)
+resume-valid n h = record { fits = h; above = tt; few = omega arith }
+
+-- the last offset of all is never settled
+inside-max : (lo : ℕ) (l : List Range) → Above lo l → inside MAX l ≡ false
+inside-max lo [] a = refl
+inside-max lo (r ∷ rs) a = rw (le-ltb MAX (r .end) (a .2), and-false (leb (r .start) MAX)) (inside-max (r .end) rs (a .3))
+
+pub max-unsettled : (c : Cursor) → Valid c → settled c MAX ≡ false
+max-unsettled c v = rw (le-ltb MAX (c .committed) (v .fits)) (inside-max (c .committed) (c .ahead) (v .above))
 
 -- an ack at committed is recorded whatever the limit is
 pub next-is-recorded : (c : Cursor) (limit : ℕ) → Valid c → c .committed < MAX → ackBounded c (c .committed) limit .outcome ≡ done true

@@ -4,3 +4,4 @@ pub mod Snapshot
 pub mod View
 pub mod Answers
 pub mod Place
+pub mod Examples
