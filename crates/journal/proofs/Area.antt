@@ -52,10 +52,13 @@ pub says-inside : (n i : ℕ) → Inside n i → outside n i ≡ false
 says-inside n i s = rw (says-whole n (s .area)) (lt-leb (n / 512) i (omega (arith, s .fits)))
 
 -- ## Blocks
--- the part of the area from the first byte of a block to its last
-pub block-part : (a : List ℕ) (i : ℕ) → take (512 * i + 512 - 512 * i) (drop (512 * i) a) ≡ blockAt a i
+-- a block as the code takes it, the part of the area between its two ends
+abbrev pub partAt : List ℕ → ℕ → List ℕ
+partAt a i = take (512 * i + 512 - 512 * i) (drop (512 * i) a)
+
+pub part-is : (a : List ℕ) (i : ℕ) → partAt a i ≡ blockAt a i
 unfolding blockAt
-block-part a i =
+part-is a i =
     let n : 512 * i + 512 - 512 * i ≡ 512 = omega arith in
     rw n
 
@@ -78,7 +81,8 @@ module _ (a : List ℕ) (i : ℕ) (b : List ℕ) (fits : 512 * i + 512 ≤ lengt
       (take-at b (drop (512 * i + 512) a) 512 whole)
 
   -- a block in front of the one written lies in what is kept in front of it
-  in-front : (j : ℕ) (rest : List ℕ) → j < i → take 512 (drop (512 * j) (take (512 * i) a ++ rest)) ≡ take 512 (drop (512 * j) (take (512 * i) a))
+  in-front : (j : ℕ) (rest : List ℕ) → j < i
+      → take 512 (drop (512 * j) (take (512 * i) a ++ rest)) ≡ take 512 (drop (512 * j) (take (512 * i) a))
   in-front j rest h =
       rw (drop-append-le (512 * j) (take (512 * i) a) rest (omega (arith, front)))
       (take-append-le 512 (drop (512 * j) (take (512 * i) a)) rest (simp length-drop (omega (arith, front))))

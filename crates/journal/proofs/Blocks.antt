@@ -11,7 +11,21 @@ use Rattle.raw.proofs.Bytes.{unle-le}
 use Rattle.crc.specs.Crc32c.{crc}
 use Rattle.crc.specs.Seal.{sealed, isSealed}
 use Rattle.crc.proofs.Seal.{sealed-ok, length-sealed}
-use Rattle.journal.specs.Blocks.{bodiesFor, opening, headerBlock, bodyBlock, kindOf, groupOf, bodyCount, ceilingOf, cursorLength, attemptLength, indexOf, usedOf, contentOf}
+use Rattle.journal.specs.Blocks.{
+  bodiesFor,
+  opening,
+  headerBlock,
+  bodyBlock,
+  kindOf,
+  groupOf,
+  bodyCount,
+  ceilingOf,
+  cursorLength,
+  attemptLength,
+  indexOf,
+  usedOf,
+  contentOf,
+}
 use Rattle.journal.specs.Sound.{allZero, zerosAt}
 use Rattle.journal.specs.declared.Header.{Header}
 use Rattle.journal.specs.Answers.{headerIn, headerOf}
@@ -59,7 +73,8 @@ module _ (k ceiling lc la : ℕ) where
   header-attempt = unle-le 2 la
 
 -- a header written says what it was given
-pub header-back : (h : Header) → h .number < 256 ^ 4 → h .ceiling < 256 ^ 8 → h .«cursor_len» < 256 ^ 2 → h .«attempt_len» < 256 ^ 2
+pub header-back : (h : Header)
+    → h .number < 256 ^ 4 → h .ceiling < 256 ^ 8 → h .«cursor_len» < 256 ^ 2 → h .«attempt_len» < 256 ^ 2
     → headerIn (headerOf h) ≡ h
 header-back h k c l a =
     rw (
@@ -122,12 +137,14 @@ module _ (k j : ℕ) (chunk : List ℕ) (few : length chunk ≤ 500) where
 
   pub body-rest : zerosAt (500 - length chunk) (8 + length chunk) (bodyBlock k j chunk) ≡ true
   body-rest =
+      let n : ℕ = 500 - length chunk in
+      let check : List ℕ = le 4 (crc (fields ++ padded)) in
       rw (
         body-is,
-        append-assoc fields padded (le 4 (crc (fields ++ padded))),
-        drop-append-add fields (padded ++ le 4 (crc (fields ++ padded))) (length chunk),
-        append-assoc chunk (replicate (500 - length chunk) 0) (le 4 (crc (fields ++ padded))),
-        drop-at chunk (replicate (500 - length chunk) 0 ++ le 4 (crc (fields ++ padded))) (length chunk) refl,
-        take-at (replicate (500 - length chunk) 0) (le 4 (crc (fields ++ padded))) (500 - length chunk) (length-replicate (500 - length chunk) 0),
+        append-assoc fields padded check,
+        drop-append-add fields (padded ++ check) (length chunk),
+        append-assoc chunk (replicate n 0) check,
+        drop-at chunk (replicate n 0 ++ check) (length chunk) refl,
+        take-at (replicate n 0) check n (length-replicate n 0),
       )
-      (zeros (500 - length chunk))
+      (zeros n)

@@ -1,5 +1,5 @@
--- Which blocks are sound: those that are written, and none whose check fails, none of kind 2 and none of zeros is a sound
--- header; and what a sound block says, part by part. Assumes nothing.
+-- Which blocks are sound: those that are written are, and a block whose check fails, one of kind 2 and one of zeros
+-- are no sound headers; and what a sound block says, part by part. Assumes nothing.
 use Prim.Native.Nat.{ℕ, zero, suc, _+_, _-_, _≤_, _<_, _^_, min}
 use native.Mathlib.Omega.{arith}
 use native.Mathlib.Numerals.{add-one}
@@ -13,9 +13,39 @@ use lib.Seq.{drop-cons}
 use borrow.Author.Tests.{eqb-true, leb-true, eq-eqb, ne-eqb, le-leb}
 use Rattle.types.proofs.Cases.{split}
 use Rattle.crc.specs.Seal.{isSealed}
-use Rattle.journal.specs.Blocks.{bodiesFor, Counted, headerBlock, bodyBlock, kindOf, groupOf, bodyCount, cursorLength, attemptLength, payloadLength, indexOf, usedOf}
+use Rattle.journal.specs.Blocks.{
+  bodiesFor,
+  Counted,
+  headerBlock,
+  bodyBlock,
+  kindOf,
+  groupOf,
+  bodyCount,
+  cursorLength,
+  attemptLength,
+  payloadLength,
+  indexOf,
+  usedOf,
+}
 use Rattle.journal.specs.Sound.{allZero, zerosAt, isKind, heads, formed, soundHeader, soundBody}
-use Rattle.journal.proofs.Blocks.{header-length, header-kind, header-sealed, header-zeros, header-rest, header-count, header-number, header-cursor, header-attempt, body-length, body-kind, body-sealed, body-index, body-used, body-number, body-rest}
+use Rattle.journal.proofs.Blocks.{
+  header-length,
+  header-kind,
+  header-sealed,
+  header-zeros,
+  header-rest,
+  header-count,
+  header-number,
+  header-cursor,
+  header-attempt,
+  body-length,
+  body-kind,
+  body-sealed,
+  body-index,
+  body-used,
+  body-number,
+  body-rest,
+}
 
 both : (p q : Bool) → (p && q) ≡ true → (p ≡ true) × (q ≡ true)
 both true q e = (refl, e)
@@ -109,14 +139,18 @@ kind-test kind b w k = rw (eq-eqb (length b) 512 w, eq-eqb (kindOf b) kind k)
 pub no-kind : (kind : ℕ) (b : List ℕ) → (Kind kind b → ⊥) → false ≡ isKind kind b
 no-kind kind b n = refuted (isKind kind b) (λ e. n (kind-says kind b e))
 
+-- lengths of a cursor snapshot and of an attempt snapshot that 01 allows
+pub record Lengths (lc la : ℕ) : Type 0 where
+  pub cursor-low : 13 ≤ lc
+  pub cursor-high : lc ≤ 2061
+  pub attempt-low : 9 ≤ la
+  pub attempt-high : la ≤ 1545
+
 pub record Formed (b : List ℕ) : Type 0 where
   pub head : heads b ≡ true
   pub zeros : zerosAt 2 2 b ≡ true
   pub rest : zerosAt 488 20 b ≡ true
-  pub cursor-low : 13 ≤ cursorLength b
-  pub cursor-high : cursorLength b ≤ 2061
-  pub attempt-low : 9 ≤ attemptLength b
-  pub attempt-high : attemptLength b ≤ 1545
+  pub lengths : Lengths (cursorLength b) (attemptLength b)
   pub count : bodyCount b ≡ bodiesFor (payloadLength b)
 
 pub formed-says : (b : List ℕ) → formed b ≡ true → Formed b
@@ -133,10 +167,12 @@ formed-says b e =
       head = z₁ .0;
       zeros = z₁ .1;
       rest = z₂ .1;
-      cursor-low = leb-true 13 (cursorLength b) (c₁ .1);
-      cursor-high = leb-true (cursorLength b) 2061 (c₂ .1);
-      attempt-low = leb-true 9 (attemptLength b) (a₁ .1);
-      attempt-high = leb-true (attemptLength b) 1545 (a₂ .1);
+      lengths = record {
+        cursor-low = leb-true 13 (cursorLength b) (c₁ .1);
+        cursor-high = leb-true (cursorLength b) 2061 (c₂ .1);
+        attempt-low = leb-true 9 (attemptLength b) (a₁ .1);
+        attempt-high = leb-true (attemptLength b) 1545 (a₂ .1);
+      };
       count = eqb-true (bodyCount b) (bodiesFor (payloadLength b)) (n .1);
     }
 
@@ -145,8 +181,8 @@ pub formed-counted : (b : List ℕ) → Formed b → Counted (bodyCount b) (payl
 formed-counted b f =
     record {
       count = f .count;
-      some-body = omega (arith, f .count, f .cursor-low);
-      most = omega (arith, f .count, f .cursor-high, f .attempt-high);
+      some-body = omega (arith, f .count, f .lengths);
+      most = omega (arith, f .count, f .lengths);
     }
 
 pub says-formed : (b : List ℕ) → Formed b → formed b ≡ true
@@ -156,10 +192,10 @@ says-formed b f =
       f .head,
       f .zeros,
       f .rest,
-      le-leb 13 (cursorLength b) (f .cursor-low),
-      le-leb (cursorLength b) 2061 (f .cursor-high),
-      le-leb 9 (attemptLength b) (f .attempt-low),
-      le-leb (attemptLength b) 1545 (f .attempt-high),
+      le-leb 13 (cursorLength b) (f .lengths .cursor-low),
+      le-leb (cursorLength b) 2061 (f .lengths .cursor-high),
+      le-leb 9 (attemptLength b) (f .lengths .attempt-low),
+      le-leb (attemptLength b) 1545 (f .lengths .attempt-high),
       eq-eqb (bodyCount b) (bodiesFor (payloadLength b)) (f .count),
     )
 
@@ -167,7 +203,8 @@ pub no-form : (b : List ℕ) → (Formed b → ⊥) → false ≡ formed b
 no-form b n = refuted (formed b) (λ e. n (formed-says b e))
 
 -- the body count by the lengths that were read
-pub count-read : (b : List ℕ) (n lc la : ℕ) → n ≡ bodiesFor (lc + la) → lc ≡ cursorLength b → la ≡ attemptLength b → n ≡ bodiesFor (payloadLength b)
+pub count-read : (b : List ℕ) (n lc la : ℕ) → n ≡ bodiesFor (lc + la) → lc ≡ cursorLength b → la ≡ attemptLength b
+    → n ≡ bodiesFor (payloadLength b)
 count-read b n lc la e c a = rw (← c, ← a) e
 
 pub record Header (hi k i : ℕ) (b : List ℕ) : Type 0 where
@@ -230,7 +267,9 @@ module _ (k j used : ℕ) (b : List ℕ) where
       (s .rest)
 
   -- the last test, at the place where the zeros begin
-  pub body-test : (from : ℕ) → from ≡ min (8 + used) 508 → isKind 2 b ≡ true → groupOf b ≡ k → indexOf b ≡ j → usedOf b ≡ used → allZero (take (508 - from) (drop from b)) ≡ soundBody k j used b
+  pub body-test : (from : ℕ) → from ≡ min (8 + used) 508
+      → isKind 2 b ≡ true → groupOf b ≡ k → indexOf b ≡ j → usedOf b ≡ used
+      → allZero (take (508 - from) (drop from b)) ≡ soundBody k j used b
   unfolding soundBody
   body-test from e s n i u =
       rw (s, eq-eqb (groupOf b) k n, eq-eqb (indexOf b) j i, eq-eqb (usedOf b) used u)
@@ -258,7 +297,7 @@ module _ (k ceiling lc la : ℕ) where
         check = header-sealed k ceiling lc la;
       })
 
-  module _ (c₁ : 13 ≤ lc) (c₂ : lc ≤ 2061) (a₁ : 9 ≤ la) (a₂ : la ≤ 1545) where
+  module _ (allowed : Lengths lc la) where
     pub header-formed : formed (headerBlock k ceiling lc la) ≡ true
     header-formed =
         let c : cursorLength (headerBlock k ceiling lc la) ≡ lc = header-cursor k ceiling lc la (omega arith) in
@@ -267,14 +306,12 @@ module _ (k ceiling lc la : ℕ) where
           head = header-heads;
           zeros = header-zeros k ceiling lc la;
           rest = header-rest k ceiling lc la;
-          cursor-low = omega arith;
-          cursor-high = omega arith;
-          attempt-low = omega arith;
-          attempt-high = omega arith;
+          lengths = rw (c, a) allowed;
           count = rw (c, a) (header-count k ceiling lc la (omega arith));
         })
 
-    pub header-sound : (hi i : ℕ) → k < 256 ^ 4 → i + 1 + bodiesFor (lc + la) ≤ hi → soundHeader hi k i (headerBlock k ceiling lc la) ≡ true
+    pub header-sound : (hi i : ℕ) → k < 256 ^ 4 → i + 1 + bodiesFor (lc + la) ≤ hi
+        → soundHeader hi k i (headerBlock k ceiling lc la) ≡ true
     header-sound hi i n h =
         says-header hi k i (headerBlock k ceiling lc la) (record {
           form = formed-says (headerBlock k ceiling lc la) header-formed;

@@ -1,6 +1,6 @@
--- The walker's steps over plain values. In the loop over the bodies of a group, the first unsound one is to be found among
--- those that are left; a turn reads its block as a part of the area; in the walk's loop, the rest of the walk is the whole.
--- Assumes nothing.
+-- The walker's steps over plain values. In the loop over the bodies of a group, the first unsound one is to be found
+-- among those that are left; a turn reads its block as a part of the area; in the walk's loop, the rest of the walk
+-- answers what the whole answers. Assumes nothing.
 use Prim.Native.Nat.{ℕ, suc, _+_, _*_, _-_, _≤_, _<_, _^_, min}
 use native.Mathlib.Omega.{arith}
 use native.Mathlib.Numerals.{add-one}
@@ -8,16 +8,30 @@ use mathlib.Core.Path.{_≡_, sym, _∙_}
 use mathlib.Core.Bool.{Bool, true, false}
 use mathlib.Core.List.{List}
 use mathlib.Core.Option.{Option, some}
-use lib.ListN.{length, take, drop}
+use lib.ListN.{length, drop}
 use Rattle.types.specs.Refusal.{Result, refused, BadArea}
 use Rattle.raw.specs.Bytes.{IsBytes}
 use Rattle.raw.proofs.Bytes.{bytes-take, bytes-drop, number-lt}
 use Rattle.journal.specs.Area.{badLength, blocks, blockAt}
 use Rattle.journal.specs.Blocks.{Counted, usedIn, bodyCount, cursorLength, attemptLength}
 use Rattle.journal.specs.Sound.{soundHeader, soundBody}
-use Rattle.journal.specs.Walks.{firstUnsound, Found, nothing, unsound, group, orUnsound, groupAt, Stop, stop, damaged, after, walkFrom, walk}
+use Rattle.journal.specs.Walks.{
+  firstUnsound,
+  Found,
+  nothing,
+  unsound,
+  group,
+  orUnsound,
+  groupAt,
+  Stop,
+  stop,
+  damaged,
+  after,
+  walkFrom,
+  walk,
+}
 use Rattle.journal.specs.Answers.{walkIn}
-use Rattle.journal.proofs.Area.{block-part}
+use Rattle.journal.proofs.Area.{partAt, part-is}
 use Rattle.journal.proofs.Sound.{Header, header-says, formed-counted}
 use Rattle.journal.proofs.Walks.{says-nothing, says-bodies, group-says, past-end, walk-turn}
 
@@ -36,9 +50,11 @@ module _ (a : List ℕ) (k i n t : ℕ) where
 
   module _ (j : ℕ) (s : Scanned j) where
     -- what the test of body j told
-    module _ (used : ℕ) (u : Bool) (h : j ≤ n) (is : used ≡ usedIn j n t) (test : u ≡ soundBody k j used (take (512 * (i + j) + 512 - 512 * (i + j)) (drop (512 * (i + j)) a))) where
+    module _ (used : ℕ) (u : Bool) (h : j ≤ n)
+        (is : used ≡ usedIn j n t)
+        (test : u ≡ soundBody k j used (partAt a (i + j))) where
       tested : soundBody k j (usedIn j n t) (blockAt a (i + j)) ≡ u
-      tested = sym (test ∙ rw (is, block-part a (i + j)))
+      tested = sym (test ∙ rw (is, part-is a (i + j)))
 
       left : n + 1 - j ≡ suc (n - j)
       left = omega arith
@@ -60,13 +76,12 @@ module _ (a : List ℕ) (k i n t : ℕ) where
 
 -- ## A turn
 module _ (a : List ℕ) (hi k i : ℕ) where
-  -- the bytes of the block, as the code takes them
   abbrev part : List ℕ
-  part = take (512 * i + 512 - 512 * i) (drop (512 * i) a)
+  part = partAt a i
 
   module _ (u : Bool) (test : u ≡ soundHeader hi k i part) where
     tested-header : soundHeader hi k i (blockAt a i) ≡ u
-    tested-header = sym (test ∙ rw (block-part a i))
+    tested-header = sym (test ∙ rw (part-is a i))
 
     pub turn-nothing : u ≡ false → nothing ≡ groupAt a hi k i
     turn-nothing e = sym (says-nothing a hi k i (tested-header ∙ e))
@@ -75,14 +90,15 @@ module _ (a : List ℕ) (hi k i : ℕ) where
       sound : Header hi k i part
       sound = header-says hi k i part (sym test ∙ e)
 
-      pub turn-counted : Counted (bodyCount part) (lc + la)
-      turn-counted = rw (c, t) (formed-counted part (sound .form))
+      -- the bodies that the header counts lie in the area
+      pub turn-counted : 512 * hi ≤ length a
+          → Counted (bodyCount part) (lc + la) × (512 * (i + 1 + bodyCount part) ≤ length a)
+      turn-counted h = (rw (c, t) (formed-counted part (sound .form)), omega (arith, sound .fits))
 
-      pub turn-fits : 512 * hi ≤ length a → 512 * (i + 1 + bodyCount part) ≤ length a
-      turn-fits h = omega (arith, sound .fits)
-
-      pub turn-bodies : (f : Found) → f ≡ orUnsound (firstUnsound a k i (bodyCount part) (lc + la) (bodyCount part) 1) (i + suc (bodyCount part)) → f ≡ groupAt a hi k i
-      turn-bodies f q = q ∙ rw (c, t, block-part a i) (sym (says-bodies a hi k i (tested-header ∙ e)))
+      pub turn-bodies : (f : Found)
+          → f ≡ orUnsound (firstUnsound a k i (bodyCount part) (lc + la) (bodyCount part) 1) (i + suc (bodyCount part))
+          → f ≡ groupAt a hi k i
+      turn-bodies f q = q ∙ rw (c, t, part-is a i) (sym (says-bodies a hi k i (tested-header ∙ e)))
 
 -- ## The walk
 module _ (a : List ℕ) (hi : ℕ) (last : Option ℕ) (k i : ℕ) (w : Result Stop) (so-far : walkFrom a hi last k i ≡ w) where
@@ -119,6 +135,7 @@ module _ (hi k i : ℕ) (a : List ℕ) where
   unfolding walkIn
   walk-refused t = rw t
 
-  pub walk-answered : (end : ℕ) (w : Result Stop) → badLength (length a) ≡ false → end ≡ min hi (blocks a) → w ≡ walk a end k i → w ≡ walkIn hi k i a
+  pub walk-answered : (end : ℕ) (w : Result Stop) → badLength (length a) ≡ false → end ≡ min hi (blocks a)
+      → w ≡ walk a end k i → w ≡ walkIn hi k i a
   unfolding walkIn
   walk-answered end w t e q = q ∙ rw (t, e)

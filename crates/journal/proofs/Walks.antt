@@ -1,6 +1,6 @@
--- The walk, for any area, end, first number and first block: what it says of where it ended, that it depends on nothing behind
--- that place, and what a write or a whole group there makes of it. The definition counts its turns; `walk-turn` and `walk-ind`
--- free all other laws of the count. Assumes nothing.
+-- The walk, for any area, end, first number and first block: what it says of where it ended, that it depends on
+-- nothing behind that place, and what a write or a whole group there makes of it. The definition counts its turns;
+-- `walk-turn` and `walk-ind` free all other laws of the count. Assumes nothing.
 use Prim.Native.Nat.{ℕ, zero, suc, _+_, _*_, _≤_, _<_}
 use native.Mathlib.Omega.{arith}
 use native.Mathlib.Decide.{ℕ-discrete}
@@ -14,7 +14,23 @@ use Rattle.types.proofs.Cases.{split}
 use Rattle.journal.specs.Area.{blockAt, writeAt, Same}
 use Rattle.journal.specs.Blocks.{usedIn, bodyCount, payloadLength}
 use Rattle.journal.specs.Sound.{allZero, heads, soundHeader, soundBody}
-use Rattle.journal.specs.Walks.{firstUnsound, Found, nothing, unsound, group, orUnsound, bodiesAt, groupAt, Stop, stop, damaged, after, walkOver, walkFrom, walk}
+use Rattle.journal.specs.Walks.{
+  firstUnsound,
+  Found,
+  nothing,
+  unsound,
+  group,
+  orUnsound,
+  bodiesAt,
+  groupAt,
+  Stop,
+  stop,
+  damaged,
+  after,
+  walkOver,
+  walkFrom,
+  walk,
+}
 use Rattle.journal.proofs.Area.{write-same, write-other, write-apart}
 use Rattle.journal.proofs.Sound.{Header, header-says, says-header, headless, zero-header, zeros-take, zeros-drop}
 
@@ -24,7 +40,7 @@ abbrev pub unsoundAt : List ℕ → ℕ → ℕ → Option ℕ
 unsoundAt a k i =
     firstUnsound a k i (bodyCount (blockAt a i)) (payloadLength (blockAt a i)) (bodyCount (blockAt a i)) 1
 
--- a sound group k at block i, which ends below block e
+-- a sound group k whose header stands at block i, with block e behind it
 pub record Group (a : List ℕ) (hi k i e : ℕ) : Type 0 where
   pub header : Header hi k i (blockAt a i)
   pub bodies : unsoundAt a k i ≡ none
@@ -53,12 +69,17 @@ module _ (a : List ℕ) (hi k i : ℕ) where
       (λ s. subst P (sym (says-bodies s)) (bodies s (unsoundAt a k i) refl))
       (λ s. subst P (sym (says-nothing s)) (n s))
     where
-      bodies : soundHeader hi k i (blockAt a i) ≡ true → (o : Option ℕ) → unsoundAt a k i ≡ o → P (orUnsound o (i + suc (bodyCount (blockAt a i))))
-      bodies s none q = g (i + suc (bodyCount (blockAt a i))) (record { header = header-says hi k i (blockAt a i) s; bodies = q; behind = refl })
+      end : ℕ
+      end = i + suc (bodyCount (blockAt a i))
+
+      bodies : soundHeader hi k i (blockAt a i) ≡ true → (o : Option ℕ) → unsoundAt a k i ≡ o → P (orUnsound o end)
+      bodies s none q = g end (record { header = header-says hi k i (blockAt a i) s; bodies = q; behind = refl })
       bodies s (some j) q = u j s q
 
   pub nothing-says : groupAt a hi k i ≡ nothing → soundHeader hi k i (blockAt a i) ≡ false
-  nothing-says = found-cases (λ f. f ≡ nothing → soundHeader hi k i (blockAt a i) ≡ false) (λ s p. s)
+  nothing-says =
+      found-cases (λ f. f ≡ nothing → soundHeader hi k i (blockAt a i) ≡ false)
+      (λ s p. s)
       (λ j s q p. absurd (let z : _≡_ {A = ℕ} 0 1 = cc in omega arith))
       (λ e g p. absurd (let z : _≡_ {A = ℕ} 0 1 = cc in omega arith))
 
@@ -91,27 +112,35 @@ stop-damaged p = absurd (let z : _≡_ {A = ℕ} 0 1 = cc in omega arith)
 
 module _ (a : List ℕ) (hi : ℕ) where
   -- turns enough to reach the end are as good as any more
-  enough : (m n : ℕ) (last : Option ℕ) (k i : ℕ) → hi ≤ m + i → hi ≤ n + i → walkOver m a hi last k i ≡ walkOver n a hi last k i
+  enough : (m n : ℕ) (last : Option ℕ) (k i : ℕ) → hi ≤ m + i → hi ≤ n + i
+      → walkOver m a hi last k i ≡ walkOver n a hi last k i
   unfolding walkOver
   enough zero zero last k i p q = refl
   enough zero (suc n) last k i p q = rw (past-end a hi k i (omega arith))
   enough (suc m) zero last k i p q = rw (past-end a hi k i (omega arith))
   enough (suc m) (suc n) last k i p q =
       found-cases a hi k i
-      (λ f. after f (stop last k i) (λ e. walkOver m a hi (some i) (suc k) e) ≡ after f (stop last k i) (λ e. walkOver n a hi (some i) (suc k) e))
+      (λ f.
+      after f (stop last k i) (λ e. walkOver m a hi (some i) (suc k) e)
+      ≡ after f (stop last k i) (λ e. walkOver n a hi (some i) (suc k) e))
       (λ s. refl)
       (λ j s u. refl)
       (λ e g. enough m n (some i) (suc k) e (omega (arith, g .behind)) (omega (arith, g .behind)))
 
-  pub walk-turn : (last : Option ℕ) (k i : ℕ) → walkFrom a hi last k i ≡ after (groupAt a hi k i) (stop last k i) (λ e. walkFrom a hi (some i) (suc k) e)
+  pub walk-turn : (last : Option ℕ) (k i : ℕ)
+      → walkFrom a hi last k i
+      ≡ after (groupAt a hi k i) (stop last k i) (λ e. walkFrom a hi (some i) (suc k) e)
   unfolding walkFrom walkOver
   walk-turn last k i = enough hi (suc hi) last k i (omega arith) (omega arith)
 
-  -- what holds of a walk that ends at once, and of one that goes on behind a group where it holds of the rest, holds of every walk
+  -- what holds of a walk that ends at once, and of one that goes on behind a group where it holds of the rest, holds
+  -- of every walk
   pub walk-ind : (P : Option ℕ → ℕ → ℕ → Result Stop → Type 0)
       → ((last : Option ℕ) (k i : ℕ) → soundHeader hi k i (blockAt a i) ≡ false → P last k i (stop last k i))
-      → ((last : Option ℕ) (k i j : ℕ) → soundHeader hi k i (blockAt a i) ≡ true → unsoundAt a k i ≡ some j → P last k i (damaged j))
-      → ((last : Option ℕ) (k i e : ℕ) → Group a hi k i e → P (some i) (suc k) e (walkFrom a hi (some i) (suc k) e) → P last k i (walkFrom a hi (some i) (suc k) e))
+      → ((last : Option ℕ) (k i j : ℕ) → soundHeader hi k i (blockAt a i) ≡ true → unsoundAt a k i ≡ some j
+      → P last k i (damaged j))
+      → ((last : Option ℕ) (k i e : ℕ) → Group a hi k i e → P (some i) (suc k) e (walkFrom a hi (some i) (suc k) e)
+      → P last k i (walkFrom a hi (some i) (suc k) e))
       → (last : Option ℕ) (k i : ℕ) → P last k i (walkFrom a hi last k i)
   walk-ind P n u g last k i = go hi last k i (omega arith)
     where
@@ -126,7 +155,7 @@ module _ (a : List ℕ) (hi : ℕ) where
           (u last k i)
           (λ e q. g last k i e q (go m (some i) (suc k) e (omega (arith, q .behind)))))
 
-  -- where a walk ended, behind a group whose header stands at `last`
+  -- the last group of a walk that began behind `last`: that one, or a later one
   pub data LastIs (last : Option ℕ) (k i : ℕ) (l : Option ℕ) (k′ e : ℕ) : Type 0 where
     at-once : l ≡ last → k′ ≡ k → e ≡ i → LastIs last k i l k′ e
     behind : (h m : ℕ) → l ≡ some h → k′ ≡ suc m → k ≤ m → i ≤ h → Group a hi m h e → LastIs last k i l k′ e
@@ -139,16 +168,24 @@ module _ (a : List ℕ) (hi : ℕ) where
     pub no-header : soundHeader hi k′ e (blockAt a e) ≡ false
     pub last-is : LastIs last k i l k′ e
 
-  last-behind : (last : Option ℕ) (k i e₁ : ℕ) (l : Option ℕ) (k′ e : ℕ) → Group a hi k i e₁ → LastIs (some i) (suc k) e₁ l k′ e → LastIs last k i l k′ e
+  last-behind : (last : Option ℕ) (k i e₁ : ℕ) (l : Option ℕ) (k′ e : ℕ) → Group a hi k i e₁
+      → LastIs (some i) (suc k) e₁ l k′ e → LastIs last k i l k′ e
   last-behind last k i e₁ l k′ e g (at-once p q r) = behind i k p q (omega arith) (omega arith) (rw r g)
   last-behind last k i e₁ l k′ e g (behind h m p q r s t) = behind h m p q (omega arith) (omega (arith, g .behind)) t
 
-  pub walk-ended : (last : Option ℕ) (k i : ℕ) (l : Option ℕ) (k′ e : ℕ) → walkFrom a hi last k i ≡ stop l k′ e → Ended last k i l k′ e
+  pub walk-ended : (last : Option ℕ) (k i : ℕ) (l : Option ℕ) (k′ e : ℕ) → walkFrom a hi last k i ≡ stop l k′ e
+      → Ended last k i l k′ e
   walk-ended last k i l k′ e =
       walk-ind (λ last k i w. w ≡ stop l k′ e → Ended last k i l k′ e)
       (λ last k i s p.
       let q : (l ≡ last) × (k′ ≡ k) × (e ≡ i) = stop-inj p in
-      record { rises = omega arith; within = λ h. omega arith; numbered = omega arith; no-header = rw (q .1, q .2) s; last-is = at-once (q .0) (q .1) (q .2) })
+      record {
+        rises = omega arith;
+        within = λ h. omega arith;
+        numbered = omega arith;
+        no-header = rw (q .1, q .2) s;
+        last-is = at-once (q .0) (q .1) (q .2);
+      })
       (λ last k i j s u p. stop-damaged p)
       (λ last k i e₁ g ih p.
       let r = ih p in
@@ -173,18 +210,41 @@ module _ (a : List ℕ) (k i n t : ℕ) where
       (λ s. let e : some (i + j) ≡ some x = rw s at q in let y : i + j ≡ x = cc in (omega arith, omega arith))
 
 module _ (a a′ : List ℕ) (lo k i n t : ℕ) (l : lo ≤ i) where
-  unsound-same : (e m j : ℕ) → Same a a′ lo e → i + j + m ≤ e → firstUnsound a′ k i n t m j ≡ firstUnsound a k i n t m j
+  unsound-same : (e m j : ℕ) → Same a a′ lo e → i + j + m ≤ e
+      → firstUnsound a′ k i n t m j ≡ firstUnsound a k i n t m j
   unsound-same e zero j s h = refl
   unsound-same e (suc m) j s h =
       rw (s (i + j) (omega arith) (omega arith), unsound-same e m (suc j) s (omega arith))
 
-  unsound-found : (m j x : ℕ) → Same a a′ lo (suc x) → firstUnsound a k i n t m j ≡ some x → firstUnsound a′ k i n t m j ≡ some x
+  unsound-found : (m j x : ℕ) → Same a a′ lo (suc x) → firstUnsound a k i n t m j ≡ some x
+      → firstUnsound a′ k i n t m j ≡ some x
   unsound-found zero j x s q = absurd (Option·none-ne-some x q)
   unsound-found (suc m) j x s q =
-      let b : blockAt a′ (i + j) ≡ blockAt a (i + j) = s (i + j) (omega arith) (omega (arith, unsound-range a k i n t (suc m) j x q)) in
+      let r = unsound-range a k i n t (suc m) j x q in
+      let b : blockAt a′ (i + j) ≡ blockAt a (i + j) = s (i + j) (omega arith) (omega arith) in
       split (soundBody k j (usedIn j n t) (blockAt a (i + j)))
       (λ p. rw (b, p) (unsound-found m (suc j) x s (rw p at q)))
       (λ p. rw (b, p) (rw p at q))
+
+-- the same of the bodies that a block counts
+module _ (a : List ℕ) (k i : ℕ) where
+  abbrev count : ℕ
+  count = bodyCount (blockAt a i)
+
+  abbrev total : ℕ
+  total = payloadLength (blockAt a i)
+
+  counted-range : (x : ℕ) → unsoundAt a k i ≡ some x → i < x
+  counted-range x u = omega (arith, unsound-range a k i count total count 1 x u)
+
+  module _ (a′ : List ℕ) (lo : ℕ) (l : lo ≤ i) where
+    counted-same : (e : ℕ) → Same a a′ lo e → i + suc count ≤ e → unsoundAt a′ k i ≡ unsoundAt a k i
+    counted-same e s h =
+        rw (s i l (omega arith)) (unsound-same a a′ lo k i count total l e count 1 s (omega arith))
+
+    counted-found : (x : ℕ) → Same a a′ lo (suc x) → unsoundAt a k i ≡ some x → unsoundAt a′ k i ≡ some x
+    counted-found x s u =
+        rw (s i l (omega (arith, counted-range x u))) (unsound-found a a′ lo k i count total l count 1 x s u)
 
 module _ (a a′ : List ℕ) (hi lo : ℕ) where
   -- a group within the blocks that are the same
@@ -193,12 +253,13 @@ module _ (a a′ : List ℕ) (hi lo : ℕ) where
       let b : blockAt a′ i ≡ blockAt a i = s i l (omega (arith, g .behind)) in
       record {
         header = rw b (g .header);
-        bodies = rw b (unsound-same a a′ lo k i (bodyCount (blockAt a i)) (payloadLength (blockAt a i)) l e (bodyCount (blockAt a i)) 1 s (omega (arith, g .behind)) ∙ g .bodies);
+        bodies = counted-same a k i a′ lo l e s (omega (arith, g .behind)) ∙ g .bodies;
         behind = rw b (g .behind);
       }
 
   -- a walk over the one area passes the place where the walk over the other ended
-  pub walk-reach : (last : Option ℕ) (k i : ℕ) (l : Option ℕ) (k′ e : ℕ) → Same a a′ lo e → lo ≤ i → walkFrom a hi last k i ≡ stop l k′ e → walkFrom a′ hi last k i ≡ walkFrom a′ hi l k′ e
+  pub walk-reach : (last : Option ℕ) (k i : ℕ) (l : Option ℕ) (k′ e : ℕ) → Same a a′ lo e → lo ≤ i
+      → walkFrom a hi last k i ≡ stop l k′ e → walkFrom a′ hi last k i ≡ walkFrom a′ hi l k′ e
   walk-reach last k i l k′ e s m =
       walk-ind a hi (λ last k i w. lo ≤ i → w ≡ stop l k′ e → walkFrom a′ hi last k i ≡ walkFrom a′ hi l k′ e)
       (λ last k i n m p. let q : (l ≡ last) × (k′ ≡ k) × (e ≡ i) = stop-inj p in rw (q .0, q .1, q .2))
@@ -216,7 +277,7 @@ module _ (a a′ : List ℕ) (hi lo : ℕ) where
   unsound-behind last k i j =
       walk-ind a hi (λ last k i w. w ≡ damaged j → i < j)
       (λ last k i n p. stop-damaged (sym p))
-      (λ last k i x n u p. let q : x ≡ j = cc in omega (arith, unsound-range a k i (bodyCount (blockAt a i)) (payloadLength (blockAt a i)) (bodyCount (blockAt a i)) 1 x u))
+      (λ last k i x n u p. let q : x ≡ j = cc in omega (arith, counted-range a k i x u))
       (λ last k i e g ih p. omega (arith, ih p, g .behind))
       last
       k
@@ -231,9 +292,9 @@ module _ (a a′ : List ℕ) (hi lo k₀ : ℕ) where
       (λ last k i n m p. stop-damaged (sym p))
       (λ last k i x n u m p.
       let q : j ≡ x = cc in
-      let r = unsound-range a k i (bodyCount (blockAt a i)) (payloadLength (blockAt a i)) (bodyCount (blockAt a i)) 1 x u in
+      let r = counted-range a k i x u in
       let b : blockAt a′ i ≡ blockAt a i = s i m (omega arith) in
-      let u′ : unsoundAt a′ k i ≡ some x = rw b (unsound-found a a′ lo k i (bodyCount (blockAt a i)) (payloadLength (blockAt a i)) m (bodyCount (blockAt a i)) 1 x (rw q at s) u) in
+      let u′ : unsoundAt a′ k i ≡ some x = counted-found a k i a′ lo m x (rw q at s) u in
       walk-turn a′ hi last k i ∙ rw (says-bodies a′ hi k i (rw b n), u′) p)
       (λ last k i e g ih m p.
       let r = unsound-behind a a′ hi lo (some i) (suc k) e j p in
@@ -260,41 +321,47 @@ module _ (a a′ : List ℕ) (hi lo k₀ : ℕ) where
         walk-kept (λ j x y. s j x (omega arith)) (rw (s e (r .rises) (omega arith)) (r .no-header))
 
     -- where a whole group stands there, it is passed, and the walk goes on behind it
-    pub walk-passes : (e′ : ℕ) → Same a a′ lo e → Group a′ hi k e e′ → walk a′ hi k₀ lo ≡ walkFrom a′ hi (some e) (suc k) e′
+    pub walk-passes : (e′ : ℕ) → Same a a′ lo e → Group a′ hi k e e′
+        → walk a′ hi k₀ lo ≡ walkFrom a′ hi (some e) (suc k) e′
     walk-passes e′ s g = walk-on s ∙ walk-turn a′ hi l k e ∙ rw (says-group a′ hi k e e′ g)
 
     -- it is longer by just that group where the block behind is no sound header of the next number
-    pub walk-longer : (e′ : ℕ) → Same a a′ lo e → Group a′ hi k e e′ → soundHeader hi (suc k) e′ (blockAt a′ e′) ≡ false → walk a′ hi k₀ lo ≡ stop (some e) (suc k) e′
-    walk-longer e′ s g n = walk-passes e′ s g ∙ walk-turn a′ hi (some e) (suc k) e′ ∙ rw (says-nothing a′ hi (suc k) e′ n)
+    pub walk-longer : (e′ : ℕ) → Same a a′ lo e → Group a′ hi k e e′ → soundHeader hi (suc k) e′ (blockAt a′ e′) ≡ false
+        → walk a′ hi k₀ lo ≡ stop (some e) (suc k) e′
+    walk-longer e′ s g n =
+        walk-passes e′ s g ∙ walk-turn a′ hi (some e) (suc k) e′ ∙ rw (says-nothing a′ hi (suc k) e′ n)
 
--- a block written behind the groups, or in front of the first, leaves the walk as it was, unless it is the sound header expected
-pub walk-write : (a : List ℕ) (hi lo k₀ : ℕ) (l : Option ℕ) (k e i : ℕ) (b : List ℕ) → 512 * i + 512 ≤ length a → length b ≡ 512
-    → walk a hi k₀ lo ≡ stop l k e → (i < e → i < lo) → (i ≡ e → soundHeader hi k e b ≡ false) → walk (writeAt a i b) hi k₀ lo ≡ stop l k e
-walk-write a hi lo k₀ l k e i b fits whole ends out n =
-    walk-kept a (writeAt a i b) hi lo k₀ l k e ends (write-apart a i b fits whole lo e out)
-    (elim (ℕ-discrete e i) [
-      | yes q ↦ rw (q, write-same a i b fits whole) (rw q at (n (sym q)))
-      | no q ↦ rw (write-other a i b fits whole e q) (walk-ended a hi none k₀ lo l k e ends .no-header)
-    ])
+-- ## A block written
+-- behind the groups, or in front of the first, it leaves the walk as it was, unless it is the sound header expected
+module _ (a : List ℕ) (hi lo k₀ : ℕ) (l : Option ℕ) (k e i : ℕ) (b : List ℕ)
+    (fits : 512 * i + 512 ≤ length a)
+    (whole : length b ≡ 512)
+    (ends : walk a hi k₀ lo ≡ stop l k e)
+    (out : i < e → i < lo) where
+  pub walk-write : (i ≡ e → soundHeader hi k e b ≡ false) → walk (writeAt a i b) hi k₀ lo ≡ stop l k e
+  walk-write n =
+      walk-kept a (writeAt a i b) hi lo k₀ l k e ends (write-apart a i b fits whole lo e out)
+      (elim (ℕ-discrete e i) [
+        | yes q ↦ rw (q, write-same a i b fits whole) (rw q at (n (sym q)))
+        | no q ↦ rw (write-other a i b fits whole e q) (walk-ended a hi none k₀ lo l k e ends .no-header)
+      ])
 
--- ## Blocks that are no headers
-module _ (a : List ℕ) (i : ℕ) (b : List ℕ) (fits : 512 * i + 512 ≤ length a) (whole : length b ≡ 512) (none-here : heads b ≡ false) where
-  -- a body, a block whose check fails or zeros, written behind the groups or in front of the first
-  pub walk-write-headless : (hi lo k₀ : ℕ) (l : Option ℕ) (k e : ℕ) → walk a hi k₀ lo ≡ stop l k e → (i < e → i < lo) → walk (writeAt a i b) hi k₀ lo ≡ stop l k e
-  walk-write-headless hi lo k₀ l k e ends out =
-      walk-write a hi lo k₀ l k e i b fits whole ends out (λ q. headless hi k e b none-here)
+  -- so a body, a block whose check fails and one of zeros leave it as it was
+  pub walk-write-headless : heads b ≡ false → walk (writeAt a i b) hi k₀ lo ≡ stop l k e
+  walk-write-headless n = walk-write (λ q. headless hi k e b n)
 
-  -- wherever it is written, it makes no block a header
-  pub write-headless : (j : ℕ) → heads (blockAt a j) ≡ false → heads (blockAt (writeAt a i b) j) ≡ false
-  write-headless j h =
-      elim (ℕ-discrete j i) [
-        | yes q ↦ rw (q, write-same a i b fits whole) none-here
-        | no q ↦ rw (write-other a i b fits whole j q) h
-      ]
+-- one that is no header makes no block a header, wherever it is written
+pub write-headless : (a : List ℕ) (i : ℕ) (b : List ℕ) → 512 * i + 512 ≤ length a → length b ≡ 512 → heads b ≡ false
+    → (j : ℕ) → heads (blockAt a j) ≡ false → heads (blockAt (writeAt a i b) j) ≡ false
+write-headless a i b fits whole n j h =
+    elim (ℕ-discrete j i) [
+      | yes q ↦ rw (q, write-same a i b fits whole) n
+      | no q ↦ rw (write-other a i b fits whole j q) h
+    ]
 
 -- over zeros a walk ends where it begins
 pub walk-zeros : (a : List ℕ) (hi k i : ℕ) → allZero a ≡ true → walk a hi k i ≡ stop none k i
 unfolding blockAt
 walk-zeros a hi k i z =
-    walk-turn a hi none k i
-    ∙ rw (says-nothing a hi k i (zero-header hi k i (blockAt a i) (zeros-take 512 (drop (512 * i) a) (zeros-drop (512 * i) a z))))
+    let b : allZero (blockAt a i) ≡ true = zeros-take 512 (drop (512 * i) a) (zeros-drop (512 * i) a z) in
+    walk-turn a hi none k i ∙ rw (says-nothing a hi k i (zero-header hi k i (blockAt a i) b))

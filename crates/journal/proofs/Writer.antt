@@ -1,5 +1,5 @@
--- The block writer's steps over plain lists: zeros, then the fields one after another, then the check, make the block as it
--- is laid down. Assumes nothing.
+-- The block writer's steps over plain lists: zeros, then the fields one after another, then the check, make the block
+-- as it is laid down. Assumes nothing.
 use Prim.Native.Nat.{ℕ, zero, suc, _+_, _*_, _-_, _%_, _≤_, _<_, min}
 use native.Mathlib.Omega.{arith}
 use native.Mathlib.Nat.{sub-zero, zero-sub}
@@ -7,7 +7,7 @@ use native.Mathlib.Decide.{decLe}
 use mathlib.Core.Path.{_≡_, refl, sym, ap, _∙_}
 use mathlib.Core.Bool.{true, false}
 use mathlib.Core.List.{List, _∷_, _++_, append-nil}
-use lib.ListN.{length, take, drop, set, replicate, length-set, length-take, length-drop, drop-of-length-le}
+use lib.ListN.{length, take, drop, set, replicate, length-set, length-drop, drop-of-length-le}
 use lib.Seq.{take-all, take-at, take-append-add, drop-append-add, drop-drop}
 use borrow.Author.Fill.{fill-more}
 use borrow.Author.Tests.{eq-eqb, ne-eqb}
@@ -21,7 +21,7 @@ use Rattle.crc.specs.Seal.{sealed}
 use Rattle.journal.specs.Blocks.{bodiesFor, chunkOf, opening, headerBlock, bodyBlock}
 use Rattle.journal.specs.Area.{outside, writeAt}
 use Rattle.journal.specs.Answers.{fill, writeBlock}
-use Rattle.journal.proofs.Area.{inside-says}
+use Rattle.journal.proofs.Area.{inside-says, partAt, part-is, block-length}
 
 -- ## Zeros
 -- zeros stand up to i, and behind them what stood there before
@@ -110,7 +110,12 @@ padded : (fields chunk : List ℕ) → length fields ≡ 8 → length chunk ≤ 
 padded fields chunk e h =
     let at : 8 + length chunk ≡ length fields + length chunk = omega arith in
     let all : 508 ≡ length fields + (length chunk + (500 - length chunk)) = omega arith in
-    rw (take-at fields (replicate 504 0) 8 e, at, drop-append-add fields (replicate 504 0) (length chunk), drop-replicate zero (length chunk) 504)
+    rw (
+      take-at fields (replicate 504 0) 8 e,
+      at,
+      drop-append-add fields (replicate 504 0) (length chunk),
+      drop-replicate zero (length chunk) 504,
+    )
     (ap (λ n. take n (fields ++ (chunk ++ replicate (504 - length chunk) 0))) all
     ∙ take-append-add fields (chunk ++ replicate (504 - length chunk) 0) (length chunk + (500 - length chunk))
     ∙ ap (λ l. fields ++ l) (take-append-add chunk (replicate (504 - length chunk) 0) (500 - length chunk)
@@ -169,12 +174,14 @@ module _ (a : List ℕ) (i : ℕ) (b : List ℕ) where
   outside-refused t = rw t
 
   pub part-filled : (part : List ℕ) (o : Result (Unit {0})) → outside (length a) i ≡ false
-      → answer o part ≡ fill b (take (512 * i + 512 - 512 * i) (drop (512 * i) a))
+      → answer o part ≡ fill b (partAt a i)
       → answer o (take (512 * i) a ++ (part ++ drop (512 * i + 512 - 512 * i) (drop (512 * i) a))) ≡ writeBlock i b a
   unfolding writeBlock writeAt
   part-filled part o t f =
       let n : 512 * i + 512 - 512 * i ≡ 512 = omega arith in
-      let h = inside-says (length a) i t in
-      let whole : length (take 512 (drop (512 * i) a)) ≡ 512 = simp (length-take, length-drop) (omega (arith, h .fits)) in
-      let q : answer o part ≡ answer (done tt) b = (rw n at f) ∙ sym (fill-whole b (take 512 (drop (512 * i) a)) b whole refl) in
-      rw (ap (λ (x : Answer (Unit {0}) (List ℕ)). x .outcome) q, ap (λ (x : Answer (Unit {0}) (List ℕ)). x .state) q, t, n, drop-drop 512 (512 * i) a)
+      let whole : length (partAt a i) ≡ 512 =
+      ap length (part-is a i) ∙ block-length a i (inside-says (length a) i t .fits) in
+      let q : answer o part ≡ answer (done tt) b = f ∙ sym (fill-whole b (partAt a i) b whole refl) in
+      let outcome : o ≡ done tt = ap (λ (x : Answer (Unit {0}) (List ℕ)). x .outcome) q in
+      let state : part ≡ b = ap (λ (x : Answer (Unit {0}) (List ℕ)). x .state) q in
+      rw (outcome, state, t, n, drop-drop 512 (512 * i) a)

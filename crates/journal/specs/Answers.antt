@@ -1,5 +1,5 @@
--- What the public functions answer on every area, slice and number. 4 stands for each part that is no block: a part of
--- another length, an area of a length that 01 refuses, a block behind its end.
+-- What the public functions answer on every area, slice and number. 4 stands for each part that is no block: a part
+-- of another length, an area of a length that 01 refuses, a block behind its end.
 use Prim.Native.Nat.{ℕ, _+_, min}
 use mathlib.Core.Bool.{not}
 use mathlib.Core.List.{List, [], _∷_, _++_}
@@ -10,7 +10,17 @@ use Rattle.types.specs.Refusal.{Result, refused, done}
 use Rattle.types.specs.Refusal as refusal
 use Rattle.types.specs.Table.{_⇒_, Answer, answer, checked, guarded}
 use Rattle.journal.specs.Area.{badLength, blocks, outside, blockAt, writeAt}
-use Rattle.journal.specs.Blocks.{bodiesFor, chunkOf, headerBlock, bodyBlock, groupOf, ceilingOf, cursorLength, attemptLength, payloadLength}
+use Rattle.journal.specs.Blocks.{
+  bodiesFor,
+  chunkOf,
+  headerBlock,
+  bodyBlock,
+  groupOf,
+  ceilingOf,
+  cursorLength,
+  attemptLength,
+  payloadLength,
+}
 use Rattle.journal.specs.declared.Block.{Block}
 use Rattle.journal.specs.declared.Block.the-variants as block
 use Rattle.journal.specs.declared.Block.the-variants.{Body}
@@ -42,8 +52,8 @@ writeBlock i b a = guarded (outside (length a) i ⇒ refusal.BadArea ∷ []) a (
 unfoldable pub walkIn : ℕ → ℕ → ℕ → List ℕ → Result Stop
 walkIn hi k i a = checked (badLength (length a) ⇒ refusal.BadArea ∷ []) (walk a (min hi (blocks a)) k i)
 
--- the payload of the group whose header stands at block i is read to the front of lent memory: 4 where the group does not lie
--- in the area
+-- the payload of the group whose header stands at block i is read to the front of lent memory: 4 where the group does
+-- not lie in the area
 unfoldable pub readPayload : ℕ → List ℕ → List ℕ → Answer ℕ (List ℕ)
 readPayload i a out =
     guarded

@@ -1,5 +1,5 @@
--- The layout computes: group 1 with ceiling 4,096 and a payload of 22 bytes, its two checks as worked out apart from these
--- definitions, and the walk over its two blocks.
+-- The layout computes: group 1 with ceiling 4,096 and a payload of 22 bytes, its two checks as worked out apart from
+-- these definitions, and the walk over its two blocks.
 use Prim.Native.Nat.{ℕ}
 use mathlib.Core.Path.{_≡_, refl}
 use mathlib.Core.Bool.{xor}
@@ -20,7 +20,8 @@ bytes = 1 ∷ 2 ∷ 3 ∷ 4 ∷ 5 ∷ 6 ∷ 7 ∷ 8 ∷ 9 ∷ 10 ∷ 11 ∷ 12 �
 abbrev pub area : List ℕ
 area = headerBlock 1 4096 13 9 ++ bodyBlock 1 1 bytes
 
-pub header-front : take 21 (headerBlock 1 4096 13 9) ≡ 1 ∷ 1 ∷ 0 ∷ 0 ∷ 1 ∷ 0 ∷ 0 ∷ 0 ∷ 0 ∷ 16 ∷ 0 ∷ 0 ∷ 0 ∷ 0 ∷ 0 ∷ 0 ∷ 13 ∷ 0 ∷ 9 ∷ 0 ∷ 0 ∷ []
+pub header-front : take 21 (headerBlock 1 4096 13 9)
+    ≡ 1 ∷ 1 ∷ 0 ∷ 0 ∷ 1 ∷ 0 ∷ 0 ∷ 0 ∷ 0 ∷ 16 ∷ 0 ∷ 0 ∷ 0 ∷ 0 ∷ 0 ∷ 0 ∷ 13 ∷ 0 ∷ 9 ∷ 0 ∷ 0 ∷ []
 unfolding headerBlock
 header-front = refl
 

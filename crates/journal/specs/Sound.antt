@@ -1,12 +1,22 @@
--- Sound blocks, as 01 has them under "journal": kind, check, group number, zeros as laid down, lengths, body count. A header's
--- number and its fit, which depend on where it stands, come last.
+-- Sound blocks, as 01 has them under "journal": kind, check, group number, zeros as laid down, lengths, body count. A
+-- header's number and its fit, which depend on where it stands, come last.
 use Prim.Native.Nat.{ℕ, _+_, _-_}
 use mathlib.Core.Bool.{Bool, true, _&&_}
 use mathlib.Core.List.{List, [], _∷_}
 use lib.Dec.{leb, eqb}
 use lib.ListN.{length, take, drop}
 use Rattle.crc.specs.Seal.{isSealed}
-use Rattle.journal.specs.Blocks.{bodiesFor, kindOf, groupOf, bodyCount, cursorLength, attemptLength, payloadLength, indexOf, usedOf}
+use Rattle.journal.specs.Blocks.{
+  bodiesFor,
+  kindOf,
+  groupOf,
+  bodyCount,
+  cursorLength,
+  attemptLength,
+  payloadLength,
+  indexOf,
+  usedOf,
+}
 
 abbrev pub allZero : List ℕ → Bool
 allZero [] = true

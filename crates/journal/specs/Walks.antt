@@ -1,5 +1,5 @@
--- The walk over a journal, which ends at the first block that is no sound header (01, "journal"), with its first block, its
--- first group number and the block where it must end; and the payload of a group.
+-- The walk over a journal, which ends at the first block that is no sound header (01, "journal"), with its first
+-- block, its first group number and the block where it must end; and the payload of a group.
 use Prim.Native.Nat.{ℕ, zero, suc, _+_}
 use mathlib.Core.Bool.{cond}
 use mathlib.Core.List.{List, [], _++_}
@@ -10,14 +10,15 @@ use Rattle.journal.specs.Area.{blockAt}
 use Rattle.journal.specs.Blocks.{bodiesFor, usedIn, bodyCount, payloadLength, contentOf}
 use Rattle.journal.specs.Sound.{soundHeader, soundBody}
 
--- the first unsound one of m bodies from index j on, of the group k whose header, at block i, counts n bodies with t bytes
+-- the first unsound one of m bodies from index j on, of the group k whose header, at block i, counts n bodies with t
+-- bytes
 abbrev pub firstUnsound : List ℕ → ℕ → ℕ → ℕ → ℕ → ℕ → ℕ → Option ℕ
 firstUnsound a k i n t zero j = none
 firstUnsound a k i n t (suc m) j =
     cond (soundBody k j (usedIn j n t) (blockAt a (i + j))) (firstUnsound a k i n t m (suc j)) (some (i + j))
 
--- what stands at a block where a group is expected: no sound header; one that counts an unsound body, the first in this block;
--- a sound group, and the block behind it
+-- what stands at a block where a group is expected: no sound header; one that counts an unsound body, the first in
+-- this block; a sound group, and the block behind it
 pub data Found : Type 0 where
   nothing : Found
   unsound : ℕ → Found
@@ -37,7 +38,8 @@ bodiesAt a k i =
 unfoldable pub groupAt : List ℕ → ℕ → ℕ → ℕ → Found
 groupAt a hi k i = cond (soundHeader hi k i (blockAt a i)) (bodiesAt a k i) nothing
 
--- where a walk ended: the header block of the last group, the number expected next, and the block where it would stand
+-- where a walk ended: the header block of the last group, the number expected next, and the block where it would
+-- stand
 pub record Stop : Type 0 where
   pub last : Option ℕ
   pub number : ℕ

@@ -1,5 +1,6 @@
-// The journal's blocks: writing one, telling whether it is sound, walking from group to group, and reading a group's payload.
-// An area is 1 to 128 blocks of 512 bytes; whatever is no such area, and whatever part is no block, is refused as 4.
+// The journal's blocks: writing one, telling whether it is sound, walking from group to group, and reading a group's
+// payload. An area is 1 to 128 blocks of 512 bytes; whatever is no such area, and whatever part is no block, is
+// refused as 4.
 ghost use mathlib.Core.Path.{_≡_};
 ghost use Prim.Native.Nat.{suc, _+_, _*_, _-_, _≤_, _<_, min};
 ghost use lib.ListN.{length, take, drop, replicate};
@@ -12,8 +13,8 @@ ghost use Rattle.journal.specs.Sound.{allZero, isKind, heads, formed, so
 ghost use Rattle.journal.specs.Walks.{firstUnsound, orUnsound, groupAt, contents};
 ghost use Rattle.journal.specs.Answers.{fill, writeBlock, walkIn, readPayload, headerIn, headerOf, blockOf, filledOf, foundOf, walkedOf, payloadOf};
 
-// What the header of a group says: its number, the generation ceiling, and the lengths of the cursor snapshot and of the
-// attempt snapshot.
+// What the header of a group says: its number, the generation ceiling, and the lengths of the cursor snapshot and of
+// the attempt snapshot.
 #[repr(C)]
 pub struct Header {
     pub number: u32,
@@ -28,7 +29,7 @@ pub enum Block {
     Body { number: u32, index: u8 },
 }
 
-// What writing a block answers.
+// What writing a block answers: it is written, or refusal 4.
 pub enum Filled {
     Written,
     BadArea,
@@ -40,7 +41,7 @@ pub enum LastGroup {
     None,
 }
 
-// What a walk answers: the last group, the number expected next, and the block where it would stand.
+// What a walk answers: the last group, the number expected next and the block where it would stand, or refusals 4 and 5.
 pub enum Walked {
     Stopped {
         last: LastGroup,
@@ -120,7 +121,7 @@ fn open_block(block: &mut [u8], kind: u8, second: u8, third: u16, number: u32)
     raw::write_u32(block, 4, number);
 }
 
-// Fills a block with the header of a group.
+// Fills a block with the header of a group. A part of another length than 512 bytes is refused as 4.
 pub fn write_header(block: &mut [u8], header: Header) -> Filled
     ensures { λ r. ⌜ answer (filledOf r) (now (block .exit)) ≡ fill (headerOf header) (now (block .entry)) ⌝ }
 {
@@ -146,7 +147,9 @@ fn put_body(block: &mut [u8], number: u32, index: u8, chunk: &[u8])
     seal(block);
 }
 
-// Fills a block with body `index`, from 1, of a payload.
+// Fills a block with body `index`, counted from 1, of a payload: 500 of its bytes, or what is left of them behind those
+// of the bodies before. Index 0, which no body has, takes the bytes of body 1. A part of another length than 512 bytes
+// is refused as 4.
 pub fn write_body(block: &mut [u8], number: u32, index: u8, payload: &[u8]) -> Filled
     ensures { λ r. ⌜ answer (filledOf r) (now (block .exit)) ≡ fill (bodyBlock number index (chunkOf index (now (payload .entry)))) (now (block .entry)) ⌝ }
 {
@@ -159,7 +162,8 @@ pub fn write_body(block: &mut [u8], number: u32, index: u8, payload: &[u8]) -> F
     Filled::Written
 }
 
-// Fills block `at` of an area, which is handed on as a part of it.
+// Fills block `at` of an area: the writer is handed its 512 bytes and nothing more. An area of a length that is refused,
+// and one that has no such block, is 4.
 pub fn write_block(area: &mut [u8], at: usize, block: Block, payload: &[u8]) -> Filled
     ensures { λ r. ⌜ answer (filledOf r) (now (area .exit)) ≡ writeBlock at (blockOf block (now (payload .entry))) (now (area .entry)) ⌝ }
 {
@@ -330,7 +334,9 @@ fn group_at(area: &[u8], hi: usize, number: u64, at: usize) -> Turn
     bodies_at(area, number, at, bodies, cursor_len + attempt_len)
 }
 
-// The walk from a block on, where a number is expected first; no group may pass block `hi` or the area's end.
+// The walk from a block on, where a number is expected first; no group may pass block `hi` or the area's end. It ends
+// where no sound header stands; a sound header that counts an unsound body is 5, an area of a length that is refused 4.
+// A turn tests its header and the bodies that it counts, and the next one begins behind them: no check is computed twice.
 pub fn walk(area: &[u8], hi: usize, first_number: u64, first_block: usize) -> Walked
     ensures { λ r. ⌜ walkedOf r ≡ walkIn hi «first_number» «first_block» (now (area .entry)) ⌝ }
 {
@@ -400,7 +406,9 @@ fn copy_payload(area: &[u8], first: usize, total: usize, out: &mut [u8])
     }
 }
 
-// Reads the payload of the group whose header stands at block `at` to the front of `out`, and answers how many bytes it has.
+// Reads the payload of the group whose header stands at block `at` to the front of `out`, and answers how many bytes it
+// has. It goes by the header's lengths and tests no check. A group that does not lie in the area is 4; a shorter `out`
+// is 20, and keeps what it held.
 pub fn read_payload(area: &[u8], at: usize, out: &mut [u8]) -> Payload
     ensures { λ r. ⌜ answer (payloadOf r) (now (out .exit)) ≡ readPayload at (now (area .entry)) (now (out .entry)) ⌝ }
 {
@@ -423,7 +431,7 @@ pub fn read_payload(area: &[u8], at: usize, out: &mut [u8]) -> Payload
 }
 
 // Bodies for the two snapshots of a group.
-fn bodies_for(cursor_len: u16, attempt_len: u16) -> u32
+pub fn bodies_for(cursor_len: u16, attempt_len: u16) -> u32
     ensures { λ r. ⌜ r ≡ bodiesFor («cursor_len» + «attempt_len») ⌝ }
 {
     (cursor_len as u32 + attempt_len as u32 + 499) / 500

@@ -1,5 +1,5 @@
--- `journal::all_zero` meets its contract. The invariant: the answer for the bytes from i on is the answer for all. Assumes
--- nothing.
+-- `journal::all_zero` meets its contract. The invariant: the answer for the bytes from i on is the answer for all.
+-- Assumes nothing.
 use Prim.Native.Nat.{_-_, _≤_}
 use native.Mathlib.Omega.{arith}
 use mathlib.Core.Path.{_≡_, refl}

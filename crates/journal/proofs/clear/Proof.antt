@@ -1,4 +1,5 @@
--- `journal::clear` meets its contract. The invariant: zeros stand up to i, and behind them what stood there. Assumes nothing.
+-- `journal::clear` meets its contract. The invariant: zeros stand up to i, and behind them what stood there. Assumes
+-- nothing.
 use Prim.Native.Nat.{_-_}
 use native.Mathlib.Omega.{arith}
 use borrow.Author.Needs.{needs}

@@ -1,5 +1,5 @@
--- `journal::copy_payload` meets its contract. The invariant: the content of the bodies before block `at` stands in front, and
--- behind it what stood there. Assumes nothing.
+-- `journal::copy_payload` meets its contract. The invariant: the content of the bodies before block `at` stands in
+-- front, and behind it what stood there. Assumes nothing.
 use Prim.Native.Nat.{_+_, _-_, _<_}
 use native.Mathlib.Omega.{arith}
 use Rattle.journal.specs.Blocks.{bodiesFor}
@@ -20,7 +20,8 @@ abbrev start : tie.In-loop Inv-loop μ-loop → tie.Start Inv-loop μ-loop
 start c = c .before .before .before .before
 
 -- the body that is read lies in the area
-within : (c : tie.In-loop Inv-loop μ-loop) → c .before .loop .at < start c .args .first + bodiesFor (start c .args .total)
+within : (c : tie.In-loop Inv-loop μ-loop)
+    → c .before .loop .at < start c .args .first + bodiesFor (start c .args .total)
 within c = copy-within _ _ _ _ (start c .pre .0) (start c .pre .1) _ _ _ (c .before .loop .inv) (c .loop-test .taken)
 
 sub-lesser : tie.Need-sub-lesser Inv-loop μ-loop
@@ -54,7 +55,9 @@ abbrev sized : tie.After-slice-known2 Inv-loop μ-loop → tie.After-lesser Inv-
 sized c = c .before .before .before .before .before
 
 add-copied : tie.Need-add-copied Inv-loop μ-loop
-add-copied c = omega (arith, sized c .lesser .ensures, sized c .before .loop-test .taken, start (sized c .before) .pre .1, start (sized c .before) .good)
+add-copied c =
+    let s = start (sized c .before) in
+    omega (arith, sized c .lesser .ensures, sized c .before .loop-test .taken, s .pre .1, s .good)
 
 add-at : tie.Need-add-at Inv-loop μ-loop
 add-at c = omega (arith, within (sized c .before), start (sized c .before) .pre .0, start (sized c .before) .good)
@@ -64,9 +67,12 @@ loop-less c = omega (arith, sized c .lesser .ensures, sized c .before .loop-test
 
 loop-again : tie.Need-loop-again Inv-loop μ-loop
 loop-again c =
-    copy-more _ _ _ _ (start (sized c .before) .pre .0) (start (sized c .before) .pre .1) _ _ _ (sized c .before .before .loop .inv) _ _ _
+    let s = start (sized c .before) in
+    copy-more _ _ _ _ (s .pre .0) (s .pre .1) _ _ _ (sized c .before .before .loop .inv) _
     (sized c .before .loop-test .taken)
     (sized c .lesser .ensures)
+    _
+    _
     (c .before .before .write-bytes .ensures)
 
 same-length : tie.Need-same-length Inv-loop μ-loop

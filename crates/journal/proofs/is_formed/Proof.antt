@@ -60,19 +60,19 @@ read-u16-requires : tie.Need-read-u16-requires
 read-u16-requires c κs = search needs
 
 returns-4 : tie.Need-returns-4
-returns-4 c = no-form _ (λ f. omega (arith, f .cursor-low, c .before .read-u16 .ensures))
+returns-4 c = no-form _ (λ f. omega (arith, f .lengths .cursor-low, c .before .read-u16 .ensures))
 
 returns-5 : tie.Need-returns-5
-returns-5 c = no-form _ (λ f. omega (arith, f .cursor-high, c .before .before .read-u16 .ensures))
+returns-5 c = no-form _ (λ f. omega (arith, f .lengths .cursor-high, c .before .before .read-u16 .ensures))
 
 read-u16-requires-2 : tie.Need-read-u16-requires-2
 read-u16-requires-2 c κs = search needs
 
 returns-6 : tie.Need-returns-6
-returns-6 c = no-form _ (λ f. omega (arith, f .attempt-low, c .before .read-u162 .ensures))
+returns-6 c = no-form _ (λ f. omega (arith, f .lengths .attempt-low, c .before .read-u162 .ensures))
 
 returns-7 : tie.Need-returns-7
-returns-7 c = no-form _ (λ f. omega (arith, f .attempt-high, c .before .before .read-u162 .ensures))
+returns-7 c = no-form _ (λ f. omega (arith, f .lengths .attempt-high, c .before .before .read-u162 .ensures))
 
 bodies-for-requires : tie.Need-bodies-for-requires
 bodies-for-requires c κs = search needs
@@ -84,8 +84,13 @@ abbrev first : tie.After-bodies-for → tie.Else1
 first c = cursor-read c .before .before .before .before .before .before .before
 
 -- the count that was worked out
-counted : (c : tie.After-bodies-for) → c .bodies-for .result ≡ bodiesFor (payloadLength (start (first c) .args .block .now))
-counted c = count-read (start (first c) .args .block .now) _ _ _ (c .bodies-for .ensures) (cursor-read c .read-u16 .ensures) (c .before .before .before .read-u162 .ensures)
+counted : (c : tie.After-bodies-for)
+    → c .bodies-for .result ≡ bodiesFor (payloadLength (start (first c) .args .block .now))
+counted c =
+    count-read (start (first c) .args .block .now) _ _ _
+    (c .bodies-for .ensures)
+    (cursor-read c .read-u16 .ensures)
+    (c .before .before .before .read-u162 .ensures)
 
 shared-slice-read-if8 : tie.Need-shared-slice-read-if8
 shared-slice-read-if8 c = omega (arith, whole (first (c .before)))
@@ -99,15 +104,18 @@ returns-8 c = no-form _ (λ f. c .if8 .taken (f .count ∙ sym (counted (c .befo
 returns-9 : tie.Need-returns-9
 returns-9 c =
     let n = c .before .before in
-    let z = cursor-read n .before in
+    let r = cursor-read n .before in
+    let z = r .before .before .before in
     sym (says-formed _ (record {
       head = head (first n);
-      zeros = sym (z .before .before .before .before .all-zero .ensures) ∙ not-false _ (z .before .before .before .if2 .left);
-      rest = sym (z .before .all-zero2 .ensures) ∙ not-false _ (z .if3 .left);
-      cursor-low = omega (arith, cursor-read n .read-u16 .ensures);
-      cursor-high = omega (arith, cursor-read n .read-u16 .ensures);
-      attempt-low = omega (arith, n .before .before .before .read-u162 .ensures);
-      attempt-high = omega (arith, n .before .before .before .read-u162 .ensures);
+      zeros = sym (z .before .all-zero .ensures) ∙ not-false _ (z .if2 .left);
+      rest = sym (r .before .all-zero2 .ensures) ∙ not-false _ (r .if3 .left);
+      lengths = record {
+        cursor-low = omega (arith, cursor-read n .read-u16 .ensures);
+        cursor-high = omega (arith, cursor-read n .read-u16 .ensures);
+        attempt-low = omega (arith, n .before .before .before .read-u162 .ensures);
+        attempt-high = omega (arith, n .before .before .before .read-u162 .ensures);
+      };
       count = c .if8 .left ∙ counted n;
     }))
 

@@ -65,7 +65,8 @@ returns-5 c =
     let l = c .before .before in
     let i = l .before .before .before in
     c .all-zero .ensures
-    ∙ body-test _ _ _ _ _ (l .lesser .ensures) (kind (first l)) (sym (i .before .before .before .read-u32 .ensures) ∙ i .before .before .if2 .left)
+    ∙ body-test _ _ _ _ _ (l .lesser .ensures) (kind (first l))
+    (sym (i .before .before .before .read-u32 .ensures) ∙ i .before .before .if2 .left)
     (i .if3 .left)
     (sym (l .before .before .read-u16 .ensures) ∙ l .before .if4 .left)
 

@@ -12,7 +12,8 @@ is-formed-requires c κs = search needs
 
 returns : tie.Need-returns
 returns c =
-    no-header _ _ _ _ (λ h. differ (says-formed _ (h .form)) (sym (c .before .is-formed .ensures) ∙ not-true _ (c .if1 .taken)))
+    no-header _ _ _ _
+    (λ h. differ (says-formed _ (h .form)) (sym (c .before .is-formed .ensures) ∙ not-true _ (c .if1 .taken)))
 
 -- the block has the form of a header
 form : (c : tie.Else1) → Formed (c .before .before .before .args .block .now)

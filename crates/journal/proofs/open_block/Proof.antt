@@ -29,8 +29,12 @@ start c = cleared c .before .before .before
 
 returns : tie.Need-returns
 returns c =
-    opened _ _ _ _ (start c .args .block .now) _ _ _ _ _ (start c .pre) (start c .fits .second .fits) (cleared c .clear .ensures)
-    (c .before .before .before .before .before .before .write-u16 .ensures) (c .before .before .write-u32 .ensures)
+    opened _ _ _ _ (start c .args .block .now) _ _ _ _ _
+    (start c .pre)
+    (start c .fits .second .fits)
+    (cleared c .clear .ensures)
+    (c .before .before .before .before .before .before .write-u16 .ensures)
+    (c .before .before .write-u32 .ensures)
 
 same-length : tie.Need-same-length
 same-length c = ap length (returns c) ∙ sym (start c .pre)
@@ -38,4 +42,11 @@ same-length c = ap length (returns c) ∙ sym (start c .pre)
 pub open-block-spec : {M : Type 1} → statement M
 open-block-spec =
     tie.close
-    (tie.spec clear-requires slice-write-block slice-write-block-2 write-u16-requires write-u32-requires same-length returns)
+    (tie.spec
+    clear-requires
+    slice-write-block
+    slice-write-block-2
+    write-u16-requires
+    write-u32-requires
+    same-length
+    returns)

@@ -1,4 +1,5 @@
--- `journal::put_body` meets its contract: the first eight bytes, the payload bytes over the zeros, and the check. Assumes nothing.
+-- `journal::put_body` meets its contract: the first eight bytes, the payload bytes over the zeros, and the check.
+-- Assumes nothing.
 use borrow.Author.Needs.{needs}
 use Rattle.journal.proofs.Writer.{body-made}
 use Rattle.journal.proofs.put_body.Statement.{statement}
@@ -27,7 +28,10 @@ start c = opened c .before .before .before .before
 
 returns : tie.Need-returns
 returns c =
-    body-made _ _ _ _ _ _ _ (start c .pre .1) (opened c .open-block .ensures) (c .before .before .before .before .before .before .write-bytes .ensures)
+    body-made _ _ _ _ _ _ _
+    (start c .pre .1)
+    (opened c .open-block .ensures)
+    (c .before .before .before .before .before .before .write-bytes .ensures)
     (c .before .before .seal .ensures)
 
 pub put-body-spec : {M : Type 1} → statement M

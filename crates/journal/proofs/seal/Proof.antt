@@ -24,7 +24,9 @@ same-length c = search needs
 returns : tie.Need-returns
 returns c =
     let s = c .before .before .before .before .before .before .before in
-    seal-made (s .args .block .now) _ _ _ (s .pre) (c .before .before .before .before .crc32c .ensures) (c .before .before .write-u32 .ensures)
+    seal-made (s .args .block .now) _ _ _ (s .pre)
+    (c .before .before .before .before .crc32c .ensures)
+    (c .before .before .write-u32 .ensures)
 
 pub seal-spec : {M : Type 1} → statement M
 seal-spec =

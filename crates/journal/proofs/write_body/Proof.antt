@@ -1,4 +1,5 @@
--- `journal::write_body` meets its contract: the part of the payload that it hands on is the chunk of the body. Assumes nothing.
+-- `journal::write_body` meets its contract: the part of the payload that it hands on is the chunk of the body.
+-- Assumes nothing.
 use mathlib.Core.Path.{_∙_, ap}
 use borrow.Author.Needs.{needs}
 use Rattle.journal.specs.Blocks.{bodyBlock}
@@ -42,7 +43,9 @@ returns-2 c =
     fill-whole _ (a .block .now) _ (started c .before .if1 .left)
     (c .before .before .put-body .ensures
     ∙ ap (bodyBlock (a .number) (a .index))
-    (chunk-part (a .index) _ _ (a .payload .now) (started c .chunk-start .ensures) (c .before .before .before .before .before .lesser .ensures)))
+    (chunk-part (a .index) _ _ (a .payload .now)
+    (started c .chunk-start .ensures)
+    (c .before .before .before .before .before .lesser .ensures)))
 
 pub write-body-spec : {M : Type 1} → statement M
 write-body-spec =

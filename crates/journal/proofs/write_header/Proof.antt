@@ -1,4 +1,5 @@
--- `journal::write_header` meets its contract: the first eight bytes, three fields behind them, and the check. Assumes nothing.
+-- `journal::write_header` meets its contract: the first eight bytes, three fields behind them, and the check. Assumes
+-- nothing.
 use Prim.Native.Nat.{_%_}
 use mathlib.Core.Path.{ap}
 use borrow.Author.Needs.{needs}
