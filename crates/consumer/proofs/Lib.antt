@@ -7,3 +7,4 @@ pub mod Restart
 pub mod Questions
 pub mod Starting
 pub mod Carrying
+pub mod Resuming

@@ -8,7 +8,7 @@ use lib.ListN.{take, replicate}
 use Rattle.types.specs.Refusal.{Refusal, Result, refused, done}
 use Rattle.types.specs.Refusal as refusal
 use Rattle.types.specs.Table.{unless}
-use Rattle.types.specs.Limits.{CARRIED}
+use Rattle.types.specs.Limits.{LEASES, CARRIED}
 use Rattle.types.specs.Keyed.{Entry, entries}
 use Rattle.cursor.specs.Answers.{snapshotError}
 use Rattle.cursor.specs.View as cursor
@@ -107,3 +107,21 @@ consumerOf cursor table ceiling seat size delivery =
       «area_len» = size;
       delivery = delivery;
     }
+
+abbrev pub seatOf : Seat → state.Seat
+seatOf seat = state.seatAt (seat .number) (seat .block)
+
+-- the parts of a consumer that goes on from a journal; its state as a whole is looked at later
+pub record Parts (s : Settings) (c : Consumer) : Type 0 where
+  pub cursor : cursor.Sound (c .cursor)
+  pub leases : c .table .len ≤ LEASES
+  pub carried : c .table .«carried_len» ≤ CARRIED
+  pub settings : c .delivery ≡ s .delivery
+
+abbrev pub BesideParts : Result State → Settings → ℕ → Consumer → Type 0
+BesideParts (refused r) s size c = view c ≡ fresh (keptOf s) size
+BesideParts (done t) s size c = Parts s c
+
+pub record ResumedIs (s : Settings) (size : ℕ) (right : Result State) (r : Started) : Type 0 where
+  pub is : startOf (r .answer) (view (r .consumer)) ≡ right
+  pub beside : BesideParts right s size (r .consumer)

@@ -5,15 +5,18 @@ ghost use mathlib.Core.Bool.{not};
 ghost use lib.ListN.{take};
 ghost use Rattle.types.specs.Table.{first};
 ghost use Rattle.cursor.specs.View as cursors;
+ghost use Rattle.cursor.specs.Snapshot.{decodeCursor};
 ghost use Rattle.attempt.specs.Codec.{entryOf, entriesOf};
-ghost use Rattle.consumer.specs.Restart.{startTable, start, isDropped, unsettledCounts};
-ghost use Rattle.consumer.specs.Starting.{settingsOf, startFault, FreshIs, StartedIs, CarriedIs, TableIs, consumerOf};
+ghost use Rattle.attempt.specs.Snapshot.{decodeAttempts};
+ghost use Rattle.consumer.specs.Restart.{startTable, start, isDropped, unsettledCounts, fromSnapshots};
+ghost use Rattle.consumer.specs.Starting.{settingsOf, startFault, FreshIs, StartedIs, CarriedIs, TableIs, consumerOf, keptOf, seatOf, ResumedIs};
 use crate::Consumer;
 use crate::Seat;
 use crate::Settings;
 use attempt::Decode;
 use attempt::Pair;
 use cursor::AckCursor;
+use cursor::Decode as Snapshot;
 use cursor::SnapshotError;
 use lease::Lease;
 use lease::LeaseConfig;
@@ -159,6 +162,44 @@ fn resumed(settings: Settings, area_len: usize, cursor: AckCursor, table: LeaseT
         seat: seat,
         area_len: area_len,
         delivery: delivery,
+    }
+}
+
+// The consumer of two snapshots, the cursor's read first: 6 to 19.
+fn read_snapshots<'a>(
+    settings: Settings,
+    area_len: usize,
+    cursor_bytes: &'a [u8],
+    attempt_bytes: &'a [u8],
+    ceiling: u64,
+    seat: Seat,
+) -> Started
+    ensures { λ r. ⌜ ResumedIs settings «area_len» (fromSnapshots (keptOf settings) «area_len» (decodeCursor (now («cursor_bytes» .entry))) (decodeAttempts (now («attempt_bytes» .entry))) ceiling (seatOf seat)) r ⌝ }
+{
+    let restored = AckCursor::decode_snapshot(cursor_bytes);
+    let outcome = restored.outcome;
+    if let Snapshot::Refused(error) = outcome {
+        return Started {
+            answer: StartAnswer::Cursor(error),
+            consumer: fresh(settings, area_len),
+        };
+    }
+    let decoded = attempt::decode_pairs(attempt_bytes);
+    let pairs = decoded.outcome;
+    let Decode::Pairs(count) = pairs else {
+        return Started {
+            answer: StartAnswer::Attempts(pairs),
+            consumer: fresh(settings, area_len),
+        };
+    };
+    let cursor = restored.cursor;
+    let list = decoded.pairs;
+    let carried = carry(cursor, list, count);
+    let lease = settings.lease;
+    let table = resumed_table(lease, ceiling, carried);
+    Started {
+        answer: StartAnswer::Started,
+        consumer: resumed(settings, area_len, cursor, table, ceiling, seat),
     }
 }
 
