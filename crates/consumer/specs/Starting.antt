@@ -1,10 +1,13 @@
 -- What a start and a restart are handed and answer in the code: the settings that the struct stands for, 01's refusals for the
 -- cases of the answer, and the parts of the contracts.
-use Prim.Native.Nat.{ℕ, _-_, _≤_}
+use Prim.Native.Nat.{ℕ, _+_, _-_, _≤_}
 use mathlib.Core.Path.{_≡_}
 use mathlib.Core.List.{List, _++_}
 use mathlib.Core.Option.{Option, none, some}
-use lib.ListN.{take, replicate}
+use mathlib.Core.Bool.{false}
+use lib.ListN.{length, take, replicate}
+use Rattle.journal.specs.Area.{outside, blockAt}
+use Rattle.journal.specs.Blocks.{bodiesFor, cursorLength, attemptLength, payloadLength}
 use Rattle.types.specs.Refusal.{Refusal, Result, refused, done}
 use Rattle.types.specs.Refusal as refusal
 use Rattle.types.specs.Table.{unless}
@@ -50,9 +53,10 @@ settingsOf s =
 abbrev pub keptOf : Settings → state.Settings
 keptOf s = record { policy = delivery.view (s .delivery); lease = s .lease }
 
-abbrev pub faultOf : {A : Type 0} → Result A → Option Refusal
-faultOf (refused r) = some r
-faultOf (done a) = none
+-- the refusal of an attempt decoder's answer; pairs are none, so that no start answers with them
+abbrev pub refusalIn : Result ℕ → Refusal
+refusalIn (refused r) = r
+refusalIn (done n) = refusal.AttemptTruncated
 
 -- the refusal that an answer is, if it is one
 abbrev pub startFault : StartAnswer → Option Refusal
@@ -63,7 +67,7 @@ startFault answers.ZeroThreshold = some refusal.ZeroThreshold
 startFault answers.BadArea = some refusal.BadArea
 startFault (answers.Damaged block) = some (refusal.Damaged block)
 startFault (answers.Cursor error) = some (snapshotError error)
-startFault (answers.Attempts decoded) = faultOf (decodeOf decoded)
+startFault (answers.Attempts decoded) = some (refusalIn (decodeOf decoded))
 
 -- the answer, with the state that stands beside it
 abbrev pub startOf : StartAnswer → State → Result State
@@ -111,7 +115,13 @@ consumerOf cursor table ceiling seat size delivery =
 abbrev pub seatOf : Seat → state.Seat
 seatOf seat = state.seatAt (seat .number) (seat .block)
 
--- the parts of a consumer that goes on from a journal; its state as a whole is looked at later
+-- a group lies in the area, with its header at a block, and its snapshots have lengths that 01 allows
+pub record Lies (a : List ℕ) (i : ℕ) : Type 0 where
+  pub inside : outside (length a) (i + bodiesFor (payloadLength (blockAt a i))) ≡ false
+  pub cursor : cursorLength (blockAt a i) ≤ 2061
+  pub attempts : attemptLength (blockAt a i) ≤ 1545
+
+-- the parts of a consumer that goes on from a journal
 pub record Parts (s : Settings) (c : Consumer) : Type 0 where
   pub cursor : cursor.Sound (c .cursor)
   pub leases : c .table .len ≤ LEASES

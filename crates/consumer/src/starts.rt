@@ -1,15 +1,15 @@
 // How a consumer starts: fresh, or from what its journal has.
 ghost use mathlib.Core.Path.{_≡_};
-ghost use Prim.Native.Nat.{_≤_};
+ghost use Prim.Native.Nat.{_-_, _≤_};
 ghost use mathlib.Core.Bool.{not};
-ghost use lib.ListN.{take};
+ghost use lib.ListN.{length, take, drop};
 ghost use Rattle.types.specs.Table.{first};
 ghost use Rattle.cursor.specs.View as cursors;
 ghost use Rattle.cursor.specs.Snapshot.{decodeCursor};
 ghost use Rattle.attempt.specs.Codec.{entryOf, entriesOf};
 ghost use Rattle.attempt.specs.Snapshot.{decodeAttempts};
-ghost use Rattle.consumer.specs.Restart.{startTable, start, isDropped, unsettledCounts, fromSnapshots};
-ghost use Rattle.consumer.specs.Starting.{settingsOf, startFault, FreshIs, StartedIs, CarriedIs, TableIs, consumerOf, keptOf, seatOf, ResumedIs};
+ghost use Rattle.consumer.specs.Restart.{startTable, start, isDropped, unsettledCounts, fromSnapshots, readGroup};
+ghost use Rattle.consumer.specs.Starting.{settingsOf, startFault, FreshIs, StartedIs, CarriedIs, TableIs, consumerOf, keptOf, seatOf, ResumedIs, Lies};
 use crate::Consumer;
 use crate::Seat;
 use crate::Settings;
@@ -151,7 +151,14 @@ fn resumed_table(config: LeaseConfig, ceiling: u64, carried: Carried) -> LeaseTa
 }
 
 // The consumer that goes on from a cursor and counts.
-fn resumed(settings: Settings, area_len: usize, cursor: AckCursor, table: LeaseTable, ceiling: u64, seat: Seat) -> Consumer
+fn resumed(
+    settings: Settings,
+    area_len: usize,
+    cursor: AckCursor,
+    table: LeaseTable,
+    ceiling: u64,
+    seat: Seat,
+) -> Consumer
     ensures { λ r. ⌜ r ≡ consumerOf cursor table ceiling seat «area_len» (settings .delivery) ⌝ }
 {
     let delivery = settings.delivery;
@@ -201,6 +208,45 @@ fn read_snapshots<'a>(
         answer: StartAnswer::Started,
         consumer: resumed(settings, area_len, cursor, table, ceiling, seat),
     }
+}
+
+// The same of two snapshots that stand one behind the other, up to a place each.
+fn read_both(
+    settings: Settings,
+    area_len: usize,
+    bytes: &[u8],
+    middle: usize,
+    end: usize,
+    ceiling: u64,
+    seat: Seat,
+) -> Started
+    requires { ⌜ (middle ≤ end) × (end ≤ length (now bytes)) ⌝ }
+    ensures { λ r. ⌜ ResumedIs settings «area_len» (fromSnapshots (keptOf settings) «area_len» (decodeCursor (take middle (now (bytes .entry)))) (decodeAttempts (take (end - middle) (drop middle (now (bytes .entry))))) ceiling (seatOf seat)) r ⌝ }
+{
+    read_snapshots(
+        settings,
+        area_len,
+        &bytes[..middle],
+        &bytes[middle..end],
+        ceiling,
+        seat,
+    )
+}
+
+// The consumer of the group whose header stands at a block.
+fn read_group(settings: Settings, area: &[u8], at: usize, seat: Seat) -> Started
+    requires { ⌜ Lies (now area) at ⌝ }
+    ensures { λ r. ⌜ ResumedIs settings (length (now (area .entry))) (readGroup (keptOf settings) (now (area .entry)) at (seatOf seat)) r ⌝ }
+{
+    let from = 512 * at;
+    let to = from + 512;
+    let header = journal::read_header(&area[from..to]);
+    let mut payload = [0u8; 3606];
+    journal::read_payload(area, at, &mut payload);
+    let middle = header.cursor_len as usize;
+    let end = middle + header.attempt_len as usize;
+    let ceiling = header.ceiling;
+    read_both(settings, area.len(), &payload, middle, end, ceiling, seat)
 }
 
 impl Consumer {
