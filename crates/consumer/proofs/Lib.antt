@@ -8,3 +8,4 @@ pub mod Questions
 pub mod Starting
 pub mod Carrying
 pub mod Resuming
+pub mod Reading

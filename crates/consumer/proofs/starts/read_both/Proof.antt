@@ -1,11 +1,14 @@
 -- `read_both` meets its contract: the two snapshots are parts of the bytes. Assumes nothing.
 use native.Mathlib.Omega.{arith}
+use mathlib.Core.Path.{sym}
+use lib.Seq.{length-take-le}
 use borrow.Author.Needs.{needs}
 use Rattle.consumer.proofs.starts.read_both.Statement.{statement}
 use Rattle.consumer.proofs.starts.read_both.Tie as tie
 
 slice-aggregate-read-snapshots : tie.Need-slice-aggregate-read-snapshots
-slice-aggregate-read-snapshots c = omega arith
+slice-aggregate-read-snapshots c =
+    sym (length-take-le (c .before .before .args .middle) (c .before .before .args .bytes .now) (omega (arith, c .before .before .pre)))
 
 sub-read-snapshots : tie.Need-sub-read-snapshots
 sub-read-snapshots c = search needs
