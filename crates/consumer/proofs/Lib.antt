@@ -9,3 +9,4 @@ pub mod Starting
 pub mod Carrying
 pub mod Resuming
 pub mod Reading
+pub mod Restarting

@@ -6,7 +6,10 @@ use mathlib.Core.List.{List, _++_}
 use mathlib.Core.Option.{Option, none, some}
 use mathlib.Core.Bool.{false}
 use lib.ListN.{length, take, replicate}
-use Rattle.journal.specs.Area.{outside, blockAt}
+use Rattle.journal.specs.Area.{badLength, outside, blocks, blockAt}
+use Rattle.journal.specs.Answers.{walkedOf}
+use Rattle.journal.specs.Walks.{walk}
+use Rattle.journal.specs.declared.Walked.{Walked}
 use Rattle.journal.specs.Blocks.{bodiesFor, cursorLength, attemptLength, payloadLength}
 use Rattle.types.specs.Refusal.{Refusal, Result, refused, done}
 use Rattle.types.specs.Refusal as refusal
@@ -120,6 +123,11 @@ pub record Lies (a : List ℕ) (i : ℕ) : Type 0 where
   pub inside : outside (length a) (i + bodiesFor (payloadLength (blockAt a i))) ≡ false
   pub cursor : cursorLength (blockAt a i) ≤ 2061
   pub attempts : attemptLength (blockAt a i) ≤ 1545
+
+-- what a walk over the whole area answered; the area is one that 01 allows
+pub record WalkedIs (a : List ℕ) (r : Walked) : Type 0 where
+  pub area : badLength (length a) ≡ false
+  pub is : walkedOf r ≡ walk a (blocks a) 1 0
 
 -- the parts of a consumer that goes on from a journal
 pub record Parts (s : Settings) (c : Consumer) : Type 0 where

@@ -8,8 +8,9 @@ ghost use Rattle.cursor.specs.View as cursors;
 ghost use Rattle.cursor.specs.Snapshot.{decodeCursor};
 ghost use Rattle.attempt.specs.Codec.{entryOf, entriesOf};
 ghost use Rattle.attempt.specs.Snapshot.{decodeAttempts};
-ghost use Rattle.consumer.specs.Restart.{startTable, start, isDropped, unsettledCounts, fromSnapshots, readGroup};
-ghost use Rattle.consumer.specs.Starting.{settingsOf, startFault, FreshIs, StartedIs, CarriedIs, TableIs, consumerOf, keptOf, seatOf, ResumedIs, Lies};
+ghost use Rattle.journal.specs.Answers.{walkedOf};
+ghost use Rattle.consumer.specs.Restart.{startTable, start, isDropped, unsettledCounts, fromSnapshots, readGroup, fromWalk, restart};
+ghost use Rattle.consumer.specs.Starting.{settingsOf, startFault, FreshIs, StartedIs, CarriedIs, TableIs, consumerOf, keptOf, seatOf, ResumedIs, Lies, WalkedIs};
 use crate::Consumer;
 use crate::Seat;
 use crate::Settings;
@@ -18,6 +19,8 @@ use attempt::Pair;
 use cursor::AckCursor;
 use cursor::Decode as Snapshot;
 use cursor::SnapshotError;
+use journal::LastGroup;
+use journal::Walked;
 use lease::Lease;
 use lease::LeaseConfig;
 use lease::LeaseTable;
@@ -249,6 +252,46 @@ fn read_group(settings: Settings, area: &[u8], at: usize, seat: Seat) -> Started
     read_both(settings, area.len(), &payload, middle, end, ceiling, seat)
 }
 
+// The consumer of the last group that a walk over the whole area met, or a fresh one where there is none: 5 to 19.
+fn resume_from(settings: Settings, area: &[u8], walked: Walked) -> Started
+    requires { ⌜ WalkedIs (now area) walked ⌝ }
+    ensures { λ r. ⌜ ResumedIs settings (length (now (area .entry))) (fromWalk (keptOf settings) (now (area .entry)) (walkedOf walked)) r ⌝ }
+{
+    match walked {
+        Walked::Stopped {
+            last,
+            number,
+            block,
+        } => match last {
+            LastGroup::At(at) => {
+                let seat = Seat {
+                    number: number,
+                    block: block,
+                };
+                return read_group(settings, area, at, seat);
+            }
+            LastGroup::None => {
+                return Started {
+                    answer: StartAnswer::Started,
+                    consumer: fresh(settings, area.len()),
+                };
+            }
+        },
+        Walked::BadArea => {
+            return Started {
+                answer: StartAnswer::BadArea,
+                consumer: fresh(settings, area.len()),
+            };
+        }
+        Walked::Damaged(block) => {
+            return Started {
+                answer: StartAnswer::Damaged { block: block },
+                consumer: fresh(settings, area.len()),
+            };
+        }
+    }
+}
+
 impl Consumer {
     // A fresh consumer for an area of so many zeroed bytes: 1 to 4.
     pub fn start(settings: Settings, area_len: usize) -> Started
@@ -260,5 +303,19 @@ impl Consumer {
             answer: answer,
             consumer: consumer,
         }
+    }
+    // A consumer that goes on from what its journal has: 1 to 19. The area is read and nothing is written.
+    pub fn restart(settings: Settings, area: &[u8]) -> Started
+        ensures { λ r. ⌜ StartedIs settings (length (now (area .entry))) (restart (settingsOf settings) (now (area .entry))) r ⌝ }
+    {
+        let answer = check_start(settings, area.len());
+        let StartAnswer::Started = answer else {
+            return Started {
+                answer: answer,
+                consumer: fresh(settings, area.len()),
+            };
+        };
+        let walked = journal::walk(area, area.len() / 512, 1, 0);
+        resume_from(settings, area, walked)
     }
 }
