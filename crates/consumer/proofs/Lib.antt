@@ -14,3 +14,7 @@ pub mod Starting
 pub mod Asked
 pub mod Writing
 pub mod Encoding
+pub mod Carrying
+pub mod Resuming
+pub mod Reading
+pub mod Restarting
