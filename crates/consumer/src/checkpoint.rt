@@ -205,8 +205,9 @@ impl Writing {
         }
         let first = self.consumer.seat.block;
         let bodies = (self.cursor_len + self.attempt_len + 499) / 500;
+        let written = self.written;
         let mut writing = self;
-        if bodies <= self.written {
+        if bodies <= written {
             put_block(self, first, header_block(self), area);
             writing.consumer = flushed(self.consumer, bodies);
             return Stepped {
@@ -214,18 +215,14 @@ impl Writing {
                 writing: writing,
             };
         }
-        let index = self.written + 1;
+        let index = written + 1;
         let block = first + index;
         let number = self.consumer.seat.number as u32;
-        put_block(
-            self,
-            block,
-            Block::Body {
-                number: number,
-                index: index as u8,
-            },
-            area,
-        );
+        let body = Block::Body {
+            number: number,
+            index: index as u8,
+        };
+        put_block(self, block, body, area);
         writing.written = index;
         Stepped {
             answer: StepAnswer::Wrote { block: block },

@@ -23,11 +23,11 @@ area : (c : tie.Else1) → length (begun c .args .area .now) ≡ begun c .args .
 area c = search needs
 
 -- whether all bodies are written
-all-written : (c : tie.Then2) → let w = begun (c .before .before .before) .args .self in bodies (view (w .consumer)) ≤ w .written
-all-written c = omega (arith, fits (begun (c .before .before .before)) .count)
+all-written : (c : tie.Then2) → let w = begun (c .before .before) .args .self in bodies (view (w .consumer)) ≤ w .written
+all-written c = omega (arith, fits (begun (c .before .before)) .count)
 
-some-left : (c : tie.Else2) → let w = begun (c .before .before .before) .args .self in w .written < bodies (view (w .consumer))
-some-left c = omega (arith, fits (begun (c .before .before .before)) .count)
+some-left : (c : tie.Else2) → let w = begun (c .before .before) .args .self in w .written < bodies (view (w .consumer))
+some-left c = omega (arith, fits (begun (c .before .before)) .count)
 
 -- ---- a refusal
 returns : tie.Need-returns
@@ -47,13 +47,13 @@ header-block-requires c κs = search needs
 
 put-block-requires : tie.Need-put-block-requires
 put-block-requires c κs =
-    let e = c .before .before .before .before .before in
+    let e = c .before .before .before .before in
     let s = begun e in
     header-inside (s .args .self) (s .pre) (s .args .area .now) (area e)
 
 flushed-requires : tie.Need-flushed-requires
 flushed-requires c κs =
-    let s = begun (c .before .before .before .before .before .before .before .before) in
+    let s = begun (c .before .before .before .before .before .before .before) in
     record-fits (s .args .self) (s .pre)
 
 same-length : tie.Need-same-length
@@ -63,7 +63,7 @@ returns-2 : tie.Need-returns-2
 returns-2 c =
     let p = c .before .before .before in
     let h = p .before .before in
-    let e = h .before .before .before .before in
+    let e = h .before .before .before in
     let s = begun e in
     let a = s .args in
     step-last (a .self) (s .pre) (a .area .now) (area e) (p .put-block .last .1 .1 .1 .0) (all-written (h .before)) _ (c .flushed .ensures)
@@ -74,18 +74,18 @@ add-index : tie.Need-add-index
 add-index c = search needs
 
 add-block : tie.Need-add-block
-add-block c = let s = begun (c .before .before .before .before) in omega (arith, fits s .block, fits s .written)
+add-block c = let s = begun (c .before .before) in omega (arith, fits s .block, fits s .written)
 
 cast-number : tie.Need-cast-number
-cast-number c = let s = begun (c .before .before .before .before .before) in omega (arith, fits s .number)
+cast-number c = let s = begun (c .before .before .before) in omega (arith, fits s .number)
 
-cast-t19 : tie.Need-cast-t19
-cast-t19 c = let s = begun (c .before .before .before .before .before) in omega (arith, fits s .written)
+cast-t20 : tie.Need-cast-t20
+cast-t20 c = let s = begun (c .before .before .before) in omega (arith, fits s .written)
 
 put-block-requires-2 : tie.Need-put-block-requires-2
 put-block-requires-2 c κs =
-    let l = c .before .before .before in
-    let e = l .before .before .before in
+    let l = c .before .before in
+    let e = l .before .before in
     let s = begun e in
     body-inside (s .args .self) (s .pre) (s .args .area .now) (area e) (some-left l)
 
@@ -95,8 +95,8 @@ same-length-2 c = search needs
 returns-3 : tie.Need-returns-3
 returns-3 c =
     let p = c .before .before in
-    let l = p .before .before .before .before in
-    let e = l .before .before .before in
+    let l = p .before .before .before in
+    let e = l .before .before in
     let s = begun e in
     let a = s .args in
     step-body (a .self) (s .pre) (a .area .now) (area e) (p .put-block2 .last .1 .1 .1 .0) (some-left l) (p .put-block2 .ensures)
@@ -116,7 +116,7 @@ step-spec =
     add-index
     add-block
     cast-number
-    cast-t19
+    cast-t20
     put-block-requires-2
     same-length-2
     returns-3)
