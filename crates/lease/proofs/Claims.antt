@@ -13,7 +13,7 @@ use Rattle.types.specs.Limits.{MAX, LEASES, CARRIED, sat32}
 use Rattle.types.specs.Refusal.{Result, refused, done, InFlight, Exhausted, Full}
 use Rattle.types.specs.Keyed.{Entry, entries, lookup, put, delete}
 use Rattle.lease.specs.State.{Table, Sound, view, leasesOf, carriedOf}
-use Rattle.lease.specs.Claim.{lease, leaseOf, isNone, running, deadlineFrom, handedOut, nextCount, consumed, afterGrant, Grant, grant, granted, claimRows, claim}
+use Rattle.lease.specs.Operations.{lease, leaseOf, isNone, running, deadlineFrom, handedOut, nextCount, consumed, afterGrant, Grant, grantOf, grant, granted, claimRows, claim}
 use Rattle.lease.specs.Columns.{inserted, without, Spans}
 use Rattle.lease.specs.Answers.{Answers}
 use Rattle.lease.specs.declared.Lease.{Lease}
@@ -42,7 +42,7 @@ module _ (t : LeaseTable) (ok : Sound t) (o now : ℕ) where
           (rw (h, ne-eqb (t .«next_generation» .0) MAX n) (rw (e, le-leb LEASES (length (leasesOf t)) f)))
 
       pub claimed : (isNone (leaseOf (view t) o) && leb LEASES (length (leasesOf t))) ≡ false → o ≤ MAX
-          → (d : ℕ) → nextCount (view t) o ≡ d → (a : Result Grant) → a ≡ done (record { offset = o; generation = t .«next_generation» .0; deliveries = d })
+          → (d : ℕ) → nextCount (view t) o ≡ d → (a : Result Grant) → a ≡ done (grantOf o (t .«next_generation» .0) d)
           → {after : LeaseTable} → Shows after (grant (view t) o now) → Answers a t after (claim (view t) o now)
       unfolding claim
       claimed f m d p a e {after} s =

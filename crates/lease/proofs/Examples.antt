@@ -3,7 +3,7 @@
 use mathlib.Core.Path.{_≡_, refl}
 use Rattle.types.specs.Refusal.{refused, done, InFlight, CapReached}
 use Rattle.lease.specs.State.{Table, startingAt}
-use Rattle.lease.specs.Claim.{claim, extend}
+use Rattle.lease.specs.Operations.{claim, extend}
 
 -- the table with that lease, of offset 0 under generation 0
 abbrev pub leased : Table

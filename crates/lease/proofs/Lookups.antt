@@ -10,7 +10,7 @@ use Rattle.types.specs.Keyed.{Entry, lookup, put, update, delete}
 use Rattle.types.proofs.Cases.{split}
 use Rattle.types.proofs.Keyed.{lookup-put, lookup-delete, lookup-dropBelow, lookup-update, lookup-mapValues}
 use Rattle.lease.specs.State.{Table, withLeases}
-use Rattle.lease.specs.Claim.{lease, leaseOf, deadlineFrom, nextCount, consumed, grant, requeuedAs, requeue}
+use Rattle.lease.specs.Operations.{lease, leaseOf, deadlineFrom, nextCount, consumed, grant, requeuedAs, requeue}
 use Rattle.lease.specs.Rest.{releaseBelow, shiftedBy, shiftDeadlines}
 use Rattle.lease.specs.Counts.{carry}
 use Rattle.lease.specs.declared.Lease.{Lease}

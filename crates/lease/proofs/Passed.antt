@@ -15,7 +15,7 @@ use Rattle.types.specs.Table.{Row, first, Passed, Answer, answer}
 use Rattle.types.specs.Keyed.{update, delete}
 use Rattle.types.proofs.Table.{guarded-cases}
 use Rattle.lease.specs.State.{Table, withLeases}
-use Rattle.lease.specs.Claim.{leaseOf, isNone, running, owns, capFrom, startOf, dueAt, Grant, grant, granted, claimRows, claim, tokenRow, ack, extendRows, extended, extend, requeue, nackRows, nack}
+use Rattle.lease.specs.Operations.{leaseOf, isNone, running, owns, capFrom, startOf, dueAt, Grant, grant, granted, claimRows, claim, tokenRow, ack, extendRows, extended, extend, requeue, nackRows, nack}
 use Rattle.lease.specs.declared.Lease.{Lease}
 
 -- ## the tables

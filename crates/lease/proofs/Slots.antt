@@ -15,7 +15,7 @@ use Rattle.types.proofs.Sorted.{below-le}
 use Rattle.types.proofs.Keyed.{delete-absent}
 use Rattle.types.proofs.Columns.{length-entries, rising-ascending, lookup-found, put-found, delete-found, lookup-missing, put-missing}
 use Rattle.lease.specs.State.{Table, Sound, view, leasesOf, carriedOf}
-use Rattle.lease.specs.Claim.{lease}
+use Rattle.lease.specs.Operations.{lease}
 use Rattle.lease.specs.Columns.{Placed, Spans, inserted, without}
 use Rattle.lease.specs.declared.Lease.{Lease}
 use Rattle.lease.specs.declared.LeaseTable.{LeaseTable}

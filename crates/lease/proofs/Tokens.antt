@@ -15,7 +15,7 @@ use Rattle.types.specs.Table.{Row}
 use Rattle.types.specs.Keyed.{Entry, entries, update, delete}
 use Rattle.types.proofs.Keyed.{update-put}
 use Rattle.lease.specs.State.{Table, Valid, Sound, view, leasesOf, withLeases}
-use Rattle.lease.specs.Claim.{leaseOf, owns, tokenRow, ack, capFrom, deadlineFrom, startOf, dueAt, extendRows, extended, extend, nackRows, requeuedAs, requeue, nack}
+use Rattle.lease.specs.Operations.{leaseOf, owns, tokenRow, ack, capFrom, deadlineFrom, startOf, dueAt, extendRows, extended, extend, nackRows, requeuedAs, requeue, nack}
 use Rattle.lease.specs.Answers.{Answers}
 use Rattle.lease.specs.declared.Lease.{Lease}
 use Rattle.lease.specs.declared.LeaseTable.{LeaseTable}

@@ -15,7 +15,7 @@ use Rattle.types.specs.Keyed.{Entry, entries, lookup, put, update, delete, drop
 use Rattle.types.proofs.Cases.{split}
 use Rattle.types.proofs.Keyed.{rising-put, length-put, length-put-old, all-put, rising-delete, length-delete, all-delete, rising-update, length-update, all-update, rising-dropBelow, length-dropBelow, all-dropBelow, rising-mapValues, length-mapValues, all-mapValues}
 use Rattle.lease.specs.State.{Table, withLeases, withCarried, startingAt, Counted, Valid}
-use Rattle.lease.specs.Claim.{leaseOf, isNone, handedOut, nextCount, consumed, grant, lease, requeue, requeuedAs, dueAt, deadlineFrom}
+use Rattle.lease.specs.Operations.{leaseOf, isNone, handedOut, nextCount, consumed, grant, lease, requeue, requeuedAs, dueAt, deadlineFrom}
 use Rattle.lease.specs.Rest.{attemptsFlushed, releaseBelow, resealedAs, shiftedBy, shiftDeadlines}
 use Rattle.lease.specs.Counts.{carry, carryAll}
 use Rattle.lease.specs.declared.LeaseConfig.{LeaseConfig}

@@ -12,7 +12,7 @@ use Rattle.types.specs.Refusal as refusal
 use Rattle.types.specs.Table.{Answer, answer, Kept}
 use Rattle.types.specs.Keyed.{Entry, entries}
 use Rattle.lease.specs.State.{Table, view, Sound}
-use Rattle.lease.specs.Claim.{Grant}
+use Rattle.lease.specs.Operations.{Grant, grantOf}
 use Rattle.lease.specs.declared.LeaseTable.{LeaseTable}
 use Rattle.lease.specs.declared.Claim.{Claim}
 use Rattle.lease.specs.declared.Claim.the-variants as claim
@@ -32,7 +32,7 @@ use Rattle.lease.specs.declared.Attempts.{Attempts}
 use Rattle.lease.specs.declared.Attempts.the-variants as attempts
 
 abbrev pub claimOf : Claim → Result Grant
-claimOf (claim.Granted token n) = done (record { offset = token .offset .0; generation = token .generation .0; deliveries = n })
+claimOf (claim.Granted token n) = done (grantOf (token .offset .0) (token .generation .0) n)
 claimOf claim.InFlight = refused refusal.InFlight
 claimOf claim.Exhausted = refused refusal.Exhausted
 claimOf claim.Full = refused refusal.Full

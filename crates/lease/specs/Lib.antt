@@ -1,6 +1,6 @@
 pub mod Config
 pub mod State
-pub mod Claim
+pub mod Operations
 pub mod Counts
 pub mod Rest
 pub mod Answers

@@ -10,7 +10,7 @@ use Rattle.types.specs.Refusal.{done}
 use Rattle.types.specs.Table.{Answer, answer}
 use Rattle.types.specs.Keyed.{Entry, update, dropBelow, mapValues}
 use Rattle.lease.specs.State.{Table, withLeases}
-use Rattle.lease.specs.Claim.{lease, leaseOf, isNone, running, owns, dueAt, afterFlush}
+use Rattle.lease.specs.Operations.{lease, leaseOf, isNone, running, owns, dueAt, afterFlush}
 use Rattle.lease.specs.declared.Lease.{Lease}
 
 -- ## changes

@@ -6,15 +6,15 @@ ghost use mathlib.Core.Path.{_≡_};
 ghost use Prim.Native.Nat.{_<_, min};
 ghost use lib.ListN.{getD};
 ghost use Rattle.types.specs.Limits.{sat64, sat32};
-ghost use Rattle.lease.specs.Config.{nanos, fromMillis, defaultConfig};
-ghost use Rattle.lease.specs.State.{Sound, view, startingAt};
 ghost use Rattle.types.specs.Refusal.{done};
-ghost use Rattle.lease.specs.Claim.{lease, claim, ack, extend, nack, capFrom, deadlineFrom, afterGrant, afterFlush};
 ghost use Rattle.types.specs.Table.{answer};
 ghost use Rattle.types.specs.Keyed.{entries};
 ghost use Rattle.types.specs.Lists.{listed};
-ghost use Rattle.lease.specs.Rest.{shiftedBy, attemptsFlushed, releaseBelow, resealFromTo, deferRedelivery, shiftDeadlines, inFlight, isClaimable, deliveries, holdsActive, pendingRedeliveryAttempt, expired};
+ghost use Rattle.lease.specs.Config.{nanos, fromMillis, defaultConfig};
+ghost use Rattle.lease.specs.State.{Sound, view, startingAt};
+ghost use Rattle.lease.specs.Operations.{lease, grantOf, claim, ack, extend, nack, capFrom, deadlineFrom, afterGrant, afterFlush};
 ghost use Rattle.lease.specs.Counts.{resumeAttempts, attemptCounts, allAttemptCounts};
+ghost use Rattle.lease.specs.Rest.{attemptsFlushed, releaseBelow, resealFromTo, deferRedelivery, shiftedBy, shiftDeadlines, inFlight, isClaimable, deliveries, holdsActive, pendingRedeliveryAttempt, expired};
 ghost use Rattle.lease.specs.Answers.{claimOf, ackOf, extendOf, nackOf, resumeOf, listedOf, attemptsOf, Answers, Tries, Becomes, Lists, Offsets};
 use columns::CarryOutcome;
 use columns::Place;
@@ -88,55 +88,6 @@ impl LeaseConfig {
             deliveries: deliveries,
         }
     }
-}
-
-// What a claim that is granted answers.
-fn granted(offset: Offset, generation: Generation, deliveries: u32) -> Claim
-    ensures { λ r. ⌜ claimOf r ≡ done (record { offset = offset .0; generation = generation .0; deliveries = deliveries }) ⌝ }
-{
-    let token = LeaseToken {
-        offset: offset,
-        generation: generation,
-    };
-    Claim::Granted {
-        token: token,
-        deliveries: deliveries,
-    }
-}
-
-// Milliseconds in nanoseconds, at most the largest number.
-fn to_nanos(ms: u64) -> u64
-    ensures { λ r. ⌜ r ≡ nanos ms ⌝ }
-{
-    if ms <= 18446744073709 {
-        ms * 1000000
-    } else {
-        18446744073709551615
-    }
-}
-
-// The sum, at most the largest number.
-fn saturating_add(a: u64, b: u64) -> u64
-    ensures { λ r. ⌜ r ≡ sat64 a b ⌝ }
-{
-    if a <= 18446744073709551615 - b {
-        a + b
-    } else {
-        18446744073709551615
-    }
-}
-
-fn shorter(a: usize, b: usize) -> usize
-    ensures { λ r. ⌜ r ≡ min a b ⌝ }
-{
-    if a < b { a } else { b }
-}
-
-// One more, at most the largest number.
-fn saturating_next(n: u32) -> u32
-    ensures { λ r. ⌜ r ≡ sat32 n 1 ⌝ }
-{
-    if n == 4294967295 { n } else { n + 1 }
 }
 
 // Names one hand-out of a message: an ack, an extension or a nack carries it, and works only while the lease of the
@@ -281,23 +232,6 @@ pub struct Changed {
     pub table: LeaseTable,
 }
 
-// The counter of redeliveries after a grant with this count.
-fn after_grant(counter: u32, deliveries: u32) -> u32
-    ensures { λ r. ⌜ r ≡ afterGrant counter deliveries ⌝ }
-{
-    if 2 <= deliveries {
-        return saturating_next(counter);
-    }
-    counter
-}
-
-// The counter once the attempt counts are durable.
-fn after_flush(counter: u32) -> u32
-    ensures { λ r. ⌜ r ≡ afterFlush counter ⌝ }
-{
-    0
-}
-
 impl LeaseTable {
     // An empty table.
     pub fn new(config: LeaseConfig) -> LeaseTable
@@ -343,14 +277,6 @@ impl LeaseTable {
     {
         self.redeliveries_since_flush = after_flush(self.redeliveries_since_flush);
         self
-    }
-
-    // How many messages are in flight, their leases run out or not.
-    pub fn in_flight(self) -> usize
-        requires { ⌜ Sound self ⌝ }
-        ensures { λ r. ⌜ r ≡ inFlight (view self) ⌝ }
-    {
-        self.len
     }
 
     // Carries attempt counts over from before a restart, pairs of an offset and a count at the same places of the two columns:
@@ -445,6 +371,14 @@ impl LeaseTable {
         }
     }
 
+    // How many messages are in flight, their leases run out or not.
+    pub fn in_flight(self) -> usize
+        requires { ⌜ Sound self ⌝ }
+        ensures { λ r. ⌜ r ≡ inFlight (view self) ⌝ }
+    {
+        self.len
+    }
+
     // Releases every lease and every carried count below an offset: all that lies there is done.
     pub fn release_below(mut self, up_to: Offset) -> LeaseTable
         requires { ⌜ Sound self ⌝ }
@@ -528,21 +462,21 @@ impl LeaseTable {
         requires { ⌜ Sound self × (at < self .len) × (getD (self .offsets) at 0 ≡ offset .0) ⌝ }
         ensures { λ r. ⌜ Answers (claimOf (r .outcome)) self (r .table) (claim (view self) (offset .0) now) ⌝ }
     {
-        let lease = self.leases[at];
-        if now < lease.deadline {
+        let prior = self.leases[at];
+        if now < prior.deadline {
             return Claimed {
                 outcome: Claim::InFlight,
                 table: self,
             };
         }
-        let generation = self.next_generation;
-        if generation.0 == 18446744073709551615 {
+        if self.next_generation.0 == 18446744073709551615 {
             return Claimed {
                 outcome: Claim::Exhausted,
                 table: self,
             };
         }
-        let deliveries = saturating_next(lease.deliveries);
+        let generation = self.next_generation;
+        let deliveries = saturating_next(prior.deliveries);
         self.leases[at] = self.config.lease(generation, now, deliveries);
         self.next_generation.0 = generation.0 + 1;
         self.redeliveries_since_flush = after_grant(self.redeliveries_since_flush, deliveries);
@@ -550,6 +484,49 @@ impl LeaseTable {
             outcome: granted(offset, generation, deliveries),
             table: self,
         }
+    }
+
+    // Puts the lease of an offset under another generation, if it still has the one that the caller claimed it under: whoever
+    // claimed it since keeps the fence.
+    pub fn reseal_from_to(
+        mut self,
+        offset: Offset,
+        from: Generation,
+        generation: Generation,
+    ) -> Changed
+        requires { ⌜ Sound self ⌝ }
+        ensures { λ r. ⌜ Tries (r .changed) self (r .table) (resealFromTo (view self) (offset .0) (from .0) (generation .0)) ⌝ }
+    {
+        let place = columns::find(&self.offsets, self.len, offset.0);
+        let Place::Found(at) = place else {
+            return Changed {
+                changed: false,
+                table: self,
+            };
+        };
+        if self.leases[at].generation.0 != from.0 {
+            return Changed {
+                changed: false,
+                table: self,
+            };
+        }
+        self.leases[at].generation.0 = generation.0;
+        Changed {
+            changed: true,
+            table: self,
+        }
+    }
+
+    // Whether a claim of the offset would find no lease that still runs.
+    pub fn is_claimable(self, offset: Offset, now: u64) -> bool
+        requires { ⌜ Sound self ⌝ }
+        ensures { λ r. ⌜ r ≡ isClaimable (view self) (offset .0) now ⌝ }
+    {
+        let place = columns::find(&self.offsets, self.len, offset.0);
+        let Place::Found(at) = place else {
+            return true;
+        };
+        self.leases[at].deadline <= now
     }
 
     // Acks the lease that the token owns: the message is in flight no longer.
@@ -621,90 +598,6 @@ impl LeaseTable {
         }
     }
 
-    // Gives the lease that the token owns up: the message can be claimed again after the delay, which no cap bounds. A new
-    // generation fences the token off, and the count stays for the next claim.
-    pub fn nack(mut self, token: LeaseToken, now: u64, delay_nanos: u64) -> Nacked
-        requires { ⌜ Sound self ⌝ }
-        ensures { λ r. ⌜ Answers (nackOf (r .outcome)) self (r .table) (nack (view self) (token .offset .0) (token .generation .0) now «delay_nanos») ⌝ }
-    {
-        let place = columns::find(&self.offsets, self.len, token.offset.0);
-        let Place::Found(at) = place else {
-            return Nacked {
-                outcome: NackOutcome::Fenced,
-                table: self,
-            };
-        };
-        let lease = self.leases[at];
-        if lease.generation.0 != token.generation.0 {
-            return Nacked {
-                outcome: NackOutcome::Fenced,
-                table: self,
-            };
-        }
-        let generation = self.next_generation;
-        if generation.0 == 18446744073709551615 {
-            return Nacked {
-                outcome: NackOutcome::Exhausted,
-                table: self,
-            };
-        }
-        let deadline = saturating_add(now, delay_nanos);
-        self.leases[at] = Lease {
-            generation: generation,
-            attempt_start: lease.attempt_start,
-            deadline: deadline,
-            deliveries: lease.deliveries,
-        };
-        self.next_generation.0 = generation.0 + 1;
-        Nacked {
-            outcome: NackOutcome::Requeued { deadline: deadline },
-            table: self,
-        }
-    }
-
-    // Puts the lease of an offset under another generation, if it still has the one that the caller claimed it under: whoever
-    // claimed it since keeps the fence.
-    pub fn reseal_from_to(
-        mut self,
-        offset: Offset,
-        from: Generation,
-        generation: Generation,
-    ) -> Changed
-        requires { ⌜ Sound self ⌝ }
-        ensures { λ r. ⌜ Tries (r .changed) self (r .table) (resealFromTo (view self) (offset .0) (from .0) (generation .0)) ⌝ }
-    {
-        let place = columns::find(&self.offsets, self.len, offset.0);
-        let Place::Found(at) = place else {
-            return Changed {
-                changed: false,
-                table: self,
-            };
-        };
-        if self.leases[at].generation.0 != from.0 {
-            return Changed {
-                changed: false,
-                table: self,
-            };
-        }
-        self.leases[at].generation.0 = generation.0;
-        Changed {
-            changed: true,
-            table: self,
-        }
-    }
-
-    // Whether a claim of the offset would find no lease that still runs.
-    pub fn is_claimable(self, offset: Offset, now: u64) -> bool
-        requires { ⌜ Sound self ⌝ }
-        ensures { λ r. ⌜ r ≡ isClaimable (view self) (offset .0) now ⌝ }
-    {
-        let place = columns::find(&self.offsets, self.len, offset.0);
-        let Place::Found(at) = place else {
-            return true;
-        };
-        self.leases[at].deadline <= now
-    }
-
     // How often the message of the token was handed out, while the token owns its lease.
     pub fn deliveries(self, token: LeaseToken) -> Attempts
         requires { ⌜ Sound self ⌝ }
@@ -735,6 +628,47 @@ impl LeaseTable {
             return false;
         }
         now < lease.deadline
+    }
+
+    // Gives the lease that the token owns up: the message can be claimed again after the delay, which no cap bounds. A new
+    // generation fences the token off, and the count stays for the next claim.
+    pub fn nack(mut self, token: LeaseToken, now: u64, delay_nanos: u64) -> Nacked
+        requires { ⌜ Sound self ⌝ }
+        ensures { λ r. ⌜ Answers (nackOf (r .outcome)) self (r .table) (nack (view self) (token .offset .0) (token .generation .0) now «delay_nanos») ⌝ }
+    {
+        let place = columns::find(&self.offsets, self.len, token.offset.0);
+        let Place::Found(at) = place else {
+            return Nacked {
+                outcome: NackOutcome::Fenced,
+                table: self,
+            };
+        };
+        let lease = self.leases[at];
+        if lease.generation.0 != token.generation.0 {
+            return Nacked {
+                outcome: NackOutcome::Fenced,
+                table: self,
+            };
+        }
+        let fence = self.next_generation;
+        if fence.0 == 18446744073709551615 {
+            return Nacked {
+                outcome: NackOutcome::Exhausted,
+                table: self,
+            };
+        }
+        let deadline = saturating_add(now, delay_nanos);
+        self.leases[at] = Lease {
+            generation: fence,
+            attempt_start: lease.attempt_start,
+            deadline: deadline,
+            deliveries: lease.deliveries,
+        };
+        self.next_generation.0 = fence.0 + 1;
+        Nacked {
+            outcome: NackOutcome::Requeued { deadline: deadline },
+            table: self,
+        }
     }
 
     // How often the message at an offset was handed out, if the next claim would hand it out again: its lease has run out.
@@ -793,7 +727,25 @@ impl LeaseTable {
         self
     }
 
-    // The offsets whose leases have run out.
+    // The offsets whose leases have run out, into a lent list: a claim of one would hand it out again.
+    pub fn expired(self, now: u64, out: &mut [u64]) -> Listed
+        requires { ⌜ Sound self ⌝ }
+        ensures { λ r. ⌜ answer (listedOf r) (out .exit .now) ≡ listed (expired (view self) now) (out .entry .now) ⌝ }
+    {
+        let due = self.due(now);
+        let n = due.len;
+        if out.len() < n {
+            return Listed::OutTooShort;
+        }
+        let mut i: usize = 0;
+        while i < n {
+            out[i] = due.offsets[i];
+            i += 1;
+        }
+        Listed::Filled(n)
+    }
+
+    // The same, in an array.
     fn due(self, now: u64) -> DueOffsets
         requires { ⌜ Sound self ⌝ }
         ensures { λ r. ⌜ Offsets r (expired (view self) now) ⌝ }
@@ -815,22 +767,71 @@ impl LeaseTable {
             len: n,
         }
     }
+}
 
-    // The same, into a lent list.
-    pub fn expired(self, now: u64, out: &mut [u64]) -> Listed
-        requires { ⌜ Sound self ⌝ }
-        ensures { λ r. ⌜ answer (listedOf r) (out .exit .now) ≡ listed (expired (view self) now) (out .entry .now) ⌝ }
-    {
-        let due = self.due(now);
-        let n = due.len;
-        if out.len() < n {
-            return Listed::OutTooShort;
-        }
-        let mut i: usize = 0;
-        while i < n {
-            out[i] = due.offsets[i];
-            i += 1;
-        }
-        Listed::Filled(n)
+// What a claim that is granted answers.
+fn granted(offset: Offset, generation: Generation, deliveries: u32) -> Claim
+    ensures { λ r. ⌜ claimOf r ≡ done (grantOf (offset .0) (generation .0) deliveries) ⌝ }
+{
+    let token = LeaseToken {
+        offset: offset,
+        generation: generation,
+    };
+    Claim::Granted {
+        token: token,
+        deliveries: deliveries,
     }
+}
+
+// The counter of redeliveries after a grant with this count.
+fn after_grant(counter: u32, deliveries: u32) -> u32
+    ensures { λ r. ⌜ r ≡ afterGrant counter deliveries ⌝ }
+{
+    if 2 <= deliveries {
+        return saturating_next(counter);
+    }
+    counter
+}
+
+// The counter once the attempt counts are durable.
+fn after_flush(counter: u32) -> u32
+    ensures { λ r. ⌜ r ≡ afterFlush counter ⌝ }
+{
+    0
+}
+
+// Milliseconds in nanoseconds, at most the largest number.
+fn to_nanos(ms: u64) -> u64
+    ensures { λ r. ⌜ r ≡ nanos ms ⌝ }
+{
+    if ms <= 18446744073709 {
+        ms * 1000000
+    } else {
+        18446744073709551615
+    }
+}
+
+// The sum, at most the largest number.
+fn saturating_add(a: u64, b: u64) -> u64
+    ensures { λ r. ⌜ r ≡ sat64 a b ⌝ }
+{
+    if a <= 18446744073709551615 - b {
+        a + b
+    } else {
+        18446744073709551615
+    }
+}
+
+// The shorter of two lengths.
+fn shorter(a: usize, b: usize) -> usize
+    ensures { λ r. ⌜ r ≡ min a b ⌝ }
+{
+    if a < b { a } else { b }
+}
+
+// One more, at most the largest number.
+fn saturating_next(n: u32) -> u32
+    ensures { λ r. ⌜ r ≡ sat32 n 1 ⌝ }
+{
+    if n == 4294967295 { n } else { n + 1 }
 }

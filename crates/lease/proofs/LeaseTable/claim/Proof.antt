@@ -8,7 +8,7 @@ use borrow.Author.Needs.{needs}
 use lib.ListN.{set}
 use lib.Seq.{length-take-le}
 use Rattle.types.specs.Limits.{MAX, LEASES, CARRIED}
-use Rattle.lease.specs.Claim.{afterGrant}
+use Rattle.lease.specs.Operations.{afterGrant}
 use Rattle.lease.specs.declared.LeaseTable.{LeaseTable}
 use Rattle.lease.proofs.Loops.{Opening, opening, opening-more, opened}
 use Rattle.lease.proofs.Slots.{nil, length-mapped, Full, Free, holding, ascending, leased, free, found-at, in-flight}

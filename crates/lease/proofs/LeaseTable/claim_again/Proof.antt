@@ -23,11 +23,11 @@ here c =
 fits : (c : tie.Start) → c .args .offset .0 ≤ MAX
 fits c = omega arith
 
-mul-lease : tie.Need-mul-lease
-mul-lease c = search needs
+mul-prior : tie.Need-mul-prior
+mul-prior c = search needs
 
-element-copy-out-lease : tie.Need-element-copy-out-lease
-element-copy-out-lease c = search needs
+element-copy-out-prior : tie.Need-element-copy-out-prior
+element-copy-out-prior c = search needs
 
 returns : tie.Need-returns
 returns c =
@@ -36,8 +36,8 @@ returns c =
 
 returns-2 : tie.Need-returns-2
 returns-2 c =
-    let s = c .before .before .before .before .before .before in
-    claim-exhausted (s .args .t1) (s .pre .0) (s .args .offset .0) (s .args .now) (rw (here s .is) (le-ltb _ _ (c .before .before .before .if1 .left))) (c .if2 .taken)
+    let s = c .before .before .before .before in
+    claim-exhausted (s .args .t1) (s .pre .0) (s .args .offset .0) (s .args .now) (rw (here s .is) (le-ltb _ _ (c .before .if1 .left))) (c .if2 .taken)
 
 saturating-next-requires : tie.Need-saturating-next-requires
 saturating-next-requires c κs = search needs
@@ -65,19 +65,19 @@ returns-3 c =
     let a = c .before in
     let l = a .before .before .before in
     let n = l .before .before in
-    let e = n .before in
-    let s = e .before .before .before .before .before .before in
+    let e = n .before .before in
+    let s = e .before .before .before .before in
     let h = here s in
-    claimed (s .args .t1) (s .pre .0) (s .args .offset .0) (s .args .now) (rw (h .is) (le-ltb _ _ (e .before .before .before .if1 .left))) (e .if2 .left)
+    claimed (s .args .t1) (s .pre .0) (s .args .offset .0) (s .args .now) (rw (h .is) (le-ltb _ _ (e .before .if1 .left))) (e .if2 .left)
     (rw (h .is)) (fits s) (n .saturating-next .result) (count-again (s .args .t1) (s .args .offset .0) (s .args .at) (n .saturating-next .result) h (n .saturating-next .ensures)) _ (c .granted .ensures)
-    (granted-again (s .args .t1) (s .pre .0) (s .args .offset .0) (s .args .at) (s .args .now) (n .saturating-next .result) (l .lease2 .result) (l .lease2 .ensures) (a .after-grant .result) (a .after-grant .ensures) h (n .saturating-next .ensures))
+    (granted-again (s .args .t1) (s .pre .0) (s .args .offset .0) (s .args .at) (s .args .now) (n .saturating-next .result) (l .lease .result) (l .lease .ensures) (a .after-grant .result) (a .after-grant .ensures) h (n .saturating-next .ensures))
 
 pub claim-again-spec : {M : Type 1} → statement M
 claim-again-spec =
     tie.close
     (tie.spec
-    mul-lease
-    element-copy-out-lease
+    mul-prior
+    element-copy-out-prior
     returns
     returns-2
     saturating-next-requires

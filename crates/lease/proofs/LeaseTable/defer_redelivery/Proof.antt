@@ -3,7 +3,7 @@
 use native.Mathlib.Omega.{arith}
 use borrow.Author.Needs.{needs}
 use Rattle.lease.specs.State.{view}
-use Rattle.lease.specs.Claim.{dueAt}
+use Rattle.lease.specs.Operations.{dueAt}
 use Rattle.lease.proofs.Slots.{length-mapped, Full, Leased, ascending, leased, free}
 use Rattle.lease.proofs.Tokens.{shows-stored}
 use Rattle.lease.proofs.Questions.{none-overdue, still-running, run-out, not-deferred, deferred}

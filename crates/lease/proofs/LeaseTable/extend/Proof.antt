@@ -3,7 +3,7 @@
 use native.Mathlib.Omega.{arith}
 use borrow.Author.Needs.{needs}
 use Rattle.lease.specs.State.{view}
-use Rattle.lease.specs.Claim.{dueAt}
+use Rattle.lease.specs.Operations.{dueAt}
 use Rattle.lease.specs.declared.Lease.{Lease}
 use Rattle.lease.specs.declared.LeaseTable.{LeaseTable}
 use Rattle.lease.proofs.Slots.{nil, length-mapped, Full, Leased, ascending, leased, free}

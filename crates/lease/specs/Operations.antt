@@ -82,8 +82,11 @@ pub record Grant : Type 0 where
   pub generation : ℕ
   pub deliveries : ℕ
 
+abbrev pub grantOf : ℕ → ℕ → ℕ → Grant
+grantOf o g n = record { offset = o; generation = g; deliveries = n }
+
 abbrev pub granted : Table → ℕ → Grant
-granted t o = record { offset = o; generation = t .nextGeneration; deliveries = nextCount t o }
+granted t o = grantOf o (t .nextGeneration) (nextCount t o)
 
 abbrev pub claimRows : Table → ℕ → ℕ → List Row
 claimRows t o now =
