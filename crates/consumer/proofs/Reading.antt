@@ -1,6 +1,6 @@
 -- The last group read: it lies in the area, so the lent memory begins with its payload, and the two snapshots that the code takes
 -- from there are those of the payload. Assumes nothing.
-use Prim.Native.Nat.{ℕ, suc, _+_, _*_, _-_, _≤_}
+use Prim.Native.Nat.{ℕ, _+_, _*_, _-_, _≤_}
 use native.Mathlib.Omega.{arith}
 use mathlib.Core.Path.{_≡_, ap, subst, _∙_}
 use mathlib.Core.List.{List, _++_}

@@ -10,7 +10,7 @@ use lib.ListN.{length}
 use types.Run.{OneOf, miss}
 use denote.Enum.Declared.{tagOf}
 use Rattle.types.specs.Refusal.{Refusal, Result, refused, done}
-use Rattle.types.specs.Table.{Row, first, Passed, unless}
+use Rattle.types.specs.Table.{first, Passed, unless}
 use Rattle.types.proofs.Table.{first-none}
 use Rattle.types.proofs.Checked.{refused-not-done, done-inj}
 use Rattle.raw.specs.Bytes.{IsBytes}

@@ -252,7 +252,8 @@ fn read_group(settings: Settings, area: &[u8], at: usize, seat: Seat) -> Started
     read_both(settings, area.len(), &payload, middle, end, ceiling, seat)
 }
 
-// The consumer of the last group that a walk over the whole area met, or a fresh one where there is none: 5 to 19.
+// The consumer of the last group that a walk over the whole area met, or a fresh one where there is none: 5 to 19. The walk
+// answers no 4, since the area's length was tested before.
 fn resume_from(settings: Settings, area: &[u8], walked: Walked) -> Started
     requires { ⌜ WalkedIs (now area) walked ⌝ }
     ensures { λ r. ⌜ ResumedIs settings (length (now (area .entry))) (fromWalk (keptOf settings) (now (area .entry)) (walkedOf walked)) r ⌝ }

@@ -30,7 +30,8 @@ returns : tie.Need-returns
 returns c =
     let k = c .before .before in
     let s = k .before .before in
-    restart-refused (s .args .settings) (s .args .area .now) (k .check-start .result) (k .check-start .ensures) (c .before .match .keys2) (c .fresh .result) (c .fresh .ensures)
+    restart-refused (s .args .settings) (s .args .area .now) (k .check-start .result) (k .check-start .ensures)
+    (c .before .match .keys2) (c .fresh .result) (c .fresh .ensures)
 
 walk-requires : tie.Need-walk-requires
 walk-requires c κs = search needs
@@ -39,7 +40,8 @@ whole : (c : tie.After-walk) → WalkedIs (c .before .before .before .before .be
 whole c =
     let k = c .before .before .before in
     let s = k .before .before in
-    walked-whole (s .args .settings) (s .args .area .now) (k .check-start .result) (k .check-start .ensures) (full s) (fits s) (c .before .enum-told .given .1) (c .walk .result) (c .walk .ensures)
+    walked-whole (s .args .settings) (s .args .area .now) (k .check-start .result) (k .check-start .ensures) (full s)
+    (fits s) (c .before .enum-told .given .1) (c .walk .result) (c .walk .ensures)
 
 resume-from-requires : tie.Need-resume-from-requires
 resume-from-requires c κs = whole c
@@ -48,7 +50,9 @@ returns-2 : tie.Need-returns-2
 returns-2 c =
     let k = c .before .before .before .before in
     let s = k .before .before in
-    restarted (s .args .settings) (s .args .area .now) (k .check-start .result) (k .check-start .ensures) (full s) (fits s) (c .before .before .enum-told .given .1) (bytes-known (s .args .area .now) (k .before .shared-slice-known .given)) (c .before .walk .result) (whole (c .before)) (c .resume-from .result) (c .resume-from .ensures)
+    restarted (s .args .settings) (s .args .area .now) (k .check-start .result) (k .check-start .ensures) (full s) (fits s)
+    (c .before .before .enum-told .given .1) (bytes-known (s .args .area .now) (k .before .shared-slice-known .given))
+    (c .before .walk .result) (whole (c .before)) (c .resume-from .result) (c .resume-from .ensures)
 
 pub restart-spec : {M : Type 1} → statement M
 restart-spec =

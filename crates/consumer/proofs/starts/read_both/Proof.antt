@@ -8,7 +8,8 @@ use Rattle.consumer.proofs.starts.read_both.Tie as tie
 
 slice-aggregate-read-snapshots : tie.Need-slice-aggregate-read-snapshots
 slice-aggregate-read-snapshots c =
-    sym (length-take-le (c .before .before .args .middle) (c .before .before .args .bytes .now) (omega (arith, c .before .before .pre)))
+    sym
+    (length-take-le (c .before .before .args .middle) (c .before .before .args .bytes .now) (omega (arith, c .before .before .pre)))
 
 sub-read-snapshots : tie.Need-sub-read-snapshots
 sub-read-snapshots c = search needs

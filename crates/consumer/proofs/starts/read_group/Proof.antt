@@ -53,14 +53,18 @@ read-both-requires c κs =
     let p = c .before .before .before .before in
     let h = p .before .before in
     let s = h .before .before .before in
-    (omega arith, lent-length (s .args .area .now) (s .args .at) (s .pre) (h .read-header .result) (h .read-header .ensures) _ (p .read-payload .last .1 .1 .0) (p .read-payload .result) refl (p .read-payload .ensures))
+    let fits = lent-length (s .args .area .now) (s .args .at) (s .pre) (h .read-header .result) (h .read-header .ensures) _
+    (p .read-payload .last .1 .1 .0) (p .read-payload .result) refl (p .read-payload .ensures) in
+    (omega arith, fits)
 
 returns : tie.Need-returns
 returns c =
     let p = c .before .before .before .before .before in
     let h = p .before .before in
     let s = h .before .before .before in
-    group-read (s .args .area .now) (s .args .at) (s .pre) (h .read-header .result) (h .read-header .ensures) _ (p .read-payload .last .1 .1 .0) (p .read-payload .result) refl (p .read-payload .ensures) (s .args .settings) (s .args .seat) (c .read-both .result) (c .read-both .ensures)
+    group-read (s .args .area .now) (s .args .at) (s .pre) (h .read-header .result) (h .read-header .ensures) _
+    (p .read-payload .last .1 .1 .0) (p .read-payload .result) refl (p .read-payload .ensures) (s .args .settings)
+    (s .args .seat) (c .read-both .result) (c .read-both .ensures)
 
 pub read-group-spec : {M : Type 1} → statement M
 read-group-spec =
