@@ -3,7 +3,7 @@
 use Prim.Native.Nat.{ℕ, suc, _+_, _-_, _/_, _≤_, _<_}
 use native.Mathlib.Omega.{arith}
 use native.Mathlib.Numerals.{add-one}
-use mathlib.Core.Path.{_≡_, refl, sym, ap, _∙_}
+use mathlib.Core.Path.{_≡_, sym, ap, _∙_}
 use mathlib.Core.List.{List, _++_, append-nil}
 use lib.ListN.{length, take, drop, getD, set, length-map, length-append}
 use lib.Seq.{take-suc-set, append-snoc}
@@ -11,7 +11,6 @@ use borrow.Author.Tests.{lt-ltb, le-ltb}
 use Rattle.types.specs.Limits.{PAIRS}
 use Rattle.types.specs.Refusal.{Result}
 use Rattle.types.specs.Table.{answer}
-use Rattle.types.specs.Keyed.{Entry}
 use Rattle.types.proofs.Columns.{length-used, drop-used, drop-unused}
 use Rattle.types.proofs.Scan.{map-take, map-set}
 use Rattle.raw.specs.Bytes.{overwrite, write}

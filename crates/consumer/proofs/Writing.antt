@@ -1,20 +1,19 @@
 -- What a step makes of a sound record: its numbers fit the fields of a block, the block goes where the definition has it, and
 -- behind the last write stands the flushed consumer. Assumes nothing.
-use Prim.Native.Nat.{ℕ, suc, _+_, _/_, _≤_, _<_}
+use Prim.Native.Nat.{ℕ, _+_, _/_, _≤_, _<_}
 use native.Mathlib.Omega.{arith}
 use native.Mathlib.Numerals.{add-one}
-use mathlib.Core.Path.{_≡_, refl, sym, ap, _∙_}
-use mathlib.Core.Bool.{false, _||_}
+use mathlib.Core.Path.{_≡_, refl, ap}
+use mathlib.Core.Bool.{false}
 use mathlib.Core.List.{List}
-use lib.Dec.{leb}
 use lib.ListN.{length}
 use borrow.Author.Tests.{eq-eqb, ne-eqb, le-leb, lt-leb}
 use Rattle.types.specs.Refusal.{Result}
 use Rattle.types.specs.Table.{Answer, answer}
-use Rattle.journal.specs.Area.{badLength, outside, writeAt}
+use Rattle.journal.specs.Area.{outside, writeAt}
 use Rattle.journal.specs.Answers.{writeBlock}
 use Rattle.journal.specs.declared.Block.the-variants as block
-use Rattle.journal.proofs.Area.{Whole, whole-says}
+use Rattle.journal.proofs.Area.{whole-says}
 use Rattle.cursor.specs.View as cursor
 use Rattle.delivery.specs.Config as delivery
 use Rattle.lease.specs.State as lease
@@ -24,11 +23,11 @@ use Rattle.lease.specs.declared.LeaseTable.{LeaseTable}
 use Rattle.consumer.specs.State.{stateOf, seatAt}
 use Rattle.consumer.specs.Checkpoint.{bodies, newCeiling, bodyOf, headerOf, flushed, step}
 use Rattle.consumer.specs.View.{view}
-use Rattle.consumer.specs.Writing.{viewWriting, SoundWriting, SteppedIs, Into, HeaderIs, Fitting, FlushedIs}
+use Rattle.consumer.specs.Writing.{SoundWriting, SteppedIs, Into, HeaderIs, Fitting, FlushedIs}
 use Rattle.consumer.specs.declared.Consumer.{Consumer}
 use Rattle.consumer.specs.declared.checkpoint.Writing.{Writing}
 use Rattle.consumer.specs.declared.checkpoint.StepAnswer.the-variants.{Wrote, Finished, BadArea}
-use Rattle.consumer.proofs.Payload.{PayloadFits, payload-fits}
+use Rattle.consumer.proofs.Payload.{payload-fits}
 use Rattle.consumer.proofs.Valid.{flushed-valid}
 
 -- ## Numbers
