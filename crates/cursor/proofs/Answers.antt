@@ -1,16 +1,16 @@
 -- What an ack and a commit answer, from what the search found and what was done to the columns. Assumes nothing.
-use Prim.Native.Nat.{ℕ, _+_, _-_, _≤_, _<_, min, max}
+use Prim.Native.Nat.{ℕ, _-_, _≤_, _<_, min}
 use native.Mathlib.Omega.{arith}
 use mathlib.Core.Path.{_≡_, refl, sym, ap, subst, _∙_}
 use mathlib.Core.Bool.{Bool, true, false, _||_, and-false}
-use mathlib.Core.List.{List, []}
+use mathlib.Core.List.{List}
 use lib.Dec.{leb, eqb}
 use lib.ListN.{length}
 use borrow.Author.Tests.{eqb-false, le-leb, lt-leb}
 use Rattle.types.specs.Limits.{MAX, RANGES}
 use Rattle.types.specs.Refusal.{refused, done, Shed}
 use Rattle.types.specs.Table.{Answer, answer}
-use Rattle.cursor.specs.Cursor.{Cursor, cursor, Valid, settled, fragments, recorded, ackBounded, committedTo, commitUpTo}
+use Rattle.cursor.specs.Cursor.{Cursor, Valid, settled, fragments, recorded, ackBounded, committedTo, commitUpTo}
 use Rattle.cursor.specs.View.{ackCursor, view, Sound}
 use Rattle.cursor.specs.Answers.{ackOf, Updated}
 use Rattle.cursor.specs.Place.{Open, Spotted}

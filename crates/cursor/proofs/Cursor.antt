@@ -1,21 +1,21 @@
 -- Laws of the cursor: which offsets are settled after an ack and after a commit, and that both keep a cursor valid.
 -- Assumes nothing.
-use Prim.Native.Nat.{ℕ, suc, _+_, _≤_, _<_, min}
+use Prim.Native.Nat.{ℕ, _+_, _≤_, _<_, min}
 use native.Mathlib.Omega.{arith}
 use mathlib.Core.Path.{_≡_, refl, sym, ap, _∙_}
-use mathlib.Core.Bool.{Bool, true, false, cond, not, _&&_, _||_, and-false, or-assoc, or-comm, or-false, true≢false}
+use mathlib.Core.Bool.{Bool, true, false, _&&_, _||_, and-false, or-assoc, true≢false}
 use mathlib.Core.List.{List, [], _∷_}
 use lib.Dec.{ltb, leb, eqb}
 use lib.ListN.{length}
-use borrow.Author.Tests.{ltb-true, ltb-false, leb-true, leb-false, eqb-true, eqb-false, eq-eqb, ne-eqb, lt-ltb, le-ltb, le-leb, lt-leb}
+use borrow.Author.Tests.{ltb-true, ltb-false, leb-true, leb-false, eqb-true, eqb-false, eq-eqb, ne-eqb, lt-ltb, le-ltb, le-leb}
 use Rattle.types.specs.Limits.{MAX, RANGES}
-use Rattle.types.specs.Refusal.{Refusal, Result, refused, done, Shed}
-use Rattle.types.specs.Table.{_⇒_, Answer, answer, guarded}
+use Rattle.types.specs.Refusal.{refused, done, Shed}
+use Rattle.types.specs.Table.{Answer, answer}
 use Rattle.types.proofs.Cases.{split}
-use Rattle.cursor.specs.Ranges.{range, Above, inside, touches, joined, insert}
+use Rattle.cursor.specs.Ranges.{Above, inside, touches, joined, insert}
 use Rattle.cursor.specs.Cursor.{Cursor, cursor, Valid, settled, advanced, recorded, fragments, ackBounded, committedTo, commitUpTo, resume}
 use Rattle.cursor.specs.declared.Range.{Range}
-use Rattle.cursor.proofs.Ranges.{or-none, or-left, below-join, below-next, inside-above, above-weaken, insert-in, insert-above, insert-length, insert-touching}
+use Rattle.cursor.proofs.Ranges.{or-none, or-left, below-join, below-next, inside-above, insert-in, insert-above, insert-length, insert-touching}
 
 -- ## what an ack records
 

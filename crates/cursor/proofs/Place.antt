@@ -4,18 +4,18 @@
 use Prim.Native.Nat.{ℕ, zero, suc, _+_, _≤_, _<_, max}
 use native.Mathlib.Omega.{arith}
 use native.Mathlib.Numerals.{add-one}
-use mathlib.Core.Path.{_≡_, refl, sym, ap, _∙_}
+use mathlib.Core.Path.{_≡_, refl, ap, _∙_}
 use mathlib.Core.Bool.{Bool, true, false, cond, _&&_, _||_, or-false, or-true}
 use mathlib.Core.List.{List, [], _∷_}
 use lib.Dec.{ltb, leb, eqb, leb·suc-suc}
 use lib.ListN.{length, drop, set}
-use borrow.Author.Tests.{ltb-true, ltb-false, leb-true, leb-false, eqb-true, eqb-false, eq-eqb, ne-eqb, lt-ltb, le-ltb, le-leb, lt-leb}
+use borrow.Author.Tests.{ltb-true, leb-true, leb-false, eqb-true, eqb-false, eq-eqb, ne-eqb, lt-ltb, le-ltb, le-leb, lt-leb}
 use Rattle.types.specs.Limits.{MAX}
 use Rattle.types.specs.Zipped.{inserted, removed}
 use Rattle.types.proofs.Cases.{split}
-use Rattle.cursor.specs.Ranges.{range, Above, inside, touches, joined, insert}
+use Rattle.cursor.specs.Ranges.{range, Above, touches, joined}
 use Rattle.cursor.specs.Cursor.{Cursor, cursor, settled, advanced, recorded, committedTo}
-use Rattle.cursor.specs.Place.{rangeAt, stretched, Open, Spotted}
+use Rattle.cursor.specs.Place.{rangeAt, stretched, Spotted}
 use Rattle.cursor.specs.declared.Range.{Range}
 use Rattle.cursor.specs.declared.Spot.the-variants.{Settled, Behind, Between, Before, Apart}
 use Rattle.cursor.proofs.Ranges.{inside-above, touches-above}

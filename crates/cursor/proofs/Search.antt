@@ -2,9 +2,9 @@
 -- starts give, the end before it and the start at it tell where the offset stands. Assumes nothing.
 use Prim.Native.Nat.{ℕ, _+_, _-_, _≤_, _<_, max}
 use native.Mathlib.Omega.{arith}
-use mathlib.Core.Path.{_≡_, sym, ap, _∙_}
+use mathlib.Core.Path.{_≡_, sym, _∙_}
 use mathlib.Core.Bool.{Bool, true, false, _&&_}
-use mathlib.Core.List.{List, [], _∷_}
+use mathlib.Core.List.{List, _∷_}
 use lib.Dec.{ltb, eqb}
 use lib.ListN.{length, take, drop, getD}
 use lib.Seq.{length-take-le}
@@ -13,7 +13,7 @@ use Rattle.types.specs.Zipped.{removed}
 use Rattle.types.specs.Search.{Sorted, upTo}
 use Rattle.types.proofs.Search.{upTo-most}
 use Rattle.cursor.specs.Ranges.{Above, offsets}
-use Rattle.cursor.specs.Cursor.{Cursor, cursor, settled, committedTo}
+use Rattle.cursor.specs.Cursor.{settled, committedTo}
 use Rattle.cursor.specs.View.{ackCursor, view, Whole}
 use Rattle.cursor.specs.Place.{Spotted}
 use Rattle.cursor.specs.declared.AckCursor.{AckCursor}

@@ -6,20 +6,20 @@ use native.Mathlib.Nat.{add-assoc}
 use mathlib.Core.Path.{_≡_, refl, sym, ap, subst, _∙_}
 use mathlib.Core.Bool.{true, not}
 use mathlib.Core.List.{List, [], _∷_, _++_}
-use lib.Dec.{ltb, leb}
+use lib.Dec.{ltb}
 use lib.ListN.{length, take, drop, getD}
 use lib.Seq.{drop-drop, take-add}
 use borrow.Author.Tests.{ltb-false, leb-false, eqb-true, not-false, le-ltb, lt-leb, eq-eqb}
 use Rattle.types.specs.Limits.{MAX, RANGES}
 use Rattle.types.specs.Refusal.{done, TooManyRuns}
-use Rattle.types.specs.Table.{Row, _⇒_, Passed, checked}
+use Rattle.types.specs.Table.{_⇒_, Passed}
 use Rattle.types.proofs.Table.{checked-done, checked-passed, passed-append, append-passed}
 use Rattle.raw.specs.Bytes.{IsBytes, le, numberAt}
 use Rattle.raw.proofs.Bytes.{bytes-append, bytes-le, unle-le, number-lt, le-number}
 use Rattle.crc.specs.Seal.{sealed, isSealed}
 use Rattle.crc.proofs.Seal.{length-sealed, bytes-sealed, sealed-ok, sealed-of}
 use Rattle.cursor.specs.Ranges.{Above}
-use Rattle.cursor.specs.Cursor.{Cursor, cursor, Valid, rangeTable, rangesTable, resumeTable, resumeWithAhead}
+use Rattle.cursor.specs.Cursor.{Cursor, cursor, Valid, rangesTable, resumeTable, resumeWithAhead}
 use Rattle.cursor.specs.Snapshot.{rangeBytes, rangesBytes, bodyBytes, encodeCursor, readRanges, rangeCount, cursorIn, frameTable, decodeTable, decodeCursor}
 use Rattle.cursor.specs.Taking.{EndsFit}
 use Rattle.cursor.specs.declared.Range.{Range}

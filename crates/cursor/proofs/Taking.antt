@@ -8,7 +8,7 @@ use lib.Dec.{ltb}
 use lib.ListN.{length, take, set, length-append}
 use borrow.Author.Tests.{lt-ltb, le-ltb}
 use Rattle.types.specs.Limits.{MAX, RANGES}
-use Rattle.types.specs.Refusal.{Refusal, TooManyRuns}
+use Rattle.types.specs.Refusal.{TooManyRuns}
 use Rattle.types.specs.Table.{Row, _⇒_, first}
 use Rattle.types.specs.Zipped.{zipped}
 use Rattle.types.proofs.Table.{first-none, first-met-before, first-none-before}

@@ -5,23 +5,21 @@ use native.Mathlib.Omega.{arith}
 use native.Mathlib.Nat.{suc-inj}
 use native.Mathlib.Numerals.{add-one}
 use mathlib.Core.Path.{_≡_, refl, sym, ap, _∙_}
-use mathlib.Core.Bool.{Bool, true, false, _&&_}
+use mathlib.Core.Bool.{_&&_}
 use mathlib.Core.List.{List, [], _∷_}
-use lib.Dec.{ltb, leb, eqb}
+use lib.Dec.{ltb, eqb}
 use lib.ListN.{length, take, drop, getD, set, drop-of-length-le}
 use lib.Seq.{drop-cons, length-take-le, getD-take, take-set-lt}
 use borrow.Author.Tests.{ltb-true}
-use Rattle.types.specs.Limits.{RANGES}
 use Rattle.types.specs.Zipped.{zipped, inserted, removed}
 use Rattle.types.specs.Search.{Sorted, upTo}
 use Rattle.types.proofs.Cases.{split}
 use Rattle.types.proofs.Zipped.{zipped-length, zipped-getD, zipped-set-left, zipped-set-right, zipped-inserted, zipped-removed}
 use Rattle.cursor.specs.Ranges.{range, Above}
-use Rattle.cursor.specs.Cursor.{Cursor, cursor}
+use Rattle.cursor.specs.Cursor.{cursor}
 use Rattle.cursor.specs.View.{ackCursor, view}
 use Rattle.cursor.specs.Place.{rangeAt, stretched, joinedAt}
 use Rattle.cursor.specs.declared.Range.{Range}
-use Rattle.cursor.specs.declared.AckCursor.{AckCursor}
 use Rattle.cursor.proofs.Place.{place, endBefore, nextAt}
 
 place-zipped : (o : ℕ) (s e : List ℕ) → length s ≡ length e → place o (zipped range s e) ≡ upTo o s

@@ -1,7 +1,7 @@
 -- Ranges [start, end) of offsets, in lists: what lies in them, when they are in order, and how an offset joins them (01,
 -- "Records and their measures").
 use Prim.Native.Nat.{ℕ, _+_, _-_, _≤_, _<_}
-use mathlib.Core.Bool.{Bool, true, false, cond, _&&_, _||_}
+use mathlib.Core.Bool.{Bool, false, cond, _&&_, _||_}
 use mathlib.Core.List.{List, [], _∷_}
 use lib.Dec.{ltb, leb, eqb}
 use Rattle.types.specs.Limits.{MAX}

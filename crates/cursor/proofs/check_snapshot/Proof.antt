@@ -1,15 +1,13 @@
 -- `check_snapshot` meets its contract: each return is the row of its test. Assumes nothing.
-use Prim.Native.Nat.{_-_, _%_, _≤_}
+use Prim.Native.Nat.{_-_}
 use mathlib.Core.Path.{_≡_, sym, _∙_}
 use mathlib.Core.List.{List}
 use Prim.Native.Nat.{ℕ}
-use lib.ListN.{length, getD}
 use borrow.Author.Needs.{needs}
 use borrow.Author.Tests.{not-true, not-false}
 use Rattle.types.specs.Table.{first}
-use Rattle.cursor.specs.Cursor.{resumeTable}
 use Rattle.cursor.specs.Answers.{resumeFault}
-use Rattle.cursor.specs.Snapshot.{cursorIn, decodeTable}
+use Rattle.cursor.specs.Snapshot.{decodeTable}
 use Rattle.cursor.proofs.Reading.{truncated, bad-length, other-version, bad-crc, framed}
 use Rattle.cursor.proofs.check_snapshot.Statement.{statement}
 use Rattle.cursor.proofs.check_snapshot.Tie as tie
