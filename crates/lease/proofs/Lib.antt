@@ -1,16 +1,15 @@
-pub mod Loops
 pub mod Valid
-pub mod Slots
-pub mod Returns
-pub mod Tokens
-pub mod Questions
-pub mod Claims
-pub mod Changes
-pub mod Lists
-pub mod Merge
-pub mod Carried
 pub mod Passed
 pub mod Lookup
 pub mod Generations
 pub mod Counts
 pub mod Examples
+mod Slots
+mod Returns
+mod Claims
+mod Tokens
+mod Questions
+mod Changes
+mod Lists
+mod Merge
+mod Carried

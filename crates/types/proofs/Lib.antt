@@ -5,3 +5,4 @@ pub mod Shift
 pub mod Sorted
 pub mod Columns
 pub mod Lists
+pub mod Loops
