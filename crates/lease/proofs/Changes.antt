@@ -11,7 +11,7 @@ use Rattle.types.specs.Sorted.{below}
 use Rattle.types.proofs.Columns.{rising-ascending, drop-below-place, entries-map}
 use Rattle.lease.specs.State.{Sound, view, withLeases}
 use Rattle.lease.specs.Rest.{releaseBelow, shiftedBy, shiftDeadlines}
-use Rattle.lease.specs.Columns.{without}
+use Rattle.lease.specs.Helpers.{without}
 use Rattle.lease.specs.Answers.{Becomes}
 use Rattle.lease.specs.declared.Lease.{Lease}
 use Rattle.lease.specs.declared.LeaseTable.{LeaseTable}

@@ -14,7 +14,7 @@ use Rattle.types.specs.Refusal.{Result, refused, done, InFlight, Exhausted, Ful
 use Rattle.types.specs.Keyed.{Entry, put}
 use Rattle.lease.specs.State.{Table, Sound, view, leasesOf, carriedOf}
 use Rattle.lease.specs.Operations.{lease, leaseOf, isNone, running, deadlineFrom, nextCount, consumed, afterGrant, Grant, grantOf, grant, granted, claimRows, claim}
-use Rattle.lease.specs.Columns.{inserted, without, Spans}
+use Rattle.lease.specs.Helpers.{inserted, without, Spans}
 use Rattle.lease.specs.Answers.{Answers}
 use Rattle.lease.specs.declared.Lease.{Lease}
 use Rattle.lease.specs.declared.LeaseTable.{LeaseTable}

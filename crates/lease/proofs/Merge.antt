@@ -17,7 +17,7 @@ use Rattle.types.proofs.Keyed.{rising-weaken, lookup-under, rising-mapValues}
 use Rattle.types.proofs.Columns.{entries-snoc}
 use Rattle.lease.specs.State.{Sound, view, leasesOf, carriedOf}
 use Rattle.lease.specs.Counts.{raise, raiseAll, attemptCounts, allAttemptCounts}
-use Rattle.lease.specs.Columns.{mergeEntry, merge, Picked}
+use Rattle.lease.specs.Helpers.{mergeEntry, merge, Picked}
 use Rattle.lease.specs.declared.Lease.{Lease}
 use Rattle.lease.specs.declared.LeaseTable.{LeaseTable}
 use Rattle.lease.specs.declared.columns.Pick.{Pick}

@@ -16,7 +16,7 @@ use Rattle.types.proofs.Keyed.{update-put}
 use Rattle.lease.specs.State.{Table, Sound, view, leasesOf, withLeases}
 use Rattle.lease.specs.Operations.{leaseOf, owns, tokenRow, ack, capFrom, deadlineFrom, dueAt, extendRows, extended, extend, nackRows, requeuedAs, requeue, nack}
 use Rattle.lease.specs.Answers.{Answers}
-use Rattle.lease.specs.Columns.{without}
+use Rattle.lease.specs.Helpers.{without}
 use Rattle.lease.specs.declared.Lease.{Lease}
 use Rattle.lease.specs.declared.LeaseTable.{LeaseTable}
 use Rattle.lease.proofs.Slots.{nil, Leased, rebuilt, holding}

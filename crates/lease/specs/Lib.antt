@@ -4,4 +4,4 @@ pub mod Operations
 pub mod Counts
 pub mod Rest
 pub mod Answers
-pub mod Columns
+pub mod Helpers
