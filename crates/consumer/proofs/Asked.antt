@@ -20,8 +20,8 @@ use Rattle.types.proofs.Cases.{split}
 use Rattle.types.proofs.Lists.{listed-short, listed-filled}
 use Rattle.lease.specs.declared.LeaseTable.{LeaseTable}
 use Rattle.lease.specs.State.{carriedOf}
-use Rattle.lease.specs.Claim.{leaseOf}
-use Rattle.lease.proofs.Loops.{Filling}
+use Rattle.lease.specs.Operations.{leaseOf}
+use Rattle.types.proofs.Loops.{Filling}
 use Rattle.consumer.specs.State.{State}
 use Rattle.consumer.specs.Questions.{keysOf, countOf}
 use Rattle.consumer.specs.Valid.{Valid}

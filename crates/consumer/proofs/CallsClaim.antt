@@ -23,8 +23,8 @@ use Rattle.lease.specs.declared.LeaseToken.{LeaseToken}
 use Rattle.lease.specs.declared.Claim.{Claim}
 use Rattle.lease.specs.declared.Claim.the-variants.{Granted}
 use Rattle.lease.specs.State.{Table}
-use Rattle.lease.specs.Claim.{Grant, granted, grant, leaseOf, isNone, running, claimRows}
-use Rattle.lease.specs.Claim as leases
+use Rattle.lease.specs.Operations.{Grant, granted, grant, leaseOf, isNone, running, claimRows}
+use Rattle.lease.specs.Operations as leases
 use Rattle.lease.specs.Answers as answers
 use Rattle.consumer.specs.State.{State, withTable}
 use Rattle.consumer.specs.Calls.{HandOut, handOut, isFull, claimTable, claim, claimed}

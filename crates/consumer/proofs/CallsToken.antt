@@ -21,8 +21,8 @@ use Rattle.lease.specs.declared.Lease.{Lease}
 use Rattle.lease.specs.declared.LeaseTable.{LeaseTable}
 use Rattle.lease.specs.State.{Table, withLeases}
 use Rattle.lease.specs.State as state
-use Rattle.lease.specs.Claim.{leaseOf, owns, tokenRow, nackRows, requeue}
-use Rattle.lease.specs.Claim as leases
+use Rattle.lease.specs.Operations.{leaseOf, owns, tokenRow, nackRows, requeue}
+use Rattle.lease.specs.Operations as leases
 use Rattle.lease.specs.Rest.{deliveriesOf, deliveries}
 use Rattle.lease.specs.Answers as answers
 use Rattle.consumer.specs.State.{State, withTable, withBoth, countOr0}

@@ -19,7 +19,7 @@ use Rattle.cursor.specs.Cursor.{settled}
 use Rattle.attempt.specs.Snapshot.{PairsFit}
 use Rattle.lease.specs.declared.Lease.{Lease}
 use Rattle.lease.specs.State.{Counted}
-use Rattle.lease.specs.Claim.{leaseOf, handedOut, nextCount}
+use Rattle.lease.specs.Operations.{leaseOf, handedOut, nextCount}
 use Rattle.lease.specs.Counts.{raiseAll, allAttemptCounts}
 use Rattle.consumer.specs.State.{State, countOr0}
 use Rattle.consumer.specs.Questions.{countOf}

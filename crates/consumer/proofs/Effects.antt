@@ -13,7 +13,7 @@ use Rattle.types.proofs.Cases.{split}
 use Rattle.types.proofs.Keyed.{lookup-put-same, lookup-put-other, lookup-delete-same, lookup-delete-other, lookup-update, lookup-drop-below, lookup-keep-above}
 use Rattle.cursor.specs.Cursor.{settled}
 use Rattle.lease.specs.declared.Lease.{Lease}
-use Rattle.lease.specs.Claim.{leaseOf, handedOut, dueAt, requeuedAs}
+use Rattle.lease.specs.Operations.{leaseOf, handedOut, dueAt, requeuedAs}
 use Rattle.consumer.specs.State.{State}
 use Rattle.consumer.specs.Calls.{claimed, acked, nacked, committedTo}
 use Rattle.consumer.specs.Questions.{countOf}

@@ -19,7 +19,7 @@ use Rattle.cursor.proofs.Ranges.{or-none}
 use Rattle.delivery.specs.Policy.{unlimited}
 use Rattle.lease.specs.declared.Lease.{Lease}
 use Rattle.lease.specs.State.{Table, withLeases}
-use Rattle.lease.specs.Claim.{leaseOf, isNone, running, owns, tokenRow, capFrom, startOf, dueAt, extended, extend, extendRows}
+use Rattle.lease.specs.Operations.{leaseOf, isNone, running, owns, tokenRow, capFrom, startOf, dueAt, extended, extend, extendRows}
 use Rattle.journal.specs.Area.{badLength}
 use Rattle.consumer.specs.State.{Settings, State, withTable, blocksOf}
 use Rattle.consumer.specs.Calls.{HandOut, handOut, atCeiling, atThreshold, isFull, claimTable, claimed, claim, isShed, ackTable, acked, ack, nackDeadline, nackTable, nacked, nack, onTable, progress, commitTable, committedTo, commit}

@@ -13,7 +13,7 @@ use Rattle.types.proofs.Cases.{split}
 use Rattle.types.proofs.Keyed.{lookup-under}
 use Rattle.types.proofs.Entries.{absent}
 use Rattle.lease.specs.declared.Lease.{Lease}
-use Rattle.lease.specs.Claim.{leaseOf, isNone}
+use Rattle.lease.specs.Operations.{leaseOf, isNone}
 use Rattle.lease.specs.Rest.{overdue, dueOffsets}
 use Rattle.consumer.specs.State.{State}
 use Rattle.consumer.specs.Questions.{keysOf, waitingAt, bit}

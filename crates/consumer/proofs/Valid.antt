@@ -24,7 +24,7 @@ use Rattle.cursor.proofs.Cursor as cursors
 use Rattle.lease.specs.declared.Lease.{Lease}
 use Rattle.lease.specs.State.{Table}
 use Rattle.lease.specs.State as leases
-use Rattle.lease.specs.Claim.{lease, deadlineFrom, leaseOf, isNone, nextCount, consumed, afterGrant, grant, dueAt, requeuedAs, extended}
+use Rattle.lease.specs.Operations.{lease, deadlineFrom, leaseOf, isNone, nextCount, consumed, afterGrant, grant, dueAt, requeuedAs, extended}
 use Rattle.lease.proofs.Valid.{valid-grant, valid-ack, valid-requeue, valid-update, valid-release, valid-flushed}
 use Rattle.consumer.specs.State.{State, withBoth, blocksOf}
 use Rattle.consumer.specs.Calls.{HandOut, claimed, claim, isShed, acked, ack, nackDeadline, nacked, nack, progress, committedTo, commit}

@@ -13,7 +13,7 @@ use Rattle.types.specs.Keyed.{lookup, delete, anyBelow}
 use Rattle.cursor.specs.Cursor.{settled, ackBounded, commitUpTo}
 use Rattle.delivery.specs.Policy.{Destination, disposition, effectiveNackDelay}
 use Rattle.lease.specs.State.{Table, withLeases}
-use Rattle.lease.specs.Claim.{leaseOf, isNone, running, nextCount, grant, tokenRow, requeue, extend}
+use Rattle.lease.specs.Operations.{leaseOf, isNone, running, nextCount, grant, tokenRow, requeue, extend}
 use Rattle.lease.specs.Rest.{releaseBelow, deliveriesOf}
 use Rattle.consumer.specs.State.{State, withTable, withBoth, countOr0}
 

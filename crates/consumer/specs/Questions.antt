@@ -10,7 +10,7 @@ use Rattle.types.specs.Table.{_⇒_, checked}
 use Rattle.types.specs.Keyed.{Entry, lookup}
 use Rattle.cursor.specs.Cursor.{settled}
 use Rattle.lease.specs.declared.Lease.{Lease}
-use Rattle.lease.specs.Claim.{leaseOf}
+use Rattle.lease.specs.Operations.{leaseOf}
 use Rattle.lease.specs.Rest.{dueOffsets, inFlight}
 use Rattle.lease.specs.Counts.{allAttemptCounts}
 use Rattle.consumer.specs.State.{State, blocksOf, countOr0}

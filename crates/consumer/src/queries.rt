@@ -8,7 +8,7 @@ ghost use Rattle.types.specs.Lists.{listed};
 ghost use Rattle.types.specs.Table.{answer};
 ghost use Rattle.cursor.specs.Cursor.{settled};
 ghost use Rattle.lease.specs.Answers.{listedOf};
-ghost use Rattle.lease.specs.Claim.{leaseOf};
+ghost use Rattle.lease.specs.Operations.{leaseOf};
 ghost use Rattle.lease.specs.Lookup.{leaseAt};
 ghost use Rattle.lease.specs.Rest.{inFlight};
 ghost use Rattle.consumer.specs.State.{blocksOf};

@@ -15,8 +15,8 @@ use Rattle.types.proofs.Cases.{split}
 use Rattle.cursor.specs.Cursor.{Cursor}
 use Rattle.delivery.specs.Policy.{disposition}
 use Rattle.lease.specs.State.{Table}
-use Rattle.lease.specs.Claim as lease
-use Rattle.lease.specs.Claim.{nextCount, afterGrant}
+use Rattle.lease.specs.Operations as lease
+use Rattle.lease.specs.Operations.{nextCount, afterGrant}
 use Rattle.consumer.specs.State.{Settings, State, withBoth}
 use Rattle.consumer.specs.Calls as consumer
 use Rattle.consumer.specs.Calls.{handOut, nackDeadline, committedTo}

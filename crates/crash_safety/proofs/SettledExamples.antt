@@ -11,7 +11,7 @@ use Rattle.cursor.specs.Cursor.{cursor, resume, ackBounded}
 use Rattle.cursor.specs.Examples as cursors
 use Rattle.delivery.specs.Examples as delivery
 use Rattle.attempt.specs.Examples as attempts
-use Rattle.lease.specs.Claim.{claim, extend}
+use Rattle.lease.specs.Operations.{claim, extend}
 use Rattle.lease.proofs.Examples.{leased}
 use Rattle.lease.proofs.Examples as leases
 use Rattle.consumer.specs.Examples as consumer

@@ -18,8 +18,8 @@ use Rattle.types.proofs.Keyed.{lookup-put-same, lookup-put-other, lookup-delete
 use Rattle.consumer.proofs.Updates.{lookup-update-same, lookup-update-other}
 use Rattle.cursor.specs.Cursor.{settled}
 use Rattle.lease.specs.declared.Lease.{Lease}
-use Rattle.lease.specs.Claim as lease
-use Rattle.lease.specs.Claim.{leaseOf, owns, dueAt, requeuedAs, extend}
+use Rattle.lease.specs.Operations as lease
+use Rattle.lease.specs.Operations.{leaseOf, owns, dueAt, requeuedAs, extend}
 use Rattle.consumer.specs.State.{Settings, State}
 use Rattle.consumer.specs.Calls as consumer
 use Rattle.consumer.specs.Calls.{HandOut, handOut, nackDeadline}

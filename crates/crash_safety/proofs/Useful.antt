@@ -18,7 +18,7 @@ use Rattle.types.proofs.Keyed.{lookup-under, lookup-all}
 use Rattle.cursor.specs.Cursor.{settled}
 use Rattle.lease.specs.declared.Lease.{Lease}
 use Rattle.lease.specs.State.{Counted}
-use Rattle.lease.specs.Claim.{leaseOf, running, handedOut}
+use Rattle.lease.specs.Operations.{leaseOf, running, handedOut}
 use Rattle.lease.specs.Rest.{dueOffsets}
 use Rattle.consumer.specs.State.{Settings, State}
 use Rattle.consumer.specs.Calls.{HandOut, handOut, isFull, claimTable, claim, atCeiling, atThreshold}

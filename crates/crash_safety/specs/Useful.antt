@@ -9,7 +9,7 @@ use lib.Dec.{eqb}
 use Rattle.types.specs.Limits.{MAX}
 use Rattle.types.specs.Refusal.{refused, done, CheckpointDue}
 use Rattle.cursor.specs.Cursor.{settled}
-use Rattle.lease.specs.Claim.{leaseOf, running}
+use Rattle.lease.specs.Operations.{leaseOf, running}
 use Rattle.consumer.specs.State.{Settings, State}
 use Rattle.consumer.specs.Calls.{isFull, handOut, claim}
 use Rattle.consumer.specs.Questions.{waitingAt}

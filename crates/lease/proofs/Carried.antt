@@ -1,10 +1,9 @@
 -- Counts carried one by one: what each answer of `carry` shows, and that the number of counts never falls on the way, so that
 -- the first one too many decides.
 -- Assumes nothing.
-use Prim.Native.Nat.{ℕ, suc, _+_, _≤_, _<_}
+use Prim.Native.Nat.{ℕ, _+_, _≤_, _<_}
 use native.Mathlib.Omega.{arith}
-use mathlib.Core.Path.{_≡_, refl, sym, ap, subst, _∙_}
-use mathlib.Core.Bool.{Bool, true, false}
+use mathlib.Core.Path.{_≡_, refl, subst}
 use mathlib.Core.List.{List, [], _∷_}
 use mathlib.Core.Option.{Option, none, some}
 use lib.Dec.{eqb, ltb}
@@ -15,11 +14,11 @@ use Rattle.types.specs.Refusal.{refused, done, TooManyPairs}
 use Rattle.types.specs.Table.{_⇒_}
 use Rattle.types.specs.Keyed.{Entry, entry, entries, lookup, put, Rising, All}
 use Rattle.types.proofs.Cases.{split}
-use Rattle.types.proofs.Keyed.{rising-put, length-put-old, length-put-new}
+use Rattle.types.proofs.Keyed.{length-put-old, length-put-new}
 use Rattle.types.proofs.Columns.{length-used}
 use Rattle.lease.specs.State.{Sound, view, carriedOf, withCarried}
 use Rattle.lease.specs.Counts.{carry, carryAll, resumeAttempts}
-use Rattle.lease.specs.Columns.{Placed, inserted, Carries}
+use Rattle.lease.specs.Helpers.{Placed, inserted, Carries}
 use Rattle.lease.specs.Answers.{Answers}
 use Rattle.lease.specs.declared.LeaseTable.{LeaseTable}
 use Rattle.lease.specs.declared.columns.Place.{Place}

@@ -2,16 +2,16 @@
 -- Assumes nothing.
 use Prim.Native.Nat.{ℕ, _-_, _≤_}
 use native.Mathlib.Omega.{arith}
-use mathlib.Core.Path.{_≡_, refl, sym, ap, _∙_}
+use mathlib.Core.Path.{_≡_, sym, ap, _∙_}
 use mathlib.Core.List.{List, map}
-use lib.ListN.{length, take, drop}
+use lib.ListN.{length, take}
 use lib.Seq.{length-take-le}
-use Rattle.types.specs.Keyed.{Entry, entries, dropBelow, Rising}
+use Rattle.types.specs.Keyed.{entries, dropBelow, Rising}
 use Rattle.types.specs.Sorted.{below}
 use Rattle.types.proofs.Columns.{rising-ascending, drop-below-place, entries-map}
-use Rattle.lease.specs.State.{Sound, view, leasesOf, carriedOf, withLeases}
+use Rattle.lease.specs.State.{Sound, view, withLeases}
 use Rattle.lease.specs.Rest.{releaseBelow, shiftedBy, shiftDeadlines}
-use Rattle.lease.specs.Columns.{without}
+use Rattle.lease.specs.Helpers.{without}
 use Rattle.lease.specs.Answers.{Becomes}
 use Rattle.lease.specs.declared.Lease.{Lease}
 use Rattle.lease.specs.declared.LeaseTable.{LeaseTable}

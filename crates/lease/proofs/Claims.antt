@@ -2,24 +2,24 @@
 -- Assumes nothing.
 use Prim.Native.Nat.{ℕ, _+_, _-_, _≤_, _<_}
 use native.Mathlib.Omega.{arith}
-use mathlib.Core.Path.{_≡_, refl, sym, ap, subst, _∙_}
-use mathlib.Core.Bool.{Bool, true, false, _&&_, and-false}
-use mathlib.Core.List.{List, [], _∷_}
-use mathlib.Core.Option.{Option, none, some}
-use lib.Dec.{ltb, leb, eqb}
+use mathlib.Core.Path.{_≡_, sym, ap, subst, _∙_}
+use mathlib.Core.Bool.{true, false, _&&_}
+use mathlib.Core.List.{List}
+use mathlib.Core.Option.{none}
+use lib.Dec.{leb, eqb}
 use lib.ListN.{length, take, getD, set}
-use borrow.Author.Tests.{lt-ltb, le-ltb, le-leb, lt-leb, eq-eqb, ne-eqb}
-use Rattle.types.specs.Limits.{MAX, LEASES, CARRIED, sat32}
+use borrow.Author.Tests.{le-leb, lt-leb, eq-eqb, ne-eqb}
+use Rattle.types.specs.Limits.{MAX, LEASES, sat32}
 use Rattle.types.specs.Refusal.{Result, refused, done, InFlight, Exhausted, Full}
-use Rattle.types.specs.Keyed.{Entry, entries, lookup, put, delete}
+use Rattle.types.specs.Keyed.{Entry, put}
 use Rattle.lease.specs.State.{Table, Sound, view, leasesOf, carriedOf}
-use Rattle.lease.specs.Operations.{lease, leaseOf, isNone, running, deadlineFrom, handedOut, nextCount, consumed, afterGrant, Grant, grantOf, grant, granted, claimRows, claim}
-use Rattle.lease.specs.Columns.{inserted, without, Spans}
+use Rattle.lease.specs.Operations.{lease, leaseOf, isNone, running, deadlineFrom, nextCount, consumed, afterGrant, Grant, grantOf, grant, granted, claimRows, claim}
+use Rattle.lease.specs.Helpers.{inserted, without, Spans}
 use Rattle.lease.specs.Answers.{Answers}
 use Rattle.lease.specs.declared.Lease.{Lease}
 use Rattle.lease.specs.declared.LeaseTable.{LeaseTable}
 use Rattle.lease.specs.declared.columns.Span.{Span}
-use Rattle.lease.proofs.Slots.{nil, Leased, Free, Full as Arrays, in-flight}
+use Rattle.lease.proofs.Slots.{nil, Leased, Free, in-flight}
 use Rattle.lease.proofs.Returns.{Shows, refuses, takes-effect}
 use Rattle.lease.proofs.Valid.{valid-grant}
 

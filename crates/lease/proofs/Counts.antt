@@ -1,24 +1,24 @@
 -- Laws of attempt counts: the list of all of them rises by offset, has one for each offset with a lease or a carried count,
 -- the larger where it has both, and no others; pairs carried into a fresh table are the carried counts.
 -- Assumes nothing.
-use Prim.Native.Nat.{ℕ, suc, _+_, _≤_, _<_, max, min}
+use Prim.Native.Nat.{ℕ, suc, _+_, _≤_, _<_, max}
 use native.Mathlib.Omega.{arith}
 use mathlib.Core.Path.{_≡_, refl, sym, ap, _∙_}
-use mathlib.Core.Bool.{Bool, true, false, cond}
+use mathlib.Core.Bool.{true}
 use mathlib.Core.List.{List, [], _∷_, _++_, append-nil}
 use mathlib.Core.Option.{Option, none, some, Option·getD}
 use lib.Dec.{leb, eqb}
 use lib.ListN.{length}
 use lib.Seq.{append-snoc}
 use borrow.Author.Tests.{eqb-true, ne-eqb, le-leb, le-ltb}
-use Rattle.types.specs.Limits.{MAX32, sat32}
+use Rattle.types.specs.Limits.{sat32}
 use Rattle.types.specs.Keyed.{Entry, entry, lookup, put, Rising, All}
 use Rattle.types.proofs.Cases.{split}
 use Rattle.types.proofs.Keyed.{lookup-put, lookup-under, lookup-mapValues, lookup-all, rising-put, length-put, all-put, all-mapValues, length-mapValues, rising-mapValues}
 use Rattle.lease.specs.State.{Table, Valid, Counted}
 use Rattle.lease.specs.Operations.{leaseOf, nextCount, afterGrant}
 use Rattle.lease.specs.Rest.{deliveriesOf}
-use Rattle.lease.specs.Counts.{raise, raiseAll, attemptCounts, allAttemptCounts, carry, carryAll}
+use Rattle.lease.specs.Counts.{raise, raiseAll, attemptCounts, allAttemptCounts, carryAll}
 use Rattle.lease.specs.declared.Lease.{Lease}
 
 -- ## all counts

@@ -10,10 +10,10 @@ use mathlib.Core.Option.{Option, none, some, Option·map}
 use lib.ListN.{length, getD}
 use borrow.Author.Tests.{eq-eqb, ne-eqb}
 use Rattle.types.specs.Refusal.{Result, done, refused}
-use Rattle.types.specs.Keyed.{Entry, update, delete, Rising, All}
+use Rattle.types.specs.Keyed.{Entry, update, delete, All}
 use Rattle.types.proofs.Keyed.{rising-once, all-put, all-delete, all-update, all-dropBelow, all-mapValues}
 use Rattle.lease.specs.State.{Table, withLeases, Valid}
-use Rattle.lease.specs.Operations.{lease, leaseOf, owns, deadlineFrom, nextCount, Grant, grant, granted, claim, requeuedAs, requeue, nack}
+use Rattle.lease.specs.Operations.{lease, leaseOf, owns, deadlineFrom, nextCount, Grant, grant, claim, requeuedAs, requeue, nack}
 use Rattle.lease.specs.Rest.{releaseBelow, shiftedBy, shiftDeadlines}
 use Rattle.lease.specs.declared.Lease.{Lease}
 use Rattle.lease.proofs.Lookups.{lease-after-grant, lease-after-requeue}

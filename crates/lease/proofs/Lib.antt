@@ -1,17 +1,16 @@
-pub mod Loops
 pub mod Valid
-pub mod Slots
-pub mod Returns
-pub mod Tokens
-pub mod Questions
-pub mod Claims
-pub mod Searches
-pub mod Changes
-pub mod Lists
-pub mod Merge
-pub mod Carried
 pub mod Passed
 pub mod Lookups
 pub mod Generations
 pub mod Counts
 pub mod Examples
+mod Slots
+mod Returns
+mod Claims
+mod Tokens
+mod Questions
+mod Changes
+mod Lists
+mod Merge
+mod Carried
+mod Searches

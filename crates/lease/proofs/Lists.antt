@@ -10,7 +10,7 @@ use lib.ListN.{length, take, drop, getD, set, length-set}
 use lib.Seq.{take-suc-set, append-snoc}
 use borrow.Author.Tests.{le-leb, lt-leb}
 use Rattle.types.specs.Limits.{LEASES}
-use Rattle.types.specs.Keyed.{Entry, entry, entries, mapValues}
+use Rattle.types.specs.Keyed.{entry, entries}
 use Rattle.types.proofs.Columns.{drop-used, drop-unused, entries-map}
 use Rattle.lease.specs.State.{Sound, view, leasesOf}
 use Rattle.lease.specs.Counts.{attemptCounts}

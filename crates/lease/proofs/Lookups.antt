@@ -1,8 +1,8 @@
 -- The lease and the carried count of every offset after each operation.
 -- Assumes nothing.
 use Prim.Native.Nat.{ℕ}
-use mathlib.Core.Path.{_≡_, refl}
-use mathlib.Core.Bool.{Bool, true, false, cond}
+use mathlib.Core.Path.{_≡_}
+use mathlib.Core.Bool.{cond}
 use mathlib.Core.List.{List}
 use mathlib.Core.Option.{Option, none, some, Option·map}
 use lib.Dec.{ltb, eqb}
@@ -10,7 +10,7 @@ use Rattle.types.specs.Keyed.{Entry, lookup, put, update, delete}
 use Rattle.types.proofs.Cases.{split}
 use Rattle.types.proofs.Keyed.{lookup-put, lookup-delete, lookup-dropBelow, lookup-update, lookup-mapValues}
 use Rattle.lease.specs.State.{Table, withLeases}
-use Rattle.lease.specs.Operations.{lease, leaseOf, deadlineFrom, nextCount, consumed, grant, requeuedAs, requeue}
+use Rattle.lease.specs.Operations.{lease, leaseOf, deadlineFrom, nextCount, grant, requeuedAs, requeue}
 use Rattle.lease.specs.Rest.{releaseBelow, shiftedBy, shiftDeadlines}
 use Rattle.lease.specs.Counts.{carry}
 use Rattle.lease.specs.declared.Lease.{Lease}

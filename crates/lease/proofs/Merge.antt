@@ -6,19 +6,18 @@ use native.Mathlib.Omega.{arith}
 use native.Mathlib.Decide.{decLt, ℕ-discrete}
 use native.Mathlib.Numerals.{add-one}
 use mathlib.Core.Path.{_≡_, refl, sym, ap, _∙_}
-use mathlib.Core.Bool.{Bool, true, false}
 use mathlib.Core.List.{List, [], _∷_, _++_, append-nil}
 use mathlib.Core.Option.{none, some}
 use lib.Dec.{ltb, eqb}
 use lib.ListN.{length, take, drop, set, length-set, drop-of-length-le}
 use lib.Seq.{length-take-le, take-suc-set, append-snoc}
 use borrow.Author.Tests.{lt-ltb, le-ltb, eq-eqb, ne-eqb}
-use Rattle.types.specs.Keyed.{Entry, entry, entries, lookup, put, Rising}
+use Rattle.types.specs.Keyed.{Entry, entry, entries, lookup, Rising}
 use Rattle.types.proofs.Keyed.{rising-weaken, lookup-under, rising-mapValues}
 use Rattle.types.proofs.Columns.{entries-snoc}
 use Rattle.lease.specs.State.{Sound, view, leasesOf, carriedOf}
 use Rattle.lease.specs.Counts.{raise, raiseAll, attemptCounts, allAttemptCounts}
-use Rattle.lease.specs.Columns.{mergeEntry, merge, Picked}
+use Rattle.lease.specs.Helpers.{mergeEntry, merge, Picked}
 use Rattle.lease.specs.declared.Lease.{Lease}
 use Rattle.lease.specs.declared.LeaseTable.{LeaseTable}
 use Rattle.lease.specs.declared.columns.Pick.{Pick}

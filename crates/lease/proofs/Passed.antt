@@ -1,21 +1,20 @@
 -- What each refusal table says where every test failed, by name; and the two ways in which each call can end.
 -- Assumes nothing.
-use Prim.Native.Nat.{ℕ, _≤_, _<_}
+use Prim.Native.Nat.{ℕ, _<_}
 use native.Mathlib.Omega.{arith}
-use mathlib.Core.Path.{_≡_, refl, sym}
-use mathlib.Core.Bool.{Bool, true, false, not, _&&_, true≢false}
-use mathlib.Core.List.{List, [], _∷_}
+use mathlib.Core.Path.{_≡_, refl}
+use mathlib.Core.Bool.{true, false, not, true≢false}
+use mathlib.Core.List.{[], _∷_}
 use mathlib.Core.Option.{Option, none, some}
-use lib.Dec.{ltb, leb, eqb}
 use lib.ListN.{length}
 use borrow.Author.Tests.{leb-false, eqb-true, eqb-false, not-false}
 use Rattle.types.specs.Limits.{MAX, LEASES, sat64}
 use Rattle.types.specs.Refusal.{Refusal, refused, done}
-use Rattle.types.specs.Table.{Row, first, Passed, Answer, answer}
+use Rattle.types.specs.Table.{first, Passed, Answer, answer}
 use Rattle.types.specs.Keyed.{update, delete}
 use Rattle.types.proofs.Table.{guarded-cases}
 use Rattle.lease.specs.State.{Table, withLeases}
-use Rattle.lease.specs.Operations.{leaseOf, isNone, running, owns, capFrom, startOf, dueAt, Grant, grant, granted, claimRows, claim, tokenRow, ack, extendRows, extended, extend, requeue, nackRows, nack}
+use Rattle.lease.specs.Operations.{leaseOf, running, owns, capFrom, startOf, dueAt, Grant, grant, granted, claimRows, claim, tokenRow, ack, extendRows, extended, extend, requeue, nackRows, nack}
 use Rattle.lease.specs.declared.Lease.{Lease}
 
 -- ## the tables

@@ -3,15 +3,14 @@
 -- Assumes nothing.
 use Prim.Native.Nat.{_≤_}
 use mathlib.Core.Path.{_≡_, refl, sym, ap, subst, _∙_}
-use mathlib.Core.Bool.{true, false, true≢false}
 use mathlib.Core.List.{List}
 use mathlib.Core.Option.{some}
 use Rattle.types.specs.Limits.{LEASES, CARRIED}
-use Rattle.types.specs.Refusal.{Refusal, Result, refused, done}
+use Rattle.types.specs.Refusal.{Refusal, refused, done}
 use Rattle.types.specs.Table.{Row, first, Passed, Answer, answer, guarded}
 use Rattle.types.proofs.Table.{guarded-passed, guarded-refused}
 use Rattle.lease.specs.State.{Table, Valid, Sound, view}
-use Rattle.lease.specs.Answers.{Answers, Tries, Becomes}
+use Rattle.lease.specs.Answers.{Answers, Becomes}
 use Rattle.lease.specs.declared.LeaseTable.{LeaseTable}
 
 -- the struct shows a table

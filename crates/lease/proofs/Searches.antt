@@ -15,7 +15,7 @@ use Rattle.types.specs.Keyed.{Entry, entries, lookup, anyBelow, Rising}
 use Rattle.types.proofs.Cases.{split}
 use Rattle.types.proofs.Columns.{length-entries, lookup-found, lookup-missing}
 use Rattle.lease.specs.State.{Sound, leasesOf, carriedOf}
-use Rattle.lease.specs.Columns.{Placed}
+use Rattle.lease.specs.Helpers.{Placed}
 use Rattle.lease.specs.declared.LeaseTable.{LeaseTable}
 use Rattle.lease.specs.declared.columns.Place.{Place}
 use Rattle.lease.specs.declared.columns.Place.the-variants.{Found, Missing}

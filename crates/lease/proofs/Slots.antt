@@ -6,17 +6,17 @@ use native.Mathlib.Omega.{arith}
 use native.Mathlib.Numerals.{add-one}
 use mathlib.Core.Path.{_≡_, sym, ap, subst, _∙_}
 use mathlib.Core.List.{List, map}
-use mathlib.Core.Option.{Option, none, some}
+use mathlib.Core.Option.{none, some}
 use lib.ListN.{length, take, getD, set, length-map, take-append-drop}
 use lib.Seq.{length-take-le, getD-take, take-set-lt}
-use Rattle.types.specs.Keyed.{Entry, entries, lookup, put, delete, Rising}
+use Rattle.types.specs.Keyed.{entries, lookup, put, delete, Rising}
 use Rattle.types.specs.Sorted.{Ascending, below}
 use Rattle.types.proofs.Sorted.{below-le}
 use Rattle.types.proofs.Keyed.{delete-absent}
 use Rattle.types.proofs.Columns.{length-entries, rising-ascending, lookup-found, put-found, delete-found, lookup-missing, put-missing}
-use Rattle.lease.specs.State.{Table, Sound, view, leasesOf, carriedOf}
+use Rattle.lease.specs.State.{Sound, leasesOf}
 use Rattle.lease.specs.Operations.{lease}
-use Rattle.lease.specs.Columns.{Placed, Spans, inserted, without}
+use Rattle.lease.specs.Helpers.{Placed, Spans, inserted, without}
 use Rattle.lease.specs.declared.Lease.{Lease}
 use Rattle.lease.specs.declared.LeaseTable.{LeaseTable}
 use Rattle.lease.specs.declared.columns.Place.{Place}

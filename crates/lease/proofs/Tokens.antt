@@ -5,21 +5,20 @@ use native.Mathlib.Omega.{arith}
 use mathlib.Core.Path.{_≡_, refl, sym, ap, subst, _∙_}
 use mathlib.Core.Bool.{true, false}
 use mathlib.Core.List.{List, [], _∷_}
-use mathlib.Core.Option.{Option, none, some}
+use mathlib.Core.Option.{none, some}
 use lib.Dec.{leb, eqb}
 use lib.ListN.{take, getD, set}
 use borrow.Author.Tests.{eq-eqb, ne-eqb, le-leb, lt-leb}
 use Rattle.types.specs.Limits.{MAX, sat64}
 use Rattle.types.specs.Refusal.{refused, done, Fenced, Exhausted, CapReached}
-use Rattle.types.specs.Table.{Row}
-use Rattle.types.specs.Keyed.{Entry, entries, update, delete}
+use Rattle.types.specs.Keyed.{Entry, update, delete}
 use Rattle.types.proofs.Keyed.{update-put}
-use Rattle.lease.specs.State.{Table, Valid, Sound, view, leasesOf, withLeases}
-use Rattle.lease.specs.Operations.{leaseOf, owns, tokenRow, ack, capFrom, deadlineFrom, startOf, dueAt, extendRows, extended, extend, nackRows, requeuedAs, requeue, nack}
+use Rattle.lease.specs.State.{Table, Sound, view, leasesOf, withLeases}
+use Rattle.lease.specs.Operations.{leaseOf, owns, tokenRow, ack, capFrom, deadlineFrom, dueAt, extendRows, extended, extend, nackRows, requeuedAs, requeue, nack}
 use Rattle.lease.specs.Answers.{Answers}
+use Rattle.lease.specs.Helpers.{without}
 use Rattle.lease.specs.declared.Lease.{Lease}
 use Rattle.lease.specs.declared.LeaseTable.{LeaseTable}
-use Rattle.lease.specs.Columns.{without}
 use Rattle.lease.proofs.Slots.{nil, Leased, rebuilt, holding}
 use Rattle.lease.proofs.Returns.{Shows, refuses, takes-effect}
 use Rattle.lease.proofs.Valid.{valid-update, valid-ack, valid-requeue}

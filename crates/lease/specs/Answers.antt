@@ -1,12 +1,11 @@
--- What the answers of lease.rs mean: each enum of the code as an outcome or one of 01's refusals, and the records that
--- the contracts state.
+-- What the answers of lease.rs mean: each enum of the code as an outcome or one of 01's refusals, case by case, and the
+-- records that the contracts state.
 use Prim.Native.Nat.{ℕ, _≤_}
 use mathlib.Core.Path.{_≡_}
 use mathlib.Core.Bool.{Bool, false}
 use mathlib.Core.List.{List}
 use mathlib.Core.Option.{Option, none, some}
 use lib.ListN.{take}
-use Rattle.types.specs.Limits.{LEASES}
 use Rattle.types.specs.Refusal.{Result, refused, done}
 use Rattle.types.specs.Refusal as refusal
 use Rattle.types.specs.Table.{Answer, answer, Kept}
@@ -27,10 +26,10 @@ use Rattle.lease.specs.declared.ResumeOutcome.the-variants as resume
 use Rattle.lease.specs.declared.Listed.{Listed}
 use Rattle.lease.specs.declared.Listed.the-variants as listed
 use Rattle.lease.specs.declared.AttemptCounts.{AttemptCounts}
-use Rattle.lease.specs.declared.DueOffsets.{DueOffsets}
 use Rattle.lease.specs.declared.Attempts.{Attempts}
 use Rattle.lease.specs.declared.Attempts.the-variants as attempts
 
+-- ## the enums
 abbrev pub claimOf : Claim → Result Grant
 claimOf (claim.Granted token n) = done (grantOf (token .offset .0) (token .generation .0) n)
 claimOf claim.InFlight = refused refusal.InFlight
@@ -85,8 +84,3 @@ pub record Becomes (after : LeaseTable) (right : Table) : Type 0 where
 pub record Lists (r : AttemptCounts) (right : List (Entry ℕ)) : Type 0 where
   pub len : r .len ≤ 192
   pub is : entries (take (r .len) (r .offsets)) (take (r .len) (r .attempts)) ≡ right
-
--- a list of offsets in the first places of an array
-pub record Offsets (r : DueOffsets) (right : List ℕ) : Type 0 where
-  pub len : r .len ≤ LEASES
-  pub is : take (r .len) (r .offsets) ≡ right

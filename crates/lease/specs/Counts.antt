@@ -16,10 +16,12 @@ use Rattle.lease.specs.State.{Table, withCarried}
 abbrev pub carry : ℕ → ℕ → List (Entry ℕ) → List (Entry ℕ)
 carry o n c = cond (eqb n 0) c (put o n c)
 
+-- with each of a list of pairs, in its order
 abbrev pub carryAll : List (Entry ℕ) → List (Entry ℕ) → List (Entry ℕ)
 carryAll [] c = c
 carryAll (p ∷ ps) c = carryAll ps (carry (p .key) (p .value) c)
 
+-- 19 where they would be more than 128
 unfoldable pub resumeAttempts : Table → List (Entry ℕ) → Answer (Unit {0}) Table
 resumeAttempts t ps =
     guarded (ltb CARRIED (length (carryAll ps (t .carried))) ⇒ TooManyPairs ∷ []) t
@@ -34,6 +36,7 @@ attemptCounts t = mapValues (λ l. l .deliveries) (t .leases)
 abbrev pub raise : ℕ → ℕ → List (Entry ℕ) → List (Entry ℕ)
 raise o n c = put o (max (Option·getD (lookup o c) 0) n) c
 
+-- with each of a list of counts
 abbrev pub raiseAll : List (Entry ℕ) → List (Entry ℕ) → List (Entry ℕ)
 raiseAll [] c = c
 raiseAll (e ∷ l) c = raiseAll l (raise (e .key) (e .value) c)

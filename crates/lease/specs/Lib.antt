@@ -4,5 +4,5 @@ pub mod Operations
 pub mod Counts
 pub mod Rest
 pub mod Answers
-pub mod Columns
+pub mod Helpers
 pub mod Lookup

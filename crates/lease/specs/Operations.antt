@@ -15,6 +15,7 @@ use Rattle.lease.specs.declared.LeaseConfig.{LeaseConfig}
 use Rattle.lease.specs.declared.Lease.{Lease}
 
 -- ## one lease
+-- its generation, when its attempt began, its deadline, how often it was handed out
 abbrev pub lease : ℕ → ℕ → ℕ → ℕ → Lease
 lease g start deadline n = record { generation = record { 0 = g }; «attempt_start» = start; deadline = deadline; deliveries = n }
 
@@ -22,6 +23,7 @@ lease g start deadline n = record { generation = record { 0 = g }; «attempt_sta
 abbrev pub leaseOf : Table → ℕ → Option Lease
 leaseOf t o = lookup o (t .leases)
 
+-- there is none
 abbrev pub isNone : {A : Type 0} → Option A → Bool
 isNone none = true
 isNone (some a) = false
@@ -50,6 +52,7 @@ abbrev pub handedOut : Option Lease → Option ℕ → ℕ
 handedOut (some l) c = l .deliveries
 handedOut none c = Option·getD c 0
 
+-- the count of the next hand-out
 abbrev pub nextCount : Table → ℕ → ℕ
 nextCount t o = sat32 (handedOut (leaseOf t o) (lookup o (t .carried))) 1
 
@@ -82,29 +85,35 @@ pub record Grant : Type 0 where
   pub generation : ℕ
   pub deliveries : ℕ
 
+-- of offset, generation and count
 abbrev pub grantOf : ℕ → ℕ → ℕ → Grant
 grantOf o g n = record { offset = o; generation = g; deliveries = n }
 
+-- the answer of the next grant
 abbrev pub granted : Table → ℕ → Grant
 granted t o = grantOf o (t .nextGeneration) (nextCount t o)
 
+-- 23, 25, 27
 abbrev pub claimRows : Table → ℕ → ℕ → List Row
 claimRows t o now =
     running (leaseOf t o) now ⇒ InFlight ∷
     eqb (t .nextGeneration) MAX ⇒ Exhausted ∷
     (isNone (leaseOf t o) && leb LEASES (length (t .leases))) ⇒ Full ∷ []
 
+-- a claim of offset o
 unfoldable pub claim : Table → ℕ → ℕ → Answer Grant Table
 claim t o now = guarded (claimRows t o now) t (answer (done (granted t o)) (grant t o now))
 
 -- ## calls with a token, of offset o and generation g
--- the row that all of them begin with
+-- the row that all of them begin with: 24
 abbrev pub tokenRow : Table → ℕ → ℕ → Row
 tokenRow t o g = not (owns (leaseOf t o) g) ⇒ Fenced
 
+-- an ack: the lease is gone
 unfoldable pub ack : Table → ℕ → ℕ → Answer (Unit {0}) Table
 ack t o g = guarded (tokenRow t o g ∷ []) t (answer (done tt) (withLeases t (delete o (t .leases))))
 
+-- when the attempt of a lease began
 abbrev pub startOf : Option Lease → ℕ
 startOf none = 0
 startOf (some l) = l .«attempt_start»
@@ -113,13 +122,15 @@ startOf (some l) = l .«attempt_start»
 abbrev pub dueAt : ℕ → Lease → Lease
 dueAt deadline l = lease (l .generation .0) (l .«attempt_start») deadline (l .deliveries)
 
+-- 24, 28
 abbrev pub extendRows : Table → ℕ → ℕ → ℕ → List Row
 extendRows t o g now = tokenRow t o g ∷ leb (capFrom (t .config) (startOf (leaseOf t o))) now ⇒ CapReached ∷ []
 
--- the answer is the new deadline
+-- the deadline of an extended lease
 abbrev pub extended : Table → ℕ → ℕ → ℕ
 extended t o now = deadlineFrom (t .config) (startOf (leaseOf t o)) now
 
+-- an extension, with that deadline as its answer
 unfoldable pub extend : Table → ℕ → ℕ → ℕ → Answer ℕ Table
 extend t o g now =
     guarded (extendRows t o g now) t
@@ -129,6 +140,7 @@ extend t o g now =
 abbrev pub requeuedAs : ℕ → ℕ → Lease → Lease
 requeuedAs g deadline l = lease g (l .«attempt_start») deadline (l .deliveries)
 
+-- the table with it
 abbrev pub requeue : Table → ℕ → ℕ → Table
 requeue t o deadline =
     record {
@@ -139,9 +151,10 @@ requeue t o deadline =
       redeliveries = t .redeliveries;
     }
 
+-- 24, 25
 abbrev pub nackRows : Table → ℕ → ℕ → List Row
 nackRows t o g = tokenRow t o g ∷ eqb (t .nextGeneration) MAX ⇒ Exhausted ∷ []
 
--- the answer is the deadline, which no cap bounds
+-- a nack, with the deadline as its answer, which no cap bounds
 unfoldable pub nack : Table → ℕ → ℕ → ℕ → ℕ → Answer ℕ Table
 nack t o g now delay = guarded (nackRows t o g) t (answer (done (sat64 now delay)) (requeue t o (sat64 now delay)))

@@ -3,7 +3,7 @@ use Prim.Native.Nat.{ℕ}
 use mathlib.Core.Bool.{Bool, true, false, cond, not, _&&_}
 use mathlib.Core.List.{List, [], _∷_}
 use mathlib.Core.Option.{Option, none, Option·map}
-use lib.Dec.{leb, eqb}
+use lib.Dec.{leb}
 use lib.ListN.{length}
 use Rattle.types.specs.Limits.{sat64}
 use Rattle.types.specs.Refusal.{done}
@@ -14,6 +14,7 @@ use Rattle.lease.specs.Operations.{lease, leaseOf, isNone, running, owns
 use Rattle.lease.specs.declared.Lease.{Lease}
 
 -- ## changes
+-- the counts made durable
 abbrev pub attemptsFlushed : Table → Table
 attemptsFlushed t = record { config = t .config; leases = t .leases; carried = t .carried; nextGeneration = t .nextGeneration; redeliveries = afterFlush (t .redeliveries) }
 
@@ -21,6 +22,7 @@ attemptsFlushed t = record { config = t .config; leases = t .leases; carried = t
 abbrev pub releaseBelow : Table → ℕ → Table
 releaseBelow t b = record { config = t .config; leases = dropBelow b (t .leases); carried = dropBelow b (t .carried); nextGeneration = t .nextGeneration; redeliveries = t .redeliveries }
 
+-- a lease under another generation
 abbrev pub resealedAs : ℕ → Lease → Lease
 resealedAs g l = lease g (l .«attempt_start») (l .deadline) (l .deliveries)
 
@@ -43,6 +45,7 @@ deferRedelivery t o now delay =
     (answer (done true) (withLeases t (update o (dueAt (sat64 now delay)) (t .leases))))
     (answer (done false) t)
 
+-- a lease with its clock forward
 abbrev pub shiftedBy : ℕ → Lease → Lease
 shiftedBy delta l = lease (l .generation .0) (sat64 (l .«attempt_start») delta) (sat64 (l .deadline) delta) (l .deliveries)
 
@@ -51,12 +54,15 @@ abbrev pub shiftDeadlines : Table → ℕ → Table
 shiftDeadlines t delta = withLeases t (mapValues (shiftedBy delta) (t .leases))
 
 -- ## questions
+-- how many leases there are, due or not
 abbrev pub inFlight : Table → ℕ
 inFlight t = length (t .leases)
 
+-- no lease of the offset still runs
 abbrev pub isClaimable : Table → ℕ → ℕ → Bool
 isClaimable t o now = not (running (leaseOf t o) now)
 
+-- the count of a lease
 abbrev pub deliveriesOf : Option Lease → Option ℕ
 deliveriesOf l = Option·map (λ (x : Lease). x .deliveries) l
 
@@ -64,6 +70,7 @@ deliveriesOf l = Option·map (λ (x : Lease). x .deliveries) l
 abbrev pub deliveries : Table → ℕ → ℕ → Option ℕ
 deliveries t o g = cond (owns (leaseOf t o) g) (deliveriesOf (leaseOf t o)) none
 
+-- a token owns a lease that still runs
 abbrev pub holdsActive : Table → ℕ → ℕ → ℕ → Bool
 holdsActive t o g now = owns (leaseOf t o) g && running (leaseOf t o) now
 
@@ -71,10 +78,11 @@ holdsActive t o g now = owns (leaseOf t o) g && running (leaseOf t o) now
 abbrev pub pendingRedeliveryAttempt : Table → ℕ → ℕ → Option ℕ
 pendingRedeliveryAttempt t o now = cond (overdue (leaseOf t o) now) (deliveriesOf (leaseOf t o)) none
 
--- the offsets of due leases, rising
+-- the offsets of due leases, in their order
 abbrev pub dueOffsets : ℕ → List (Entry Lease) → List ℕ
 dueOffsets now [] = []
 dueOffsets now (e ∷ l) = cond (leb (e .value .deadline) now) (e .key ∷ dueOffsets now l) (dueOffsets now l)
 
+-- those of a table, rising
 abbrev pub expired : Table → ℕ → List ℕ
 expired t now = dueOffsets now (t .leases)

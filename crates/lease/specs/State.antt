@@ -46,15 +46,18 @@ pub record Valid (t : Table) : Type 0 where
   pub generation-fits : t .nextGeneration ≤ MAX
 
 -- ## the struct
+-- its arrays as lists: the first `len` places of the columns, side by side
 abbrev pub leasesOf : LeaseTable → List (Entry Lease)
 leasesOf t = entries (take (t .len) (t .offsets)) (take (t .len) (t .leases))
 
 abbrev pub carriedOf : LeaseTable → List (Entry ℕ)
 carriedOf t = entries (take (t .«carried_len») (t .«carried_offsets»)) (take (t .«carried_len») (t .«carried_counts»))
 
+-- the table that a struct shows
 abbrev pub view : LeaseTable → Table
 view t = record { config = t .config; leases = leasesOf t; carried = carriedOf t; nextGeneration = t .«next_generation» .0; redeliveries = t .«redeliveries_since_flush» }
 
+-- what every contract requires and gives back
 pub record Sound (t : LeaseTable) : Type 0 where
   pub len : t .len ≤ LEASES
   pub carried-len : t .«carried_len» ≤ CARRIED

@@ -6,7 +6,7 @@ ghost use lib.ListN.{length, take};
 ghost use Rattle.types.specs.Limits.{CARRIED};
 ghost use Rattle.types.specs.Keyed.{entries, Rising};
 ghost use Rattle.types.specs.Sorted.{Ascending, below};
-ghost use Rattle.lease.specs.Columns.{inserted, without, Placed, Spans, Picked, Carries};
+ghost use Rattle.lease.specs.Helpers.{inserted, without, Placed, Spans, Picked, Carries};
 ghost use Rattle.lease.specs.Counts.{carry};
 
 // Where a key stands, or where it would stand.

@@ -3,7 +3,7 @@ ghost use mathlib.Core.Path.{_≡_};
 ghost use lib.ListN.{length};
 ghost use Rattle.types.specs.Keyed.{lookup, anyBelow};
 ghost use Rattle.lease.specs.State.{Sound, view};
-ghost use Rattle.lease.specs.Claim.{leaseOf};
+ghost use Rattle.lease.specs.Operations.{leaseOf};
 ghost use Rattle.lease.specs.Answers.{attemptsOf};
 ghost use Rattle.lease.specs.Lookup.{leaseAt};
 use crate::Attempts;

@@ -4,13 +4,13 @@ use Prim.Native.Nat.{ℕ, zero, suc, _≤_, _<_}
 use native.Mathlib.Omega.{arith}
 use native.Mathlib.Nat.{le-of-suc-le-suc}
 use mathlib.Core.Path.{_≡_, refl, sym, ap, _∙_}
-use mathlib.Core.Bool.{Bool, true, false, cond, true≢false}
+use mathlib.Core.Bool.{true, false, cond, true≢false}
 use mathlib.Core.List.{List, [], _∷_}
-use mathlib.Core.Option.{Option, none, some, Option·none-ne-some, Option·map}
+use mathlib.Core.Option.{none, some, Option·none-ne-some, Option·map}
 use lib.Dec.{ltb, eqb}
 use lib.ListN.{length, getD}
 use borrow.Author.Tests.{ltb-true, ltb-false, eqb-true, eqb-false, eq-eqb, ne-eqb}
-use Rattle.types.specs.Keyed.{Entry, entry, lookup, put, update, delete, dropBelow, anyBelow, Rising, All, mapValues}
+use Rattle.types.specs.Keyed.{Entry, lookup, put, update, delete, dropBelow, anyBelow, Rising, All, mapValues}
 use Rattle.types.proofs.Cases.{split}
 
 eqb-move : (j k x : ℕ) → eqb j k ≡ false → eqb k x ≡ true → eqb j x ≡ false

@@ -10,3 +10,4 @@ pub mod Columns
 pub mod Checked
 pub mod Entries
 pub mod Lists
+pub mod Loops

@@ -4,7 +4,7 @@ use mathlib.Core.Path.{_≡_, sym, _∙_}
 use mathlib.Core.Bool.{false}
 use borrow.Author.Needs.{needs}
 use Rattle.cursor.specs.Cursor.{settled}
-use Rattle.lease.specs.Claim.{leaseOf, running}
+use Rattle.lease.specs.Operations.{leaseOf, running}
 use Rattle.consumer.specs.View.{view}
 use Rattle.consumer.proofs.CallsClaim.{blocked, unblocked, is-last, is-settled, is-running, is-exhausted, is-at-ceiling, is-at-threshold, is-full, is-open}
 use Rattle.consumer.proofs.Consumer.claim_test.Statement.{statement}

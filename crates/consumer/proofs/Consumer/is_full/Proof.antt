@@ -7,7 +7,7 @@ use borrow.Author.Needs.{needs}
 use lib.ListN.{length}
 use Rattle.lease.specs.Lookup.{leaseAt}
 use Rattle.lease.specs.Answers.{attemptsOf}
-use Rattle.lease.specs.Claim.{leaseOf}
+use Rattle.lease.specs.Operations.{leaseOf}
 use Rattle.consumer.specs.View.{view}
 use Rattle.consumer.proofs.CallsClaim.{full-leased, full-leases, full-counted, full-counts}
 use Rattle.consumer.proofs.Consumer.is_full.Statement.{statement}

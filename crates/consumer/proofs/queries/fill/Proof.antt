@@ -3,7 +3,7 @@
 use Prim.Native.Nat.{_-_, _≤_}
 use native.Mathlib.Omega.{arith}
 use borrow.Author.Needs.{needs}
-use Rattle.lease.proofs.Loops.{Filling, filling, filling-more}
+use Rattle.types.proofs.Loops.{Filling, filling, filling-more}
 use Rattle.consumer.proofs.Asked.{filled}
 use Rattle.consumer.proofs.queries.fill.Statement.{statement}
 use Rattle.consumer.proofs.queries.fill.Tie as tie

@@ -10,7 +10,7 @@ use borrow.Author.Needs.{needs}
 use Rattle.types.specs.Keyed.{Entry, entries}
 use Rattle.cursor.specs.View as cursors
 use Rattle.attempt.specs.Codec.{entriesOf}
-use Rattle.lease.proofs.Slots.{length-mapped}
+use Rattle.types.proofs.Scan.{length-mapped}
 use Rattle.consumer.specs.Restart.{unsettledCounts}
 use Rattle.consumer.proofs.Carrying.{carried-more, dropped-more, carried-end}
 use Rattle.consumer.proofs.starts.carry.Statement.{statement}

@@ -4,20 +4,16 @@
 use Prim.Native.Nat.{_+_, _-_, _≤_}
 use native.Mathlib.Omega.{arith}
 use mathlib.Core.Path.{_≡_, refl, ap}
-use borrow.Author.Needs.{needs}
 use lib.ListN.{set, getD}
+use borrow.Author.Needs.{needs}
 use Rattle.types.specs.Limits.{LEASES}
+use Rattle.types.proofs.Loops.{Closing, closing, closing-more, closed}
 use Rattle.lease.specs.State.{view}
 use Rattle.lease.specs.declared.LeaseTable.{LeaseTable}
-use Rattle.lease.proofs.Loops.{Closing, closing, closing-more, closed}
 use Rattle.lease.proofs.Slots.{nil, length-mapped, Full, Leased, rebuilt, holding, ascending, leased, free}
 use Rattle.lease.proofs.Tokens.{not-leased, other-generation, owned, shows-removed, ack-fenced, acked}
 use Rattle.lease.proofs.LeaseTable.ack.Statement.{statement}
 use Rattle.lease.proofs.LeaseTable.ack.Tie as tie
-use Rattle.lease.proofs.LeaseTable.ack.Reads as reads
-use Rattle.lease.proofs.LeaseTable.ack.Lts as lts
-use Rattle.lease.proofs.columns.find.Reads as find-reads
-use Rattle.lease.proofs.columns.remove_64.Reads as remove-64-reads
 
 abbrev Inv-loop : tie.InvT-loop
 Inv-loop self₀ len at i₀ j₀ self i j = Closing (self₀ .leases) (self .leases) len at (at + 1) i j × (self ≡ holding self₀ (self .leases))

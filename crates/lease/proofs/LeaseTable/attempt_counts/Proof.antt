@@ -3,13 +3,13 @@
 -- Assumes nothing.
 use Prim.Native.Nat.{_-_, _≤_}
 use native.Mathlib.Omega.{arith}
-use mathlib.Core.Path.{_≡_, refl, ap, _∙_}
+use mathlib.Core.Path.{_≡_, refl, _∙_}
 use mathlib.Core.List.{map}
+use lib.ListN.{length, take, length-set, length-map, List·getD-map}
 use borrow.Author.Needs.{needs}
-use lib.ListN.{length, take, getD, length-set, length-map, List·getD-map}
 use Rattle.types.specs.Limits.{LEASES}
+use Rattle.types.proofs.Loops.{filled-more}
 use Rattle.lease.specs.declared.Lease.{Lease}
-use Rattle.lease.proofs.Loops.{filled-more}
 use Rattle.lease.proofs.Slots.{nil, length-mapped, Full}
 use Rattle.lease.proofs.Lists.{counts, counts-listed}
 use Rattle.lease.proofs.LeaseTable.attempt_counts.Statement.{statement}

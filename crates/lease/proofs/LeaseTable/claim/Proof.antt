@@ -4,13 +4,13 @@
 use Prim.Native.Nat.{_+_, _-_, _≤_, _<_}
 use native.Mathlib.Omega.{arith}
 use mathlib.Core.Path.{_≡_, refl, ap, _∙_}
-use borrow.Author.Needs.{needs}
 use lib.ListN.{set}
 use lib.Seq.{length-take-le}
+use borrow.Author.Needs.{needs}
 use Rattle.types.specs.Limits.{MAX, LEASES, CARRIED}
+use Rattle.types.proofs.Loops.{Opening, opening, opening-more, opened}
 use Rattle.lease.specs.Operations.{afterGrant}
 use Rattle.lease.specs.declared.LeaseTable.{LeaseTable}
-use Rattle.lease.proofs.Loops.{Opening, opening, opening-more, opened}
 use Rattle.lease.proofs.Slots.{nil, length-mapped, Full, Free, holding, ascending, leased, free, found-at, in-flight}
 use Rattle.lease.proofs.Claims.{claim-exhausted, claim-full, claimed, room-first, finished, count-first, granted-first}
 use Rattle.lease.proofs.LeaseTable.claim.Statement.{statement}

@@ -1,12 +1,11 @@
 -- `LeaseTable::claim_again` meets its contract.
 -- Assumes nothing.
+use Prim.Native.Nat.{_≤_}
 use native.Mathlib.Omega.{arith}
 use mathlib.Core.Path.{refl}
-use Prim.Native.Nat.{_≤_}
-use Rattle.types.specs.Limits.{MAX}
 use borrow.Author.Needs.{needs}
 use borrow.Author.Tests.{lt-ltb, le-ltb}
-use Rattle.lease.specs.State.{view}
+use Rattle.types.specs.Limits.{MAX}
 use Rattle.lease.proofs.Slots.{length-mapped, Full, Leased, placed-found, leased}
 use Rattle.lease.proofs.Claims.{claim-in-flight, claim-exhausted, claimed, count-again, granted-again}
 use Rattle.lease.proofs.LeaseTable.claim_again.Statement.{statement}

@@ -2,15 +2,15 @@
 -- Assumes nothing.
 use Prim.Native.Nat.{_-_, _≤_}
 use native.Mathlib.Omega.{arith}
-use mathlib.Core.Path.{_≡_, refl, sym, ap, _∙_}
-use borrow.Author.Needs.{needs}
-use lib.ListN.{length, take}
+use mathlib.Core.Path.{_≡_, sym, ap, _∙_}
+use lib.ListN.{length}
 use lib.Seq.{length-take-le}
+use borrow.Author.Needs.{needs}
 use Rattle.types.specs.Limits.{LEASES}
 use Rattle.types.proofs.Lists.{listed-short, listed-filled}
+use Rattle.types.proofs.Loops.{Filling, filling, filling-more}
 use Rattle.lease.specs.State.{view}
 use Rattle.lease.specs.Rest.{expired}
-use Rattle.lease.proofs.Loops.{Filling, filling, filling-more}
 use Rattle.lease.proofs.LeaseTable.expired.Statement.{statement}
 use Rattle.lease.proofs.LeaseTable.expired.Tie as tie
 

@@ -4,15 +4,10 @@ use native.Mathlib.Omega.{arith}
 use borrow.Author.Needs.{needs}
 use Rattle.lease.specs.State.{view}
 use Rattle.lease.specs.Operations.{dueAt}
-use Rattle.lease.specs.declared.Lease.{Lease}
-use Rattle.lease.specs.declared.LeaseTable.{LeaseTable}
-use Rattle.lease.proofs.Slots.{nil, length-mapped, Full, Leased, ascending, leased, free}
+use Rattle.lease.proofs.Slots.{length-mapped, Full, Leased, ascending, leased, free}
 use Rattle.lease.proofs.Tokens.{not-leased, other-generation, shows-stored, extend-fenced, extend-capped, extend-done}
 use Rattle.lease.proofs.LeaseTable.extend.Statement.{statement}
 use Rattle.lease.proofs.LeaseTable.extend.Tie as tie
-use Rattle.lease.proofs.LeaseTable.extend.Reads as reads
-use Rattle.lease.proofs.LeaseTable.extend.Lts as lts
-use Rattle.lease.proofs.columns.find.Reads as find-reads
 
 full : (c : tie.Start) → Full (c .args .t1)
 full c = record { offsets = search needs; leases = search (needs, length-mapped); carried-offsets = search needs; carried-counts = search needs }

@@ -1,7 +1,7 @@
 -- `LeaseTable::in_flight` meets its contract.
 -- Assumes nothing.
-use borrow.Author.Needs.{needs}
 use mathlib.Core.Path.{sym}
+use borrow.Author.Needs.{needs}
 use Rattle.lease.proofs.Slots.{length-mapped, Full, in-flight}
 use Rattle.lease.proofs.LeaseTable.in_flight.Statement.{statement}
 use Rattle.lease.proofs.LeaseTable.in_flight.Tie as tie

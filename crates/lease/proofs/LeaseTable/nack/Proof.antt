@@ -1,7 +1,6 @@
 -- `LeaseTable::nack` meets its contract.
 -- Assumes nothing.
 use native.Mathlib.Omega.{arith}
-use mathlib.Core.Path.{ap}
 use borrow.Author.Needs.{needs}
 use Rattle.lease.specs.State.{view}
 use Rattle.lease.proofs.Slots.{length-mapped, Full, Leased, ascending, leased, free}

@@ -1,9 +1,7 @@
 -- `LeaseTable::note_attempts_flushed` meets its contract.
 -- Assumes nothing.
-use mathlib.Core.Path.{ap}
-use Prim.Native.Nat.{ℕ}
 use borrow.Author.Needs.{needs}
-use Rattle.lease.specs.State.{Table, view}
+use Rattle.lease.specs.State.{view}
 use Rattle.lease.proofs.Returns.{becomes}
 use Rattle.lease.proofs.Valid.{valid-flushed}
 use Rattle.lease.proofs.LeaseTable.note_attempts_flushed.Statement.{statement}

@@ -4,13 +4,13 @@
 use Prim.Native.Nat.{_-_, _≤_}
 use native.Mathlib.Omega.{arith}
 use mathlib.Core.Path.{_≡_, refl, ap}
-use borrow.Author.Needs.{needs}
 use lib.ListN.{take, set, getD}
 use lib.Seq.{length-take-le}
-use Rattle.types.specs.Limits.{LEASES, CARRIED}
+use borrow.Author.Needs.{needs}
+use Rattle.types.specs.Limits.{LEASES}
 use Rattle.types.proofs.Sorted.{below-le}
+use Rattle.types.proofs.Loops.{Closing, closing, closing-more, closed}
 use Rattle.lease.specs.declared.LeaseTable.{LeaseTable}
-use Rattle.lease.proofs.Loops.{Closing, closing, closing-more, closed}
 use Rattle.lease.proofs.Slots.{nil, length-mapped, Full, rebuilt, holding, ascending, carried-ascending}
 use Rattle.lease.proofs.Changes.{releases}
 use Rattle.lease.proofs.LeaseTable.release_below.Statement.{statement}

@@ -2,12 +2,11 @@
 -- Assumes nothing.
 use Prim.Native.Nat.{ℕ, _+_, _-_, _≤_, min}
 use native.Mathlib.Omega.{arith}
-use mathlib.Core.Path.{_≡_, refl, sym, ap, subst, _∙_}
-use mathlib.Core.List.{List, _∷_}
-use borrow.Author.Needs.{needs}
-use lib.ListN.{length, take, drop, getD}
 use native.Mathlib.Numerals.{add-one}
-use Rattle.types.specs.Limits.{MAX, MAX32, CARRIED}
+use mathlib.Core.Path.{_≡_, refl, sym, ap, _∙_}
+use mathlib.Core.List.{List, _∷_}
+use lib.ListN.{length, drop, getD}
+use borrow.Author.Needs.{needs}
 use Rattle.types.specs.Keyed.{Entry, entry, entries, All}
 use Rattle.types.proofs.Columns.{drop-entry, drop-entries-past}
 use Rattle.lease.specs.State.{view, carriedOf, withCarried}

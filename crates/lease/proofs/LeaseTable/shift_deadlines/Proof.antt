@@ -4,13 +4,12 @@
 use Prim.Native.Nat.{_-_, _≤_}
 use native.Mathlib.Omega.{arith}
 use mathlib.Core.Path.{_≡_, refl, ap}
+use lib.ListN.{length, set}
 use borrow.Author.Needs.{needs}
-use lib.ListN.{length, set, getD}
 use Rattle.types.specs.Limits.{LEASES}
+use Rattle.types.proofs.Loops.{Mapping, mapping, mapping-more, mapped}
 use Rattle.lease.specs.Rest.{shiftedBy}
-use Rattle.lease.specs.declared.Lease.{Lease}
 use Rattle.lease.specs.declared.LeaseTable.{LeaseTable}
-use Rattle.lease.proofs.Loops.{Mapping, mapping, mapping-more, mapped}
 use Rattle.lease.proofs.Slots.{nil, length-mapped, holding}
 use Rattle.lease.proofs.Changes.{shifts}
 use Rattle.lease.proofs.LeaseTable.shift_deadlines.Statement.{statement}

@@ -3,7 +3,7 @@
 use Prim.Native.Nat.{_-_}
 use native.Mathlib.Omega.{arith}
 use borrow.Author.Needs.{needs}
-use Rattle.lease.proofs.Loops.{Opening, opening, opening-more, opened}
+use Rattle.types.proofs.Loops.{Opening, opening, opening-more, opened}
 use Rattle.lease.proofs.columns.insert.Statement.{statement}
 use Rattle.lease.proofs.columns.insert.Tie as tie
 

@@ -4,8 +4,8 @@ use Prim.Native.Nat.{ℕ, _+_, _<_}
 use native.Mathlib.Omega.{arith}
 use mathlib.Core.Path.{_≡_}
 use mathlib.Core.List.{List, _∷_}
-use borrow.Author.Needs.{needs}
 use lib.ListN.{length, take, drop, getD}
+use borrow.Author.Needs.{needs}
 use Rattle.types.specs.Keyed.{Entry, entry, entries}
 use Rattle.types.proofs.Columns.{length-used, drop-used, drop-unused}
 use Rattle.lease.proofs.Merge.{picked-last-left, picked-last-right, picked-left, picked-right, picked-both}

@@ -3,7 +3,7 @@
 use Prim.Native.Nat.{_-_}
 use native.Mathlib.Omega.{arith}
 use borrow.Author.Needs.{needs}
-use Rattle.lease.proofs.Loops.{Closing, closing, closing-more, closed}
+use Rattle.types.proofs.Loops.{Closing, closing, closing-more, closed}
 use Rattle.lease.proofs.columns.remove_counts.Statement.{statement}
 use Rattle.lease.proofs.columns.remove_counts.Tie as tie
 

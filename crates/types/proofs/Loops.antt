@@ -5,10 +5,10 @@ use Prim.Native.Nat.{ℕ, suc, _+_, _-_, _≤_, _<_}
 use native.Mathlib.Omega.{arith}
 use mathlib.Core.Path.{_≡_, refl, sym, ap, _∙_}
 use native.Mathlib.Numerals.{add-one}
-use mathlib.Core.List.{List, [], _∷_, _++_, map, append-nil}
+use mathlib.Core.List.{List, _∷_, _++_, map, append-nil}
 use lib.ListN.{length, take, drop, getD, set, length-set, drop-of-length-le}
 use lib.Seq.{take-take, take-all, take-suc, take-set-lt, take-suc-set, drop-set-lt, drop-cons, drop-drop, getD-take, append-snoc, length-take-le}
 use Rattle.types.proofs.Shift.{carry-more, carry-end, down-more, down-end}
 
 module _ {A : Type 0} where
   -- `held` belongs at i: with it there, the column is the one asked for

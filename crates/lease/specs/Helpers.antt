@@ -1,4 +1,4 @@
--- What the helpers on columns answer: the place of a key, and a column with an element put in or with places taken out.
+-- What the private helpers answer. No public contract cites this file.
 use Prim.Native.Nat.{ℕ, _+_, _≤_, _<_, max}
 use mathlib.Core.Path.{_≡_}
 use mathlib.Core.Bool.{cond}
@@ -6,9 +6,10 @@ use mathlib.Core.List.{List, [], _∷_, _++_}
 use mathlib.Core.Option.{Option·getD}
 use lib.Dec.{ltb, eqb}
 use lib.ListN.{length, take, drop, getD}
-use Rattle.types.specs.Limits.{CARRIED}
+use Rattle.types.specs.Limits.{LEASES, CARRIED}
 use Rattle.types.specs.Keyed.{Entry, entry, entries, lookup, delete}
 use Rattle.types.specs.Sorted.{below}
+use Rattle.lease.specs.declared.DueOffsets.{DueOffsets}
 use Rattle.lease.specs.declared.columns.Place.{Place}
 use Rattle.lease.specs.declared.columns.Place.the-variants.{Found, Missing}
 use Rattle.lease.specs.declared.columns.Span.{Span}
@@ -16,6 +17,7 @@ use Rattle.lease.specs.declared.columns.Pick.{Pick}
 use Rattle.lease.specs.declared.columns.CarryOutcome.{CarryOutcome}
 use Rattle.lease.specs.declared.columns.CarryOutcome.the-variants.{Kept, Full}
 
+-- ## columns
 -- x put in at a place
 abbrev pub inserted : {A : Type 0} → ℕ → A → List A → List A
 inserted at x l = take at l ++ x ∷ drop at l
@@ -60,3 +62,9 @@ pub record Picked (k l : List (Entry ℕ)) (i j : ℕ) (r : Pick) : Type 0 where
 abbrev pub Carries : List (Entry ℕ) → CarryOutcome → List ℕ → List ℕ → Type 0
 Carries right (Kept n) ks vs = (n ≤ CARRIED) × (entries (take n ks) (take n vs) ≡ right)
 Carries right Full ks vs = CARRIED < length right
+
+-- ## due leases
+-- a list of offsets in the first places of an array
+pub record Offsets (r : DueOffsets) (right : List ℕ) : Type 0 where
+  pub len : r .len ≤ LEASES
+  pub is : take (r .len) (r .offsets) ≡ right
