@@ -49,9 +49,10 @@ module _ (t : LeaseTable) (full : Full t) (ok : Sound t) (b first carried : ℕ)
       → take (t .len - (first - 0)) ks ≡ without 0 first (take (t .len) (t .offsets)) → take (t .len - (first - 0)) vs ≡ without 0 first (take (t .len) (t .leases))
       → take (t .«carried_len» - (carried - 0)) cks ≡ without 0 carried (take (t .«carried_len») (t .«carried_offsets»))
       → take (t .«carried_len» - (carried - 0)) cvs ≡ without 0 carried (take (t .«carried_len») (t .«carried_counts»))
-      → {after : LeaseTable} → after ≡ shortened t ks vs (t .len - first) cks cvs (t .«carried_len» - carried) → Becomes after (releaseBelow (view t) b)
+      → {after : LeaseTable} → after ≡ shortened t ks vs (t .len - (first - 0)) cks cvs (t .«carried_len» - carried) → Becomes after (releaseBelow (view t) b)
   releases e c p q v w same =
-      rw same (becomes (record {
+      let z : first - 0 ≡ first = omega arith in
+      rw (same ∙ ap (λ (n : ℕ). shortened t ks vs (t .len - n) cks cvs (t .«carried_len» - carried)) z) (becomes (record {
         len = omega (arith, ok .len);
         carried-len = omega (arith, ok .carried-len);
         is =

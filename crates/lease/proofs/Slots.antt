@@ -16,7 +16,7 @@ use Rattle.types.proofs.Keyed.{delete-absent}
 use Rattle.types.proofs.Columns.{length-entries, rising-ascending, lookup-found, put-found, delete-found, lookup-missing, put-missing}
 use Rattle.lease.specs.State.{Sound, leasesOf}
 use Rattle.lease.specs.Operations.{lease}
-use Rattle.lease.specs.Helpers.{Placed, Spans, inserted, without}
+use Rattle.lease.specs.Helpers.{Placed, Spans, inserted, without, rebuilt}
 use Rattle.lease.specs.declared.Lease.{Lease}
 use Rattle.lease.specs.declared.LeaseTable.{LeaseTable}
 use Rattle.lease.specs.declared.columns.Place.{Place}
@@ -30,21 +30,7 @@ nil = lease 0 0 0 0
 pub length-mapped : {A B : Type 0} (f : A → B) (l : List A) (n : ℕ) → length (map f l) ≡ n → length l ≡ n
 length-mapped f l n e = sym (length-map l f) ∙ e
 
--- a table with other leases in it, in columns of which the first n places are in use; and with other values alone
-abbrev pub rebuilt : LeaseTable → List ℕ → List Lease → ℕ → LeaseTable
-rebuilt t ks vs n =
-    record {
-      config = t .config;
-      offsets = ks;
-      leases = vs;
-      len = n;
-      «carried_offsets» = t .«carried_offsets»;
-      «carried_counts» = t .«carried_counts»;
-      «carried_len» = t .«carried_len»;
-      «next_generation» = t .«next_generation»;
-      «redeliveries_since_flush» = t .«redeliveries_since_flush»;
-    }
-
+-- a table with other values in its leases
 abbrev pub holding : LeaseTable → List Lease → LeaseTable
 holding t vs = rebuilt t (t .offsets) vs (t .len)
 
