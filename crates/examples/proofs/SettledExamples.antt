@@ -14,7 +14,7 @@ use Rattle.attempt.specs.Examples as attempts
 use Rattle.lease.specs.Operations.{claim, extend}
 use Rattle.lease.proofs.Examples.{leased}
 use Rattle.lease.proofs.Examples as leases
-use Rattle.consumer.specs.Examples as consumer
+use Rattle.examples.specs.Consumer as consumer
 
 -- the refusals, as a caller is told them
 pub record Numbered : Type 0 where

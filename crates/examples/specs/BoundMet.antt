@@ -18,11 +18,11 @@ use Rattle.consumer.specs.Calls as consumer
 use Rattle.consumer.specs.Checkpoint as checkpoint
 use Rattle.consumer.specs.Restart as restarts
 use Rattle.consumer.specs.Restart.{fresh, fromWalk}
-use Rattle.consumer.specs.Examples.{settings}
+use Rattle.examples.specs.Consumer.{settings}
 use Rattle.machine.specs.Calls.{claim, ask, begin, step, restart}
 use Rattle.machine.specs.Door.{door}
 use Rattle.crash_safety.specs.Runs.{Item, call, cut, torn, next, run, begins}
 use Rattle.crash_safety.specs.Demand3.{delivers, handOuts, restartsIn}
 
 -- a checkpoint; offset 0 is handed out twice; the power fails in the header of the next checkpoint; a restart, a checkpoint, and
 -- offset 0 is handed out twice again, as the counts since the first checkpoint are lost
