@@ -12,9 +12,10 @@ use borrow.Author.Tests.{le-leb, lt-leb, eq-eqb, ne-eqb}
 use Rattle.types.specs.Limits.{MAX, LEASES, sat32}
 use Rattle.types.specs.Refusal.{Result, refused, done, InFlight, Exhausted, Full}
 use Rattle.types.specs.Keyed.{Entry, put}
+use Rattle.types.specs.Zipped.{inserted, removed}
 use Rattle.lease.specs.State.{Table, Sound, view, leasesOf, carriedOf}
 use Rattle.lease.specs.Operations.{lease, leaseOf, isNone, running, deadlineFrom, nextCount, consumed, afterGrant, Grant, grantOf, grant, granted, claimRows, claim}
-use Rattle.lease.specs.Helpers.{inserted, without, Spans}
+use Rattle.lease.specs.Helpers.{Spans}
 use Rattle.lease.specs.Answers.{Answers}
 use Rattle.lease.specs.declared.Lease.{Lease}
 use Rattle.lease.specs.declared.LeaseTable.{LeaseTable}
@@ -101,8 +102,8 @@ module _ (t : LeaseTable) (ok : Sound t) (o at now : ℕ) where
     pub granted-first : Free t o at → t .len < LEASES → (c : Span) → Spans o (take (t .«carried_len») (t .«carried_offsets»)) (take (t .«carried_len») (t .«carried_counts»)) c
         → d ≡ sat32 (c .count) 1 → (ks : List ℕ) (vs : List Lease) (cks cvs : List ℕ)
         → take (t .len + 1) ks ≡ inserted at o (take (t .len) (t .offsets)) → take (t .len + 1) vs ≡ inserted at new (take (t .len) (t .leases))
-        → take (t .«carried_len» - (c .to - c .from)) cks ≡ without (c .from) (c .to) (take (t .«carried_len») (t .«carried_offsets»))
-        → take (t .«carried_len» - (c .to - c .from)) cvs ≡ without (c .from) (c .to) (take (t .«carried_len») (t .«carried_counts»))
+        → take (t .«carried_len» - (c .to - c .from)) cks ≡ removed (c .from) (c .to) (take (t .«carried_len») (t .«carried_offsets»))
+        → take (t .«carried_len» - (c .to - c .from)) cvs ≡ removed (c .from) (c .to) (take (t .«carried_len») (t .«carried_counts»))
         → {u : LeaseTable} → u ≡ after ks vs (t .len + 1) cks cvs (t .«carried_len» - (c .to - c .from)) r → Shows u (grant (view t) o now)
     granted-first here room c prior e ks vs cks cvs p q v w same =
         rw same (record {

@@ -14,9 +14,10 @@ use Rattle.types.specs.Sorted.{Ascending, below}
 use Rattle.types.proofs.Sorted.{below-le}
 use Rattle.types.proofs.Keyed.{delete-absent}
 use Rattle.types.proofs.Columns.{length-entries, rising-ascending, lookup-found, put-found, delete-found, lookup-missing, put-missing}
+use Rattle.types.specs.Zipped.{inserted, removed}
 use Rattle.lease.specs.State.{Sound, leasesOf}
 use Rattle.lease.specs.Operations.{lease}
-use Rattle.lease.specs.Helpers.{Placed, Spans, inserted, without, rebuilt}
+use Rattle.lease.specs.Helpers.{Placed, Spans, rebuilt}
 use Rattle.lease.specs.declared.Lease.{Lease}
 use Rattle.lease.specs.declared.LeaseTable.{LeaseTable}
 use Rattle.lease.specs.declared.columns.Place.{Place}
@@ -58,7 +59,7 @@ pub record Stands {A : Type 0} (d : A) (n : ℕ) (ks : List ℕ) (vs : List A) (
   pub inside : at < n
   pub is : lookup x (entries (take n ks) (take n vs)) ≡ some (getD vs at d)
   pub put : (v : A) → entries (take n ks) (take n (set vs at v)) ≡ put x v (entries (take n ks) (take n vs))
-  pub gone : entries (without at (at + 1) (take n ks)) (without at (at + 1) (take n vs)) ≡ delete x (entries (take n ks) (take n vs))
+  pub gone : entries (removed at (at + 1) (take n ks)) (removed at (at + 1) (take n vs)) ≡ delete x (entries (take n ks) (take n vs))
 
 -- x stands nowhere, and belongs at a place
 pub record Lacks {A : Type 0} (n : ℕ) (ks : List ℕ) (vs : List A) (x at : ℕ) : Type 0 where

@@ -8,6 +8,7 @@ use lib.Dec.{ltb, eqb}
 use lib.ListN.{length, take, drop, getD}
 use Rattle.types.specs.Limits.{LEASES, CARRIED}
 use Rattle.types.specs.Keyed.{Entry, entry, entries, lookup, delete}
+use Rattle.types.specs.Zipped.{inserted, removed}
 use Rattle.types.specs.Sorted.{below}
 use Rattle.lease.specs.declared.DueOffsets.{DueOffsets}
 use Rattle.lease.specs.declared.Lease.{Lease}
@@ -20,14 +21,6 @@ use Rattle.lease.specs.declared.columns.CarryOutcome.{CarryOutcome}
 use Rattle.lease.specs.declared.columns.CarryOutcome.the-variants.{Kept, Full}
 
 -- ## columns
--- x put in at a place
-abbrev pub inserted : {A : Type 0} → ℕ → A → List A → List A
-inserted at x l = take at l ++ x ∷ drop at l
-
--- without the places from `from` up to `to`
-abbrev pub without : {A : Type 0} → ℕ → ℕ → List A → List A
-without from to l = take from l ++ drop to l
-
 -- where a key stands among keys, or would stand
 abbrev pub Placed : ℕ → List ℕ → Place → Type 0
 Placed x ks (Found at) = (at < length ks) × (getD ks at 0 ≡ x)
@@ -38,7 +31,7 @@ pub record Spans (x : ℕ) (ks vs : List ℕ) (r : Span) : Type 0 where
   pub order : r .from ≤ r .to
   pub inside : r .to ≤ length ks
   pub count : r .count ≡ Option·getD (lookup x (entries ks vs)) 0
-  pub gone : entries (without (r .from) (r .to) ks) (without (r .from) (r .to) vs) ≡ delete x (entries ks vs)
+  pub gone : entries (removed (r .from) (r .to) ks) (removed (r .from) (r .to) vs) ≡ delete x (entries ks vs)
 
 -- ## two sorted lists of counts in one, the larger count where a key stands in both
 -- an entry before the rest of its own list, merged with another list
@@ -83,8 +76,8 @@ rebuilt t ks vs n =
 
 -- without the leases at the places from `from` up to `to`
 pub record Shorter (t : LeaseTable) (from to : ℕ) (r : LeaseTable) : Type 0 where
-  pub keys : take (t .len - (to - from)) (r .offsets) ≡ without from to (take (t .len) (t .offsets))
-  pub values : take (t .len - (to - from)) (r .leases) ≡ without from to (take (t .len) (t .leases))
+  pub keys : take (t .len - (to - from)) (r .offsets) ≡ removed from to (take (t .len) (t .offsets))
+  pub values : take (t .len - (to - from)) (r .leases) ≡ removed from to (take (t .len) (t .leases))
   pub rest : r ≡ rebuilt t (r .offsets) (r .leases) (t .len - (to - from))
 
 -- with a lease of offset x put in at a place

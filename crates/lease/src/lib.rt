@@ -389,8 +389,8 @@ impl LeaseTable {
     {
         let n = self.carried_len;
         let carried = columns::position(&self.carried_offsets, n, up_to.0);
-        columns::remove_128(&mut self.carried_offsets, n, 0, carried);
-        columns::remove_counts_128(&mut self.carried_counts, n, 0, carried);
+        tables::remove_128(&mut self.carried_offsets, n, 0, carried);
+        tables::remove_counts_128(&mut self.carried_counts, n, 0, carried);
         self.carried_len = n - carried;
         let first = columns::position(&self.offsets, self.len, up_to.0);
         self.without_leases(0, first)
@@ -402,7 +402,7 @@ impl LeaseTable {
         ensures { λ r. ⌜ Shorter self from to r ⌝ }
     {
         let len = self.len;
-        columns::remove_64(&mut self.offsets, len, from, to);
+        tables::remove_64(&mut self.offsets, len, from, to);
         let mut i = from;
         let mut j = to;
         while j < len {
@@ -450,8 +450,8 @@ impl LeaseTable {
         }
         let n = self.carried_len;
         let prior = columns::count_of(&self.carried_offsets, &self.carried_counts, n, offset.0);
-        columns::remove_128(&mut self.carried_offsets, n, prior.from, prior.to);
-        columns::remove_counts_128(&mut self.carried_counts, n, prior.from, prior.to);
+        tables::remove_128(&mut self.carried_offsets, n, prior.from, prior.to);
+        tables::remove_counts_128(&mut self.carried_counts, n, prior.from, prior.to);
         self.carried_len = n - (prior.to - prior.from);
         let deliveries = saturating_next(prior.count);
         self.next_generation.0 = generation.0 + 1;
@@ -470,7 +470,7 @@ impl LeaseTable {
         ensures { λ r. ⌜ Longer self at (offset .0) lease r ⌝ }
     {
         let len = self.len;
-        columns::insert_64(&mut self.offsets, len, at, offset.0);
+        tables::insert_64(&mut self.offsets, len, at, offset.0);
         let mut held = lease;
         let mut i = at;
         while i < len {

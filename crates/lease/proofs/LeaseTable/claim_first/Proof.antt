@@ -6,6 +6,7 @@ use mathlib.Core.Path.{refl}
 use lib.Seq.{length-take-le}
 use borrow.Author.Needs.{needs}
 use Rattle.types.specs.Limits.{MAX, CARRIED}
+use Rattle.tables.proofs.Columns.{taken-out-front}
 use Rattle.lease.proofs.Slots.{length-mapped, Full, Free, free, in-flight}
 use Rattle.lease.proofs.Claims.{claim-exhausted, claim-full, claimed, room-first, count-first, granted-first}
 use Rattle.lease.proofs.LeaseTable.claim_first.Statement.{statement}
@@ -47,10 +48,10 @@ count-of-requires c κs =
     (omega (arith, f .carried-offsets, s .pre .0 .carried-len), omega (arith, f .carried-counts, s .pre .0 .carried-len), s .pre .0 .valid .carried-rising)
 
 remove-128-requires : tie.Need-remove-128-requires
-remove-128-requires c κs = span (c .before)
+remove-128-requires c κs = search needs
 
 remove-counts-128-requires : tie.Need-remove-counts-128-requires
-remove-counts-128-requires c κs = span (c .before .before .before)
+remove-counts-128-requires c κs = search needs
 
 sub-self : tie.Need-sub-self
 sub-self c = span (c .before .before .before .before .before) .0
@@ -91,13 +92,17 @@ returns-3 c =
     let e = o .before .before .before .before .before .before in
     let s = start o in
     let h = here s in
+    let t = s .args .t1 in
     claimed (s .args .t1) (s .pre .0) (s .args .offset .0) (s .args .now) (rw (h .is)) (e .before .if1 .left)
     (room-first (s .args .t1) (s .args .offset .0) (s .args .at) h (in-flight (s .args .t1) (full s) (s .pre .0)) (e .if2 .left)) (fits s) (n .saturating-next .result)
     (count-first (s .args .t1) (s .args .offset .0) (s .args .at) (n .saturating-next .result) h (o .count-of .result) (o .count-of .ensures) (n .saturating-next .ensures)) _ (c .before .granted .ensures)
     (granted-first (s .args .t1) (s .pre .0) (s .args .offset .0) (s .args .at) (s .args .now) (n .saturating-next .result) (l .lease .result) (l .lease .ensures) (a .after-grant .result) (a .after-grant .ensures)
     h (e .if2 .left) (o .count-of .result) (o .count-of .ensures) (n .saturating-next .ensures)
     (w .result .offsets) (w .result .leases) (m .before .before .remove-128 .last .0) (m .remove-counts-128 .last .0)
-    (w .ensures .keys) (w .ensures .values) (m .before .before .remove-128 .ensures) (m .remove-counts-128 .ensures) (w .ensures .rest))
+    (w .ensures .keys) (w .ensures .values)
+    (taken-out-front (t .«carried_len») (o .count-of .result .from) (o .count-of .result .to) (t .«carried_offsets») (span o .0) (span o .1) (omega (arith, full s .carried-offsets, span o .2)) (m .before .before .remove-128 .ensures))
+    (taken-out-front (t .«carried_len») (o .count-of .result .from) (o .count-of .result .to) (t .«carried_counts») (span o .0) (span o .1) (omega (arith, full s .carried-counts, span o .2)) (m .remove-counts-128 .ensures))
+    (w .ensures .rest))
 
 pub claim-first-spec : {M : Type 1} → statement M
 claim-first-spec =

@@ -6,6 +6,7 @@ use lib.ListN.{take}
 use lib.Seq.{length-take-le}
 use borrow.Author.Needs.{needs}
 use Rattle.types.proofs.Sorted.{below-le}
+use Rattle.tables.proofs.Columns.{taken-out-front}
 use Rattle.lease.proofs.Slots.{length-mapped, Full, ascending, carried-ascending}
 use Rattle.lease.proofs.Changes.{releases}
 use Rattle.lease.proofs.LeaseTable.release_below.Statement.{statement}
@@ -40,10 +41,10 @@ position-requires c κs =
     (omega (arith, f .carried-offsets, s .pre .carried-len), carried-ascending (s .args .t1) f (s .pre))
 
 remove-128-requires : tie.Need-remove-128-requires
-remove-128-requires c κs = (omega arith, carried-within (c .before), start (c .before) .pre .carried-len)
+remove-128-requires c κs = search needs
 
 remove-counts-128-requires : tie.Need-remove-counts-128-requires
-remove-counts-128-requires c κs = let p = c .before .before .before in (omega arith, carried-within p, start p .pre .carried-len)
+remove-counts-128-requires c κs = search needs
 
 sub-self : tie.Need-sub-self
 sub-self c = carried-within (c .before .before .before .before)
@@ -62,11 +63,14 @@ returns c =
     let p = c .before in
     let q = second p in
     let s = start q in
+    let t = s .args .t1 in
     let m = p .before .before .before .before in
     releases (s .args .t1) (full s) (s .pre) (s .args .up-to .0) (p .position2 .result) (q .position .result)
     (c .without-leases .result .offsets) (c .without-leases .result .leases) (m .before .before .remove-128 .last .0) (m .remove-counts-128 .last .0)
     (p .position2 .ensures) (q .position .ensures) (c .without-leases .ensures .keys) (c .without-leases .ensures .values)
-    (m .before .before .remove-128 .ensures) (m .remove-counts-128 .ensures) (c .without-leases .ensures .rest)
+    (taken-out-front (t .«carried_len») 0 (q .position .result) (t .«carried_offsets») (omega arith) (carried-within q) (omega (arith, full s .carried-offsets, s .pre .carried-len)) (m .before .before .remove-128 .ensures))
+    (taken-out-front (t .«carried_len») 0 (q .position .result) (t .«carried_counts») (omega arith) (carried-within q) (omega (arith, full s .carried-counts, s .pre .carried-len)) (m .remove-counts-128 .ensures))
+    (c .without-leases .ensures .rest)
 
 pub release-below-spec : {M : Type 1} → statement M
 release-below-spec =

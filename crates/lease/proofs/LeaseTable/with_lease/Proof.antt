@@ -8,6 +8,7 @@ use lib.ListN.{length, set}
 use borrow.Author.Needs.{needs}
 use Rattle.types.specs.Limits.{LEASES}
 use Rattle.types.proofs.Loops.{Opening, opening, opening-more, opened}
+use Rattle.tables.proofs.Columns.{put-in-front}
 use Rattle.lease.specs.Helpers.{rebuilt, Longer}
 use Rattle.lease.specs.declared.LeaseTable.{LeaseTable}
 use Rattle.lease.proofs.Slots.{nil, length-mapped, holding}
@@ -23,8 +24,11 @@ abbrev μ-loop : tie.MeasureT-loop
 full : (c : tie.Start Inv-loop μ-loop) → length (c .args .t1 .leases) ≡ 64
 full c = search (needs, length-mapped)
 
+keys : (c : tie.Start Inv-loop μ-loop) → length (c .args .t1 .offsets) ≡ 64
+keys c = search needs
+
 insert-64-requires : tie.Need-insert-64-requires Inv-loop μ-loop
-insert-64-requires c κs = c .before .pre
+insert-64-requires c κs = search needs
 
 loop-holds : tie.Need-loop-holds Inv-loop μ-loop
 loop-holds c =
@@ -73,7 +77,7 @@ returns c =
     let s = r .before .before in
     let same = ap (λ (t : LeaseTable). rebuilt t (t .offsets) (set (l .self .leases) (l .i) (l .held)) (s .args .t1 .len + 1)) (l .inv .1) in
     subst (Longer (s .args .t1) (s .args .at) (s .args .offset .0) (s .args .lease)) (sym same)
-    (record { keys = r .insert-64 .ensures; values = opened nil (l .inv .0) (c .loop-test .left); rest = refl })
+    (record { keys = put-in-front (s .args .t1 .len) (s .args .at) (s .args .offset .0) (s .args .t1 .offsets) (s .pre .0) (omega (arith, keys s, s .pre .1)) (r .insert-64 .ensures); values = opened nil (l .inv .0) (c .loop-test .left); rest = refl })
 
 pub with-lease-spec : {M : Type 1} → statement M
 with-lease-spec =

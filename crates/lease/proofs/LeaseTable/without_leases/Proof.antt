@@ -8,6 +8,7 @@ use lib.ListN.{length, set, getD}
 use borrow.Author.Needs.{needs}
 use Rattle.types.specs.Limits.{LEASES}
 use Rattle.types.proofs.Loops.{Closing, closing, closing-more, closed}
+use Rattle.tables.proofs.Columns.{taken-out-front}
 use Rattle.lease.specs.Helpers.{rebuilt, Shorter}
 use Rattle.lease.specs.declared.LeaseTable.{LeaseTable}
 use Rattle.lease.proofs.Slots.{nil, length-mapped, holding}
@@ -23,8 +24,11 @@ abbrev μ-loop : tie.MeasureT-loop
 full : (c : tie.Start Inv-loop μ-loop) → length (c .args .t1 .leases) ≡ 64
 full c = search (needs, length-mapped)
 
+keys : (c : tie.Start Inv-loop μ-loop) → length (c .args .t1 .offsets) ≡ 64
+keys c = search needs
+
 remove-64-requires : tie.Need-remove-64-requires Inv-loop μ-loop
-remove-64-requires c κs = c .before .pre
+remove-64-requires c κs = search needs
 
 loop-holds : tie.Need-loop-holds Inv-loop μ-loop
 loop-holds c =
@@ -73,7 +77,7 @@ returns c =
     let s = r .before .before in
     let same = ap (λ (t : LeaseTable). rebuilt t (t .offsets) (t .leases) (s .args .t1 .len - (s .args .to - s .args .from))) (l .inv .1) in
     subst (Shorter (s .args .t1) (s .args .from) (s .args .to)) (sym same)
-    (record { keys = r .remove-64 .ensures; values = closed nil (l .inv .0) (s .pre .0) (c .loop-test .left); rest = refl })
+    (record { keys = taken-out-front (s .args .t1 .len) (s .args .from) (s .args .to) (s .args .t1 .offsets) (s .pre .0) (s .pre .1) (omega (arith, keys s, s .pre .2)) (r .remove-64 .ensures); values = closed nil (l .inv .0) (s .pre .0) (c .loop-test .left); rest = refl })
 
 pub without-leases-spec : {M : Type 1} → statement M
 without-leases-spec =
