@@ -4,7 +4,7 @@ use Prim.Native.Nat.{ℕ, suc, _+_, _-_, _*_, _<_, _≤_}
 use native.Mathlib.Omega.{arith}
 use native.Mathlib.Numerals.{add-one}
 use mathlib.Core.Path.{_≡_, refl, sym, ap, _∙_}
-use mathlib.Core.Bool.{Bool, true, false, cond, _&&_}
+use mathlib.Core.Bool.{true, false, cond, _&&_}
 use mathlib.Core.List.{List, [], _∷_}
 use mathlib.Core.Option.{Option, none, some, Option·none-ne-some}
 use lib.Dec.{leb, eqb}
@@ -13,8 +13,7 @@ use lib.Seq.{sets, drop-cons, drop-drop}
 use borrow.Author.Tests.{eq-eqb, ne-eqb, le-leb, lt-leb, leb-true, leb-false}
 use Rattle.types.specs.Limits.{MAX}
 use Rattle.types.proofs.Cases.{split}
-use Rattle.text.specs.Words.{SPACE, sameBytes, grown, words, behindFirst, laterWords, lengthTo, firstWord, isDigit, allDigits, valueFrom, value, isEmpty, isNumber, number, withDigit, allNumbers, leading, countOf, Gathered}
-use Rattle.text.specs.declared.words.Numbers.{Numbers}
+use Rattle.text.specs.Words.{SPACE, sameBytes, words, behindFirst, laterWords, lengthTo, firstWord, isDigit, allDigits, valueFrom, value, isNumber, number, withDigit, allNumbers, leading, Gathered}
 use Rattle.text.specs.declared.words.Numbers.the-variants.{Count, Bad}
 
 -- ---- one place on

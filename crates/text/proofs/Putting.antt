@@ -1,7 +1,7 @@
 -- Laws of a buffer that is written out when it is full: what each of the three ways to put bytes answers. Assumes nothing.
 use Prim.Native.Nat.{ℕ, _+_}
 use native.Mathlib.Omega.{arith}
-use mathlib.Core.Path.{_≡_, refl, sym, ap, _∙_}
+use mathlib.Core.Path.{_≡_, sym, ap, _∙_}
 use mathlib.Core.List.{List}
 use lib.Dec.{ltb}
 use lib.ListN.{length}
@@ -11,7 +11,7 @@ use Rattle.types.proofs.Cases.{split}
 use Rattle.raw.specs.Bytes.{write, outcomeOf}
 use Rattle.raw.specs.declared.Write.{Write}
 use Rattle.raw.specs.declared.Write.the-variants.{Next, OutTooShort}
-use Rattle.text.specs.Output.{Buffered, buffered, orElse, put, Put}
+use Rattle.text.specs.Output.{buffered, orElse, put, Put}
 
 -- a write that was refused
 module _ (at : ℕ) (bs before out : List ℕ) (w : Write) (wrote : answer (outcomeOf w) out ≡ write at bs before) where

@@ -2,7 +2,7 @@
 -- buffer. Assumes nothing.
 use Prim.Native.Nat.{ℕ, _+_, _-_, _<_, _≤_}
 use native.Mathlib.Omega.{arith}
-use mathlib.Core.Path.{_≡_, refl, sym, _∙_}
+use mathlib.Core.Path.{_≡_}
 use mathlib.Core.Bool.{Bool, true, false, cond, _||_}
 use mathlib.Core.List.{List}
 use lib.Dec.{ltb}
@@ -10,7 +10,7 @@ use lib.ListN.{length, getD}
 use borrow.Author.Tests.{lt-ltb, le-ltb}
 use Rattle.types.proofs.Cases.{split}
 use Rattle.text.specs.Words.{lengthTo}
-use Rattle.text.specs.Lines.{NEWLINE, Within, unread, lineAt, after, take-away, lastLine, passing, forMore, taken, Lies, Took}
+use Rattle.text.specs.Lines.{NEWLINE, Within, unread, lineAt, after, take-away, lastLine, passing, forMore, Lies, Took}
 use Rattle.text.specs.declared.lines.Input.{Input}
 use Rattle.text.specs.declared.lines.Found.the-variants.{More}
 

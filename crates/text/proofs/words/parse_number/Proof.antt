@@ -1,7 +1,7 @@
 -- `parse_number` meets its contract. The loop's invariant: the word's number is that of the digits from i on behind n. Assumes nothing.
 use Prim.Native.Nat.{_+_, _-_, _≤_}
 use native.Mathlib.Omega.{arith}
-use mathlib.Core.Path.{_≡_, refl, sym, ap, _∙_}
+use mathlib.Core.Path.{_≡_, sym, ap, _∙_}
 use lib.ListN.{length, drop, getD, drop-of-length-le}
 use borrow.Author.Needs.{needs}
 use Rattle.types.specs.Limits.{MAX}
