@@ -1,0 +1,38 @@
+-- What a program is told of an answer: 01's number, 0 where nothing was refused, and the values of a refusal.
+use Prim.Native.Nat.{ℕ}
+use mathlib.Core.List.{List, [], _∷_}
+use mathlib.Core.Option.{Option, none, some}
+use lib.ListN.{take}
+use Rattle.types.specs.Refusal.{Refusal, numbered, Result, refused, done, answered}
+use Rattle.types.specs.Refusal as refusal
+use Rattle.attempt.specs.Codec.{decodeOf}
+use Rattle.cursor.specs.Answers.{snapshotError}
+use Rattle.consumer.specs.declared.checkpoint.BeginAnswer.{BeginAnswer}
+use Rattle.consumer.specs.declared.checkpoint.BeginAnswer.the-variants as begins
+use Rattle.consumer.specs.declared.starts.StartAnswer.{StartAnswer}
+use Rattle.consumer.specs.declared.starts.StartAnswer.the-variants as starts
+use Rattle.answers.specs.declared.Told.{Told}
+
+abbrev pub with : ℕ → ℕ → ℕ → ℕ → Told
+with number count first second = record { number = number; count = count; first = first; second = second }
+
+abbrev pub toldOf : Told → refusal.Told
+toldOf t = refusal.told (t .number) (take (t .count) (t .first ∷ t .second ∷ []))
+
+-- an outcome that is no refusal has no values here
+abbrev pub refusalIn : {A : Type 0} → Result A → refusal.Told
+refusalIn r = answered (λ _. []) r
+
+abbrev pub beginRefusal : BeginAnswer → refusal.Told
+beginRefusal (begins.Begun writes) = refusal.told 0 []
+beginRefusal begins.JournalFull = numbered refusal.JournalFull
+
+abbrev pub faultIn : StartAnswer → refusal.Told
+faultIn starts.Started = refusal.told 0 []
+faultIn starts.UnlimitedDeliverNotAllowed = numbered refusal.UnlimitedDeliverNotAllowed
+faultIn starts.TooManySteps = numbered refusal.TooManySteps
+faultIn starts.ZeroThreshold = numbered refusal.ZeroThreshold
+faultIn starts.BadArea = numbered refusal.BadArea
+faultIn (starts.Damaged block) = numbered (refusal.Damaged block)
+faultIn (starts.Cursor error) = numbered (snapshotError error)
+faultIn (starts.Attempts decoded) = refusalIn (decodeOf decoded)

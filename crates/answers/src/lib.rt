@@ -1,0 +1,180 @@
+// What the consumer answers, as a program prints it: document 01's number, 0 where nothing was refused, and the values of a
+// refusal.
+ghost use mathlib.Core.Path.{_≡_};
+ghost use Rattle.types.specs.Refusal.{numbered};
+ghost use Rattle.cursor.specs.Answers.{rangesError, snapshotError};
+ghost use Rattle.attempt.specs.Codec.{decodeOf};
+ghost use Rattle.consumer.specs.View.{claimOf, settleOf, nackOf, progressOf, commitOf};
+ghost use Rattle.consumer.specs.Writing.{stepOf};
+ghost use Rattle.consumer.specs.Starting.{startFault};
+ghost use Rattle.answers.specs.Told.{with, toldOf, refusalIn, beginRefusal, faultIn};
+use attempt::Decode;
+use consumer::calls::ClaimAnswer;
+use consumer::calls::CommitAnswer;
+use consumer::calls::NackAnswer;
+use consumer::calls::ProgressAnswer;
+use consumer::calls::SettleAnswer;
+use consumer::checkpoint::BeginAnswer;
+use consumer::checkpoint::StepAnswer;
+use consumer::starts::StartAnswer;
+use cursor::AckCursorError;
+use cursor::SnapshotError;
+
+// A number of document 01 and the first `count` of two values.
+pub struct Told {
+    pub number: u64,
+    pub count: usize,
+    pub first: u64,
+    pub second: u64,
+}
+
+fn tell(number: u64, count: usize, first: u64, second: u64) -> Told
+    ensures { λ r. ⌜ r ≡ with number count first second ⌝ }
+{
+    Told {
+        number: number,
+        count: count,
+        first: first,
+        second: second,
+    }
+}
+
+pub fn of_claim(answer: ClaimAnswer) -> Told
+    ensures { λ r. ⌜ toldOf r ≡ refusalIn (claimOf answer) ⌝ }
+{
+    match answer {
+        ClaimAnswer::Deliver {
+            token: _,
+            deliveries: _,
+        } => tell(0, 0, 0, 0),
+        ClaimAnswer::DeadLetter {
+            token: _,
+            deliveries: _,
+        } => tell(0, 0, 0, 0),
+        ClaimAnswer::LastOffset => tell(21, 0, 0, 0),
+        ClaimAnswer::Settled => tell(22, 0, 0, 0),
+        ClaimAnswer::InFlight => tell(23, 0, 0, 0),
+        ClaimAnswer::Exhausted => tell(25, 0, 0, 0),
+        ClaimAnswer::CheckpointDue => tell(26, 0, 0, 0),
+        ClaimAnswer::Full => tell(27, 0, 0, 0),
+    }
+}
+
+pub fn of_settle(answer: SettleAnswer) -> Told
+    ensures { λ r. ⌜ toldOf r ≡ refusalIn (settleOf answer) ⌝ }
+{
+    match answer {
+        SettleAnswer::Settled => tell(0, 0, 0, 0),
+        SettleAnswer::Fenced => tell(24, 0, 0, 0),
+        SettleAnswer::Shed => tell(29, 0, 0, 0),
+    }
+}
+
+pub fn of_nack(answer: NackAnswer) -> Told
+    ensures { λ r. ⌜ toldOf r ≡ refusalIn (nackOf answer) ⌝ }
+{
+    match answer {
+        NackAnswer::Requeued { deadline: _ } => tell(0, 0, 0, 0),
+        NackAnswer::Fenced => tell(24, 0, 0, 0),
+        NackAnswer::Exhausted => tell(25, 0, 0, 0),
+        NackAnswer::CheckpointDue => tell(26, 0, 0, 0),
+    }
+}
+
+pub fn of_progress(answer: ProgressAnswer) -> Told
+    ensures { λ r. ⌜ toldOf r ≡ refusalIn (progressOf answer) ⌝ }
+{
+    match answer {
+        ProgressAnswer::Extended { deadline: _ } => tell(0, 0, 0, 0),
+        ProgressAnswer::Fenced => tell(24, 0, 0, 0),
+        ProgressAnswer::CapReached => tell(28, 0, 0, 0),
+    }
+}
+
+pub fn of_commit(answer: CommitAnswer) -> Told
+    ensures { λ r. ⌜ toldOf r ≡ refusalIn (commitOf answer) ⌝ }
+{
+    match answer {
+        CommitAnswer::Committed => tell(0, 0, 0, 0),
+        CommitAnswer::Unchanged => tell(0, 0, 0, 0),
+        CommitAnswer::Held => tell(30, 0, 0, 0),
+    }
+}
+
+pub fn of_begin(answer: BeginAnswer) -> Told
+    ensures { λ r. ⌜ toldOf r ≡ beginRefusal answer ⌝ }
+{
+    match answer {
+        BeginAnswer::Begun { writes: _ } => tell(0, 0, 0, 0),
+        BeginAnswer::JournalFull => tell(31, 0, 0, 0),
+    }
+}
+
+pub fn of_step(answer: StepAnswer) -> Told
+    ensures { λ r. ⌜ toldOf r ≡ refusalIn (stepOf answer) ⌝ }
+{
+    match answer {
+        StepAnswer::Wrote { block: _ } => tell(0, 0, 0, 0),
+        StepAnswer::Finished { block: _ } => tell(0, 0, 0, 0),
+        StepAnswer::BadArea => tell(4, 0, 0, 0),
+    }
+}
+
+pub fn of_ranges(error: AckCursorError) -> Told
+    ensures { λ r. ⌜ toldOf r ≡ numbered (rangesError error) ⌝ }
+{
+    match error {
+        AckCursorError::EmptyRange { start, end } => tell(10, 2, start, end),
+        AckCursorError::NotSortedDisjointAndAboveCommitted { start, prev_end } => {
+            tell(11, 2, start, prev_end)
+        }
+        AckCursorError::TooManyRuns => tell(12, 0, 0, 0),
+    }
+}
+
+pub fn of_cursor(error: SnapshotError) -> Told
+    ensures { λ r. ⌜ toldOf r ≡ numbered (snapshotError error) ⌝ }
+{
+    match error {
+        SnapshotError::Truncated => tell(6, 0, 0, 0),
+        SnapshotError::BadLength { len } => tell(7, 1, len as u64, 0),
+        SnapshotError::UnsupportedVersion(version) => tell(8, 1, version as u64, 0),
+        SnapshotError::BadCrc => tell(9, 0, 0, 0),
+        SnapshotError::Ranges(ranges) => of_ranges(ranges),
+    }
+}
+
+pub fn of_attempts(answer: Decode) -> Told
+    ensures { λ r. ⌜ toldOf r ≡ refusalIn (decodeOf answer) ⌝ }
+{
+    match answer {
+        Decode::Pairs(_) => tell(0, 0, 0, 0),
+        Decode::Truncated => tell(13, 0, 0, 0),
+        Decode::UnsupportedVersion(version) => tell(14, 1, version as u64, 0),
+        Decode::BadLength { len } => tell(15, 1, len as u64, 0),
+        Decode::CountMismatch { declared, actual } => tell(16, 2, declared as u64, actual),
+        Decode::BadCrc => tell(17, 0, 0, 0),
+        Decode::NotSorted {
+            offset,
+            prev_offset,
+        } => tell(18, 2, offset, prev_offset),
+        Decode::TooManyPairs => tell(19, 0, 0, 0),
+        Decode::OutTooShort => tell(20, 0, 0, 0),
+    }
+}
+
+// A start or a restart is refused by no answer of an attempt decoder that has pairs.
+pub fn of_start(answer: StartAnswer) -> Told
+    ensures { λ r. ⌜ toldOf r ≡ faultIn answer ⌝ }
+{
+    match answer {
+        StartAnswer::Started => tell(0, 0, 0, 0),
+        StartAnswer::UnlimitedDeliverNotAllowed => tell(1, 0, 0, 0),
+        StartAnswer::TooManySteps => tell(2, 0, 0, 0),
+        StartAnswer::ZeroThreshold => tell(3, 0, 0, 0),
+        StartAnswer::BadArea => tell(4, 0, 0, 0),
+        StartAnswer::Damaged { block } => tell(5, 1, block as u64, 0),
+        StartAnswer::Cursor(error) => of_cursor(error),
+        StartAnswer::Attempts(decoded) => of_attempts(decoded),
+    }
+}
