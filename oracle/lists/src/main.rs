@@ -4,11 +4,8 @@
 //!     lists make SEED ROUNDS              print a list
 //!     lists run                           run the list on standard input on the original and print its answers
 //!     lists compare PROGRAM SEED.. ROUNDS run PROGRAM and the original on the lists of seeds 1 to SEED, and stop where they differ
-mod make;
-mod run;
-mod state;
-
-use state::State;
+use lists::make;
+use lists::state::State;
 use std::io::{Read, Write};
 use std::process::{exit, Command, Stdio};
 
@@ -88,7 +85,8 @@ fn main() {
 
 #[cfg(test)]
 mod tests {
-    use super::{answers, make};
+    use super::answers;
+    use lists::make;
     use std::collections::BTreeSet;
 
     /// The recorded list has every operation, and every refusal that these modules have.

@@ -1,38 +1,9 @@
 //! Makes lists of operations. The original runs along, so that tokens, times and positions are mostly those that matter: the
 //! lease's own generation or an older one, the deadline or a nanosecond off it, outputs exactly full or one short.
+use crate::random::Random;
 use crate::state::{read_table, Lease, State, BYTES, ENTRIES};
 
 const MAX: u64 = u64::MAX;
-
-/// splitmix64: small, and the same everywhere.
-pub struct Random(pub u64);
-
-impl Random {
-    pub fn next(&mut self) -> u64 {
-        self.0 = self.0.wrapping_add(0x9e37_79b9_7f4a_7c15);
-        let mut z = self.0;
-        z = (z ^ (z >> 30)).wrapping_mul(0xbf58_476d_1ce4_e5b9);
-        z = (z ^ (z >> 27)).wrapping_mul(0x94d0_49bb_1331_11eb);
-        z ^ (z >> 31)
-    }
-
-    pub fn below(&mut self, n: u64) -> u64 {
-        self.next() % n
-    }
-
-    pub fn pick<T: Copy>(&mut self, choices: &[T]) -> T {
-        choices[self.below(choices.len() as u64) as usize]
-    }
-
-    /// A number off another by at most one.
-    fn near(&mut self, n: u64) -> u64 {
-        match self.below(3) {
-            0 => n.saturating_sub(1),
-            1 => n.saturating_add(1),
-            _ => n,
-        }
-    }
-}
 
 /// Puts a line into the list, made from a format and its values.
 macro_rules! say {

@@ -1,0 +1,182 @@
+//! One input on both sides: what is answered, and all that lent memory holds afterwards.
+use lists::codecs;
+
+/// What lent memory holds before a call, a different byte or number at each place.
+fn lent_bytes(len: usize) -> Vec<u8> {
+    (0..len).map(|i| (i * 7 + 3) as u8).collect()
+}
+
+fn lent_numbers(len: usize) -> Vec<u64> {
+    (0..len).map(|i| 0xfeed_0000_0000 + i as u64).collect()
+}
+
+/// Counts the inputs that were compared, and stops at the first on which the two sides differ.
+#[derive(Default)]
+pub struct Both {
+    pub inputs: u64,
+}
+
+/// An answer of either side: the number and the values, and lent memory.
+#[derive(Debug, PartialEq)]
+struct Answer<M> {
+    told: [u64; 3],
+    lent: M,
+}
+
+fn told(numbers: &[u64]) -> [u64; 3] {
+    let mut told = [0; 3];
+    told[..numbers.len()].copy_from_slice(numbers);
+    told
+}
+
+fn given(told: rattle::Told) -> [u64; 3] {
+    [told.number, told.first, told.second]
+}
+
+/// Two columns at the front of lent ones, where both fit.
+fn listed(values: &[u64], left: &[u64], right: &[u64], lent: (Vec<u64>, Vec<u64>)) -> Answer<(Vec<u64>, Vec<u64>)> {
+    let (mut l, mut r) = lent;
+    if l.len() < left.len() || r.len() < right.len() {
+        return Answer {
+            told: told(&[codecs::OUT_TOO_SHORT]),
+            lent: (l, r),
+        };
+    }
+    l[..left.len()].copy_from_slice(left);
+    r[..right.len()].copy_from_slice(right);
+    let mut numbers = vec![0];
+    numbers.extend(values);
+    Answer {
+        told: told(&numbers),
+        lent: (l, r),
+    }
+}
+
+impl Both {
+    fn same<M: PartialEq + std::fmt::Debug>(&mut self, original: Answer<M>, rattle: Answer<M>, input: impl FnOnce() -> String) {
+        self.inputs += 1;
+        if original != rattle {
+            println!(
+                "compare: the two sides differ on {}\n  the original: {original:?}\n  here: {rattle:?}",
+                input()
+            );
+            std::process::exit(1);
+        }
+    }
+
+    pub fn check(&mut self, bytes: &[u8]) {
+        let original = Answer {
+            told: told(&[ironbus::crc::crc32c(bytes).into()]),
+            lent: (),
+        };
+        let rattle = Answer {
+            told: told(&[rattle::crc32c(bytes).into()]),
+            lent: (),
+        };
+        self.same(original, rattle, || format!("the check of {bytes:?}"));
+    }
+
+    /// Decodes cursor bytes into columns with these numbers of places.
+    pub fn decode_cursor(&mut self, bytes: &[u8], places: (usize, usize)) {
+        let lent = (lent_numbers(places.0), lent_numbers(places.1));
+        let (mut starts, mut ends) = lent.clone();
+        let answer = rattle::decode_cursor(bytes, &mut starts, &mut ends);
+        let original = match codecs::decode_cursor(bytes) {
+            Err(refusal) => Answer {
+                told: told(&refusal),
+                lent,
+            },
+            Ok(cursor) => {
+                let (left, right): (Vec<u64>, Vec<u64>) = cursor.ahead_ranges().iter().copied().unzip();
+                listed(&[cursor.committed().get(), left.len() as u64], &left, &right, lent)
+            }
+        };
+        self.same(
+            original,
+            Answer {
+                told: given(answer),
+                lent: (starts, ends),
+            },
+            || format!("cursor bytes {bytes:?} into {places:?} places"),
+        );
+    }
+
+    /// Encodes a cursor into `len` lent bytes at a position.
+    pub fn encode_cursor(&mut self, committed: u64, ranges: &[(u64, u64)], len: usize, at: usize) {
+        let (starts, ends): (Vec<u64>, Vec<u64>) = ranges.iter().copied().unzip();
+        let mut out = lent_bytes(len);
+        let answer = rattle::encode_cursor(committed, &starts, &ends, &mut out, at);
+        let mut expected = lent_bytes(len);
+        let refusal = match codecs::resume_with_ahead(committed, ranges.to_vec()) {
+            Err(refusal) => refusal,
+            Ok(cursor) => codecs::encode_cursor(&cursor, &mut expected, at as u64),
+        };
+        let original = Answer {
+            told: told(&refusal),
+            lent: expected,
+        };
+        self.same(
+            original,
+            Answer {
+                told: given(answer),
+                lent: out,
+            },
+            || format!("a cursor at {committed} with {ranges:?} into {len} bytes at {at}"),
+        );
+    }
+
+    /// Decodes attempt bytes into columns with these numbers of places.
+    pub fn decode_attempts(&mut self, bytes: &[u8], places: (usize, usize)) {
+        let lent = (
+            lent_numbers(places.0),
+            lent_numbers(places.1)
+                .iter()
+                .map(|&n| u64::from(n as u32))
+                .collect::<Vec<u64>>(),
+        );
+        let mut offsets = lent.0.clone();
+        let mut attempts: Vec<u32> = lent.1.iter().map(|&n| n as u32).collect();
+        let answer = rattle::decode_attempts(bytes, &mut offsets, &mut attempts);
+        let original = match codecs::decode_attempts(bytes) {
+            Err(refusal) => Answer {
+                told: told(&refusal),
+                lent,
+            },
+            Ok(pairs) => {
+                let (left, right): (Vec<u64>, Vec<u64>) =
+                    pairs.iter().map(|&(offset, attempt)| (offset, u64::from(attempt))).unzip();
+                listed(&[left.len() as u64], &left, &right, lent)
+            }
+        };
+        let attempts = attempts.into_iter().map(u64::from).collect();
+        self.same(
+            original,
+            Answer {
+                told: given(answer),
+                lent: (offsets, attempts),
+            },
+            || format!("attempt bytes {bytes:?} into {places:?} places"),
+        );
+    }
+
+    /// Encodes attempt counts into `len` lent bytes at a position.
+    pub fn encode_attempts(&mut self, pairs: &[(u64, u32)], len: usize, at: usize) {
+        let (offsets, attempts): (Vec<u64>, Vec<u32>) = pairs.iter().copied().unzip();
+        let mut out = lent_bytes(len);
+        let answer = rattle::encode_attempts(&offsets, &attempts, &mut out, at);
+        let mut expected = lent_bytes(len);
+        let refusal = codecs::encode_attempts(pairs, &mut expected, at as u64);
+        let original = Answer {
+            told: told(&refusal),
+            lent: expected,
+        };
+        self.same(
+            original,
+            Answer {
+                told: given(answer),
+                lent: out,
+            },
+            || format!("pairs {pairs:?} into {len} bytes at {at}"),
+        );
+    }
+}
