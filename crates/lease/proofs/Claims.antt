@@ -65,6 +65,21 @@ made-grant : (s : Table) (o now d : ℕ) (l : List (Entry Lease)) (c : List (Ent
     → r ≡ afterGrant (s .redeliveries) d → made s l c r ≡ grant s o now
 made-grant s o now d l c r e p q w = rw (p, q, w, ← e)
 
+-- a table with these leases, after a grant
+abbrev pub finished : LeaseTable → List Lease → ℕ → ℕ → ℕ → LeaseTable
+finished t vs n g r =
+    record {
+      config = t .config;
+      offsets = t .offsets;
+      leases = vs;
+      len = n;
+      «carried_offsets» = t .«carried_offsets»;
+      «carried_counts» = t .«carried_counts»;
+      «carried_len» = t .«carried_len»;
+      «next_generation» = record { 0 = g };
+      «redeliveries_since_flush» = r;
+    }
+
 -- the count that is handed out, where there is a lease and where there is none
 pub count-again : (t : LeaseTable) (o at d : ℕ) → Leased t o at → d ≡ sat32 (getD (t .leases) at nil .deliveries) 1 → nextCount (view t) o ≡ d
 count-again t o at d here e = rw (here .is) (sym e)

@@ -8,7 +8,7 @@ use lib.Dec.{ltb, eqb}
 use lib.ListN.{length, take, drop, getD}
 use Rattle.types.specs.Limits.{LEASES, CARRIED}
 use Rattle.types.specs.Keyed.{Entry, entry, entries, lookup, delete}
-use Rattle.types.specs.Zipped.{inserted, removed}
+use Rattle.types.specs.Zipped.{removed}
 use Rattle.types.specs.Sorted.{below}
 use Rattle.lease.specs.declared.DueOffsets.{DueOffsets}
 use Rattle.lease.specs.declared.Lease.{Lease}
@@ -58,7 +58,7 @@ abbrev pub Carries : List (Entry ℕ) → CarryOutcome → List ℕ → List ℕ
 Carries right (Kept n) ks vs = (n ≤ CARRIED) × (entries (take n ks) (take n vs) ≡ right)
 Carries right Full ks vs = CARRIED < length right
 
--- ## leases put in and taken out
+-- ## leases taken out
 -- a table with other leases in it, in columns of which the first n places are in use
 abbrev pub rebuilt : LeaseTable → List ℕ → List Lease → ℕ → LeaseTable
 rebuilt t ks vs n =
@@ -79,12 +79,6 @@ pub record Shorter (t : LeaseTable) (from to : ℕ) (r : LeaseTable) : Type 0 wh
   pub keys : take (t .len - (to - from)) (r .offsets) ≡ removed from to (take (t .len) (t .offsets))
   pub values : take (t .len - (to - from)) (r .leases) ≡ removed from to (take (t .len) (t .leases))
   pub rest : r ≡ rebuilt t (r .offsets) (r .leases) (t .len - (to - from))
-
--- with a lease of offset x put in at a place
-pub record Longer (t : LeaseTable) (at x : ℕ) (l : Lease) (r : LeaseTable) : Type 0 where
-  pub keys : take (t .len + 1) (r .offsets) ≡ inserted at x (take (t .len) (t .offsets))
-  pub values : take (t .len + 1) (r .leases) ≡ inserted at l (take (t .len) (t .leases))
-  pub rest : r ≡ rebuilt t (r .offsets) (r .leases) (t .len + 1)
 
 -- ## due leases
 -- a list of offsets in the first places of an array

@@ -5,7 +5,7 @@
 ghost use mathlib.Core.Path.{_≡_};
 ghost use Prim.Native.Nat.{_≤_, _<_, min};
 ghost use lib.ListN.{take, getD};
-ghost use Rattle.types.specs.Limits.{LEASES, sat64, sat32};
+ghost use Rattle.types.specs.Limits.{MAX, LEASES, sat64, sat32};
 ghost use Rattle.types.specs.Refusal.{done};
 ghost use Rattle.types.specs.Table.{answer};
 ghost use Rattle.types.specs.Keyed.{entries};
@@ -16,7 +16,7 @@ ghost use Rattle.lease.specs.Operations.{lease, grantOf, claim, ack, ext
 ghost use Rattle.lease.specs.Counts.{resumeAttempts, attemptCounts, allAttemptCounts};
 ghost use Rattle.lease.specs.Rest.{attemptsFlushed, releaseBelow, resealFromTo, deferRedelivery, shiftedBy, shiftDeadlines, inFlight, isClaimable, deliveries, holdsActive, pendingRedeliveryAttempt, expired};
 ghost use Rattle.lease.specs.Answers.{claimOf, ackOf, extendOf, nackOf, resumeOf, listedOf, attemptsOf, Answers, Tries, Becomes, Lists};
-ghost use Rattle.lease.specs.Helpers.{Placed, Shorter, Longer, Offsets};
+ghost use Rattle.lease.specs.Helpers.{Placed, Shorter, Offsets};
 ghost use Rattle.lease.specs.declared.columns.Place.the-variants.{Missing};
 use columns::CarryOutcome;
 use columns::Place;
@@ -422,19 +422,14 @@ impl LeaseTable {
         requires { ⌜ Sound self ⌝ }
         ensures { λ r. ⌜ Answers (claimOf (r .outcome)) self (r .table) (claim (view self) (offset .0) now) ⌝ }
     {
-        let place = columns::find(&self.offsets, self.len, offset.0);
-        match place {
-            Place::Found(at) => self.claim_again(at, offset, now),
-            Place::Missing(at) => self.claim_first(at, offset, now),
-        }
-    }
-
-    // Claims an offset that has no lease, and whose lease belongs at a place.
-    fn claim_first(mut self, at: usize, offset: Offset, now: u64) -> Claimed
-        requires { ⌜ Sound self × Placed (offset .0) (take (self .len) (self .offsets)) (Missing at) ⌝ }
-        ensures { λ r. ⌜ Answers (claimOf (r .outcome)) self (r .table) (claim (view self) (offset .0) now) ⌝ }
-    {
         let len = self.len;
+        let place = columns::find(&self.offsets, len, offset.0);
+        let at = match place {
+            Place::Found(at) => {
+                return self.claim_again(at, offset, now);
+            }
+            Place::Missing(at) => at,
+        };
         let generation = self.next_generation;
         if generation.0 == 18446744073709551615 {
             return Claimed {
@@ -448,30 +443,24 @@ impl LeaseTable {
                 table: self,
             };
         }
+        self.claim_first(at, offset, now)
+    }
+
+    // Grants an offset that has no lease, and whose lease belongs at a place.
+    fn claim_first(mut self, at: usize, offset: Offset, now: u64) -> Claimed
+        requires { ⌜ Sound self × Placed (offset .0) (take (self .len) (self .offsets)) (Missing at) × (self .«next_generation» .0 < MAX) × (self .len < LEASES) ⌝ }
+        ensures { λ r. ⌜ Answers (claimOf (r .outcome)) self (r .table) (claim (view self) (offset .0) now) ⌝ }
+    {
+        let len = self.len;
+        let generation = self.next_generation;
         let n = self.carried_len;
         let prior = columns::count_of(&self.carried_offsets, &self.carried_counts, n, offset.0);
         tables::remove_128(&mut self.carried_offsets, n, prior.from, prior.to);
         tables::remove_counts_128(&mut self.carried_counts, n, prior.from, prior.to);
         self.carried_len = n - (prior.to - prior.from);
         let deliveries = saturating_next(prior.count);
-        self.next_generation.0 = generation.0 + 1;
-        self.redeliveries_since_flush = after_grant(self.redeliveries_since_flush, deliveries);
-        let lease = self.config.lease(generation, now, deliveries);
-        let outcome = granted(offset, generation, deliveries);
-        Claimed {
-            outcome: outcome,
-            table: self.with_lease(at, offset, lease),
-        }
-    }
-
-    // Puts a lease in at a place.
-    fn with_lease(mut self, at: usize, offset: Offset, lease: Lease) -> LeaseTable
-        requires { ⌜ (at ≤ self .len) × (self .len < LEASES) ⌝ }
-        ensures { λ r. ⌜ Longer self at (offset .0) lease r ⌝ }
-    {
-        let len = self.len;
         tables::insert_64(&mut self.offsets, len, at, offset.0);
-        let mut held = lease;
+        let mut held = self.config.lease(generation, now, deliveries);
         let mut i = at;
         while i < len {
             let next = self.leases[i];
@@ -481,7 +470,12 @@ impl LeaseTable {
         }
         self.leases[i] = held;
         self.len = len + 1;
-        self
+        self.next_generation.0 = generation.0 + 1;
+        self.redeliveries_since_flush = after_grant(self.redeliveries_since_flush, deliveries);
+        Claimed {
+            outcome: granted(offset, generation, deliveries),
+            table: self,
+        }
     }
 
     // Claims an offset whose lease stands at a place.
@@ -557,11 +551,12 @@ impl LeaseTable {
     }
 
     // Acks the lease that the token owns: the message is in flight no longer.
-    pub fn ack(self, token: LeaseToken) -> Acked
+    pub fn ack(mut self, token: LeaseToken) -> Acked
         requires { ⌜ Sound self ⌝ }
         ensures { λ r. ⌜ Answers (ackOf (r .outcome)) self (r .table) (ack (view self) (token .offset .0) (token .generation .0)) ⌝ }
     {
-        let place = columns::find(&self.offsets, self.len, token.offset.0);
+        let len = self.len;
+        let place = columns::find(&self.offsets, len, token.offset.0);
         let Place::Found(at) = place else {
             return Acked {
                 outcome: AckOutcome::Fenced,
@@ -574,9 +569,19 @@ impl LeaseTable {
                 table: self,
             };
         }
+        tables::remove_64(&mut self.offsets, len, at, at + 1);
+        let mut i = at;
+        let mut j = at + 1;
+        while j < len {
+            let next = self.leases[j];
+            self.leases[i] = next;
+            i += 1;
+            j += 1;
+        }
+        self.len = len - 1;
         Acked {
             outcome: AckOutcome::Acked,
-            table: self.without_leases(at, at + 1),
+            table: self,
         }
     }
 

@@ -1,124 +1,176 @@
--- `LeaseTable::claim_first` meets its contract.
+-- `LeaseTable::claim_first` meets its contract. The loop's invariant: the lease that is held belongs at i, the places before
+-- it being done, and the rest of the table is as it was before the loop.
 -- Assumes nothing.
-use Prim.Native.Nat.{_≤_}
+use Prim.Native.Nat.{_+_, _-_, _≤_, _<_}
 use native.Mathlib.Omega.{arith}
-use mathlib.Core.Path.{refl}
+use mathlib.Core.Path.{_≡_, refl, ap, _∙_}
+use lib.ListN.{set}
 use lib.Seq.{length-take-le}
 use borrow.Author.Needs.{needs}
-use Rattle.types.specs.Limits.{MAX, CARRIED}
-use Rattle.tables.proofs.Columns.{taken-out-front}
-use Rattle.lease.proofs.Slots.{length-mapped, Full, Free, free, in-flight}
-use Rattle.lease.proofs.Claims.{claim-exhausted, claim-full, claimed, room-first, count-first, granted-first}
+use Rattle.types.specs.Limits.{MAX, LEASES, CARRIED}
+use Rattle.types.proofs.Loops.{Opening, opening, opening-more, opened}
+use Rattle.tables.proofs.Columns.{put-in-front, taken-out-front}
+use Rattle.lease.specs.Operations.{afterGrant}
+use Rattle.lease.specs.declared.LeaseTable.{LeaseTable}
+use Rattle.lease.proofs.Slots.{nil, length-mapped, Full, Free, holding, free, in-flight}
+use Rattle.lease.proofs.Claims.{claimed, room-first, finished, count-first, granted-first}
 use Rattle.lease.proofs.LeaseTable.claim_first.Statement.{statement}
 use Rattle.lease.proofs.LeaseTable.claim_first.Tie as tie
 
-full : (c : tie.Start) → Full (c .args .t1)
+abbrev Inv-loop : tie.InvT-loop
+Inv-loop at offset now self₀ len generation n deliveries held₀ i₀ self held i = Opening (self₀ .leases) (self .leases) len at held₀ held i × (self ≡ holding self₀ (self .leases))
+
+abbrev μ-loop : tie.MeasureT-loop
+μ-loop at offset now self₀ len generation n deliveries held₀ i₀ self held i = len - i
+
+full : (c : tie.Start Inv-loop μ-loop) → Full (c .args .t1)
 full c = record { offsets = search needs; leases = search (needs, length-mapped); carried-offsets = search needs; carried-counts = search needs }
 
-fits : (c : tie.Start) → c .args .offset .0 ≤ MAX
+fits : (c : tie.Start Inv-loop μ-loop) → c .args .offset .0 ≤ MAX
 fits c = omega arith
 
-here : (c : tie.Start) → Free (c .args .t1) (c .args .offset .0) (c .args .at)
+here : (c : tie.Start Inv-loop μ-loop) → Free (c .args .t1) (c .args .offset .0) (c .args .at)
 here c = free (c .args .t1) (full c) (c .pre .0) (c .pre .1) refl
 
-abbrev start : tie.After-count-of → tie.Start
-start c = c .before .before .before .before .before .before .before .before .before .before
+-- the places on the way
+abbrev start : tie.After-count-of Inv-loop μ-loop → tie.Start Inv-loop μ-loop
+start c = c .before .before .before .before .before .before .before
 
-span : (c : tie.After-count-of) → (c .count-of .result .from ≤ c .count-of .result .to) × (c .count-of .result .to ≤ start c .args .t1 .«carried_len») × (start c .args .t1 .«carried_len» ≤ CARRIED)
+abbrev counted : tie.After-lease Inv-loop μ-loop → tie.After-count-of Inv-loop μ-loop
+counted c = c .before .before .before .before .before .before .before .before .before .before
+
+span : (c : tie.After-count-of Inv-loop μ-loop) → (c .count-of .result .from ≤ c .count-of .result .to) × (c .count-of .result .to ≤ start c .args .t1 .«carried_len») × (start c .args .t1 .«carried_len» ≤ CARRIED)
 span c =
     let s = start c in
     let n = length-take-le (s .args .t1 .«carried_len») (s .args .t1 .«carried_offsets») (omega (arith, full s .carried-offsets, s .pre .0 .carried-len)) in
     (c .count-of .ensures .order, omega (arith, c .count-of .ensures .inside), s .pre .0 .carried-len)
 
-returns : tie.Need-returns
-returns c =
-    let s = c .before .before .before in
-    claim-exhausted (s .args .t1) (s .pre .0) (s .args .offset .0) (s .args .now) (rw (here s .is)) (c .if1 .taken)
-
-returns-2 : tie.Need-returns-2
-returns-2 c =
-    let s = c .before .before .before .before in
-    claim-full (s .args .t1) (s .pre .0) (s .args .offset .0) (s .args .now) (rw (here s .is)) (c .before .if1 .left) (here s .is)
-    (rw (in-flight (s .args .t1) (full s) (s .pre .0)) (c .if2 .taken))
-
-count-of-requires : tie.Need-count-of-requires
+count-of-requires : tie.Need-count-of-requires Inv-loop μ-loop
 count-of-requires c κs =
-    let s = c .before .before .before .before .before .before .before .before .before in
+    let s = c .before .before .before .before .before .before in
     let f = full s in
     (omega (arith, f .carried-offsets, s .pre .0 .carried-len), omega (arith, f .carried-counts, s .pre .0 .carried-len), s .pre .0 .valid .carried-rising)
 
-remove-128-requires : tie.Need-remove-128-requires
+remove-128-requires : tie.Need-remove-128-requires Inv-loop μ-loop
 remove-128-requires c κs = search needs
 
-remove-counts-128-requires : tie.Need-remove-counts-128-requires
+remove-counts-128-requires : tie.Need-remove-counts-128-requires Inv-loop μ-loop
 remove-counts-128-requires c κs = search needs
 
-sub-self : tie.Need-sub-self
+sub-self : tie.Need-sub-self Inv-loop μ-loop
 sub-self c = span (c .before .before .before .before .before) .0
 
-sub-self-2 : tie.Need-sub-self-2
+sub-self-2 : tie.Need-sub-self-2 Inv-loop μ-loop
 sub-self-2 c = omega (arith, span (c .before .before .before .before .before))
 
-saturating-next-requires : tie.Need-saturating-next-requires
+saturating-next-requires : tie.Need-saturating-next-requires Inv-loop μ-loop
 saturating-next-requires c κs = search needs
 
-add-self : tie.Need-add-self
-add-self c =
-    let e = c .before .before .before .before .before .before .before .before .before .before .before .before .before .before in
-    omega (arith, e .before .before .before .pre .0 .valid .generation-fits, e .if1 .left)
+insert-64-requires : tie.Need-insert-64-requires Inv-loop μ-loop
+insert-64-requires c κs = search needs
 
-after-grant-requires : tie.Need-after-grant-requires
-after-grant-requires c κs = search needs
-
-lease-requires : tie.Need-lease-requires
+lease-requires : tie.Need-lease-requires Inv-loop μ-loop
 lease-requires c κs = search needs
 
-granted-requires : tie.Need-granted-requires
+loop-holds : tie.Need-loop-holds Inv-loop μ-loop
+loop-holds c =
+    let s = start (counted c) in
+    (opening (s .args .t1 .leases) (s .args .t1 .len) (s .args .at) (c .lease .result) (here s .inside) (rw (full s .leases) (s .pre .3)), refl)
+
+room : (c : tie.At-loop Inv-loop μ-loop) → start (counted (c .before)) .args .t1 .len < LEASES
+room c = start (counted (c .before)) .pre .3
+
+mul-next : tie.Need-mul-next Inv-loop μ-loop
+mul-next c = omega (arith, room (c .before))
+
+element-copy-out-next : tie.Need-element-copy-out-next Inv-loop μ-loop
+element-copy-out-next c = omega (arith, room (c .before))
+
+mul-held : tie.Need-mul-held Inv-loop μ-loop
+mul-held c = omega (arith, room (c .before .before))
+
+element-set-from-held : tie.Need-element-set-from-held Inv-loop μ-loop
+element-set-from-held c = omega (arith, room (c .before .before))
+
+add-i : tie.Need-add-i Inv-loop μ-loop
+add-i c = omega (arith, room (c .before .before))
+
+loop-less : tie.Need-loop-less Inv-loop μ-loop
+loop-less c = omega arith
+
+loop-again : tie.Need-loop-again Inv-loop μ-loop
+loop-again c =
+    let l = c .before .before .loop in
+    (opening-more nil (l .inv .0) (c .before .loop-test .taken), ap (λ (s : LeaseTable). holding s (set (l .self .leases) (l .i) (l .held))) (l .inv .1))
+
+mul-held-2 : tie.Need-mul-held-2 Inv-loop μ-loop
+mul-held-2 c = omega (arith, room (c .before), c .before .loop .inv .0 .inside)
+
+element-set-from-held-2 : tie.Need-element-set-from-held-2 Inv-loop μ-loop
+element-set-from-held-2 c = omega (arith, room (c .before), c .before .loop .inv .0 .inside)
+
+add-self : tie.Need-add-self Inv-loop μ-loop
+add-self c = omega (arith, room (c .before))
+
+add-self-2 : tie.Need-add-self-2 Inv-loop μ-loop
+add-self-2 c = let s = start (counted (c .before .before .before)) in omega (arith, s .pre .2)
+
+after-grant-requires : tie.Need-after-grant-requires Inv-loop μ-loop
+after-grant-requires c κs = search needs
+
+granted-requires : tie.Need-granted-requires Inv-loop μ-loop
 granted-requires c κs = search needs
 
-with-lease-requires : tie.Need-with-lease-requires
-with-lease-requires c κs =
-    let e = c .before .before .before .before .before .before .before .before .before .before .before .before .before .before .before .before .before .before in
-    (here (e .before .before .before .before) .inside, e .if2 .left)
-
-returns-3 : tie.Need-returns-3
-returns-3 c =
-    let w = c .with-lease in
-    let l = c .before .before in
-    let a = l .before .before in
-    let n = a .before .before .before in
+returns : tie.Need-returns Inv-loop μ-loop
+returns c =
+    let a = c .before in
+    let k = a .before .before .before .before in
+    let l = k .loop in
+    let b = k .before in
+    let n = b .before .before .before .before in
     let m = n .before .before in
-    let o = m .before .before .before .before in
-    let e = o .before .before .before .before .before .before in
+    let o = counted b in
     let s = start o in
-    let h = here s in
     let t = s .args .t1 in
-    claimed (s .args .t1) (s .pre .0) (s .args .offset .0) (s .args .now) (rw (h .is)) (e .before .if1 .left)
-    (room-first (s .args .t1) (s .args .offset .0) (s .args .at) h (in-flight (s .args .t1) (full s) (s .pre .0)) (e .if2 .left)) (fits s) (n .saturating-next .result)
-    (count-first (s .args .t1) (s .args .offset .0) (s .args .at) (n .saturating-next .result) h (o .count-of .result) (o .count-of .ensures) (n .saturating-next .ensures)) _ (c .before .granted .ensures)
-    (granted-first (s .args .t1) (s .pre .0) (s .args .offset .0) (s .args .at) (s .args .now) (n .saturating-next .result) (l .lease .result) (l .lease .ensures) (a .after-grant .result) (a .after-grant .ensures)
-    h (e .if2 .left) (o .count-of .result) (o .count-of .ensures) (n .saturating-next .ensures)
-    (w .result .offsets) (w .result .leases) (m .before .before .remove-128 .last .0) (m .remove-counts-128 .last .0)
-    (w .ensures .keys) (w .ensures .values)
+    let h = here s in
+    claimed t (s .pre .0) (s .args .offset .0) (s .args .now) (rw (h .is)) (λ e. absurd (omega (arith, s .pre .2)))
+    (room-first t (s .args .offset .0) (s .args .at) h (in-flight t (full s) (s .pre .0)) (s .pre .3)) (fits s) (n .saturating-next .result)
+    (count-first t (s .args .offset .0) (s .args .at) (n .saturating-next .result) h (o .count-of .result) (o .count-of .ensures) (n .saturating-next .ensures)) _ (c .granted .ensures)
+    (granted-first t (s .pre .0) (s .args .offset .0) (s .args .at) (s .args .now) (n .saturating-next .result) (b .lease .result) (b .lease .ensures) (a .after-grant .result) (a .after-grant .ensures ∙ ap (λ (u : LeaseTable). afterGrant (u .«redeliveries_since_flush») (n .saturating-next .result)) (l .inv .1))
+    h (s .pre .3) (o .count-of .result) (o .count-of .ensures) (n .saturating-next .ensures)
+    (b .before .before .insert-64 .last .0) (set (l .self .leases) (l .i) (l .held)) (m .before .before .remove-128 .last .0) (m .remove-counts-128 .last .0)
+    (put-in-front (t .len) (s .args .at) (s .args .offset .0) (t .offsets) (h .inside) (omega (arith, full s .offsets, s .pre .3)) (b .before .before .insert-64 .ensures))
+    (opened nil (l .inv .0) (a .before .before .before .loop-test .left))
     (taken-out-front (t .«carried_len») (o .count-of .result .from) (o .count-of .result .to) (t .«carried_offsets») (span o .0) (span o .1) (omega (arith, full s .carried-offsets, span o .2)) (m .before .before .remove-128 .ensures))
     (taken-out-front (t .«carried_len») (o .count-of .result .from) (o .count-of .result .to) (t .«carried_counts») (span o .0) (span o .1) (omega (arith, full s .carried-counts, span o .2)) (m .remove-counts-128 .ensures))
-    (w .ensures .rest))
+    (ap (λ (u : LeaseTable). finished u (set (l .self .leases) (l .i) (l .held)) (t .len + 1) (t .«next_generation» .0 + 1) (a .after-grant .result)) (l .inv .1)))
 
 pub claim-first-spec : {M : Type 1} → statement M
 claim-first-spec =
     tie.close
     (tie.spec
-    returns
-    returns-2
+    Inv-loop
+    μ-loop
     count-of-requires
     remove-128-requires
     remove-counts-128-requires
     sub-self
     sub-self-2
     saturating-next-requires
-    add-self
-    after-grant-requires
+    insert-64-requires
     lease-requires
+    loop-holds
+    mul-next
+    element-copy-out-next
+    mul-held
+    element-set-from-held
+    add-i
+    loop-less
+    loop-again
+    mul-held-2
+    element-set-from-held-2
+    add-self
+    add-self-2
+    after-grant-requires
     granted-requires
-    with-lease-requires
-    returns-3)
+    returns)
