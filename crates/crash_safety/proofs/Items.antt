@@ -12,7 +12,8 @@ use Rattle.consumer.specs.Checkpoint as checkpoint
 use Rattle.consumer.specs.Restart as restarts
 use Rattle.machine.specs.Calls.{Ask, ask, begin, step, restart, fits}
 use Rattle.machine.specs.Door.{Phase, idle, writing, off, Turn, asked, beganAs, steppedAs, restartedAs, door}
-use Rattle.crash_safety.specs.Runs.{Cut, Item, call, stepOn, cut, cutAt, keepsJournal, world, next}
+use Rattle.power_cut.specs.Cut.{Cut, cutOn}
+use Rattle.crash_safety.specs.Runs.{Item, call, stepOn, cut, keepsJournal, world, next}
 use Rattle.crash_safety.specs.Demand3.{restartIn}
 
 -- what has to be shown of the items that can be made beside a restart, which always can
@@ -22,7 +23,7 @@ Shown N a (idle s) =
 Shown N a (writing w) =
     N (call step) (steppedAs (checkpoint.step w a)) ×
     ((b : List ℕ) → eqb (length b) (length a) ≡ false → N (stepOn b) (keepsJournal a (steppedAs (checkpoint.step w b)))) ×
-    ((k : Cut) → N (cut k) (cutAt w a k))
+    ((k : Cut) → N (cut k) (cutOn w a k))
 Shown N a off = Unit {0}
 
 module _ (c : Settings) (N : Item → Option Turn → Type 0) (skip : (i : Item) → restartIn i ≡ 0 → N i none) where

@@ -6,7 +6,9 @@ use mathlib.Core.Path.{_≡_, refl, sym, ap, _∙_}
 use mathlib.Core.Bool.{true, false}
 use mathlib.Core.List.{List, [], _∷_, _++_}
 use mathlib.Core.Option.{some}
-use borrow.Author.Tests.{le-leb}
+use lib.Dec.{eqb}
+use lib.ListN.{length}
+use borrow.Author.Tests.{eq-eqb, le-leb}
 use Rattle.types.specs.Refusal.{Result, refused, done}
 use Rattle.types.specs.Table.{Passed}
 use Rattle.journal.specs.Area.{writeAt}
@@ -17,7 +19,8 @@ use Rattle.consumer.specs.Restart as restarts
 use Rattle.consumer.specs.Restart.{startTable}
 use Rattle.machine.specs.Calls.{step, restart, restarted, failed}
 use Rattle.machine.specs.Door.{Phase, idle, writing, off, Turn, restartedAs, door}
-use Rattle.crash_safety.specs.Runs.{Cut, old, new, torn, Item, call, cut, isTorn, World, world, next, after, run, ends, begins}
+use Rattle.power_cut.specs.Cut.{Cut, old, new, torn, isTorn}
+use Rattle.crash_safety.specs.Runs.{Item, call, cut, World, world, next, after, run, ends, begins}
 use Rattle.crash_safety.specs.Recovery.{DeterministicRecovery, begun, thenCut, HasRoom, WritesCount, EveryWriteCounts}
 use Rattle.crash_safety.proofs.Law.{Ledger}
 use Rattle.crash_safety.proofs.Runs.{run-made, ends-made, run-none, ends-none}
@@ -92,6 +95,10 @@ module _ (c : Settings) (n : ℕ) (accepted : Passed (startTable c n)) (v : Save
     abbrev mid : World
     mid = world (writing (checkpoint.writing s k)) (so-far .area)
 
+    -- the journal has the consumer's length, so that the step writes
+    same-length : eqb (length (so-far .area)) (s .size) ≡ true
+    same-length = eq-eqb (length (so-far .area)) (s .size) (so-far .midway .journal .size ∙ sym (now .size))
+
     after-cut : (t : Turn) → next c mid (cut x) ≡ some t → ends c start (begun k ++ thenCut x) ≡ ends c (after t) (call restart ∷ [])
     after-cut t e = so-far .leads .ends-there (thenCut x) ∙ ends-made c mid (cut x) (call restart ∷ []) t e
 
@@ -108,7 +115,7 @@ module _ (c : Settings) (n : ℕ) (accepted : Passed (startTable c n)) (v : Save
   unfolding next
   cut-old k h =
       let b = so-far k h old in
-      cut-unfinished k h old (record { event = failed false; phase = off; area = b .area }) refl (b .midway .journal)
+      cut-unfinished k h old (record { event = failed false; phase = off; area = b .area }) (rw (same-length k h old)) (b .midway .journal)
 
   cut-torn : (k : ℕ) (y : List ℕ) → k ≤ bodies s → isTorn y ≡ true
       → ends c start (begun k ++ thenCut (torn y)) .phase ≡ ends c start (call restart ∷ []) .phase
@@ -116,7 +123,7 @@ module _ (c : Settings) (n : ℕ) (accepted : Passed (startTable c n)) (v : Save
   cut-torn k y h t =
       let b = so-far k h (torn y) in
       let w : Writing = checkpoint.writing s k in
-      cut-unfinished k h (torn y) (record { event = failed false; phase = off; area = writeAt (b .area) (nextPlace w) y }) (rw t)
+      cut-unfinished k h (torn y) (record { event = failed false; phase = off; area = writeAt (b .area) (nextPlace w) y }) (rw (same-length k h (torn y), t))
       (torn-journal c n v l (b .area) w (b .midway .journal) now (b .midway .written) y t)
 
   -- the header wholly written, by a cut or by the last step
@@ -128,7 +135,7 @@ module _ (c : Settings) (n : ℕ) (accepted : Passed (startTable c n)) (v : Save
       let b = so-far k h new in
       let full : List ℕ = writeAt (b .area) (s .seat .block) (headerOf s) in
       let j : Journal c n full (stored s) = full-journal c n v l s now k (b .area) (b .midway) h in
-      let made : next c (mid k h new) (cut new) ≡ some (record { event = failed true; phase = off; area = full }) = rw (le-leb k k h) in
+      let made : next c (mid k h new) (cut new) ≡ some (record { event = failed true; phase = off; area = full }) = rw (same-length k h new, le-leb k k h) in
       ap (λ (u : World). u .phase) (after-cut k h new _ made)
       ∙ restart-gives c n accepted (world off full) (stored s) j
       ∙ sym (ap (λ (u : World). u .phase) (

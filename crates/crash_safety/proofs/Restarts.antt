@@ -4,15 +4,18 @@ use native.Mathlib.Omega.{arith}
 use mathlib.Core.Path.{_≡_, refl, sym, ap, _∙_}
 use mathlib.Core.List.{List, [], _∷_}
 use mathlib.Core.Option.{Option, none, some}
+use lib.Dec.{eqb}
+use lib.ListN.{length}
 use Rattle.types.specs.Refusal.{Result, refused, done}
 use Rattle.types.proofs.Cases.{split}
 use Rattle.consumer.specs.State.{Settings, State}
 use Rattle.consumer.specs.Checkpoint as checkpoint
 use Rattle.consumer.specs.Checkpoint.{Writing}
 use Rattle.consumer.specs.Restart as restarts
-use Rattle.machine.specs.Calls.{Ask, claim, ack, term, nack, progress, commit, look, begin, restart}
+use Rattle.machine.specs.Calls.{Ask, claim, ack, term, nack, progress, commit, look}
 use Rattle.machine.specs.Door.{Phase, idle, writing, off, Turn, asked, beganAs, restartedAs}
-use Rattle.crash_safety.specs.Runs.{Cut, old, new, torn, Item, isTorn, cutAt, World, next, after, run}
+use Rattle.power_cut.specs.Cut.{Cut, old, new, torn, isTorn, cutAt, cutOn}
+use Rattle.crash_safety.specs.Runs.{Item, World, next, after, run}
 use Rattle.crash_safety.specs.Demand3.{restartIn, restartsIn}
 use Rattle.crash_safety.proofs.Bound.{isRestart, restartsSeen}
 use Rattle.crash_safety.proofs.Items.{Shown, next-cases}
@@ -47,9 +50,12 @@ cut-made w a old = refl
 cut-made w a new = refl
 cut-made w a (torn b) = split (isTorn b) (λ t. rw t) (λ t. rw t)
 
+cut-on-made : (w : Writing) (a : List ℕ) (k : Cut) → made (cutOn w a k) ≡ 0
+cut-on-made w a k = split (eqb (length a) (w .state .size)) (λ t. rw t (cut-made w a k)) (λ t. rw t)
+
 counted : (p : Phase) (a : List ℕ) → Shown Counted a p
 counted (idle s) a = (λ q t. asked-made s a q, began-made s a (checkpoint.begin s))
-counted (writing w) a = (refl, λ b t. refl, cut-made w a)
+counted (writing w) a = (refl, λ b t. refl, cut-on-made w a)
 counted off a = tt
 
 next-made : (c : Settings) (w : World) (i : Item) → made (next c w i) ≡ restartIn i

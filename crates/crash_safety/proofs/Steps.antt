@@ -3,7 +3,7 @@
 use Prim.Native.Nat.{ℕ, suc, _+_, _≤_, _<_}
 use native.Mathlib.Omega.{arith}
 use mathlib.Core.Path.{_≡_, refl, sym, _∙_}
-use mathlib.Core.Bool.{false}
+use mathlib.Core.Bool.{true, false}
 use mathlib.Core.List.{List}
 use mathlib.Core.Option.{Option}
 use lib.Dec.{eqb}
@@ -23,7 +23,8 @@ use Rattle.consumer.proofs.Open.{begin-says}
 use Rattle.consumer.proofs.Valid.{flushed-valid}
 use Rattle.machine.specs.Door.{Phase, idle, writing, off, Turn, beganAs, steppedAs, restartedAs}
 use Rattle.crash_safety.specs.Book.{Page, renewed}
-use Rattle.crash_safety.specs.Runs.{Cut, old, new, torn, isTorn, cutAt, world, keepsJournal}
+use Rattle.power_cut.specs.Cut.{Cut, old, new, torn, isTorn, cutAt, cutOn}
+use Rattle.crash_safety.specs.Runs.{world, keepsJournal}
 use Rattle.crash_safety.specs.Demand3.{Finds}
 use Rattle.crash_safety.proofs.Law.{Ledger, ledger, noted, Law}
 use Rattle.crash_safety.proofs.Runs.{Answered}
@@ -158,10 +159,13 @@ module _ (c : Settings) (n : ℕ) (l : Ledger) (a : List ℕ) where
             callable = omega (arith, now .floor, now .valid .under-ceiling, now .valid .ceiling-fits);
           }
 
+    same-length : eqb (length a) (s .size) ≡ true
+    same-length = eq-eqb (length a) (s .size) (inv .journal .size ∙ sym (now .size))
+
     pub step-kept : Kept (steppedAs (step w a))
     unfolding step
     step-kept =
-        rw (eq-eqb (length a) (s .size) (inv .journal .size ∙ sym (now .size)))
+        rw same-length
         (split (isLast w)
         (λ t. rw t (record { says = (tt, tt, tt); keeps = finished (leb-true (bodies s) (w .written) t) }))
         (λ t. rw t (record { says = (tt, tt, tt); keeps = body-made (leb-false (bodies s) (w .written) t) })))
@@ -177,18 +181,21 @@ module _ (c : Settings) (n : ℕ) (l : Ledger) (a : List ℕ) where
     left-off : (a′ : List ℕ) → Journal c n a′ (inv .saved) → Inv c n l (world off a′)
     left-off a′ j = record { saved = inv .saved; journal = j; finds = inv .finds; callable = below-ceiling (writing w) inv }
 
-    pub cut-kept : (k : Cut) → Kept (cutAt w a k)
-    cut-kept old = record { says = (tt, tt, tt); keeps = left-off a (inv .journal) }
-    cut-kept new =
+    cut-at-kept : (k : Cut) → Kept (cutAt w a k)
+    cut-at-kept old = record { says = (tt, tt, tt); keeps = left-off a (inv .journal) }
+    cut-at-kept new =
         split (isLast w)
         (λ t. rw t (record { says = (tt, tt, tt); keeps = left-new (leb-true (bodies s) (w .written) t) }))
         (λ t.
         let more : w .written < bodies s = leb-false (bodies s) (w .written) t in
         rw t (record { says = (tt, tt, tt); keeps = left-off (longer more) (body-kept more) }))
-    cut-kept (torn b) =
+    cut-at-kept (torn b) =
         split (isTorn b)
         (λ t. rw t (record {
           says = (tt, tt, tt);
           keeps = left-off (writeAt a (nextPlace w) b) (torn-journal c n (inv .saved) l a w (inv .journal) now so-far b t);
         }))
         (λ t. rw t tt)
+
+    pub cut-kept : (k : Cut) → Kept (cutOn w a k)
+    cut-kept k = rw same-length (cut-at-kept k)

@@ -28,9 +28,10 @@ use Rattle.consumer.specs.Checkpoint.{Writing, isLast}
 use Rattle.consumer.specs.Restart as restarts
 use Rattle.consumer.specs.Restart.{startTable}
 use Rattle.consumer.proofs.Open.{claim-cases, ack-cases, Owned, nack-cases, progress-cases, commit-cases, begin-says}
-use Rattle.machine.specs.Calls.{Ask, claim, ack, term, nack, progress, commit, look, Event, claimed, acked, termed, nacked, extended, committed, begin, step, restart}
+use Rattle.machine.specs.Calls.{Ask, claim, ack, term, nack, progress, commit, look, Event, claimed, acked, termed, nacked, extended, committed}
 use Rattle.machine.specs.Door.{Phase, idle, writing, off, Turn, asked, beganAs, steppedAs, restartedAs}
-use Rattle.crash_safety.specs.Runs.{Cut, old, new, torn, Item, isTorn, cutAt, keepsJournal, World, world, next, run, begins}
+use Rattle.power_cut.specs.Cut.{Cut, old, new, torn, isTorn, cutAt, cutOn}
+use Rattle.crash_safety.specs.Runs.{Item, keepsJournal, World, world, next, run, begins}
 use Rattle.crash_safety.specs.Book.{only, below}
 use Rattle.crash_safety.specs.Tokens.{Tokens, noTokens, givesOut, givesUp, losesAll, tokensAfter, StaleRefused, TokenRight, TokensRight, NoStaleToken}
 use Rattle.crash_safety.proofs.Law.{Ledger, emptyLedger, noted, Law, Along}
@@ -288,13 +289,16 @@ module _ (c : Settings) (n : ℕ) (l : Ledger) (t : Tokens) where
         (λ e. rw e (split (isLast w) (λ q. rw q (record { says = tt; keeps = k })) (λ q. rw q (record { says = tt; keeps = k }))))
         (λ e. rw e (record { says = tt; keeps = k }))
 
-    cut-knows : (x : Cut) → Next (cutAt w a x)
-    cut-knows old = record { says = tt; keeps = none-leased t (l .floor) (w .state .table .leases) k }
-    cut-knows new = record { says = tt; keeps = none-leased t (l .floor) (w .state .table .leases) k }
-    cut-knows (torn b) =
+    cut-at-knows : (x : Cut) → Next (cutAt w a x)
+    cut-at-knows old = record { says = tt; keeps = none-leased t (l .floor) (w .state .table .leases) k }
+    cut-at-knows new = record { says = tt; keeps = none-leased t (l .floor) (w .state .table .leases) k }
+    cut-at-knows (torn b) =
         split (isTorn b)
         (λ e. rw e (record { says = tt; keeps = none-leased t (l .floor) (w .state .table .leases) k }))
         (λ e. rw e tt)
+
+    cut-knows : (x : Cut) → Next (cutOn w a x)
+    cut-knows x = split (eqb (length a) (w .state .size)) (λ e. rw e (cut-at-knows x)) (λ e. rw e tt)
 
   elsewhere-knows : (a : List ℕ) (x : Option Turn) → Next x → Next (keepsJournal a x)
   elsewhere-knows a none h = tt

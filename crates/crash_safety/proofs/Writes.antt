@@ -20,7 +20,7 @@ use Rattle.journal.proofs.Group.{chunk-few}
 use Rattle.consumer.specs.State.{Settings, State, blocksOf}
 use Rattle.consumer.specs.Checkpoint.{payloadOf, bodies, bodyOf, headerOf, Writing, writing, isLast, nextPlace}
 use Rattle.consumer.specs.Valid.{Valid}
-use Rattle.crash_safety.specs.Runs.{isTorn}
+use Rattle.power_cut.specs.Cut.{isTorn}
 use Rattle.crash_safety.proofs.Law.{Ledger}
 use Rattle.crash_safety.proofs.Invariant.{Saved, Journal, Stands, Written}
 use Rattle.crash_safety.proofs.Journals.{block-kept, stored, header-kept}

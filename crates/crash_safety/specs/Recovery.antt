@@ -14,7 +14,8 @@ use Rattle.consumer.specs.Restart.{start}
 use Rattle.consumer.specs.Valid.{Fits}
 use Rattle.machine.specs.Calls.{begin, step, restart}
 use Rattle.machine.specs.Door.{idle}
-use Rattle.crash_safety.specs.Runs.{Cut, old, new, torn, Item, call, cut, isTorn, World, run, ends, begins}
+use Rattle.power_cut.specs.Cut.{Cut, old, new, torn, isTorn}
+use Rattle.crash_safety.specs.Runs.{Item, call, cut, World, run, ends, begins}
 
 -- ## a restart
 pub record Deterministic (c : Settings) (w : World) : Type 0 where

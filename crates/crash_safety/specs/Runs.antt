@@ -1,41 +1,23 @@
 -- Demand 3's lists: calls that each get what the one before left, from a fresh consumer on one zeroed journal with one
 -- configuration, and power failures in the middle of a block write (01, "journal").
 use Prim.Native.Nat.{ℕ}
-use mathlib.Core.Bool.{Bool, false, cond, not, _&&_}
+use mathlib.Core.Bool.{cond}
 use mathlib.Core.List.{List, [], _∷_}
 use mathlib.Core.Option.{Option, none, some}
 use lib.Dec.{eqb}
 use lib.ListN.{length, replicate}
-use Rattle.crc.specs.Seal.{isSealed}
-use Rattle.journal.specs.Area.{writeAt}
 use Rattle.consumer.specs.State.{Settings, State}
-use Rattle.consumer.specs.Checkpoint.{Writing, isLast, nextPlace, nextBlock}
-use Rattle.machine.specs.Calls.{Call, step, Event, failed}
-use Rattle.machine.specs.Door.{Phase, idle, off, onRecord, Turn, turn, door}
-
--- what a power failure leaves of the block being written: what it was, what it was to be, or bytes whose check fails
-pub data Cut : Type 0 where
-  old : Cut
-  new : Cut
-  torn : List ℕ → Cut
+use Rattle.machine.specs.Calls.{Call, step, Event}
+use Rattle.machine.specs.Door.{Phase, idle, Turn, turn, door}
+use Rattle.power_cut.specs.Cut.{Cut, powerCut}
 
 pub data Item : Type 0 where
   -- a call that is lent the journal
   call : Call → Item
   -- a step that is lent memory of another length than the journal's
   stepOn : List ℕ → Item
-  -- the power fails in a step
+  -- the power fails in a step that is lent the journal
   cut : Cut → Item
-
--- 512 bytes whose check fails
-abbrev pub isTorn : List ℕ → Bool
-isTorn b = eqb (length b) 512 && not (isSealed b)
-
--- the step answers nothing, and nobody can be called until a restart
-abbrev pub cutAt : Writing → List ℕ → Cut → Option Turn
-cutAt w a old = turn (failed false) off a
-cutAt w a new = turn (failed (isLast w)) off (writeAt a (nextPlace w) (nextBlock w))
-cutAt w a (torn b) = cond (isTorn b) (turn (failed false) off (writeAt a (nextPlace w) b)) none
 
 -- who can be called, and the journal
 pub record World : Type 0 where
@@ -58,7 +40,7 @@ stepElsewhere c w b =
 unfoldable pub next : Settings → World → Item → Option Turn
 next c w (call q) = door c (w .phase) (w .journal) q
 next c w (stepOn b) = stepElsewhere c w b
-next c w (cut k) = onRecord (w .phase) (λ r. cutAt r (w .journal) k)
+next c w (cut k) = powerCut (w .phase) (w .journal) k
 
 abbrev pub after : Turn → World
 after t = world (t .phase) (t .area)

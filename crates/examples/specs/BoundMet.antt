@@ -21,7 +21,8 @@ use Rattle.consumer.specs.Restart.{fresh, fromWalk}
 use Rattle.examples.specs.Consumer.{settings}
 use Rattle.machine.specs.Calls.{claim, ask, begin, step, restart}
 use Rattle.machine.specs.Door.{door}
-use Rattle.crash_safety.specs.Runs.{Item, call, cut, torn, next, run, begins}
+use Rattle.power_cut.specs.Cut.{torn}
+use Rattle.crash_safety.specs.Runs.{Item, call, cut, next, run, begins}
 use Rattle.crash_safety.specs.Demand3.{delivers, handOuts, restartsIn}
 
 -- a checkpoint; offset 0 is handed out twice; the power fails in the header of the next checkpoint; a restart, a checkpoint, and
