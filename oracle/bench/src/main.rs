@@ -51,13 +51,13 @@ fn checks() {
         line(
             &format!("crc32c, {name}, against the stand-in"),
             times,
-            || repeat(times, || keep((crc32c::crc32c(black_box(bytes))))),
+            || repeat(times, || keep(crc32c::crc32c(black_box(bytes)))),
             ours,
         );
         line(
             &format!("crc32c, {name}, against a table of 16"),
             times,
-            || repeat(times, || keep((checks::by_16(black_box(bytes))))),
+            || repeat(times, || keep(checks::by_16(black_box(bytes)))),
             ours,
         );
         if checks::by_instruction(bytes) == Some(rattle::crc32c(bytes)) {
@@ -93,11 +93,11 @@ fn cursor_snapshots() {
         });
         assert_eq!(out, bytes);
         let (mut s, mut e) = ([0; 128], [0; 128]);
-        let ours = || repeat(times, || keep((rattle::decode_cursor(black_box(&bytes), &mut s, &mut e))));
+        let ours = || repeat(times, || keep(rattle::decode_cursor(black_box(&bytes), &mut s, &mut e)));
         line(
             &format!("cursor snapshot, {n} ranges: decode"),
             times,
-            || repeat(times, || keep((AckCursor::decode_snapshot(black_box(&bytes))))),
+            || repeat(times, || keep(AckCursor::decode_snapshot(black_box(&bytes)))),
             ours,
         );
     }
@@ -120,14 +120,19 @@ fn attempt_snapshots() {
         };
         let ours = || {
             repeat(times, || {
-                keep((rattle::encode_attempts(black_box(&offsets), black_box(&attempts), &mut out, 0)))
+                keep(rattle::encode_attempts(
+                    black_box(&offsets),
+                    black_box(&attempts),
+                    &mut out,
+                    0,
+                ))
             })
         };
         line(&format!("attempt snapshot, {n} pairs: encode"), times, theirs, ours);
         assert_eq!(out, bytes);
         let (mut o, mut a) = ([0; 128], [0; 128]);
         let theirs = || repeat(times, || keep(decode_attempt_snapshot(black_box(&bytes))));
-        let ours = || repeat(times, || keep((rattle::decode_attempts(black_box(&bytes), &mut o, &mut a))));
+        let ours = || repeat(times, || keep(rattle::decode_attempts(black_box(&bytes), &mut o, &mut a)));
         line(&format!("attempt snapshot, {n} pairs: decode"), times, theirs, ours);
     }
 }
@@ -138,14 +143,14 @@ fn calls() {
     line(
         "ack in order",
         n as u32,
-        || keep((original::acks_in_order(black_box(n)))),
-        || keep((here::acks_in_order(black_box(n)))),
+        || keep(original::acks_in_order(black_box(n))),
+        || keep(here::acks_in_order(black_box(n))),
     );
     let batches = 30;
     assert_eq!(original::acks_reversed(batches), here::acks_reversed(batches));
     let theirs = || keep(original::acks_reversed(black_box(batches)));
     line("ack, in batches of 64 from the last down", 64 * batches, theirs, || {
-        keep((here::acks_reversed(black_box(batches))))
+        keep(here::acks_reversed(black_box(batches)))
     });
     for window in [0, 8, 63] {
         let n = 1000;
