@@ -56,7 +56,7 @@ pub data Question : Type 0 where
   BlocksLeft : Question
 
 -- what each question is answered
-unfoldable pub reply : State → Question → Result (List ℕ)
+abbrev pub reply : State → Question → Result (List ℕ)
 reply s (Waiting now room) = waiting s now room
 reply s Committed = done (s .cursor .committed ∷ [])
 reply s (IsSettled o) = done (bit (settled (s .cursor) o) ∷ [])

@@ -47,6 +47,17 @@ pub record Answers {A : Type 0} (outcome : Result A) (before after : Consumer) (
   pub sound : Sound after
   pub kept : Kept outcome before after
 
+-- a commit: where it moves nothing, it gives back the very struct too
+abbrev pub Unmoved : {T : Type 0} → Result Bool → T → T → Type 0
+Unmoved (refused r) before after = after ≡ before
+Unmoved (done true) before after = Unit {0}
+Unmoved (done false) before after = after ≡ before
+
+pub record Commits (outcome : Result Bool) (before after : Consumer) (right : Answer Bool State) : Type 0 where
+  pub is : answer outcome (view after) ≡ right
+  pub sound : Sound after
+  pub kept : Unmoved outcome before after
+
 -- the struct with another table, and with another cursor and another table
 abbrev pub holdingBoth : Consumer → AckCursor → LeaseTable → Consumer
 holdingBoth c cursor table =

@@ -7,7 +7,7 @@ ghost use Rattle.delivery.specs.Config.{delayOf};
 ghost use Rattle.delivery.specs.Config as delivery;
 ghost use Rattle.delivery.specs.Policy.{disposition};
 ghost use Rattle.consumer.specs.Calls.{isFull, claimTable, claim, isShed, ack, attemptOf, nackTable, nack, progress, commit};
-ghost use Rattle.consumer.specs.View.{view, Sound, Answers, holding, holdingBoth, handOutOf, claimOf, testOf, asResult, settleOf, nackOf, progressOf, commitOf};
+ghost use Rattle.consumer.specs.View.{view, Sound, Answers, Commits, holding, holdingBoth, handOutOf, claimOf, testOf, asResult, settleOf, nackOf, progressOf, commitOf};
 use crate::Consumer;
 use cursor::AckCursor;
 use cursor::BoundedAck;
@@ -360,7 +360,7 @@ impl Consumer {
     // offset below the bound is in flight.
     pub fn commit(self, bound: Offset) -> Committed
         requires { ⌜ Sound self ⌝ }
-        ensures { λ r. ⌜ Answers (commitOf (r .answer)) self (r .consumer) (commit (view self) (bound .0)) ⌝ }
+        ensures { λ r. ⌜ Commits (commitOf (r .answer)) self (r .consumer) (commit (view self) (bound .0)) ⌝ }
     {
         if bound.0 <= self.cursor.committed {
             return Committed {

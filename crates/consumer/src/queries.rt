@@ -1,19 +1,14 @@
 // What a server asks a consumer without changing it.
 ghost use mathlib.Core.Path.{_≡_};
-ghost use Prim.Native.Nat.{_-_, _≤_};
-ghost use mathlib.Core.List.{_++_};
+ghost use Prim.Native.Nat.{_≤_};
+ghost use mathlib.Core.List.{[], _∷_, _++_};
 ghost use lib.ListN.{length, take, drop};
-ghost use Rattle.types.specs.Identifiers.{offset};
+ghost use Rattle.types.specs.Refusal.{done};
 ghost use Rattle.types.specs.Lists.{listed};
 ghost use Rattle.types.specs.Table.{answer};
-ghost use Rattle.cursor.specs.Cursor.{settled};
 ghost use Rattle.lease.specs.Answers.{listedOf};
-ghost use Rattle.lease.specs.Operations.{leaseOf};
 ghost use Rattle.lease.specs.Lookup.{leaseAt};
-ghost use Rattle.lease.specs.Rest.{inFlight};
-ghost use Rattle.consumer.specs.State.{blocksOf};
-ghost use Rattle.consumer.specs.Calls.{atCeiling, atThreshold};
-ghost use Rattle.consumer.specs.Questions.{countOf, waitingAt};
+ghost use Rattle.consumer.specs.Questions.{waitingAt, bit, leaseValues, Committed, IsSettled, LeaseOf, CountOf, InFlight, IsDue, BlocksLeft, reply};
 ghost use Rattle.consumer.specs.View.{view, Sound};
 use crate::Consumer;
 use lease::Attempts;
@@ -43,7 +38,7 @@ fn fill(out: &mut [u64], list: &[u64; 128], n: usize)
 impl Consumer {
     // The offset below which all are settled.
     pub fn committed(self) -> Offset
-        ensures { λ r. ⌜ r ≡ offset (view self .cursor .committed) ⌝ }
+        ensures { λ r. ⌜ done (r .0 ∷ []) ≡ reply (view self) Committed ⌝ }
     {
         Offset(self.cursor.committed)
     }
@@ -51,7 +46,7 @@ impl Consumer {
     // Whether an offset is settled.
     pub fn is_settled(self, offset: Offset) -> bool
         requires { ⌜ Sound self ⌝ }
-        ensures { λ r. ⌜ r ≡ settled (view self .cursor) (offset .0) ⌝ }
+        ensures { λ r. ⌜ done (bit r ∷ []) ≡ reply (view self) (IsSettled (offset .0)) ⌝ }
     {
         self.cursor.is_acked(offset)
     }
@@ -59,7 +54,7 @@ impl Consumer {
     // The lease of an offset, run out or not.
     pub fn lease_of(self, offset: Offset) -> LeaseAt
         requires { ⌜ Sound self ⌝ }
-        ensures { λ r. ⌜ leaseAt r ≡ leaseOf (view self .table) (offset .0) ⌝ }
+        ensures { λ r. ⌜ done (leaseValues (leaseAt r)) ≡ reply (view self) (LeaseOf (offset .0)) ⌝ }
     {
         self.table.lease_of(offset)
     }
@@ -67,7 +62,7 @@ impl Consumer {
     // How often an offset was handed out, as the next checkpoint stores it: as its lease says, or else its carried count.
     pub fn count_of(self, offset: Offset) -> u32
         requires { ⌜ Sound self ⌝ }
-        ensures { λ r. ⌜ r ≡ countOf (view self) (offset .0) ⌝ }
+        ensures { λ r. ⌜ done (r ∷ []) ≡ reply (view self) (CountOf (offset .0)) ⌝ }
     {
         if let LeaseAt::Some(lease) = self.table.lease_of(offset) {
             return lease.deliveries;
@@ -81,14 +76,14 @@ impl Consumer {
     // How many offsets are in flight, their leases run out or not.
     pub fn in_flight(self) -> usize
         requires { ⌜ Sound self ⌝ }
-        ensures { λ r. ⌜ r ≡ inFlight (view self .table) ⌝ }
+        ensures { λ r. ⌜ done (r ∷ []) ≡ reply (view self) InFlight ⌝ }
     {
         self.table.in_flight()
     }
 
     // Whether a checkpoint is due, and why.
     pub fn is_due(self) -> Due
-        ensures { λ r. ⌜ r ≡ record { ceiling = atCeiling (view self); threshold = atThreshold (view self) } ⌝ }
+        ensures { λ r. ⌜ done (bit (r .ceiling) ∷ bit (r .threshold) ∷ []) ≡ reply (view self) IsDue ⌝ }
     {
         Due {
             ceiling: self.ceiling.0 <= self.table.next_generation.0,
@@ -100,7 +95,7 @@ impl Consumer {
     // How many blocks of the journal are left.
     pub fn blocks_left(self) -> usize
         requires { ⌜ Sound self ⌝ }
-        ensures { λ r. ⌜ r ≡ blocksOf (view self) - view self .seat .block ⌝ }
+        ensures { λ r. ⌜ done (r ∷ []) ≡ reply (view self) BlocksLeft ⌝ }
     {
         self.area_len / 512 - self.seat.block
     }

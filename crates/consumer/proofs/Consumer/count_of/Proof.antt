@@ -1,6 +1,9 @@
 -- `Consumer::count_of` meets its contract: an offset with a lease has no carried count. Assumes nothing.
-use mathlib.Core.Path.{sym, ap, _∙_}
+use Prim.Native.Nat.{ℕ}
+use mathlib.Core.Path.{_≡_, sym, ap, _∙_}
+use mathlib.Core.List.{List, [], _∷_}
 use borrow.Author.Needs.{needs}
+use Rattle.types.specs.Refusal.{Result, done}
 use Rattle.lease.specs.Lookup.{leaseAt}
 use Rattle.lease.specs.Answers.{attemptsOf}
 use Rattle.consumer.specs.View.{view}
@@ -8,6 +11,9 @@ use Rattle.consumer.proofs.Counts.{lease-count, carried-count}
 use Rattle.consumer.proofs.Asked.{no-count}
 use Rattle.consumer.proofs.Consumer.count_of.Statement.{statement}
 use Rattle.consumer.proofs.Consumer.count_of.Tie as tie
+
+answers : {m n : ℕ} → m ≡ n → _≡_ {A = Result (List ℕ)} (done (m ∷ [])) (done (n ∷ []))
+answers e = ap (λ (n : ℕ). done (n ∷ [])) e
 
 lease-of-requires : tie.Need-lease-of-requires
 lease-of-requires c κs = search needs
@@ -20,9 +26,10 @@ returns c =
     let k = c .before in
     let l = k .before .before in
     let s = l .before in
-    sym
+    answers
+    (sym
     (lease-count (view (s .args .self)) (s .pre .valid) (s .args .offset .0) (k .lease .given .0 .0)
-    (sym (sym (ap leaseAt (k .lease .given .1)) ∙ l .lease-of .ensures)))
+    (sym (sym (ap leaseAt (k .lease .given .1)) ∙ l .lease-of .ensures))))
 
 enum-told : tie.Need-enum-told
 enum-told c = search needs
@@ -42,17 +49,19 @@ returns-2 c =
     let t = n .before in
     let l = t .before .before in
     let s = l .before in
-    no-count (view (s .args .self)) (s .pre .valid) (s .args .offset .0) (sym (sym (ap leaseAt (t .enum-told .given .1)) ∙ l .lease-of .ensures))
-    (sym (sym (ap attemptsOf (c .enum-told2 .given .1)) ∙ n .carried-count .ensures))
+    answers
+    (no-count (view (s .args .self)) (s .pre .valid) (s .args .offset .0) (sym (sym (ap leaseAt (t .enum-told .given .1)) ∙ l .lease-of .ensures))
+    (sym (sym (ap attemptsOf (c .enum-told2 .given .1)) ∙ n .carried-count .ensures)))
 
 returns-3 : tie.Need-returns-3
 returns-3 c =
     let k = c .before in
     let n = k .before .before in
     let s = n .before .before .before .before in
-    sym
+    answers
+    (sym
     (carried-count (view (s .args .self)) (s .pre .valid) (s .args .offset .0) (k .count .given .0 .0)
-    (sym (sym (ap attemptsOf (k .count .given .1)) ∙ n .carried-count .ensures)))
+    (sym (sym (ap attemptsOf (k .count .given .1)) ∙ n .carried-count .ensures))))
 
 pub count-of-spec : {M : Type 1} → statement M
 count-of-spec =
