@@ -93,3 +93,72 @@ pub fn start(settings: Settings, area_len: usize) -> MachineAnswer
         machine: machine,
     }
 }
+
+// `start`, into the machine's place.
+#[no_mangle]
+pub extern "C" fn ninotskev_start(
+    machine: &mut Machine,
+    numbers: &mut Numbers,
+    settings: &Settings,
+    area_len: usize,
+)
+    ensures { λ _. ⌜ StartIs (now (settings .entry)) «area_len» (now (numbers .exit)) (now (machine .exit)) ⌝ }
+{
+    let given = *settings;
+    let started = start(given, area_len);
+    *machine = started.machine;
+    *numbers = started.numbers;
+}
+
+// A machine that is off, into its place: only a restart is possible.
+#[no_mangle]
+pub extern "C" fn ninotskev_off(machine: &mut Machine, settings: &Settings)
+    ensures { λ _. ⌜ OffIs (now (settings .entry)) (now (machine .exit)) ⌝ }
+{
+    let given = *settings;
+    let made = Machine::off(given);
+    *machine = made;
+}
+
+// `call` on the machine in its place.
+#[no_mangle]
+pub extern "C" fn ninotskev_call(
+    machine: &mut Machine,
+    numbers: &mut Numbers,
+    kind: u64,
+    a: u64,
+    b: u64,
+    c: u64,
+    d: u64,
+    area: &mut [u8],
+    out: &mut [u64],
+)
+    requires { ⌜ Sound (now machine) ⌝ }
+    ensures { λ _. ⌜ CallIs (now (machine .entry)) kind a b c d (now (area .entry)) (now (out .entry)) (now (numbers .exit)) (now (machine .exit)) (now (area .exit)) (now (out .exit)) ⌝ }
+{
+    let before = *machine;
+    let called = call(before, kind, a, b, c, d, area, out);
+    *machine = called.machine;
+    *numbers = called.numbers;
+}
+
+// `ask` on the consumer in its place: that of a machine whose consumer can be called.
+#[no_mangle]
+pub extern "C" fn ninotskev_ask(
+    consumer: &mut Consumer,
+    numbers: &mut Numbers,
+    kind: u64,
+    a: u64,
+    b: u64,
+    c: u64,
+    d: u64,
+    out: &mut [u64],
+)
+    requires { ⌜ consumers.Sound (now consumer) ⌝ }
+    ensures { λ _. ⌜ AskIs (now (consumer .entry)) kind a b c d (now (out .entry)) (now (numbers .exit)) (now (consumer .exit)) (now (out .exit)) ⌝ }
+{
+    let before = *consumer;
+    let asked = ask(before, kind, a, b, c, d, out);
+    *consumer = asked.consumer;
+    *numbers = asked.numbers;
+}
