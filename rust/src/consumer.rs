@@ -1,0 +1,376 @@
+//! The consumer and its checkpoint, each owner of its journal.
+
+use std::fmt;
+
+use crate::ffi::{Ask, Machine};
+use crate::journal::{Failed, Journal, JournalFile, NewJournal, Storage};
+use crate::refusal::Refusal;
+use crate::settings::Settings;
+use crate::types::{Due, Generation, HandOut, Lease, LeaseToken, Offset};
+
+/// The delivery state of one consumer: which messages are settled, who holds which until when, and how often each was handed out.
+///
+/// It owns its journal. A call works on what the one before left, and there is no other copy: it can't be cloned, a
+/// [checkpoint](Consumer::begin) takes it away until the last block is written, and after an error of the disk only a restart is
+/// left. A refused call has changed nothing. Times are nanoseconds of any clock, which may stand still or run backwards.
+pub struct Consumer<S = JournalFile> {
+    machine: Box<Machine>,
+    journal: Journal<S>,
+}
+
+// A count of hand-outs, which the library answers as a number of 64 bits.
+fn count(value: u64) -> u32 {
+    u32::try_from(value).expect("a count of hand-outs has 32 bits")
+}
+
+// A length or a block.
+fn size(value: u64) -> usize {
+    usize::try_from(value).expect("a size has 64 bits")
+}
+
+impl<S: Storage> Consumer<S> {
+    /// A fresh consumer on a new journal: nothing is settled and nothing handed out. Its first claim is refused (26) until a
+    /// first checkpoint has reserved generations.
+    ///
+    /// # Errors
+    /// Refusals 1 to 4, with the journal.
+    pub fn start(
+        settings: &Settings,
+        journal: NewJournal<S>,
+    ) -> Result<Consumer<S>, (Refusal, NewJournal<S>)> {
+        match Machine::start(settings, journal.journal.area.len()) {
+            Ok(machine) => Ok(Consumer {
+                machine,
+                journal: journal.journal,
+            }),
+            Err(refusal) => Err((refusal, journal)),
+        }
+    }
+
+    /// The consumer of the last finished checkpoint on a journal, or a fresh one where there is none. What was in flight can be
+    /// claimed again, and every token from before is refused from now on (24). Nothing is written.
+    ///
+    /// # Errors
+    /// Refusals 1 to 19, with the journal. None of 4 to 19 comes on a journal that only consumers have written, whenever the
+    /// power failed.
+    pub fn restart(
+        settings: &Settings,
+        mut journal: Journal<S>,
+    ) -> Result<Consumer<S>, (Refusal, Journal<S>)> {
+        match Machine::restart(settings, &mut journal.area) {
+            Ok(machine) => Ok(Consumer { machine, journal }),
+            Err(refusal) => Err((refusal, journal)),
+        }
+    }
+
+    /// Takes the consumer into the writing of a checkpoint. Nothing is written yet.
+    ///
+    /// # Errors
+    /// Refusal 31 where the journal has too few blocks left, with the consumer. It goes on, until its generations or its
+    /// redeliveries run out.
+    pub fn begin(mut self) -> Result<Writing<S>, (Refusal, Consumer<S>)> {
+        match self.machine.begin() {
+            Ok(writes) => Ok(Writing {
+                machine: self.machine,
+                journal: self.journal,
+                writes_left: size(writes),
+            }),
+            Err(refusal) => Err((refusal, self)),
+        }
+    }
+
+    /// A whole checkpoint: begin and every step.
+    ///
+    /// # Errors
+    /// Refusal 31 with the consumer, or an error of the disk, after which only a restart is left.
+    pub fn checkpoint(self) -> Result<Consumer<S>, CheckpointError<S>> {
+        match self.begin() {
+            Ok(writing) => writing.finish().map_err(CheckpointError::Failed),
+            Err((refusal, consumer)) => Err(CheckpointError::Refused(refusal, consumer)),
+        }
+    }
+}
+
+impl<S> Consumer<S> {
+    /// Hands an offset out under the next generation, which fences off whoever held it before.
+    ///
+    /// # Errors
+    /// Refusals 21, 22, 23, 25, 26 and 27. After 26 comes a [checkpoint](Consumer::begin).
+    pub fn claim(&mut self, offset: Offset, now: u64) -> Result<HandOut, Refusal> {
+        let [generation, deliveries, dead, _] =
+            self.machine.ask(Ask::Claim, [offset.get(), now, 0, 0])?.values;
+        let token = LeaseToken {
+            offset,
+            generation: Generation::new(generation),
+        };
+        let deliveries = count(deliveries);
+        Ok(match dead {
+            0 => HandOut::Deliver { token, deliveries },
+            _ => HandOut::DeadLetter { token, deliveries },
+        })
+    }
+
+    // A call under a token, with what comes behind it.
+    fn under(
+        &mut self,
+        ask: Ask,
+        token: LeaseToken,
+        now: u64,
+        delay: u64,
+    ) -> Result<u64, Refusal> {
+        let numbers = [token.offset.get(), token.generation.get(), now, delay];
+        Ok(self.machine.ask(ask, numbers)?.values[0])
+    }
+
+    /// Done: the lease goes and the offset is settled.
+    ///
+    /// # Errors
+    /// Refusals 24 and 29.
+    pub fn ack(&mut self, token: LeaseToken) -> Result<(), Refusal> {
+        self.under(Ask::Ack, token, 0, 0).map(drop)
+    }
+
+    /// Given up for good: settled as by an ack.
+    ///
+    /// # Errors
+    /// Refusals 24 and 29.
+    pub fn term(&mut self, token: LeaseToken) -> Result<(), Refusal> {
+        self.under(Ask::Term, token, 0, 0).map(drop)
+    }
+
+    /// Failed: the offset can be claimed again after the delay, the one given or else the schedule's for so many hand-outs. It
+    /// answers from when on.
+    ///
+    /// # Errors
+    /// Refusals 24, 25 and 26.
+    pub fn nack(
+        &mut self,
+        token: LeaseToken,
+        now: u64,
+        delay_nanos: Option<u64>,
+    ) -> Result<u64, Refusal> {
+        match delay_nanos {
+            None => self.under(Ask::Nack, token, now, 0),
+            Some(delay) => self.under(Ask::NackAfter, token, now, delay),
+        }
+    }
+
+    /// Still being worked on: the lease is extended by one visibility window from now, within the hard cap of its attempt. It
+    /// answers the new deadline.
+    ///
+    /// # Errors
+    /// Refusals 24 and 28.
+    pub fn progress(&mut self, token: LeaseToken, now: u64) -> Result<u64, Refusal> {
+        self.under(Ask::Progress, token, now, 0)
+    }
+
+    /// Settles every offset below a bound and drops their counts; `false` where that was so before.
+    ///
+    /// # Errors
+    /// Refusal 30.
+    pub fn commit(&mut self, up_to: Offset) -> Result<bool, Refusal> {
+        let reply = self.machine.ask(Ask::Commit, [up_to.get(), 0, 0, 0])?;
+        Ok(reply.values[0] != 0)
+    }
+
+    /// What waits to be claimed again at a clock: the offsets whose counts a restart carried over, and those whose lease has run
+    /// out. They fill the list from its first place on, and their number is answered. 128 places are always enough.
+    ///
+    /// # Errors
+    /// Refusal 20 where they don't fit, and then the list is as it was.
+    pub fn waiting(&mut self, now: u64, out: &mut [Offset]) -> Result<usize, Refusal> {
+        Ok(size(self.machine.waiting(now, out)?))
+    }
+
+    // A question about an offset, or about none. None of them is ever refused.
+    fn look(&mut self, ask: Ask, offset: u64) -> (u64, [u64; 4]) {
+        let reply = self
+            .machine
+            .ask(ask, [offset, 0, 0, 0])
+            .expect("a question is not refused");
+        (reply.len, reply.values)
+    }
+
+    /// The offset below which all are settled.
+    pub fn committed(&mut self) -> Offset {
+        Offset::new(self.look(Ask::Committed, 0).1[0])
+    }
+
+    /// Whether an offset is settled.
+    pub fn is_settled(&mut self, offset: Offset) -> bool {
+        self.look(Ask::IsSettled, offset.get()).1[0] != 0
+    }
+
+    /// The lease of an offset, run out or not.
+    pub fn lease_of(&mut self, offset: Offset) -> Option<Lease> {
+        match self.look(Ask::LeaseOf, offset.get()) {
+            (4, [generation, attempt_start, deadline, deliveries]) => Some(Lease {
+                generation: Generation::new(generation),
+                attempt_start,
+                deadline,
+                deliveries: count(deliveries),
+            }),
+            _ => None,
+        }
+    }
+
+    /// How often an offset was handed out, as the next checkpoint stores it.
+    pub fn count_of(&mut self, offset: Offset) -> u32 {
+        count(self.look(Ask::CountOf, offset.get()).1[0])
+    }
+
+    /// How many offsets are in flight, their leases run out or not.
+    pub fn in_flight(&mut self) -> usize {
+        size(self.look(Ask::InFlight, 0).1[0])
+    }
+
+    /// Whether a checkpoint is due, and why.
+    pub fn is_due(&mut self) -> Due {
+        let [ceiling, threshold, ..] = self.look(Ask::IsDue, 0).1;
+        Due {
+            ceiling: ceiling != 0,
+            threshold: threshold != 0,
+        }
+    }
+
+    /// How many blocks of the journal are left.
+    pub fn blocks_left(&mut self) -> usize {
+        size(self.look(Ask::BlocksLeft, 0).1[0])
+    }
+
+    /// Gives the state up. What was not checkpointed is lost, as in a power failure, and only a restart is left.
+    #[must_use]
+    pub fn into_journal(self) -> Journal<S> {
+        self.journal
+    }
+}
+
+impl<S> fmt::Debug for Consumer<S> {
+    fn fmt(&self, f: &mut fmt::Formatter<'_>) -> fmt::Result {
+        write!(f, "Consumer on {:?}", self.journal)
+    }
+}
+
+/// Why a [checkpoint](Consumer::checkpoint) was not made.
+pub enum CheckpointError<S = JournalFile> {
+    /// The journal is full (31). Nothing has changed, and here is the consumer.
+    Refused(Refusal, Consumer<S>),
+    /// The disk failed: only a restart is left.
+    Failed(Failed<S>),
+}
+
+impl<S> fmt::Display for CheckpointError<S> {
+    fn fmt(&self, f: &mut fmt::Formatter<'_>) -> fmt::Result {
+        match self {
+            CheckpointError::Refused(refusal, _) => refusal.fmt(f),
+            CheckpointError::Failed(failed) => failed.fmt(f),
+        }
+    }
+}
+
+impl<S> fmt::Debug for CheckpointError<S> {
+    fn fmt(&self, f: &mut fmt::Formatter<'_>) -> fmt::Result {
+        match self {
+            CheckpointError::Refused(refusal, _) => write!(f, "Refused({refusal:?})"),
+            CheckpointError::Failed(failed) => failed.fmt(f),
+        }
+    }
+}
+
+impl<S> std::error::Error for CheckpointError<S> {}
+
+/// A checkpoint that is being written. While it is out there is no consumer to call: only its steps, or a restart.
+pub struct Writing<S = JournalFile> {
+    machine: Box<Machine>,
+    journal: Journal<S>,
+    writes_left: usize,
+}
+
+/// What a step made, and who can be called next.
+pub enum Step<S = JournalFile> {
+    /// A block that isn't the last.
+    Wrote {
+        /// The block, from 0.
+        block: usize,
+        /// What writes the next.
+        writing: Writing<S>,
+    },
+    /// The last block, the header's: the checkpoint counts from now on.
+    Finished {
+        /// The block, from 0.
+        block: usize,
+        /// The consumer again, with generations up to a new ceiling.
+        consumer: Consumer<S>,
+    },
+}
+
+impl<S: Storage> Writing<S> {
+    /// Makes the next block write, and no other: it is at its place and durable before the answer.
+    ///
+    /// # Errors
+    /// An error of the disk, after which only a restart is left.
+    pub fn step(mut self) -> Result<Step<S>, Failed<S>> {
+        let wrote = self.machine.step(&mut self.journal.area);
+        if let Err(error) = self.journal.put(wrote.block) {
+            return Err(Failed {
+                error,
+                storage: self.journal.storage,
+            });
+        }
+        let block = wrote.block;
+        Ok(if wrote.last {
+            Step::Finished {
+                block,
+                consumer: Consumer {
+                    machine: self.machine,
+                    journal: self.journal,
+                },
+            }
+        } else {
+            Step::Wrote {
+                block,
+                writing: Writing {
+                    writes_left: self.writes_left - 1,
+                    ..self
+                },
+            }
+        })
+    }
+
+    /// Every step that is left.
+    ///
+    /// # Errors
+    /// An error of the disk, after which only a restart is left.
+    pub fn finish(mut self) -> Result<Consumer<S>, Failed<S>> {
+        loop {
+            match self.step()? {
+                Step::Wrote { writing, .. } => self = writing,
+                Step::Finished { consumer, .. } => return Ok(consumer),
+            }
+        }
+    }
+}
+
+impl<S> Writing<S> {
+    /// How many block writes are to come.
+    #[must_use]
+    pub fn writes_left(&self) -> usize {
+        self.writes_left
+    }
+
+    /// Gives the checkpoint up, and the state with it: only a restart is left, from the checkpoint before.
+    #[must_use]
+    pub fn into_journal(self) -> Journal<S> {
+        self.journal
+    }
+}
+
+impl<S> fmt::Debug for Writing<S> {
+    fn fmt(&self, f: &mut fmt::Formatter<'_>) -> fmt::Result {
+        write!(
+            f,
+            "Writing on {:?}, {} writes to come",
+            self.journal, self.writes_left
+        )
+    }
+}

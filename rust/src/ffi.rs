@@ -1,0 +1,271 @@
+//! The proved library, and the only unsafe code of this crate.
+//!
+//! `crates/exports/src/delivery.rt` of the repository has the functions with their contracts. They take the state behind `&mut`
+//! and require one thing, the invariant of the state that every start, restart and call is proved to leave. So a [`Machine`] is
+//! made here by a start or a restart alone, nothing outside this file sees its fields, and the structs below are laid out as
+//! the library's, field by field, which `tests` at the end compares.
+
+use crate::refusal::Refusal;
+use crate::settings::{DeliveryConfig, LeaseConfig, Settings};
+use crate::types::Offset;
+
+// cursor: AckCursor
+#[repr(C)]
+struct AckCursor {
+    committed: u64,
+    starts: [u64; 128],
+    ends: [u64; 128],
+    runs: usize,
+}
+
+// lease: Lease
+#[derive(Clone, Copy)]
+#[repr(C)]
+struct Lease {
+    generation: u64,
+    attempt_start: u64,
+    deadline: u64,
+    deliveries: u32,
+}
+
+// lease: LeaseTable
+#[repr(C)]
+struct LeaseTable {
+    config: LeaseConfig,
+    offsets: [u64; 64],
+    leases: [Lease; 64],
+    len: usize,
+    carried_offsets: [u64; 128],
+    carried_counts: [u32; 128],
+    carried_len: usize,
+    next_generation: u64,
+    redeliveries_since_flush: u32,
+}
+
+// consumer: Seat
+#[repr(C)]
+struct Seat {
+    number: u64,
+    block: usize,
+}
+
+// consumer: Consumer
+#[repr(C)]
+struct Consumer {
+    cursor: AckCursor,
+    table: LeaseTable,
+    ceiling: u64,
+    seat: Seat,
+    area_len: usize,
+    delivery: DeliveryConfig,
+}
+
+// consumer: Writing
+#[repr(C)]
+struct Writing {
+    consumer: Consumer,
+    written: usize,
+    payload: [u8; 3606],
+    cursor_len: usize,
+    attempt_len: usize,
+}
+
+/// The state: the consumer, or the record of a checkpoint that is being written.
+#[repr(C)]
+pub(crate) struct Machine {
+    settings: Settings,
+    phase: u64,
+    writing: Writing,
+}
+
+/// What a call answers: document 01's number, 0 where nothing was refused, and the first `len` values.
+#[derive(Clone, Copy, Debug, Default, PartialEq, Eq)]
+#[repr(C)]
+pub(crate) struct Reply {
+    pub(crate) number: u64,
+    pub(crate) len: u64,
+    pub(crate) values: [u64; 4],
+}
+
+/// The calls on a consumer, by their numbers.
+#[derive(Clone, Copy, Debug, PartialEq, Eq)]
+#[repr(u64)]
+pub(crate) enum Ask {
+    Claim = 0,
+    Ack = 1,
+    Term = 2,
+    Nack = 3,
+    NackAfter = 4,
+    Progress = 5,
+    Commit = 6,
+    Waiting = 7,
+    Committed = 8,
+    IsSettled = 9,
+    LeaseOf = 10,
+    CountOf = 11,
+    InFlight = 12,
+    IsDue = 13,
+    BlocksLeft = 14,
+}
+
+// The other calls of the door.
+const BEGIN: u64 = 15;
+const STEP: u64 = 16;
+const RESTART: u64 = 17;
+
+extern "C" {
+    fn ninotskev_start(
+        machine: *mut Machine,
+        reply: *mut Reply,
+        settings: *const Settings,
+        area_len: usize,
+    );
+    fn ninotskev_off(machine: *mut Machine, settings: *const Settings);
+    fn ninotskev_call(
+        machine: *mut Machine,
+        reply: *mut Reply,
+        kind: u64,
+        a: u64,
+        b: u64,
+        c: u64,
+        d: u64,
+        area: *mut u8,
+        area_len: usize,
+        out: *mut u64,
+        out_len: usize,
+    );
+    fn ninotskev_ask(
+        consumer: *mut Consumer,
+        reply: *mut Reply,
+        kind: u64,
+        a: u64,
+        b: u64,
+        c: u64,
+        d: u64,
+        out: *mut u64,
+        out_len: usize,
+    );
+}
+
+/// The block that a step wrote, and whether it was the last.
+pub(crate) struct Wrote {
+    pub(crate) block: usize,
+    pub(crate) last: bool,
+}
+
+impl Reply {
+    // The values, or the refusal.
+    fn read(self) -> Result<Reply, Refusal> {
+        if self.number == 0 {
+            return Ok(self);
+        }
+        Err(Refusal::of_number(self.number, self.values[0], self.values[1])
+            .expect("the library answers document 01's numbers"))
+    }
+}
+
+impl Machine {
+    // Memory for a machine, which a start or an off fills whole.
+    fn blank() -> Box<Machine> {
+        // SAFETY: every field is a number, a bool or an array of numbers, for which zeros are a value.
+        unsafe { Box::<Machine>::new_zeroed().assume_init() }
+    }
+
+    /// A fresh machine for so many zeroed bytes: 1 to 4.
+    pub(crate) fn start(settings: &Settings, area_len: usize) -> Result<Box<Machine>, Refusal> {
+        let mut machine = Machine::blank();
+        let mut reply = Reply::default();
+        // SAFETY: three references to values of the library's layout, of which nothing is required.
+        unsafe { ninotskev_start(&mut *machine, &mut reply, settings, area_len) };
+        reply.read()?;
+        Ok(machine)
+    }
+
+    /// The machine of what a journal has: 1 to 19. The area is as it was.
+    pub(crate) fn restart(settings: &Settings, area: &mut [u8]) -> Result<Box<Machine>, Refusal> {
+        let mut machine = Machine::blank();
+        // SAFETY: two references to values of the library's layout, of which nothing is required. The machine that it leaves can
+        // be called.
+        unsafe { ninotskev_off(&mut *machine, settings) };
+        machine.call(RESTART, area).read()?;
+        Ok(machine)
+    }
+
+    // A call of the door that isn't on the consumer.
+    fn call(&mut self, kind: u64, area: &mut [u8]) -> Reply {
+        let mut reply = Reply::default();
+        let mut out = [];
+        // SAFETY: references and slices that don't overlap. The machine was made by a start or an off, and changed by calls
+        // alone, so that it meets the invariant.
+        unsafe {
+            ninotskev_call(
+                self,
+                &mut reply,
+                kind,
+                0,
+                0,
+                0,
+                0,
+                area.as_mut_ptr(),
+                area.len(),
+                out.as_mut_ptr(),
+                out.len(),
+            );
+        }
+        reply
+    }
+
+    // A call on the consumer. Whoever calls has a consumer, and no record is out.
+    fn on_consumer(&mut self, ask: Ask, [a, b, c, d]: [u64; 4], out: &mut [u64]) -> Reply {
+        let mut reply = Reply::default();
+        let consumer = &mut self.writing.consumer;
+        // SAFETY: as for `call`. The consumer of a machine that isn't writing meets the invariant, and what the call leaves does.
+        unsafe {
+            ninotskev_ask(
+                consumer,
+                &mut reply,
+                ask as u64,
+                a,
+                b,
+                c,
+                d,
+                out.as_mut_ptr(),
+                out.len(),
+            );
+        }
+        reply
+    }
+
+    /// A call on the consumer that answers numbers.
+    pub(crate) fn ask(&mut self, ask: Ask, numbers: [u64; 4]) -> Result<Reply, Refusal> {
+        self.on_consumer(ask, numbers, &mut []).read()
+    }
+
+    /// The waiting list at a clock, into a list: how many there are, or 20.
+    pub(crate) fn waiting(&mut self, now: u64, out: &mut [Offset]) -> Result<u64, Refusal> {
+        // SAFETY: an offset is laid out as its number.
+        let places =
+            unsafe { core::slice::from_raw_parts_mut(out.as_mut_ptr().cast::<u64>(), out.len()) };
+        Ok(self
+            .on_consumer(Ask::Waiting, [now, 0, 0, 0], places)
+            .read()?
+            .len)
+    }
+
+    /// Takes the consumer into a record: how many blocks are to be written, or 31.
+    pub(crate) fn begin(&mut self) -> Result<u64, Refusal> {
+        Ok(self.call(BEGIN, &mut []).read()?.values[0])
+    }
+
+    /// Writes the next block into the area, which has the length that the machine was started on.
+    pub(crate) fn step(&mut self, area: &mut [u8]) -> Wrote {
+        let reply = self
+            .call(STEP, area)
+            .read()
+            .expect("a step on its own area is not refused");
+        Wrote {
+            block: usize::try_from(reply.values[0]).expect("a block is below 128"),
+            last: reply.values[1] != 0,
+        }
+    }
+}

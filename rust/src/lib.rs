@@ -1,0 +1,102 @@
+//! The delivery state of one message-queue consumer, for a server in Rust: which messages are settled, who holds which until
+//! when, how often each was handed out, and how all of that survives a power failure.
+//!
+//! The work is done by a library in Rattle whose every function is proved to meet its contract; this crate gives it a safe
+//! interface and a journal over a file. The names are those of IronBus.
+//!
+//! # One state, used once
+//!
+//! The proof that no message is handed out too often, and that no token from before a restart is ever taken, has one premise
+//! about the caller: each call gets what the one before left, and nobody else writes the journal. Here the types say so.
+//!
+//! ```
+//! use ironbus_delivery_state::{Consumer, HandOut, NewJournal, Offset, Refusal, Settings};
+//! # let path = std::env::temp_dir().join(format!("ironbus-doc-{}", std::process::id()));
+//! # let _ = std::fs::remove_file(&path);
+//!
+//! let journal = NewJournal::create(&path, 128)?;
+//! let consumer = Consumer::start(&Settings::default(), journal).map_err(|(refusal, _)| refusal)?;
+//! let mut consumer = consumer.checkpoint()?;
+//! let HandOut::Deliver { token, .. } = consumer.claim(Offset::new(0), 0)? else { unreachable!() };
+//! consumer.ack(token)?;
+//! assert_eq!(consumer.ack(token), Err(Refusal::Fenced));
+//! # drop(consumer);
+//! # std::fs::remove_file(&path)?;
+//! # Ok::<(), Box<dyn std::error::Error>>(())
+//! ```
+//!
+//! A consumer can't be copied:
+//!
+//! ```compile_fail,E0599
+//! # use ironbus_delivery_state::Consumer;
+//! fn twice(consumer: Consumer) -> (Consumer, Consumer) {
+//!     (consumer.clone(), consumer)
+//! }
+//! ```
+//!
+//! It can't be called while a checkpoint is being written:
+//!
+//! ```compile_fail,E0382
+//! # use ironbus_delivery_state::{Consumer, Offset};
+//! fn claim_in_between(mut consumer: Consumer) {
+//!     let writing = consumer.begin();
+//!     let _ = consumer.claim(Offset::new(0), 0);
+//! }
+//! ```
+//!
+//! A step can't be made twice:
+//!
+//! ```compile_fail,E0382
+//! # use ironbus_delivery_state::Writing;
+//! fn again(writing: Writing) {
+//!     let _ = writing.step();
+//!     let _ = writing.step();
+//! }
+//! ```
+//!
+//! After an error of the disk there is no state left to call, and a restart needs the journal read again:
+//!
+//! ```compile_fail,E0308
+//! # use ironbus_delivery_state::{Consumer, Failed, Settings};
+//! fn go_on(failed: Failed) {
+//!     let _ = Consumer::restart(&Settings::default(), failed);
+//! }
+//! ```
+//!
+//! A journal that was used can't be started on:
+//!
+//! ```compile_fail,E0308
+//! # use ironbus_delivery_state::{Consumer, Journal, Settings};
+//! fn from_nothing(journal: Journal) {
+//!     let _ = Consumer::start(&Settings::default(), journal);
+//! }
+//! ```
+//!
+//! And a consumer that was given up is gone:
+//!
+//! ```compile_fail,E0382
+//! # use ironbus_delivery_state::{Consumer, Offset};
+//! fn after_the_end(mut consumer: Consumer) {
+//!     let journal = consumer.into_journal();
+//!     let _ = consumer.claim(Offset::new(0), 0);
+//! }
+//! ```
+
+#![deny(unsafe_code)]
+#![deny(missing_docs)]
+
+mod consumer;
+#[allow(unsafe_code)]
+mod ffi;
+mod journal;
+mod refusal;
+mod settings;
+mod types;
+
+pub use consumer::{CheckpointError, Consumer, Step, Writing};
+pub use journal::{
+    Failed, Journal, JournalError, JournalFile, NewJournal, Storage, BLOCK, MAX_BLOCKS,
+};
+pub use refusal::Refusal;
+pub use settings::{DeliveryConfig, LeaseConfig, Settings};
+pub use types::{Due, Generation, HandOut, Lease, LeaseToken, Offset};

@@ -1,0 +1,156 @@
+//! The names of messages and of hand-outs.
+
+use core::fmt;
+
+/// A position in the log: it names a message.
+#[derive(Clone, Copy, PartialEq, Eq, PartialOrd, Ord, Hash, Default)]
+#[repr(transparent)]
+pub struct Offset(u64);
+
+impl Offset {
+    /// The first offset of a log.
+    pub const ZERO: Offset = Offset(0);
+
+    /// The offset of a number.
+    #[must_use]
+    pub const fn new(value: u64) -> Offset {
+        Offset(value)
+    }
+
+    /// Its number.
+    #[must_use]
+    pub const fn get(self) -> u64 {
+        self.0
+    }
+
+    /// The next offset, or `None` behind the last.
+    #[must_use]
+    pub const fn checked_next(self) -> Option<Offset> {
+        match self.0.checked_add(1) {
+            Some(next) => Some(Offset(next)),
+            None => None,
+        }
+    }
+}
+
+/// Names a hand-out: no two of one journal's life share one.
+#[derive(Clone, Copy, PartialEq, Eq, PartialOrd, Ord, Hash, Default)]
+#[repr(transparent)]
+pub struct Generation(u64);
+
+impl Generation {
+    /// The generation of a number.
+    #[must_use]
+    pub const fn new(value: u64) -> Generation {
+        Generation(value)
+    }
+
+    /// Its number.
+    #[must_use]
+    pub const fn get(self) -> u64 {
+        self.0
+    }
+}
+
+impl fmt::Debug for Offset {
+    fn fmt(&self, f: &mut fmt::Formatter<'_>) -> fmt::Result {
+        write!(f, "Offset({})", self.0)
+    }
+}
+
+impl fmt::Display for Offset {
+    fn fmt(&self, f: &mut fmt::Formatter<'_>) -> fmt::Result {
+        write!(f, "{}", self.0)
+    }
+}
+
+impl fmt::Debug for Generation {
+    fn fmt(&self, f: &mut fmt::Formatter<'_>) -> fmt::Result {
+        write!(f, "Generation({})", self.0)
+    }
+}
+
+impl fmt::Display for Generation {
+    fn fmt(&self, f: &mut fmt::Formatter<'_>) -> fmt::Result {
+        write!(f, "{}", self.0)
+    }
+}
+
+/// What a worker holds a message under. It is a name and no right: one that is out of date is refused
+/// ([`Refusal::Fenced`](crate::Refusal::Fenced)), however it was come by, so it can be copied and sent about freely.
+#[derive(Clone, Copy, Debug, PartialEq, Eq, Hash)]
+pub struct LeaseToken {
+    /// The message.
+    pub offset: Offset,
+    /// The hand-out.
+    pub generation: Generation,
+}
+
+/// What a claim hands out. `deliveries` is how often the message was handed out, this time counted.
+#[derive(Clone, Copy, Debug, PartialEq, Eq)]
+pub enum HandOut {
+    /// To be worked on.
+    Deliver {
+        /// What it is acknowledged under.
+        token: LeaseToken,
+        /// The hand-outs so far.
+        deliveries: u32,
+    },
+    /// Handed out more often than the limit: to be put among the dead letters, and then settled under its token.
+    DeadLetter {
+        /// What it is settled under.
+        token: LeaseToken,
+        /// The hand-outs so far.
+        deliveries: u32,
+    },
+}
+
+impl HandOut {
+    /// The token of either.
+    #[must_use]
+    pub fn token(&self) -> LeaseToken {
+        match *self {
+            HandOut::Deliver { token, .. } | HandOut::DeadLetter { token, .. } => token,
+        }
+    }
+
+    /// The hand-outs so far, of either.
+    #[must_use]
+    pub fn deliveries(&self) -> u32 {
+        match *self {
+            HandOut::Deliver { deliveries, .. } | HandOut::DeadLetter { deliveries, .. } => {
+                deliveries
+            }
+        }
+    }
+}
+
+/// A message in flight, its time run out or not.
+#[derive(Clone, Copy, Debug, PartialEq, Eq)]
+pub struct Lease {
+    /// The hand-out that holds it.
+    pub generation: Generation,
+    /// When the attempt began, from where the hard cap counts.
+    pub attempt_start: u64,
+    /// When it can be claimed again.
+    pub deadline: u64,
+    /// How often it was handed out.
+    pub deliveries: u32,
+}
+
+/// Whether a checkpoint is due, and why.
+#[derive(Clone, Copy, Debug, PartialEq, Eq)]
+pub struct Due {
+    /// No generation is left below the ceiling: claims and nacks are refused until a checkpoint.
+    pub ceiling: bool,
+    /// Redeliveries since the last checkpoint have reached the threshold: claims are refused until a checkpoint.
+    pub threshold: bool,
+}
+
+impl Due {
+    /// Whether it is due for either reason.
+    #[must_use]
+    pub fn is_due(self) -> bool {
+        self.ceiling || self.threshold
+    }
+}

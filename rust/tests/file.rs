@@ -1,0 +1,283 @@
+//! The journal over a file: the clinics' incident end to end, one owner at a time, and what is refused before anything is lost.
+
+mod common;
+
+use std::fs;
+use std::io::{BufRead, BufReader};
+use std::path::Path;
+use std::process::{Child, Command, Stdio};
+
+use common::{fresh_path, settings};
+use ironbus_delivery_state::{
+    Consumer, HandOut, Journal, JournalError, NewJournal, Offset, Refusal, Settings, Step, BLOCK,
+};
+
+const SECOND: u64 = 1_000_000_000;
+
+fn restart(path: &Path, settings: &Settings) -> Consumer {
+    Consumer::restart(settings, Journal::open(path).unwrap()).unwrap()
+}
+
+#[test]
+fn a_worker_that_slept_through_a_restart_is_refused() {
+    let path = fresh_path("incident");
+    let settings = settings(5, 2, 30 * SECOND, 300 * SECOND);
+    let recipe = Offset::new(0);
+    let journal = NewJournal::create(&path, 64).unwrap();
+    let consumer = Consumer::start(&settings, journal).unwrap();
+    let mut server = consumer.checkpoint().unwrap();
+    let HandOut::Deliver {
+        token: sleeper,
+        deliveries: 1,
+    } = server.claim(recipe, 0).unwrap()
+    else {
+        panic!("a first delivery");
+    };
+    // The server goes down while the worker sleeps, and the recipe goes to another.
+    drop(server);
+    let mut server = restart(&path, &settings).checkpoint().unwrap();
+    let other = server.claim(recipe, SECOND).unwrap().token();
+    assert_ne!(sleeper.generation, other.generation);
+    // The sleeper wakes: its token is refused in every way, and the recipe isn't done.
+    assert_eq!(server.ack(sleeper), Err(Refusal::Fenced));
+    assert_eq!(server.ack(sleeper).unwrap_err().number(), 24);
+    assert_eq!(server.term(sleeper), Err(Refusal::Fenced));
+    assert_eq!(server.nack(sleeper, SECOND, None), Err(Refusal::Fenced));
+    assert_eq!(server.progress(sleeper, SECOND), Err(Refusal::Fenced));
+    assert!(!server.is_settled(recipe));
+    // The other worker fails, so the recipe is worked out again, by a third.
+    let again = server.nack(other, SECOND, Some(0)).unwrap();
+    let third = server.claim(recipe, again).unwrap().token();
+    server.ack(third).unwrap();
+    drop(server.checkpoint().unwrap());
+    let mut server = restart(&path, &settings);
+    assert!(server.is_settled(recipe));
+    assert_eq!(server.ack(sleeper), Err(Refusal::Fenced));
+}
+
+#[test]
+fn the_fourteenth_example() {
+    let path = fresh_path("fourteenth");
+    let settings = settings(2, 1, 10, 25);
+    let job = Offset::new(0);
+    let consumer = Consumer::start(&settings, NewJournal::create(&path, 18).unwrap()).unwrap();
+    let mut consumer = consumer.checkpoint().unwrap();
+    let first = consumer.claim(job, 0).unwrap();
+    assert!(matches!(first, HandOut::Deliver { deliveries: 1, .. }));
+    assert_eq!(consumer.claim(job, 9), Err(Refusal::InFlight));
+    let second = consumer.claim(job, 10).unwrap();
+    assert!(matches!(second, HandOut::Deliver { deliveries: 2, .. }));
+    assert_eq!(consumer.claim(job, 20), Err(Refusal::CheckpointDue));
+    assert!(consumer.is_due().threshold && !consumer.is_due().ceiling);
+    drop(consumer.checkpoint().unwrap());
+    let mut consumer = restart(&path, &settings).checkpoint().unwrap();
+    let HandOut::DeadLetter {
+        token,
+        deliveries: 3,
+    } = consumer.claim(job, 30).unwrap()
+    else {
+        panic!("over the limit");
+    };
+    assert_eq!(token.generation.get(), 4098);
+    let lease = consumer.lease_of(job).unwrap();
+    assert_eq!((lease.attempt_start, lease.deadline), (30, 40));
+    assert_eq!(lease.generation, token.generation);
+    assert_eq!(consumer.lease_of(Offset::new(1)), None);
+    assert_eq!((consumer.in_flight(), consumer.committed()), (1, Offset::ZERO));
+    consumer.term(token).unwrap();
+    assert_eq!((consumer.in_flight(), consumer.committed()), (0, Offset::new(1)));
+}
+
+#[test]
+fn calls_give_01s_answers() {
+    let path = fresh_path("answers");
+    let settings = settings(3, 9, 10, 25);
+    let consumer = Consumer::start(&settings, NewJournal::create(&path, 18).unwrap()).unwrap();
+    let mut consumer = consumer.checkpoint().unwrap();
+    assert_eq!(consumer.claim(Offset::new(u64::MAX), 0), Err(Refusal::LastOffset));
+    let token = consumer.claim(Offset::new(3), 100).unwrap().token();
+    assert_eq!(consumer.progress(token, 109), Ok(119));
+    assert_eq!(consumer.progress(token, 120), Ok(125));
+    assert_eq!(consumer.progress(token, 125), Err(Refusal::CapReached));
+    assert_eq!(consumer.commit(Offset::new(4)), Err(Refusal::Held));
+    assert_eq!(consumer.commit(Offset::new(3)), Ok(true));
+    assert_eq!(consumer.commit(Offset::new(3)), Ok(false));
+    assert_eq!(consumer.claim(Offset::new(2), 0), Err(Refusal::Settled));
+    // the first delay of the schedule is 3
+    assert_eq!(consumer.nack(token, 200, None), Ok(203));
+    assert_eq!(consumer.nack(token, 200, None), Err(Refusal::Fenced));
+    let mut list = [Offset::new(77); 3];
+    assert_eq!(consumer.waiting(202, &mut list), Ok(0));
+    assert_eq!(consumer.waiting(203, &mut []), Err(Refusal::OutTooShort));
+    assert_eq!(consumer.waiting(203, &mut list), Ok(1));
+    assert_eq!(list, [Offset::new(3), Offset::new(77), Offset::new(77)]);
+    for offset in 4..67 {
+        consumer.claim(Offset::new(offset), 0).unwrap();
+    }
+    assert_eq!(consumer.claim(Offset::new(67), 0), Err(Refusal::Full));
+    assert_eq!(consumer.in_flight(), 64);
+    let mut list = [Offset::ZERO; 128];
+    assert_eq!(consumer.waiting(203, &mut list), Ok(64));
+}
+
+#[test]
+fn a_checkpoint_goes_block_by_block() {
+    let path = fresh_path("steps");
+    let settings = settings(3, 9, 10, 25);
+    let consumer = Consumer::start(&settings, NewJournal::create(&path, 4).unwrap()).unwrap();
+    let writing = consumer.begin().unwrap();
+    assert_eq!(writing.writes_left(), 2);
+    let Step::Wrote { block: 1, writing } = writing.step().unwrap() else {
+        panic!("the body comes first");
+    };
+    assert_eq!(writing.writes_left(), 1);
+    let bytes = fs::read(&path).unwrap();
+    assert!(bytes[..BLOCK].iter().all(|byte| *byte == 0));
+    assert_eq!(bytes[BLOCK], 2);
+    let Step::Finished { block: 0, consumer } = writing.step().unwrap() else {
+        panic!("the header comes last");
+    };
+    assert_eq!(fs::read(&path).unwrap()[0], 1);
+    let mut consumer = consumer.checkpoint().unwrap();
+    assert_eq!(consumer.blocks_left(), 0);
+    let (refusal, mut consumer) = consumer.begin().unwrap_err();
+    assert_eq!(refusal, Refusal::JournalFull);
+    // A full journal is no reason to stop before the generations run out.
+    consumer.claim(Offset::ZERO, 0).unwrap();
+}
+
+#[test]
+fn settings_are_refused_by_01s_numbers() {
+    let path = fresh_path("settings");
+    let mut journal = NewJournal::create(&path, 2).unwrap();
+    let mut one = settings(0, 1, 10, 25);
+    let refused = |journal, settings: &Settings| {
+        let (refusal, journal) = Consumer::start(settings, journal).unwrap_err();
+        (refusal.number(), journal)
+    };
+    let number;
+    (number, journal) = refused(journal, &one);
+    assert_eq!(number, 1);
+    one.delivery = ironbus_delivery_state::DeliveryConfig::new(3, false, &[1; 17]);
+    let number;
+    (number, journal) = refused(journal, &one);
+    assert_eq!(number, 2);
+    let (number, journal) = refused(journal, &settings(3, 0, 10, 25));
+    assert_eq!(number, 3);
+    Consumer::start(&settings(3, 1, 10, 25), journal).unwrap();
+    // A file that is no journal.
+    fs::write(&path, [1; 100]).unwrap();
+    let journal = Journal::open(&path).unwrap();
+    let (refusal, _) = Consumer::restart(&settings(3, 1, 10, 25), journal).unwrap_err();
+    assert_eq!(refusal, Refusal::BadArea);
+}
+
+#[test]
+fn a_journal_that_is_there_can_only_be_opened() {
+    let path = fresh_path("there");
+    assert!(matches!(NewJournal::create(&path, 0), Err(JournalError::BadBlocks(0))));
+    assert!(matches!(NewJournal::create(&path, 129), Err(JournalError::BadBlocks(129))));
+    assert!(matches!(Journal::open(&path), Err(JournalError::Io(_))));
+    let settings = settings(3, 1, 10, 25);
+    let consumer = Consumer::start(&settings, NewJournal::create(&path, 18).unwrap()).unwrap();
+    let journal = consumer.checkpoint().unwrap().into_journal();
+    assert_eq!(journal.bytes(), fs::read(&path).unwrap());
+    let storage = journal.into_storage();
+    assert!(matches!(NewJournal::on(storage), Err(JournalError::Used)));
+    let before = fs::read(&path).unwrap();
+    assert!(matches!(NewJournal::create(&path, 18), Err(JournalError::Exists)));
+    assert_eq!(fs::read(&path).unwrap(), before);
+    // Nothing else is left in the folder.
+    let names = fs::read_dir(path.parent().unwrap()).unwrap();
+    assert!(!names
+        .map(|entry| entry.unwrap().file_name().into_string().unwrap())
+        .any(|name| name.starts_with("there.")));
+}
+
+#[test]
+fn a_damaged_journal_is_refused() {
+    let path = fresh_path("damaged");
+    let settings = settings(3, 1, 10, 25);
+    let consumer = Consumer::start(&settings, NewJournal::create(&path, 18).unwrap()).unwrap();
+    drop(consumer.checkpoint().unwrap());
+    let mut bytes = fs::read(&path).unwrap();
+    bytes[BLOCK + 20] ^= 1;
+    fs::write(&path, &bytes).unwrap();
+    let (refusal, journal) = Consumer::restart(&settings, Journal::open(&path).unwrap()).unwrap_err();
+    assert_eq!(refusal, Refusal::Damaged { block: 1 });
+    assert_eq!(refusal.to_string(), "refused (5): block 1 of the journal is damaged");
+    assert_eq!(journal.bytes(), bytes);
+}
+
+// ## Two processes
+
+const ROLE: &str = "NINOTSKEV_ROLE";
+
+/// Runs `role` of this file in another process.
+fn other(role: &str, path: &Path) -> Child {
+    Command::new(std::env::current_exe().unwrap())
+        .args(["role", "--exact", "--nocapture", "--ignored"])
+        .env(ROLE, role)
+        .env("NINOTSKEV_PATH", path)
+        .stdout(Stdio::piped())
+        .spawn()
+        .unwrap()
+}
+
+/// The line that it says.
+fn says(child: &mut Child) -> String {
+    let lines = BufReader::new(child.stdout.as_mut().unwrap()).lines();
+    let line = lines
+        .map(|line| line.unwrap())
+        .find(|line| line.contains("says "))
+        .expect("the other process says something");
+    line.split("says ").nth(1).unwrap().to_owned()
+}
+
+/// What the other process does: it opens the journal, and for `hold` keeps it until it is stopped.
+#[test]
+#[ignore = "a part of the tests below"]
+fn role() {
+    let Ok(role) = std::env::var(ROLE) else {
+        return;
+    };
+    match Journal::open(std::env::var_os("NINOTSKEV_PATH").unwrap()) {
+        Ok(_journal) => {
+            println!("says open");
+            while role == "hold" {
+                std::thread::sleep(std::time::Duration::from_secs(1));
+            }
+        }
+        Err(error) => println!("says {error}"),
+    }
+}
+
+#[test]
+fn a_second_process_is_refused() {
+    let path = fresh_path("two-processes");
+    let settings = settings(3, 1, 10, 25);
+    let consumer = Consumer::start(&settings, NewJournal::create(&path, 18).unwrap()).unwrap();
+    let mut second = other("look", &path);
+    assert_eq!(says(&mut second), "the journal is in use");
+    second.wait().unwrap();
+    // Neither can this process have it twice.
+    assert!(matches!(Journal::open(&path), Err(JournalError::Locked)));
+    let consumer = consumer.checkpoint().unwrap();
+    drop(consumer);
+    let mut third = other("look", &path);
+    assert_eq!(says(&mut third), "open");
+    third.wait().unwrap();
+}
+
+#[test]
+fn a_process_that_was_killed_leaves_the_journal() {
+    let path = fresh_path("killed");
+    let settings = settings(3, 1, 10, 25);
+    drop(Consumer::start(&settings, NewJournal::create(&path, 18).unwrap()).unwrap());
+    let mut holder = other("hold", &path);
+    assert_eq!(says(&mut holder), "open");
+    assert!(matches!(Journal::open(&path), Err(JournalError::Locked)));
+    holder.kill().unwrap();
+    holder.wait().unwrap();
+    restart(&path, &settings).checkpoint().unwrap();
+}

@@ -1,0 +1,266 @@
+//! Power failures at the block writes of a real file: after each, a restart finds what document 01's book says, and demand 3's
+//! three promises hold. Nothing here knows how the state is kept.
+
+mod common;
+
+use common::{fresh_path, settings, Book, Cut, Cuttable, Power, Random};
+use ironbus_delivery_state::{
+    CheckpointError, Consumer, HandOut, Journal, LeaseToken, NewJournal, Offset, Refusal,
+    Settings, Writing,
+};
+use std::cell::RefCell;
+use std::path::Path;
+use std::rc::Rc;
+
+/// A list of calls on one journal, and what is known of it.
+struct Run {
+    random: Random,
+    settings: Settings,
+    offsets: Vec<u64>,
+    book: Book,
+    power: Rc<RefCell<Power>>,
+    cuts: u64,
+    now: u64,
+    tokens: Vec<LeaseToken>,
+    /// Tokens from before a restart: refused ever after.
+    stale: Vec<LeaseToken>,
+    refused: u64,
+}
+
+impl Run {
+    fn new(seed: u64) -> Run {
+        let mut random = Random(seed);
+        let limit = 1 + random.below(3) as u32;
+        let threshold = 1 + random.below(3) as u32;
+        let settings = settings(limit, threshold, 4 + random.below(8), 12 + random.below(8));
+        let mut offsets: Vec<u64> = (0..3 + random.below(9)).collect();
+        offsets.extend([40, 41, 1000, u64::MAX - 1, u64::MAX]);
+        Run {
+            random,
+            settings,
+            offsets,
+            book: Book::default(),
+            power: Rc::default(),
+            cuts: 0,
+            now: 0,
+            tokens: Vec::new(),
+            stale: Vec::new(),
+            refused: 0,
+        }
+    }
+
+    fn restart(&mut self, journal: Journal<Cuttable>) -> Consumer<Cuttable> {
+        let mut consumer =
+            Consumer::restart(&self.settings, journal).expect("no restart is refused");
+        self.stale.append(&mut self.tokens);
+        self.book.restarted(&mut consumer, &self.offsets);
+        consumer
+    }
+
+    /// A checkpoint, whose power may fail at some write.
+    fn checkpoint(&mut self, consumer: Consumer<Cuttable>) -> Consumer<Cuttable> {
+        match consumer.begin() {
+            Err((refusal, consumer)) => {
+                assert_eq!(refusal, Refusal::JournalFull);
+                self.refused += 1;
+                consumer
+            }
+            Ok(writing) => self.write(writing),
+        }
+    }
+
+    fn write(&mut self, writing: Writing<Cuttable>) -> Consumer<Cuttable> {
+        match writing.finish() {
+            Ok(consumer) => {
+                self.book.header_written();
+                consumer
+            }
+            Err(failed) => {
+                self.cuts += 1;
+                let left_new = self.power.borrow_mut().left_new.take();
+                // The header is the block of kind 1.
+                if left_new.is_some_and(|block| block[0] == 1) {
+                    self.book.header_written();
+                }
+                self.restart(failed.reopen().unwrap())
+            }
+        }
+    }
+
+    fn claim(&mut self, consumer: &mut Consumer<Cuttable>) -> bool {
+        let offset = self.random.pick(&self.offsets);
+        match consumer.claim(Offset::new(offset), self.now) {
+            Ok(hand_out) => {
+                let token = hand_out.token();
+                assert_eq!(token.offset.get(), offset);
+                self.book
+                    .handed_out(token, matches!(hand_out, HandOut::Deliver { .. }));
+                assert_eq!(hand_out.deliveries(), self.book.page.count(offset));
+                self.tokens.push(token);
+                false
+            }
+            Err(refusal) => {
+                self.refused += 1;
+                refusal == Refusal::CheckpointDue
+            }
+        }
+    }
+
+    /// A call under a token of now or of long ago.
+    fn under_a_token(&mut self, consumer: &mut Consumer<Cuttable>) {
+        let old = !self.stale.is_empty() && self.random.below(4) == 0;
+        let list = if old { &self.stale } else { &self.tokens };
+        if list.is_empty() {
+            return;
+        }
+        let token = self.random.pick(list);
+        let offset = token.offset.get();
+        let result = match self.random.below(4) {
+            0 => consumer.ack(token).map(|()| self.book.settled(offset)),
+            1 => consumer.term(token).map(|()| self.book.settled(offset)),
+            2 => {
+                let delay = (self.random.below(2) == 0).then_some(5);
+                consumer.nack(token, self.now, delay).map(drop)
+            }
+            _ => consumer.progress(token, self.now).map(drop),
+        };
+        if old {
+            assert_eq!(
+                result,
+                Err(Refusal::Fenced),
+                "a token from before a restart"
+            );
+        }
+        self.refused += u64::from(result.is_err());
+    }
+
+    fn commit(&mut self, consumer: &mut Consumer<Cuttable>) {
+        let bound = self.random.below(6);
+        match consumer.commit(Offset::new(bound)) {
+            Ok(_) => self.book.committed(bound),
+            Err(refusal) => assert_eq!(refusal, Refusal::Held),
+        }
+    }
+
+    /// One call of the list.
+    fn call(&mut self, mut consumer: Consumer<Cuttable>) -> Consumer<Cuttable> {
+        self.now = match self.random.below(8) {
+            0 => self.random.below(40),
+            1..=4 => self.now + self.random.below(6),
+            _ => self.now,
+        };
+        match self.random.below(16) {
+            0..=6 => {
+                if self.claim(&mut consumer) {
+                    return self.checkpoint(consumer);
+                }
+            }
+            7..=11 => self.under_a_token(&mut consumer),
+            12 => self.commit(&mut consumer),
+            13 => return self.checkpoint(consumer),
+            14 => {
+                if self.random.below(3) == 0 {
+                    return self.restart(consumer.into_journal());
+                }
+            }
+            _ => self.book.compare(&mut consumer, &self.offsets),
+        }
+        consumer
+    }
+}
+
+fn cut_of(random: &mut Random) -> Cut {
+    match random.below(4) {
+        0 => Cut::Old,
+        1 => Cut::New,
+        2 => Cut::Torn(random.below(513) as usize),
+        _ => Cut::Noise(random.next()),
+    }
+}
+
+/// A list of calls with power failures at random writes; answers how many there were.
+fn random_list(path: &Path, seed: u64, calls: usize) -> u64 {
+    let mut run = Run::new(seed);
+    let blocks = 2 + run.random.below(127) as usize;
+    let journal = NewJournal::on(Cuttable::new(path, blocks, &run.power)).unwrap();
+    let mut consumer = Consumer::start(&run.settings, journal).unwrap();
+    for _ in 0..calls {
+        if run.power.borrow().cut.is_none() && run.random.below(6) == 0 {
+            let cut = cut_of(&mut run.random);
+            let left = run.random.below(6) as usize;
+            run.power.borrow_mut().cut = Some((left, cut));
+        }
+        consumer = run.call(consumer);
+    }
+    run.book.holds_the_bound(&run.settings);
+    run.cuts
+}
+
+#[test]
+fn random_lists_keep_the_book() {
+    let path = fresh_path("random-lists");
+    let mut cuts = 0;
+    for seed in 0..3000 {
+        cuts += random_list(&path, seed, 120);
+    }
+    assert!(cuts > 1000);
+}
+
+/// A list of calls that is always the same, with a checkpoint after every few.
+fn fixed_list(path: &Path, cut: Option<(usize, Cut)>) -> usize {
+    let mut run = Run::new(7);
+    run.power.borrow_mut().cut = cut;
+    let journal = NewJournal::on(Cuttable::new(path, 128, &run.power)).unwrap();
+    let mut consumer = Consumer::start(&run.settings, journal).unwrap();
+    for turn in 0..40 {
+        if turn % 4 == 0 {
+            consumer = run.checkpoint(consumer);
+        }
+        consumer = run.call(consumer);
+    }
+    run.book.holds_the_bound(&run.settings);
+    drop(consumer);
+    let writes = run.power.borrow().writes;
+    writes
+}
+
+#[test]
+fn every_write_of_a_list_is_cut_in_every_way() {
+    let path = fresh_path("every-write");
+    let writes = fixed_list(&path, None);
+    assert!(writes > 20);
+    for at in 0..writes {
+        for cut in [
+            Cut::Old,
+            Cut::New,
+            Cut::Torn(1),
+            Cut::Torn(256),
+            Cut::Torn(508),
+            Cut::Torn(511),
+            Cut::Noise(at as u64),
+        ] {
+            fixed_list(&path, Some((at, cut)));
+        }
+    }
+}
+
+#[test]
+fn after_an_error_only_a_restart_is_left() {
+    let path = fresh_path("an-error");
+    let power = Rc::new(RefCell::new(Power {
+        cut: Some((2, Cut::Old)),
+        ..Power::default()
+    }));
+    let journal = NewJournal::on(Cuttable::new(&path, 128, &power)).unwrap();
+    let consumer = Consumer::start(&settings(2, 1, 10, 25), journal).unwrap();
+    let mut consumer = consumer.checkpoint().unwrap();
+    let token = consumer.claim(Offset::new(0), 0).unwrap().token();
+    let Err(CheckpointError::Failed(failed)) = consumer.checkpoint() else {
+        panic!("the disk failed");
+    };
+    assert_eq!(failed.error().to_string(), "the power failed");
+    let journal = failed.reopen().unwrap();
+    let mut consumer = Consumer::restart(&settings(2, 1, 10, 25), journal).unwrap();
+    assert_eq!(consumer.ack(token), Err(Refusal::Fenced));
+    assert_eq!(consumer.count_of(Offset::new(0)), 0);
+}
