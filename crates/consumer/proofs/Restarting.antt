@@ -106,11 +106,11 @@ variants = 1 ∷ 2 ∷ 3 ∷ 4 ∷ 5 ∷ 6 ∷ 7 ∷ []
 abbrev pub Other : StartAnswer → Type 0
 Other d = OneOf variants (tagOf the-type d)
 
-record Faulty (d : StartAnswer) : Type 0 where
+pub record Faulty (d : StartAnswer) : Type 0 where
   pub refusal : Refusal
   pub is : startFault d ≡ some refusal
 
-other-faulty : (d : StartAnswer) → Other d → Faulty d
+pub other-faulty : (d : StartAnswer) → Other d → Faulty d
 other-faulty answers.Started o = absurd (miss variants 0 tt o)
 other-faulty answers.UnlimitedDeliverNotAllowed o = record { refusal = _; is = refl }
 other-faulty answers.TooManySteps o = record { refusal = _; is = refl }

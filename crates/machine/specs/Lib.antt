@@ -1,2 +1,4 @@
 pub mod Calls
 pub mod Door
+pub mod Answers
+pub mod View

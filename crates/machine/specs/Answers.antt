@@ -1,0 +1,160 @@
+-- What the code's calls and answers stand for: the calls and the events of Calls.antt.
+use Prim.Native.Nat.{ℕ}
+use mathlib.Core.Path.{_≡_}
+use mathlib.Core.List.{List, [], _∷_, _++_}
+use mathlib.Core.Option.{Option, none, some}
+use lib.ListN.{take, drop, length}
+use Rattle.types.specs.Refusal.{Result, refused, done}
+use Rattle.types.specs.Refusal as refusal
+use Rattle.types.specs.Table.{Kept}
+use Rattle.delivery.specs.Config.{delayOf}
+use Rattle.lease.specs.Lookup.{leaseAt}
+use Rattle.lease.specs.declared.Listed.{Listed}
+use Rattle.lease.specs.declared.Listed.the-variants as listed
+use Rattle.consumer.specs.Questions.{Question, Waiting, Committed, IsSettled, LeaseOf, CountOf, InFlight, IsDue, BlocksLeft, bit, leaseValues}
+use Rattle.consumer.specs.View.{claimOf, settleOf, nackOf, progressOf, commitOf, Unmoved}
+use Rattle.consumer.specs.declared.checkpoint.BeginAnswer.{BeginAnswer}
+use Rattle.consumer.specs.declared.checkpoint.BeginAnswer.the-variants as begins
+use Rattle.machine.specs.Calls.{Ask, claim, ack, term, nack, progress, commit, look, Call, ask, begin, step, restart, Event, claimed, acked, termed, nacked, extended, committed, looked, begun, stepped, restarted, failed}
+use Rattle.machine.specs.Door.{Turn}
+use Rattle.machine.specs.declared.calls.Question.the-variants as question
+use Rattle.machine.specs.declared.calls.Question as code
+use Rattle.machine.specs.declared.calls.Ask as code-ask
+use Rattle.machine.specs.declared.calls.Ask.the-variants as asks
+use Rattle.machine.specs.declared.calls.Call as code-call
+use Rattle.machine.specs.declared.calls.Call.the-variants as calls
+use Rattle.machine.specs.declared.calls.Reply.{Reply}
+use Rattle.machine.specs.declared.calls.Reply.the-variants as reply
+use Rattle.machine.specs.declared.calls.AskAnswer.{AskAnswer}
+use Rattle.machine.specs.declared.calls.AskAnswer.the-variants as answer
+
+-- ## calls
+-- the question; `room` is the number of places that are lent for a list
+abbrev pub questionOf : ℕ → code.Question → Question
+questionOf room (question.Waiting now) = Waiting now room
+questionOf room question.Committed = Committed
+questionOf room (question.IsSettled o) = IsSettled (o .0)
+questionOf room (question.LeaseOf o) = LeaseOf (o .0)
+questionOf room (question.CountOf o) = CountOf (o .0)
+questionOf room question.InFlight = InFlight
+questionOf room question.IsDue = IsDue
+questionOf room question.BlocksLeft = BlocksLeft
+
+abbrev pub askOf : ℕ → code-ask.Ask → Ask
+askOf room (asks.Claim o now) = claim (o .0) now
+askOf room (asks.Ack t) = ack (t .offset .0) (t .generation .0)
+askOf room (asks.Term t) = term (t .offset .0) (t .generation .0)
+askOf room (asks.Nack t now d) = nack (t .offset .0) (t .generation .0) now (delayOf d)
+askOf room (asks.Progress t now) = progress (t .offset .0) (t .generation .0) now
+askOf room (asks.Commit bound) = commit (bound .0)
+askOf room (asks.Look q) = look (questionOf room q)
+
+abbrev pub callOf : ℕ → code-call.Call → Call
+callOf room (calls.Ask q) = ask (askOf room q)
+callOf room calls.Begin = begin
+callOf room calls.Step = step
+callOf room calls.Restart = restart
+
+-- ## answers
+-- what a question is answered, a list standing in the first places of `out`
+abbrev pub listOf : Listed → List ℕ → Result (List ℕ)
+listOf (listed.Filled n) out = done (take n out)
+listOf listed.OutTooShort out = refused refusal.OutTooShort
+
+abbrev pub replyOf : Reply → List ℕ → Result (List ℕ)
+replyOf (reply.Waiting l) out = listOf l out
+replyOf (reply.Committed o) out = done (o .0 ∷ [])
+replyOf (reply.IsSettled b) out = done (bit b ∷ [])
+replyOf (reply.LeaseOf l) out = done (leaseValues (leaseAt l))
+replyOf (reply.CountOf n) out = done (n ∷ [])
+replyOf (reply.InFlight n) out = done (n ∷ [])
+replyOf (reply.IsDue d) out = done (bit (d .ceiling) ∷ bit (d .threshold) ∷ [])
+replyOf (reply.BlocksLeft n) out = done (n ∷ [])
+
+-- the arguments of a call; those that it hasn't are 0, none and Committed
+pub record Arguments : Type 0 where
+  -- or the bound
+  pub offset : ℕ
+  pub generation : ℕ
+  pub clock : ℕ
+  pub delay : Option ℕ
+  pub question : Question
+
+abbrev pub arguments : ℕ → ℕ → ℕ → Option ℕ → Question → Arguments
+arguments o g now d q = record { offset = o; generation = g; clock = now; delay = d; question = q }
+
+abbrev pub noArguments : Arguments
+noArguments = arguments 0 0 0 none Committed
+
+abbrev pub argumentsOf : Ask → Arguments
+argumentsOf (claim o now) = arguments o 0 now none Committed
+argumentsOf (ack o g) = arguments o g 0 none Committed
+argumentsOf (term o g) = arguments o g 0 none Committed
+argumentsOf (nack o g now d) = arguments o g now d Committed
+argumentsOf (progress o g now) = arguments o g now none Committed
+argumentsOf (commit bound) = arguments bound 0 0 none Committed
+argumentsOf (look q) = arguments 0 0 0 none q
+
+-- what is seen of a call on the state: its arguments with its answer
+abbrev pub seenOf : Arguments → AskAnswer → List ℕ → Event
+seenOf g (answer.Claimed a) out = claimed (g .offset) (g .clock) (claimOf a)
+seenOf g (answer.Acked a) out = acked (g .offset) (g .generation) (settleOf a)
+seenOf g (answer.Termed a) out = termed (g .offset) (g .generation) (settleOf a)
+seenOf g (answer.Nacked a) out = nacked (g .offset) (g .generation) (g .clock) (g .delay) (nackOf a)
+seenOf g (answer.Extended a) out = extended (g .offset) (g .generation) (g .clock) (progressOf a)
+seenOf g (answer.Committed a) out = committed (g .offset) (commitOf a)
+seenOf g (answer.Looked a) out = looked (g .question) (replyOf a out)
+
+-- a refusal and a question give back the very thing that was handed in, and so does a commit that moves nothing
+abbrev pub AskKept : {T : Type 0} → AskAnswer → T → T → Type 0
+AskKept (answer.Claimed a) before after = Kept (claimOf a) before after
+AskKept (answer.Acked a) before after = Kept (settleOf a) before after
+AskKept (answer.Termed a) before after = Kept (settleOf a) before after
+AskKept (answer.Nacked a) before after = Kept (nackOf a) before after
+AskKept (answer.Extended a) before after = Kept (progressOf a) before after
+AskKept (answer.Committed a) before after = Unmoved (commitOf a) before after
+AskKept (answer.Looked a) before after = after ≡ before
+
+-- how many block writes are to come
+abbrev pub begunOf : BeginAnswer → Result ℕ
+begunOf (begins.Begun writes) = done writes
+begunOf begins.JournalFull = refused refusal.JournalFull
+
+-- ## the lent list
+-- a list that was answered into lent memory
+abbrev pub answeredList : Result (List ℕ) → List ℕ
+answeredList (refused r) = []
+answeredList (done l) = l
+
+-- the waiting list alone is answered so
+abbrev pub listIn : Question → Result (List ℕ) → List ℕ
+listIn (Waiting now room) a = answeredList a
+listIn Committed a = []
+listIn (IsSettled o) a = []
+listIn (LeaseOf o) a = []
+listIn (CountOf o) a = []
+listIn InFlight a = []
+listIn IsDue a = []
+listIn BlocksLeft a = []
+
+abbrev pub listSeen : Event → List ℕ
+listSeen (claimed o now a) = []
+listSeen (acked o g a) = []
+listSeen (termed o g a) = []
+listSeen (nacked o g now d a) = []
+listSeen (extended o g now a) = []
+listSeen (committed bound a) = []
+listSeen (looked q a) = listIn q a
+listSeen (begun a) = []
+listSeen (stepped a) = []
+listSeen (restarted a) = []
+listSeen (failed new) = []
+
+-- a list from the first place on, later places as they were
+abbrev pub filledWith : List ℕ → List ℕ → List ℕ
+filledWith l out = l ++ drop (length l) out
+
+-- the lent list after a call
+abbrev pub outAfter : Option Turn → List ℕ → List ℕ
+outAfter none out = out
+outAfter (some t) out = filledWith (listSeen (t .event)) out

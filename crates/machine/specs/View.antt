@@ -1,0 +1,130 @@
+-- What the code's machine stands for, its invariant, and the parts of the contracts.
+use Prim.Native.Nat.{ℕ, zero, suc}
+use mathlib.Core.Path.{_≡_}
+use mathlib.Core.List.{List}
+use mathlib.Core.Option.{Option, none}
+use Rattle.types.specs.Refusal.{Result, refused, done}
+use Rattle.types.specs.Table.{Kept, unless}
+use Rattle.consumer.specs.State.{State}
+use Rattle.consumer.specs.Questions.{Question, reply}
+use Rattle.consumer.specs.Restart as restarts
+use Rattle.consumer.specs.View.{view}
+use Rattle.consumer.specs.View as consumer
+use Rattle.consumer.specs.Writing.{viewWriting, SoundWriting, stepOf}
+use Rattle.consumer.specs.Starting.{settingsOf, startFault, startOf}
+use Rattle.consumer.specs.declared.Consumer.{Consumer}
+use Rattle.consumer.specs.declared.Settings.{Settings}
+use Rattle.consumer.specs.declared.checkpoint.Writing.{Writing}
+use Rattle.consumer.specs.declared.checkpoint.StepAnswer.{StepAnswer}
+use Rattle.consumer.specs.declared.checkpoint.StepAnswer.the-variants as steps
+use Rattle.machine.specs.Calls.{Ask, Call, ask, begin, step, restart, begun, stepped, restarted}
+use Rattle.machine.specs.Door.{Phase, idle, writing, off, Turn, turn, asked, door}
+use Rattle.machine.specs.Answers.{replyOf, Arguments, argumentsOf, noArguments, seenOf, AskKept, begunOf, filledWith, listIn, outAfter}
+use Rattle.machine.specs.declared.calls.Reply.{Reply}
+use Rattle.machine.specs.declared.calls.Asked.{Asked}
+use Rattle.machine.specs.declared.calls.CallAnswer.{CallAnswer}
+use Rattle.machine.specs.declared.calls.CallAnswer.the-variants as answer
+use Rattle.machine.specs.declared.Machine.{Machine}
+use Rattle.machine.specs.declared.Called.{Called}
+use Rattle.machine.specs.declared.Started.{Started}
+
+-- ## calls on the state
+-- event and state are those that `asked` makes on whatever area, and the lent list is what the event says
+pub record AskedIs (before : Consumer) (q : Ask) (out : List ℕ) (r : Asked) (out′ : List ℕ) : Type 0 where
+  pub is : (a : List ℕ) → turn (seenOf (argumentsOf q) (r .answer) out′) (idle (view (r .consumer))) a ≡ asked (view before) a q
+  pub sound : consumer.Sound (r .consumer)
+  pub kept : AskKept (r .answer) before (r .consumer)
+  pub lists : (a : List ℕ) → out′ ≡ outAfter (asked (view before) a q) out
+
+-- a question: the reply, and the lent list
+pub record LookedIs (c : Consumer) (q : Question) (out : List ℕ) (r : Reply) (out′ : List ℕ) : Type 0 where
+  pub is : replyOf r out′ ≡ reply (view c) q
+  pub lists : out′ ≡ filledWith (listIn q (reply (view c) q)) out
+
+-- ## the machine
+-- who can be called, by the number of the phase: 0 the state, 1 the record, any other nobody
+abbrev pub phaseAt : ℕ → Writing → Phase
+phaseAt zero w = idle (view (w .consumer))
+phaseAt (suc zero) w = writing (viewWriting w)
+phaseAt (suc (suc n)) w = off
+
+abbrev pub phaseOf : Machine → Phase
+phaseOf m = phaseAt (m .phase) (m .writing)
+
+-- the invariant: that of who can be called
+abbrev pub SoundAt : ℕ → Writing → Type 0
+SoundAt zero w = consumer.Sound (w .consumer)
+SoundAt (suc zero) w = SoundWriting w
+SoundAt (suc (suc n)) w = Unit {0}
+
+abbrev pub Sound : Machine → Type 0
+Sound m = SoundAt (m .phase) (m .writing)
+
+-- ## start
+-- a fresh state can be called; beside a refusal nobody can
+abbrev pub startedAs : Result State → Phase
+startedAs (refused r) = off
+startedAs (done s) = idle s
+
+pub record StartedIs (s : Settings) (size : ℕ) (r : Started) : Type 0 where
+  pub is : startOf (r .answer) (view (r .machine .writing .consumer)) ≡ restarts.start (settingsOf s) size
+  pub phase : phaseOf (r .machine) ≡ startedAs (restarts.start (settingsOf s) size)
+  pub settings : r .machine .settings ≡ s
+  pub sound : Sound (r .machine)
+
+pub record OffIs (s : Settings) (m : Machine) : Type 0 where
+  pub phase : phaseOf m ≡ off
+  pub settings : m .settings ≡ s
+  pub sound : Sound m
+
+-- ## the door
+abbrev pub argumentsIn : Call → Arguments
+argumentsIn (ask q) = argumentsOf q
+argumentsIn begin = noArguments
+argumentsIn step = noArguments
+argumentsIn restart = noArguments
+
+-- what an answer, the machine and the lent memory beside it stand for
+abbrev pub turnOf : Call → CallAnswer → Machine → List ℕ → List ℕ → Option Turn
+turnOf q (answer.Asked a) m area out = turn (seenOf (argumentsIn q) a out) (phaseOf m) area
+turnOf q (answer.Begun a) m area out = turn (begun (begunOf a)) (phaseOf m) area
+turnOf q (answer.Stepped a) m area out = turn (stepped (stepOf a)) (phaseOf m) area
+turnOf q (answer.Restarted a) m area out = turn (restarted (startOf a (view (m .writing .consumer)))) (phaseOf m) area
+turnOf q answer.NotNow m area out = none
+
+-- a refusal, a question and NotNow give back the very thing that was handed in
+abbrev pub CallKept : {T : Type 0} → CallAnswer → T → T → Type 0
+CallKept (answer.Asked a) before after = AskKept a before after
+CallKept (answer.Begun a) before after = Kept (begunOf a) before after
+CallKept (answer.Stepped a) before after = Kept (stepOf a) before after
+CallKept (answer.Restarted a) before after = Kept (unless (startFault a) (done (tt {0}))) before after
+CallKept answer.NotNow before after = after ≡ before
+
+-- a machine with the area that is lent to it
+pub record Held : Type 0 where
+  pub machine : Machine
+  pub area : List ℕ
+
+abbrev pub held : Machine → List ℕ → Held
+held m a = record { machine = m; area = a }
+
+-- a call: answer, machine and area are what the door makes of machine, area and call, and the lent list is what the event says
+pub record CalledIs (m : Machine) (q : Call) (a out : List ℕ) (r : Called) (a′ out′ : List ℕ) : Type 0 where
+  pub is : turnOf q (r .answer) (r .machine) a′ out′ ≡ door (settingsOf (m .settings)) (phaseOf m) a q
+  pub sound : Sound (r .machine)
+  pub settings : r .machine .settings ≡ m .settings
+  pub kept : CallKept (r .answer) (held m a) (held (r .machine) a′)
+  pub lists : out′ ≡ outAfter (door (settingsOf (m .settings)) (phaseOf m) a q) out
+
+-- ## parts
+-- a machine that writes nothing
+pub record Rests (s : Settings) (n : ℕ) (c : Consumer) (m : Machine) : Type 0 where
+  pub settings : m .settings ≡ s
+  pub phase : m .phase ≡ n
+  pub consumer : m .writing .consumer ≡ c
+
+-- the number of the phase that a step leaves
+abbrev pub phaseAfter : StepAnswer → ℕ
+phaseAfter (steps.Wrote block) = 1
+phaseAfter (steps.Finished block) = 0
+phaseAfter steps.BadArea = 1
