@@ -2,7 +2,6 @@
 // else uses them.
 ghost use mathlib.Core.Path.{_≡_};
 ghost use Prim.Native.Nat.{_+_, _≤_};
-ghost use lib.ListN.{length};
 ghost use Rattle.types.specs.Limits.{MAX};
 ghost use Rattle.types.specs.Zipped.{zipped};
 ghost use Rattle.cursor.specs.Ranges.{range};

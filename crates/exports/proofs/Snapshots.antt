@@ -10,17 +10,17 @@ use lib.Seq.{length-take-le}
 use borrow.Author.Tests.{lt-ltb, le-ltb, ltb-false}
 use Rattle.types.specs.Limits.{PAIRS}
 use Rattle.types.specs.Refusal.{Refusal, Result, refused, done, OutTooShort, answered}
-use Rattle.types.specs.Table.{Answer, answer, unless}
+use Rattle.types.specs.Table.{answer, unless}
 use Rattle.types.specs.Keyed.{Entry, entries}
 use Rattle.types.specs.Zipped.{zipped}
 use Rattle.types.proofs.Cases.{split}
 use Rattle.raw.specs.Bytes.{write, outcomeOf}
 use Rattle.raw.specs.declared.Write.{Write}
 use Rattle.cursor.specs.Ranges.{range}
-use Rattle.cursor.specs.Cursor.{Cursor, resumeWithAhead}
+use Rattle.cursor.specs.Cursor.{resumeWithAhead}
 use Rattle.cursor.specs.Snapshot.{encodeCursor, decodeCursor}
 use Rattle.cursor.specs.View.{view, Whole}
-use Rattle.cursor.specs.Answers.{rangesError, snapshotError, decodeFault, ResumedIs}
+use Rattle.cursor.specs.Answers.{rangesError, decodeFault, ResumedIs}
 use Rattle.cursor.specs.Answers as cursors
 use Rattle.cursor.specs.declared.AckCursor.{AckCursor}
 use Rattle.cursor.specs.declared.AckCursorError.{AckCursorError}

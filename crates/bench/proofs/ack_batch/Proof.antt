@@ -1,9 +1,7 @@
 -- `ack_batch` meets its contract. The loop's invariant: the acks that are left lead from the cursor to the end. Assumes nothing.
-use Prim.Native.Nat.{_-_, _+_, _≤_}
+use Prim.Native.Nat.{_-_, _≤_}
 use native.Mathlib.Omega.{arith}
-use native.Mathlib.Nat.{sub-zero}
 use mathlib.Core.Path.{_≡_, refl, sym, _∙_}
-use borrow.Author.Needs.{needs}
 use Rattle.cursor.specs.View.{view, Sound}
 use Rattle.bench.specs.Drivers.{falling, acks}
 use Rattle.bench.proofs.Drivers.{left-by, acks-down}

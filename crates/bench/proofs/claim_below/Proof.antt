@@ -1,5 +1,5 @@
 -- `claim_below` meets its contract. The loop's invariant: the claims from i on lead from the table to the end. Assumes nothing.
-use Prim.Native.Nat.{_-_, _+_, _≤_}
+use Prim.Native.Nat.{_-_, _≤_}
 use native.Mathlib.Omega.{arith}
 use native.Mathlib.Nat.{sub-zero}
 use mathlib.Core.Path.{_≡_, sym, _∙_}

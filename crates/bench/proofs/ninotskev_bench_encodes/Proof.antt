@@ -1,12 +1,12 @@
 -- `ninotskev_bench_encodes` meets its contract. The loop's invariant: the writes that are left lead from the bytes to the end.
 -- Assumes nothing.
-use Prim.Native.Nat.{_-_, _+_, _≤_}
+use Prim.Native.Nat.{_-_, _≤_}
 use native.Mathlib.Omega.{arith}
 use native.Mathlib.Nat.{sub-zero}
 use mathlib.Core.Path.{_≡_, refl, sym, _∙_}
 use borrow.Author.Needs.{needs}
 use lib.ListN.{length}
-use Rattle.cursor.specs.View.{view, Sound}
+use Rattle.cursor.specs.View.{view}
 use Rattle.bench.specs.Drivers.{writes}
 use Rattle.bench.proofs.Drivers.{left-by, writes-next, writes-over, resumed-cursor}
 use Rattle.bench.proofs.ninotskev_bench_encodes.Statement.{statement}

@@ -3,7 +3,6 @@ use Prim.Native.Nat.{_-_, _≤_}
 use native.Mathlib.Omega.{arith}
 use mathlib.Core.Path.{_≡_, refl}
 use lib.ListN.{length, take, length-set}
-use borrow.Author.Needs.{needs}
 use Rattle.types.specs.Keyed.{entries}
 use Rattle.attempt.specs.Codec.{entriesOf}
 use Rattle.exports.proofs.Columns.{gather-more}

@@ -2,7 +2,6 @@
 -- Assumes nothing.
 use Prim.Native.Nat.{_-_}
 use native.Mathlib.Omega.{arith}
-use borrow.Author.Needs.{needs}
 use Rattle.types.proofs.Loops.{Filling, filling, filling-more}
 use Rattle.exports.proofs.Columns.{fronted}
 use Rattle.exports.proofs.list_column.Statement.{statement}

@@ -1,16 +1,15 @@
 -- `AckCursor::resume_with_columns` meets its contract. The loop's invariant: the ranges before i are taken. Assumes nothing.
-use Prim.Native.Nat.{ℕ, _+_, _-_, _≤_, min}
+use Prim.Native.Nat.{ℕ, _-_, _≤_, min}
 use native.Mathlib.Omega.{arith}
 use native.Mathlib.Numerals.{add-one}
 use mathlib.Core.Path.{_≡_, subst}
-use mathlib.Core.List.{List, []}
+use mathlib.Core.List.{[]}
 use lib.ListN.{length, take}
 use borrow.Author.Needs.{needs}
 use Rattle.types.specs.Zipped.{zipped}
 use Rattle.cursor.specs.Ranges.{range}
 use Rattle.cursor.specs.Answers.{ResumedIs}
 use Rattle.cursor.specs.Taking.{Taken}
-use Rattle.cursor.specs.declared.Range.{Range}
 use Rattle.cursor.proofs.Taking.{columns-more, columns-all}
 use Rattle.cursor.proofs.AckCursor.resume_with_columns.Statement.{statement}
 use Rattle.cursor.proofs.AckCursor.resume_with_columns.Tie as tie
