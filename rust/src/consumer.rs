@@ -188,7 +188,7 @@ impl<S> Consumer<S> {
             .machine
             .ask(ask, [offset, 0, 0, 0])
             .expect("a question is not refused");
-        (reply.len, reply.values)
+        (reply.count, reply.values)
     }
 
     /// The offset below which all are settled.

@@ -1,6 +1,6 @@
 //! The proved library, and the only unsafe code of this crate.
 //!
-//! `crates/exports/src/delivery.rt` of the repository has the functions with their contracts. They take the state behind `&mut`
+//! `crates/exports/src/door.rt` of the repository has the functions with their contracts. They take the state behind `&mut`
 //! and require one thing, the invariant of the state that every start, restart and call is proved to leave. So a [`Machine`] is
 //! made here by a start or a restart alone, nothing outside this file sees its fields, and the structs below are laid out as
 //! the library's, field by field, which `tests` at the end compares.
@@ -78,16 +78,16 @@ pub(crate) struct Machine {
     writing: Writing,
 }
 
-/// What a call answers: document 01's number, 0 where nothing was refused, and the first `len` values.
+/// What a call answers: document 01's number, 0 where nothing was refused; how many values there are; and the first four.
 #[derive(Clone, Copy, Debug, Default, PartialEq, Eq)]
 #[repr(C)]
-pub(crate) struct Reply {
-    pub(crate) number: u64,
-    pub(crate) len: u64,
+pub(crate) struct Numbers {
+    number: u64,
+    pub(crate) count: u64,
     pub(crate) values: [u64; 4],
 }
 
-/// The calls on a consumer, by their numbers.
+/// The calls on a consumer, by their numbers in `crates/exports/specs/Numbers.antt`.
 #[derive(Clone, Copy, Debug, PartialEq, Eq)]
 #[repr(u64)]
 pub(crate) enum Ask {
@@ -116,14 +116,14 @@ const RESTART: u64 = 17;
 extern "C" {
     fn ninotskev_start(
         machine: *mut Machine,
-        reply: *mut Reply,
+        numbers: *mut Numbers,
         settings: *const Settings,
         area_len: usize,
     );
     fn ninotskev_off(machine: *mut Machine, settings: *const Settings);
     fn ninotskev_call(
         machine: *mut Machine,
-        reply: *mut Reply,
+        numbers: *mut Numbers,
         kind: u64,
         a: u64,
         b: u64,
@@ -136,7 +136,7 @@ extern "C" {
     );
     fn ninotskev_ask(
         consumer: *mut Consumer,
-        reply: *mut Reply,
+        numbers: *mut Numbers,
         kind: u64,
         a: u64,
         b: u64,
@@ -153,9 +153,9 @@ pub(crate) struct Wrote {
     pub(crate) last: bool,
 }
 
-impl Reply {
+impl Numbers {
     // The values, or the refusal.
-    fn read(self) -> Result<Reply, Refusal> {
+    fn read(self) -> Result<Numbers, Refusal> {
         if self.number == 0 {
             return Ok(self);
         }
@@ -174,10 +174,10 @@ impl Machine {
     /// A fresh machine for so many zeroed bytes: 1 to 4.
     pub(crate) fn start(settings: &Settings, area_len: usize) -> Result<Box<Machine>, Refusal> {
         let mut machine = Machine::blank();
-        let mut reply = Reply::default();
+        let mut numbers = Numbers::default();
         // SAFETY: three references to values of the library's layout, of which nothing is required.
-        unsafe { ninotskev_start(&mut *machine, &mut reply, settings, area_len) };
-        reply.read()?;
+        unsafe { ninotskev_start(&mut *machine, &mut numbers, settings, area_len) };
+        numbers.read()?;
         Ok(machine)
     }
 
@@ -192,15 +192,15 @@ impl Machine {
     }
 
     // A call of the door that isn't on the consumer.
-    fn call(&mut self, kind: u64, area: &mut [u8]) -> Reply {
-        let mut reply = Reply::default();
+    fn call(&mut self, kind: u64, area: &mut [u8]) -> Numbers {
+        let mut numbers = Numbers::default();
         let mut out = [];
         // SAFETY: references and slices that don't overlap. The machine was made by a start or an off, and changed by calls
         // alone, so that it meets the invariant.
         unsafe {
             ninotskev_call(
                 self,
-                &mut reply,
+                &mut numbers,
                 kind,
                 0,
                 0,
@@ -212,18 +212,18 @@ impl Machine {
                 out.len(),
             );
         }
-        reply
+        numbers
     }
 
     // A call on the consumer. Whoever calls has a consumer, and no record is out.
-    fn on_consumer(&mut self, ask: Ask, [a, b, c, d]: [u64; 4], out: &mut [u64]) -> Reply {
-        let mut reply = Reply::default();
+    fn on_consumer(&mut self, ask: Ask, [a, b, c, d]: [u64; 4], out: &mut [u64]) -> Numbers {
+        let mut numbers = Numbers::default();
         let consumer = &mut self.writing.consumer;
         // SAFETY: as for `call`. The consumer of a machine that isn't writing meets the invariant, and what the call leaves does.
         unsafe {
             ninotskev_ask(
                 consumer,
-                &mut reply,
+                &mut numbers,
                 ask as u64,
                 a,
                 b,
@@ -233,11 +233,11 @@ impl Machine {
                 out.len(),
             );
         }
-        reply
+        numbers
     }
 
     /// A call on the consumer that answers numbers.
-    pub(crate) fn ask(&mut self, ask: Ask, numbers: [u64; 4]) -> Result<Reply, Refusal> {
+    pub(crate) fn ask(&mut self, ask: Ask, numbers: [u64; 4]) -> Result<Numbers, Refusal> {
         self.on_consumer(ask, numbers, &mut []).read()
     }
 
@@ -249,7 +249,7 @@ impl Machine {
         Ok(self
             .on_consumer(Ask::Waiting, [now, 0, 0, 0], places)
             .read()?
-            .len)
+            .count)
     }
 
     /// Takes the consumer into a record: how many blocks are to be written, or 31.
@@ -259,13 +259,13 @@ impl Machine {
 
     /// Writes the next block into the area, which has the length that the machine was started on.
     pub(crate) fn step(&mut self, area: &mut [u8]) -> Wrote {
-        let reply = self
+        let numbers = self
             .call(STEP, area)
             .read()
             .expect("a step on its own area is not refused");
         Wrote {
-            block: usize::try_from(reply.values[0]).expect("a block is below 128"),
-            last: reply.values[1] != 0,
+            block: usize::try_from(numbers.values[0]).expect("a block is below 128"),
+            last: numbers.values[1] != 0,
         }
     }
 }

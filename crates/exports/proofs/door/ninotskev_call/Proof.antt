@@ -126,8 +126,8 @@ module _ {M : Type 1} (𝓤 : URA M) (H : Heap 𝓤) (A : Atoms 𝓤) (W : Given
   exits r area′ out′ len-area len-out e =
       qed W (Left r area′ out′) ∵
       suffices ! _
-        (ends-at 𝓤 H A f.ended stayed (f.clauses 𝓤 H A at-mem run) W (((κ0, (κ1, (κ2, (κ3, tt)))), (q0, (q1, (q2, (q3, tt)))), tt, x, vals), tt) vunit tt (r .machine, (r .numbers, (tt, (tt, (tt, (tt, (tt, (area′, (out′, tt)))))))))
-        (tt, (tt, (tt, (tt, (tt, (tt, (tt, (len-area, (len-out, tt)))))))))) $
+      (ends-at 𝓤 H A f.ended stayed (f.clauses 𝓤 H A at-mem run) W (((κ0, (κ1, (κ2, (κ3, tt)))), (q0, (q1, (q2, (q3, tt)))), tt, x, vals), tt) vunit tt (r .machine, (r .numbers, (tt, (tt, (tt, (tt, (tt, (area′, (out′, tt)))))))))
+      (tt, (tt, (tt, (tt, (tt, (tt, (tt, (len-area, (len-out, tt)))))))))) $
       says ! e $ move ! (5 ∷ 6 ∷ []) $ join ! $ move ! (3 ∷ 0 ∷ []) $ join ! $ frame ! $
       feqI ! (List Val) (vptr b1 o1 ∷ []) (vptr b1 o1 ∷ []) refl $ fjoin3 ! $ move ! (1 ∷ 2 ∷ []) $
       feqI ! (List Val) (vptr b2 o2 ∷ []) (vptr b2 o2 ∷ []) refl $ fjoin3 ! $ nothing ! $ move ! (4 ∷ 0 ∷ []) $ fjoin ! $ move ! (3 ∷ 0 ∷ []) $ fjoin ! $
@@ -135,9 +135,16 @@ module _ {M : Type 1} (𝓤 : URA M) (H : Heap 𝓤) (A : Atoms 𝓤) (W : Given
       move ! (1 ∷ 0 ∷ []) $ fjoin ! $ move ! (1 ∷ 0 ∷ []) $ fjoin ! $ feqI ! (List Val) (vunit ∷ []) (vunit ∷ []) refl $ move ! (1 ∷ 0 ∷ []) $ done !
 
   abbrev to-call : C-call 𝓤 H A at-mem run .Ghost
-  to-call =
-      (((κ2, (κ3, tt)), (q2, (q3, tt)), tt, (h1, (n3, (n4, (n5, (n6, (n7, (area, (out, tt)))))))),
-      (low h1, (vint w64 n3 ∷ [], (vint w64 n4 ∷ [], (vint w64 n5 ∷ [], (vint w64 n6 ∷ [], (vint w64 n7 ∷ [], (s-area ∷ [], (s-out ∷ [], tt))))))))), tt)
+  to-call = (
+    (
+      (κ2, (κ3, tt)),
+      (q2, (q3, tt)),
+      tt,
+      (h1, (n3, (n4, (n5, (n6, (n7, (area, (out, tt)))))))),
+      (low h1, (vint w64 n3 ∷ [], (vint w64 n4 ∷ [], (vint w64 n5 ∷ [], (vint w64 n6 ∷ [], (vint w64 n7 ∷ [], (s-area ∷ [], (s-out ∷ [], tt)))))))),
+    ),
+    tt,
+  )
 
   abbrev Own-area : Fml
   Own-area = MutSlice (named 2) κ2 u8 .own area (s-area ∷ [])
