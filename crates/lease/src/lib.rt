@@ -12,7 +12,7 @@ ghost use Rattle.types.specs.Keyed.{entries};
 ghost use Rattle.types.specs.Lists.{listed};
 ghost use Rattle.lease.specs.Config.{nanos, fromMillis, defaultConfig};
 ghost use Rattle.lease.specs.State.{Sound, view, startingAt};
-ghost use Rattle.lease.specs.Operations.{lease, grantOf, claim, ack, extend, nack, capFrom, deadlineFrom, afterGrant, afterFlush};
+ghost use Rattle.lease.specs.Operations.{lease, grantOf, claim, ack, extend, nack, capFrom, deadlineFrom};
 ghost use Rattle.lease.specs.Counts.{resumeAttempts, attemptCounts, allAttemptCounts};
 ghost use Rattle.lease.specs.Rest.{attemptsFlushed, releaseBelow, resealFromTo, deferRedelivery, shiftedBy, shiftDeadlines, inFlight, isClaimable, deliveries, holdsActive, pendingRedeliveryAttempt, expired};
 ghost use Rattle.lease.specs.Answers.{claimOf, ackOf, extendOf, nackOf, resumeOf, listedOf, attemptsOf, Answers, Tries, Becomes, Lists};
@@ -24,6 +24,7 @@ use types::Offset;
 
 mod columns;
 pub mod lookup;
+pub mod redeliveries;
 
 // How long a hand-out lasts, in nanoseconds. A hard cap below the visibility shortens every lease to the cap; where one
 // of the two is 0, a lease runs out the moment it is granted.
@@ -276,7 +277,7 @@ impl LeaseTable {
         requires { ⌜ Sound self ⌝ }
         ensures { λ r. ⌜ Becomes r (attemptsFlushed (view self)) ⌝ }
     {
-        self.redeliveries_since_flush = after_flush(self.redeliveries_since_flush);
+        self.redeliveries_since_flush = redeliveries::after_flush(self.redeliveries_since_flush);
         self
     }
 
@@ -451,7 +452,10 @@ impl LeaseTable {
         self.leases[i] = held;
         self.len = len + 1;
         self.next_generation.0 = generation.0 + 1;
-        self.redeliveries_since_flush = after_grant(self.redeliveries_since_flush, deliveries);
+        self.redeliveries_since_flush = redeliveries::after_grant(
+            self.redeliveries_since_flush,
+            deliveries,
+        );
         Claimed {
             outcome: granted(offset, generation, deliveries),
             table: self,
@@ -480,7 +484,10 @@ impl LeaseTable {
         let deliveries = saturating_next(prior.deliveries);
         self.leases[at] = self.config.lease(generation, now, deliveries);
         self.next_generation.0 = generation.0 + 1;
-        self.redeliveries_since_flush = after_grant(self.redeliveries_since_flush, deliveries);
+        self.redeliveries_since_flush = redeliveries::after_grant(
+            self.redeliveries_since_flush,
+            deliveries,
+        );
         Claimed {
             outcome: granted(offset, generation, deliveries),
             table: self,
@@ -782,23 +789,6 @@ fn granted(offset: Offset, generation: Generation, deliveries: u32) -> Claim
         token: token,
         deliveries: deliveries,
     }
-}
-
-// The counter of redeliveries after a grant with this count.
-fn after_grant(counter: u32, deliveries: u32) -> u32
-    ensures { λ r. ⌜ r ≡ afterGrant counter deliveries ⌝ }
-{
-    if 2 <= deliveries {
-        return saturating_next(counter);
-    }
-    counter
-}
-
-// The counter once the attempt counts are durable.
-fn after_flush(counter: u32) -> u32
-    ensures { λ r. ⌜ r ≡ afterFlush counter ⌝ }
-{
-    0
 }
 
 // Milliseconds in nanoseconds, at most the largest number.

@@ -11,3 +11,4 @@ pub mod Checked
 pub mod Entries
 pub mod Lists
 pub mod Loops
+pub mod Walk
