@@ -89,12 +89,3 @@ pub record DecodedIs (bytes : List ℕ) (r : Decoded) : Type 0 where
 abbrev pub listedOf : Listed → Result ℕ
 listedOf (lists.Ranges n) = done n
 listedOf lists.OutTooShort = refused refusal.OutTooShort
-
--- whether a list fits into lent memory of a length
-abbrev pub roomFor : List Range → ℕ → Result ℕ
-roomFor list len = checked (ltb len (length list) ⇒ refusal.OutTooShort ∷ []) (done (length list))
-
--- how many places an answer fills
-abbrev pub counted : Result ℕ → ℕ
-counted (refused r) = 0
-counted (done n) = n

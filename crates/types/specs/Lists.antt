@@ -1,9 +1,10 @@
 -- Lists that are answered into lent memory: 01, "A lent list is filled from its first place". And how the records of the code
 -- stand for what is listed.
-use Prim.Native.Nat.{ℕ}
+use Prim.Native.Nat.{ℕ, _≤_}
+use mathlib.Core.Path.{_≡_}
 use mathlib.Core.List.{List, [], _∷_, _++_, map}
 use lib.Dec.{ltb}
-use lib.ListN.{length, take, drop}
+use lib.ListN.{length, take, drop, replicate}
 use Rattle.types.specs.Refusal.{Result, refused, done, OutTooShort}
 use Rattle.types.specs.Table.{_⇒_, Answer, answer, checked, guarded}
 use Rattle.types.specs.Keyed.{Entry, entry, entries}
@@ -56,3 +57,15 @@ offsetsIn r = take (r .len) (r .offsets)
 -- the counts that stand in two arrays
 abbrev pub countsIn : AttemptCounts → List (Entry ℕ)
 countsIn r = entries (take (r .len) (r .offsets)) (take (r .len) (r .attempts))
+
+-- ## arrays that hold a list and are 0 behind it
+pub record ListsOffsets (r : OffsetList) (right : List ℕ) : Type 0 where
+  pub few : r .len ≤ 128
+  pub is : offsetsIn r ≡ right
+  pub rest : drop (r .len) (r .offsets) ≡ drop (r .len) (replicate 128 0)
+
+pub record ListsCounts (r : AttemptCounts) (right : List (Entry ℕ)) : Type 0 where
+  pub few : r .len ≤ 192
+  pub is : countsIn r ≡ right
+  pub rest : drop (r .len) (r .offsets) ≡ drop (r .len) (replicate 192 0)
+  pub rest-attempts : drop (r .len) (r .attempts) ≡ drop (r .len) (replicate 192 0)
