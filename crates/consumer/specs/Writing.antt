@@ -8,7 +8,6 @@ use lib.ListN.{length, take}
 use Rattle.types.specs.Refusal.{Result, refused, done}
 use Rattle.types.specs.Refusal as refusal
 use Rattle.types.specs.Table.{answer, Kept}
-use Rattle.types.specs.Keyed.{Entry}
 use Rattle.journal.specs.Answers.{blockOf}
 use Rattle.journal.specs.declared.Block.{Block}
 use Rattle.consumer.specs.State.{State, blocksOf}

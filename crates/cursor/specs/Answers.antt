@@ -2,13 +2,11 @@
 use Prim.Native.Nat.{ℕ}
 use mathlib.Core.Path.{_≡_}
 use mathlib.Core.Bool.{Bool, true, false}
-use mathlib.Core.List.{List, [], _∷_}
+use mathlib.Core.List.{List}
 use mathlib.Core.Option.{Option, none, some}
-use lib.Dec.{ltb}
-use lib.ListN.{length}
 use Rattle.types.specs.Refusal.{Refusal, Result, refused, done}
 use Rattle.types.specs.Refusal as refusal
-use Rattle.types.specs.Table.{_⇒_, Answer, answer, unless, checked, Kept}
+use Rattle.types.specs.Table.{Answer, answer, unless, Kept}
 use Rattle.cursor.specs.Cursor.{Cursor, resumeWithAhead}
 use Rattle.cursor.specs.Snapshot.{decodeCursor}
 use Rattle.cursor.specs.View.{view, Sound, empty}

@@ -5,11 +5,9 @@ use native.Mathlib.Omega.{arith}
 use native.Mathlib.Numerals.{add-one}
 use mathlib.Core.Path.{_≡_, refl, sym, ap, _∙_}
 use mathlib.Core.List.{List, [], _∷_, _++_, map, append-nil}
-use lib.Dec.{leb}
 use lib.ListN.{length, take, drop, getD, set, length-set, replicate, length-replicate}
 use lib.Seq.{take-suc-set, append-snoc}
 use borrow.Author.Tests.{le-leb, lt-leb}
-use Rattle.types.specs.Limits.{LEASES}
 use Rattle.types.specs.Keyed.{entry, entries}
 use Rattle.types.proofs.Loops.{rest-more}
 use Rattle.types.proofs.Columns.{drop-used, drop-unused, entries-map}

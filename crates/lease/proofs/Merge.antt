@@ -8,7 +8,6 @@ use native.Mathlib.Numerals.{add-one}
 use mathlib.Core.Path.{_≡_, refl, sym, ap, _∙_}
 use mathlib.Core.List.{List, [], _∷_, _++_, append-nil}
 use mathlib.Core.Option.{none, some}
-use lib.Dec.{ltb, eqb}
 use lib.ListN.{length, take, drop, set, length-set, drop-of-length-le, replicate, length-replicate}
 use lib.Seq.{length-take-le, take-suc-set, append-snoc}
 use borrow.Author.Tests.{lt-ltb, le-ltb, eq-eqb, ne-eqb}

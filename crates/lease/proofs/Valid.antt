@@ -1,23 +1,23 @@
 -- Every operation keeps what holds of a table: sorted, within its limits, one lease and one carried count for an offset,
 -- numbers of their types, no count of 0.
 -- Assumes nothing.
-use Prim.Native.Nat.{ℕ, suc, _+_, _≤_}
+use Prim.Native.Nat.{ℕ, _+_, _≤_}
 use native.Mathlib.Omega.{arith}
 use mathlib.Core.Path.{_≡_, refl}
 use mathlib.Core.Bool.{false, _&&_}
-use mathlib.Core.List.{List, [], _∷_}
+use mathlib.Core.List.{List}
 use mathlib.Core.Option.{Option, none, some}
-use lib.Dec.{ltb, leb, eqb}
-use lib.ListN.{length, getD}
-use borrow.Author.Tests.{ltb-false, leb-false, eqb-false}
+use lib.Dec.{leb, eqb}
+use lib.ListN.{length}
+use borrow.Author.Tests.{leb-false, eqb-false}
 use Rattle.types.specs.Limits.{MAX, MAX32, LEASES, CARRIED, sat32}
-use Rattle.types.specs.Keyed.{Entry, entries, lookup, put, update, delete, dropBelow, Rising, All, mapValues}
+use Rattle.types.specs.Keyed.{Entry, lookup, put, update, delete, Rising, All, mapValues}
 use Rattle.types.proofs.Cases.{split}
 use Rattle.types.proofs.Keyed.{rising-put, length-put, length-put-old, all-put, rising-delete, length-delete, all-delete, rising-update, length-update, all-update, rising-dropBelow, length-dropBelow, all-dropBelow, rising-mapValues, length-mapValues, all-mapValues}
 use Rattle.lease.specs.State.{Table, withLeases, withCarried, startingAt, Counted, Valid}
 use Rattle.lease.specs.Operations.{leaseOf, isNone, handedOut, nextCount, consumed, grant, lease, requeue, requeuedAs, deadlineFrom}
 use Rattle.lease.specs.Rest.{attemptsFlushed, releaseBelow, shiftedBy, shiftDeadlines}
-use Rattle.lease.specs.Counts.{carry, carryAll}
+use Rattle.lease.specs.Counts.{carry}
 use Rattle.lease.specs.declared.LeaseConfig.{LeaseConfig}
 use Rattle.lease.specs.declared.Lease.{Lease}
 

@@ -48,7 +48,6 @@ use Rattle.consumer.specs.View.{view, Sound}
 use Rattle.consumer.specs.Questions.{waitingAt}
 use Rattle.consumer.specs.declared.Consumer.{Consumer}
 use Rattle.types.proofs.Offset as T
-use Rattle.types.proofs.Offset.Laws as T′
 use Rattle.types.proofs.lent.OffsetList as G
 use Rattle.types.proofs.lent.OffsetList.Laws as G′
 use Rattle.types.proofs.lent.Listed as E

@@ -3,7 +3,7 @@
 -- Assumes nothing.
 use Prim.Native.Nat.{_+_, _-_, _≤_, _<_}
 use native.Mathlib.Omega.{arith}
-use mathlib.Core.Path.{_≡_, refl, ap, _∙_}
+use mathlib.Core.Path.{_≡_, ap, _∙_}
 use lib.ListN.{length, take}
 use borrow.Author.Needs.{needs}
 use Rattle.types.specs.Limits.{LEASES}

@@ -48,7 +48,6 @@ use Rattle.lease.specs.State.{Sound, view}
 use Rattle.lease.specs.Rest.{expired}
 use Rattle.lease.specs.declared.LeaseTable.{LeaseTable}
 use Rattle.types.proofs.Offset as T
-use Rattle.types.proofs.Offset.Laws as T′
 use Rattle.types.proofs.lent.OffsetList as G
 use Rattle.types.proofs.lent.OffsetList.Laws as G′
 use Rattle.types.proofs.lent.Listed as E

@@ -4,7 +4,6 @@
 use Prim.Native.Nat.{_-_, _≤_}
 use native.Mathlib.Omega.{arith}
 use mathlib.Core.Path.{_≡_, refl, _∙_}
-use mathlib.Core.List.{map}
 use lib.ListN.{length, take, drop, replicate, length-set, length-map, List·getD-map}
 use borrow.Author.Needs.{needs}
 use Rattle.types.specs.Limits.{LEASES}

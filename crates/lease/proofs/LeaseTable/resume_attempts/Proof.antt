@@ -3,7 +3,6 @@
 -- and calls `carry_pair`, of which only the contract is known. Assumes nothing.
 use mathlib.Core.Path.{_≡_, refl, sym, _∙_, ap, subst}
 use Prim.Native.Nat.{ℕ, _+_, _*_, _-_, _<_, _≤_, _^_, zero-le}
-use native.Mathlib.Nat.{le-antisymm}
 use native.Mathlib.Numerals.{add-one-le, add-one-dec}
 use native.Mathlib.Omega.{arith}
 use mathlib.Core.Bool.{not}
@@ -32,8 +31,6 @@ use sound.WpLaws.{fmOf, WpFn-mono}
 use denote.RattleType.{RattleType, owns}
 use denote.Laws.{Is, shows}
 use denote.Memory.{pointee}
-use denote.Plain.{uint-makes}
-use denote.Builtin.{u64}
 use denote.Ref.{RefT}
 use denote.Slice.{sliceTy, sliceVal, ShrSlice, Room, slice-vals, shr-slice-tells}
 use denote.Signature.{plain, shrSlice}
@@ -53,7 +50,7 @@ use Rattle.types.specs.declared.Pair.{Pair}
 use Rattle.types.proofs.Pair as T
 use Rattle.types.proofs.Pair.Laws as T′
 use Rattle.types.proofs.Walk.{tests}
-use Rattle.lease.specs.State.{Sound, view, carriedOf, Table}
+use Rattle.lease.specs.State.{Sound, view, carriedOf}
 use Rattle.lease.specs.Counts.{resumeAttempts}
 use Rattle.lease.specs.Answers.{resumeOf, Answers}
 use Rattle.lease.specs.Helpers.{carriedIn, carryOnAll, Tidy, CarriesPair, CarriesFrom, resumedWith}
