@@ -60,7 +60,7 @@ fn carry_pair(carried: Carried, pair: Pair) -> Carried
 
 impl LeaseTable {
     // Carries attempt counts over from before a restart: the next claim of an offset goes on from its count. A count of 0 says
-    // nothing, and of two counts for an offset the last stays.
+    // nothing, and of two counts for an offset the last stays. Refused where more than 128 would be carried (19).
     pub fn resume_attempts(self, pairs: &[Pair]) -> Resumed
         requires { ⌜ Sound self ⌝ }
         ensures { λ r. ⌜ Answers (resumeOf (r .outcome)) self (r .table) (resumeAttempts (view self) (entriesOf (now (pairs .entry)))) ⌝ }
@@ -75,7 +75,7 @@ impl LeaseTable {
         self.resumed(carried)
     }
 
-    // How often each message in flight was handed out, into a lent list.
+    // How often each message in flight was handed out, into a lent list. 20 where it doesn't fit.
     pub fn attempt_counts(self, out: &mut [Pair]) -> Listed
         requires { ⌜ Sound self ⌝ }
         ensures { λ r. ⌜ answer (listedOf r) (entriesOf (now (out .exit))) ≡ listed (attemptCounts (view self)) (entriesOf (now (out .entry))) ⌝ }
@@ -84,7 +84,7 @@ impl LeaseTable {
     }
 
     // The counts of all messages that were handed out and are not done, into a lent list: those in flight and the carried ones,
-    // the larger count where an offset has both.
+    // the larger count where an offset has both. 20 where it doesn't fit.
     pub fn all_attempt_counts(self, out: &mut [Pair]) -> Listed
         requires { ⌜ Sound self ⌝ }
         ensures { λ r. ⌜ answer (listedOf r) (entriesOf (now (out .exit))) ≡ listed (allAttemptCounts (view self)) (entriesOf (now (out .entry))) ⌝ }
@@ -92,7 +92,7 @@ impl LeaseTable {
         lent::list_pairs(self.all_counts(), out)
     }
 
-    // The offsets whose leases have run out, into a lent list: a claim of one would hand it out again.
+    // The offsets whose leases have run out, into a lent list: a claim of one would hand it out again. 20 where it doesn't fit.
     pub fn expired(self, now: u64, out: &mut [Offset]) -> Listed
         requires { ⌜ Sound self ⌝ }
         ensures { λ r. ⌜ answer (listedOf r) (numbersOf (out .exit .now)) ≡ listed (expired (view self) now) (numbersOf (out .entry .now)) ⌝ }
@@ -159,8 +159,8 @@ impl LeaseTable {
         }
     }
 
-    // The counts of all messages that were handed out and are not done: those in flight and the carried ones, the larger count
-    // where an offset has both.
+    // The counts of all messages that were handed out and are not done, in arrays: the two lists of counts, each rising, merged
+    // into one.
     pub fn all_counts(self) -> AttemptCounts
         requires { ⌜ Sound self ⌝ }
         ensures { λ r. ⌜ ListsCounts r (allAttemptCounts (view self)) ⌝ }
