@@ -13,8 +13,9 @@ use Rattle.types.specs.Keyed.{Entry}
 use Rattle.types.proofs.Scan.{map-take}
 use Rattle.raw.specs.Bytes.{overwrite}
 use Rattle.attempt.specs.Snapshot.{encodeAttempts1, decodeAttempts}
-use Rattle.attempt.specs.Codec.{entryOf, entriesOf, blank, decodeOf, counted, encodeFirst, DecodedIs}
-use Rattle.attempt.specs.declared.Pair.{Pair}
+use Rattle.attempt.specs.Codec.{blank, decodeOf, encodeFirst, DecodedIs}
+use Rattle.types.specs.declared.Pair.{Pair}
+use Rattle.types.specs.Lists.{entryOf, entriesOf, counted}
 use Rattle.attempt.specs.declared.Decoded.{Decoded}
 use Rattle.attempt.proofs.Snapshot.{decoded-few, fill-room}
 use Rattle.attempt.proofs.Writing.{count-entries, whole}

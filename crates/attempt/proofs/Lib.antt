@@ -2,4 +2,3 @@ pub mod Snapshot
 pub mod Codec
 mod Writing
 mod Reading
-mod Walk

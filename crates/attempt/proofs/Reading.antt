@@ -21,8 +21,9 @@ use Rattle.raw.specs.Bytes.{numberAt}
 use Rattle.crc.specs.Seal.{isSealed}
 use Rattle.attempt.specs.Snapshot.{readPair, readPairs, pairCount, pairsIn, orderAfter, orderTable, limitTable, pairsTable}
 use Rattle.attempt.specs.Snapshot.{decodeTable, decodeAttempts, decodeInto}
-use Rattle.attempt.specs.Codec.{entryOf, entriesOf, blank, decodeOf, counted, DecodedIs, RefusedIs, RoomIs}
-use Rattle.attempt.specs.declared.Pair.{Pair}
+use Rattle.attempt.specs.Codec.{blank, decodeOf, DecodedIs, RefusedIs, RoomIs}
+use Rattle.types.specs.declared.Pair.{Pair}
+use Rattle.types.specs.Lists.{entryOf, entriesOf, counted}
 use Rattle.attempt.specs.declared.Decoded.{Decoded}
 use Rattle.attempt.specs.declared.Decode.{Decode}
 use Rattle.attempt.specs.declared.Decode.the-variants.{Pairs, Truncated, UnsupportedVersion, BadLength, CountMismatch}

@@ -18,8 +18,9 @@ use Rattle.raw.proofs.Bytes.{overwrite-none, overwrite-byte, overwrite-append, 
 use Rattle.crc.specs.Crc32c.{crc}
 use Rattle.crc.proofs.Seal.{sealed-put}
 use Rattle.attempt.specs.Snapshot.{pairBytes, pairsBytes, bodyBytes, encodeAttempts1, encodeInto}
-use Rattle.attempt.specs.Codec.{entryOf, entriesOf, nil, encodeFirst}
-use Rattle.attempt.specs.declared.Pair.{Pair}
+use Rattle.attempt.specs.Codec.{nil, encodeFirst}
+use Rattle.types.specs.declared.Pair.{Pair}
+use Rattle.types.specs.Lists.{entryOf, entriesOf}
 use Rattle.attempt.proofs.Snapshot.{length-body, attempts-length}
 
 -- the loop of `put_pairs`: the pairs that are left, written from the next place on, give what all of them gave at the start

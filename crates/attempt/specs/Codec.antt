@@ -1,16 +1,17 @@
 -- How the code's types stand for pairs and for 01's answers, and the parts of the contracts.
 use Prim.Native.Nat.{ℕ, _*_, _≤_}
 use mathlib.Core.Path.{_≡_}
-use mathlib.Core.List.{List, [], _∷_, _++_, map}
+use mathlib.Core.List.{List, [], _∷_, _++_}
 use lib.Dec.{ltb}
 use lib.ListN.{length, take, drop, replicate}
 use Rattle.types.specs.Limits.{PAIRS}
 use Rattle.types.specs.Refusal.{Result, refused, done}
 use Rattle.types.specs.Refusal as refusal
 use Rattle.types.specs.Table.{_⇒_, Answer, answer, guarded}
-use Rattle.types.specs.Keyed.{Entry, entry}
+use Rattle.types.specs.Keyed.{Entry}
+use Rattle.types.specs.Lists.{pair, entriesOf, counted}
+use Rattle.types.specs.declared.Pair.{Pair}
 use Rattle.attempt.specs.Snapshot.{encodeInto, readPairs, decodeInto}
-use Rattle.attempt.specs.declared.Pair.{Pair}
 use Rattle.attempt.specs.declared.Encode.{Encode}
 use Rattle.attempt.specs.declared.Encode.the-variants as encodes
 use Rattle.attempt.specs.declared.Decode.{Decode}
@@ -18,15 +19,9 @@ use Rattle.attempt.specs.declared.Decode.the-variants.{Pairs, Truncated,
 use Rattle.attempt.specs.declared.Decode.the-variants.{BadCrc, NotSorted, TooManyPairs, OutTooShort}
 use Rattle.attempt.specs.declared.Decoded.{Decoded}
 
-abbrev pub entryOf : Pair → Entry ℕ
-entryOf p = entry (p .offset) (p .attempt)
-
-abbrev pub entriesOf : List Pair → List (Entry ℕ)
-entriesOf = map entryOf
-
 -- an array without pairs
 abbrev pub nil : Pair
-nil = record { offset = 0; attempt = 0 }
+nil = pair 0 0
 
 unfoldable pub blank : List Pair
 blank = replicate 128 nil
@@ -52,11 +47,6 @@ decodeOf OutTooShort = refused refusal.OutTooShort
 abbrev pub encodeFirst : ℕ → List Pair → ℕ → List ℕ → Answer ℕ (List ℕ)
 encodeFirst n pairs at out =
     guarded (ltb PAIRS n ⇒ refusal.TooManyPairs ∷ []) out (encodeInto (entriesOf (take n pairs)) at out)
-
--- how many pairs an answer has
-abbrev pub counted : Result ℕ → ℕ
-counted (refused r) = 0
-counted (done n) = n
 
 -- decoding into an array without pairs
 pub record DecodedIs (b : List ℕ) (r : Decoded) : Type 0 where

@@ -6,11 +6,13 @@ ghost use Prim.Native.Nat.{_+_, _*_, _≤_, min};
 ghost use lib.ListN.{length, take, drop};
 ghost use Rattle.types.specs.Refusal.{done};
 ghost use Rattle.types.specs.Table.{answer, checked};
+ghost use Rattle.types.specs.Lists.{entryOf, entriesOf, counted};
 ghost use Rattle.raw.specs.Bytes.{overwrite};
 ghost use Rattle.attempt.specs.Snapshot.{pairBytes, pairsBytes, bodyBytes, encodeInto};
 ghost use Rattle.attempt.specs.Snapshot.{readPair, readPairs, pairCount, pairsTable, decodeTable, decodeInto};
-ghost use Rattle.attempt.specs.Codec.{entryOf, entriesOf, blank, encodeOf, decodeOf, counted};
+ghost use Rattle.attempt.specs.Codec.{blank, encodeOf, decodeOf};
 ghost use Rattle.attempt.specs.Codec.{encodeFirst, DecodedIs, RefusedIs, RoomIs};
+use types::Pair;
 
 // The length of a snapshot without pairs: version, count and check.
 pub const ATTEMPT_SNAPSHOT_MIN_LEN: usize = 9;
@@ -19,13 +21,6 @@ const SNAPSHOT_VERSION: u8 = 1;
 
 // The length of a pair: its offset and its attempt count.
 const PAIR_LEN: usize = 12;
-
-// An offset with its attempt count.
-#[repr(C)]
-pub struct Pair {
-    pub offset: u64,
-    pub attempt: u32,
-}
 
 // What encoding answers: the position behind the snapshot, or refusal 19 or 20.
 pub enum Encode {

@@ -11,8 +11,9 @@ use lib.Seq.{drop-cons, getD-take, take-suc-set, append-snoc, length-take-le}
 use borrow.Author.Tests.{not-true, not-false}
 use Rattle.types.specs.Keyed.{Entry, entry, entries}
 use Rattle.cursor.specs.Cursor.{Cursor}
-use Rattle.attempt.specs.Codec.{entryOf, entriesOf, nil}
-use Rattle.attempt.specs.declared.Pair.{Pair}
+use Rattle.attempt.specs.Codec.{nil}
+use Rattle.types.specs.declared.Pair.{Pair}
+use Rattle.types.specs.Lists.{entryOf, entriesOf}
 use Rattle.consumer.specs.Restart.{isDropped, unsettledCounts}
 
 -- one entry more at the end of both columns

@@ -15,17 +15,17 @@ use Rattle.types.proofs.Columns.{length-used, drop-used, drop-unused}
 use Rattle.types.proofs.Scan.{map-take, map-set}
 use Rattle.raw.specs.Bytes.{overwrite, write}
 use Rattle.raw.proofs.Bytes.{length-overwrite, take-overwritten, wrote-next, wrote, wrote-behind}
-use Rattle.attempt.specs.Codec.{entryOf, entriesOf, counted, encodeFirst}
-use Rattle.attempt.specs.declared.Pair.{Pair}
-use Rattle.lease.specs.declared.AttemptCounts.{AttemptCounts}
-use Rattle.lease.specs.Answers.{Lists}
+use Rattle.attempt.specs.Codec.{encodeFirst}
+use Rattle.types.specs.declared.Pair.{Pair}
+use Rattle.types.specs.Lists.{entryOf, entriesOf, counted, countsIn, ListsCounts}
+use Rattle.types.specs.declared.lent.AttemptCounts.{AttemptCounts}
 use Rattle.lease.specs.Counts.{allAttemptCounts}
 use Rattle.journal.proofs.Area.{whole-says}
 use Rattle.consumer.specs.State.{State, blocksOf}
 use Rattle.consumer.specs.Checkpoint.{cursorBytes, attemptBytes, payloadOf, bodies, begin}
 use Rattle.consumer.specs.Valid.{Valid}
 use Rattle.consumer.specs.View.{view, Sound}
-use Rattle.consumer.specs.Writing.{SoundWriting, Encoded, EncodedIs, BegunIs, countsIn}
+use Rattle.consumer.specs.Writing.{SoundWriting, Encoded, EncodedIs, BegunIs}
 use Rattle.consumer.specs.declared.Consumer.{Consumer}
 use Rattle.consumer.specs.declared.checkpoint.Writing.{Writing}
 use Rattle.consumer.specs.declared.checkpoint.BeginAnswer.the-variants.{Begun, JournalFull}
@@ -66,7 +66,7 @@ pub record BothEncoded (s : State) (bytes : List ℕ) (lc end : ℕ) : Type 0 wh
   pub encoded : Encoded s bytes lc (end - lc)
 
 module _ (s : State) (v : Valid s) where
-  pub counts-fit-pairs : (r : AttemptCounts) → Full r → Lists r (allAttemptCounts (s .table)) → r .len ≤ 128
+  pub counts-fit-pairs : (r : AttemptCounts) → Full r → ListsCounts r (allAttemptCounts (s .table)) → r .len ≤ 128
   counts-fit-pairs r f l = omega (arith, count-of r f, ap length (l .is), counts-few s v)
 
   module _ (b₀ b₁ b₂ : List ℕ) (o₁ o₂ : Result ℕ) (lc end : ℕ) (pairs : List Pair) (n : ℕ)

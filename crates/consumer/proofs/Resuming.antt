@@ -10,6 +10,7 @@ use denote.Enum.Declared.{tagOf}
 use Rattle.types.specs.Limits.{PAIRS}
 use Rattle.types.specs.Refusal.{Refusal, Result, refused, done}
 use Rattle.types.specs.Keyed.{Entry}
+use Rattle.types.specs.Lists.{entriesOf}
 use Rattle.cursor.specs.Cursor.{Cursor}
 use Rattle.cursor.specs.View as cursor
 use Rattle.cursor.specs.Snapshot.{decodeCursor}
@@ -21,7 +22,7 @@ use Rattle.cursor.specs.declared.Decoded as cursors
 use Rattle.cursor.specs.declared.Decode as cursors-decode
 use Rattle.cursor.specs.declared.Decode.the-variants as decodes
 use Rattle.attempt.specs.Snapshot.{decodeAttempts}
-use Rattle.attempt.specs.Codec.{entriesOf, decodeOf, DecodedIs}
+use Rattle.attempt.specs.Codec.{decodeOf, DecodedIs}
 use Rattle.attempt.specs.declared.Decode.{Decode}
 use Rattle.attempt.proofs.Decode.{the-type}
 use Rattle.attempt.specs.declared.Decode.the-variants.{Pairs, Truncated, UnsupportedVersion, BadLength, CountMismatch, BadCrc, NotSorted, TooManyPairs, OutTooShort}

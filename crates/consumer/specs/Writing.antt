@@ -8,8 +8,6 @@ use lib.ListN.{length, take}
 use Rattle.types.specs.Refusal.{Result, refused, done}
 use Rattle.types.specs.Refusal as refusal
 use Rattle.types.specs.Table.{answer, Kept}
-use Rattle.types.specs.Keyed.{Entry, entries}
-use Rattle.lease.specs.declared.AttemptCounts.{AttemptCounts}
 use Rattle.journal.specs.Answers.{blockOf}
 use Rattle.journal.specs.declared.Block.{Block}
 use Rattle.consumer.specs.State.{State, blocksOf}
@@ -55,10 +53,6 @@ pub record BegunIs (before : Consumer) (r : Begun) : Type 0 where
   pub is : beginOf (r .answer) (r .writing) ≡ begin (view before)
   pub sound : SoundBegun (r .answer) (r .writing)
   pub kept : r .writing .consumer ≡ before
-
--- the counts that stand in two arrays
-abbrev pub countsIn : AttemptCounts → List (Entry ℕ)
-countsIn r = entries (take (r .len) (r .offsets)) (take (r .len) (r .attempts))
 
 -- the record of a consumer before the first write
 pub record EncodedIs (before : Consumer) (w : Writing) : Type 0 where

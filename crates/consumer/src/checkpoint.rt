@@ -4,20 +4,21 @@ ghost use Prim.Native.Nat.{_≤_};
 ghost use mathlib.Core.Path.{_≡_};
 ghost use lib.ListN.{take};
 ghost use Rattle.types.specs.Limits.{sat64};
+ghost use Rattle.types.specs.Lists.{entriesOf, countsIn, counted};
 ghost use Rattle.raw.specs.Bytes.{outcomeOf};
-ghost use Rattle.attempt.specs.Codec.{entriesOf, encodeOf, counted};
+ghost use Rattle.attempt.specs.Codec.{encodeOf};
 ghost use Rattle.journal.specs.Area.{writeAt};
 ghost use Rattle.journal.specs.Answers.{blockOf};
 ghost use Rattle.consumer.specs.Checkpoint.{payloadOf};
 ghost use Rattle.consumer.specs.View.{view, Sound};
-ghost use Rattle.consumer.specs.Writing.{SoundWriting, countsIn, EncodedIs, BegunIs, SteppedIs, Into, HeaderIs, Fitting, FlushedIs};
+ghost use Rattle.consumer.specs.Writing.{SoundWriting, EncodedIs, BegunIs, SteppedIs, Into, HeaderIs, Fitting, FlushedIs};
 use crate::Consumer;
 use attempt::Encode;
-use attempt::Pair;
 use journal::Block;
 use journal::Header;
-use lease::AttemptCounts;
 use raw::Write;
+use types::Pair;
+use types::lent::AttemptCounts;
 
 // The consumer, the number of blocks written, and what is written: the snapshots of the cursor and of all attempt counts, one
 // behind the other at the front of the payload.
@@ -153,7 +154,7 @@ fn encoded(consumer: Consumer) -> Writing
 {
     let cursor = consumer.cursor;
     let table = consumer.table;
-    let counts = table.all_attempt_counts();
+    let counts = table.all_counts();
     let count = counts.len;
     let pairs = pairs_of(counts);
     let mut payload = [0u8; 3606];

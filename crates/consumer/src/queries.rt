@@ -1,38 +1,25 @@
 // What a server asks a consumer without changing it.
 ghost use mathlib.Core.Path.{_≡_};
-ghost use Prim.Native.Nat.{_≤_};
-ghost use mathlib.Core.List.{[], _∷_, _++_};
-ghost use lib.ListN.{length, take, drop};
+ghost use mathlib.Core.List.{[], _∷_};
 ghost use Rattle.types.specs.Refusal.{done};
-ghost use Rattle.types.specs.Lists.{listed};
+ghost use Rattle.types.specs.Lists.{listed, listedOf, numbersOf, offsetsIn};
 ghost use Rattle.types.specs.Table.{answer};
-ghost use Rattle.lease.specs.Answers.{listedOf};
 ghost use Rattle.lease.specs.Lookup.{leaseAt};
 ghost use Rattle.consumer.specs.Questions.{waitingAt, bit, leaseValues, Committed, IsSettled, LeaseOf, CountOf, InFlight, IsDue, BlocksLeft, reply};
 ghost use Rattle.consumer.specs.View.{view, Sound};
 use crate::Consumer;
 use lease::Attempts;
-use lease::Listed;
 use lease::lookup::LeaseAt;
 use types::Offset;
+use types::lent;
+use types::lent::Listed;
+use types::lent::OffsetList;
 
 // Whether a checkpoint is due, and why: no generation is left below the ceiling, or redeliveries since the last checkpoint have
 // reached the threshold.
 pub struct Due {
     pub ceiling: bool,
     pub threshold: bool,
-}
-
-// Puts the first n numbers of a list into the first places of another.
-fn fill(out: &mut [u64], list: &[u64; 128], n: usize)
-    requires { ⌜ (length (now list) ≡ 128) × (n ≤ 128) × (n ≤ length (now out)) ⌝ }
-    ensures { λ _. ⌜ now (out .exit) ≡ take n (now (list .entry)) ++ drop n (now (out .entry)) ⌝ }
-{
-    let mut i: usize = 0;
-    while i < n {
-        out[i] = list[i];
-        i += 1;
-    }
 }
 
 impl Consumer {
@@ -100,22 +87,40 @@ impl Consumer {
         self.area_len / 512 - self.seat.block
     }
 
-    // The waiting list at a clock, from the first place on: the carried offsets, then those whose lease's deadline has come. 20
-    // where they don't fit, and then nothing is changed.
-    pub fn waiting(self, now: u64, out: &mut [u64]) -> Listed
+    // The waiting list at a clock, into a lent list from its first place on: the carried offsets, then those whose lease's deadline
+    // has come. 20 where they don't fit, and then nothing is changed.
+    pub fn waiting(self, now: u64, out: &mut [Offset]) -> Listed
+        requires { ⌜ Sound self ⌝ }
+        ensures { λ r. ⌜ answer (listedOf r) (numbersOf (out .exit .now)) ≡ listed (waitingAt (view self) now) (numbersOf (out .entry .now)) ⌝ }
+    {
+        lent::list_offsets(self.waiting_list(now), out)
+    }
+
+    // The same as numbers.
+    pub fn waiting_numbers(self, now: u64, out: &mut [u64]) -> Listed
         requires { ⌜ Sound self ⌝ }
         ensures { λ r. ⌜ answer (listedOf r) (out .exit .now) ≡ listed (waitingAt (view self) now) (out .entry .now) ⌝ }
     {
+        lent::list_numbers(self.waiting_list(now), out)
+    }
+
+    // The same, in an array.
+    fn waiting_list(self, now: u64) -> OffsetList
+        requires { ⌜ Sound self ⌝ }
+        ensures { λ r. ⌜ offsetsIn r ≡ waitingAt (view self) now ⌝ }
+    {
         let table = self.table;
         let n = table.carried();
-        if out.len() < n {
-            return Listed::OutTooShort;
+        let due = table.due(now);
+        let mut offsets = table.carried_offsets;
+        let mut i: usize = 0;
+        while i < due.len {
+            offsets[n + i] = due.offsets[i];
+            i += 1;
         }
-        let due = table.expired(now, &mut out[n..]);
-        let Listed::Filled(m) = due else {
-            return Listed::OutTooShort;
-        };
-        fill(out, &table.carried_offsets, n);
-        Listed::Filled(n + m)
+        OffsetList {
+            offsets: offsets,
+            len: n + due.len,
+        }
     }
 }

@@ -4,9 +4,9 @@ ghost use Prim.Native.Nat.{_-_, _≤_};
 ghost use mathlib.Core.Bool.{not};
 ghost use lib.ListN.{length, take, drop};
 ghost use Rattle.types.specs.Table.{first};
+ghost use Rattle.types.specs.Lists.{entryOf, entriesOf};
 ghost use Rattle.cursor.specs.View as cursors;
 ghost use Rattle.cursor.specs.Snapshot.{decodeCursor};
-ghost use Rattle.attempt.specs.Codec.{entryOf, entriesOf};
 ghost use Rattle.attempt.specs.Snapshot.{decodeAttempts};
 ghost use Rattle.journal.specs.Answers.{walkedOf};
 ghost use Rattle.consumer.specs.Restart.{startTable, start, isDropped, unsettledCounts, fromSnapshots, readGroup, fromWalk, restart};
@@ -15,7 +15,6 @@ use crate::Consumer;
 use crate::Seat;
 use crate::Settings;
 use attempt::Decode;
-use attempt::Pair;
 use cursor::AckCursor;
 use cursor::Decode as Snapshot;
 use cursor::SnapshotError;
@@ -26,6 +25,7 @@ use lease::LeaseConfig;
 use lease::LeaseTable;
 use types::Generation;
 use types::Offset;
+use types::Pair;
 
 // What a start or a restart answers: a consumer, or a refusal: 1 to 5, the cursor snapshot's (6 to 12), or the attempt
 // snapshot's (13 to 19), as its decoder has it.

@@ -8,5 +8,3 @@ pub mod Snapshot
 pub mod Reading
 pub mod Writing
 pub mod Taking
-pub mod Listing
-pub mod Walk

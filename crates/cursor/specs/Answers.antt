@@ -2,13 +2,11 @@
 use Prim.Native.Nat.{ℕ}
 use mathlib.Core.Path.{_≡_}
 use mathlib.Core.Bool.{Bool, true, false}
-use mathlib.Core.List.{List, [], _∷_}
+use mathlib.Core.List.{List}
 use mathlib.Core.Option.{Option, none, some}
-use lib.Dec.{ltb}
-use lib.ListN.{length}
 use Rattle.types.specs.Refusal.{Refusal, Result, refused, done}
 use Rattle.types.specs.Refusal as refusal
-use Rattle.types.specs.Table.{_⇒_, Answer, answer, unless, checked, Kept}
+use Rattle.types.specs.Table.{Answer, answer, unless, Kept}
 use Rattle.cursor.specs.Cursor.{Cursor, resumeWithAhead}
 use Rattle.cursor.specs.Snapshot.{decodeCursor}
 use Rattle.cursor.specs.View.{view, Sound, empty}
@@ -89,12 +87,3 @@ pub record DecodedIs (bytes : List ℕ) (r : Decoded) : Type 0 where
 abbrev pub listedOf : Listed → Result ℕ
 listedOf (lists.Ranges n) = done n
 listedOf lists.OutTooShort = refused refusal.OutTooShort
-
--- whether a list fits into lent memory of a length
-abbrev pub roomFor : List Range → ℕ → Result ℕ
-roomFor list len = checked (ltb len (length list) ⇒ refusal.OutTooShort ∷ []) (done (length list))
-
--- how many places an answer fills
-abbrev pub counted : Result ℕ → ℕ
-counted (refused r) = 0
-counted (done n) = n

@@ -10,7 +10,7 @@ ghost use lib.Dec.{ltb, eqb};
 ghost use lib.ListN.{length, take, getD, set};
 ghost use Rattle.types.specs.Identifiers.{offset};
 ghost use Rattle.types.specs.Refusal.{done};
-ghost use Rattle.types.specs.Lists.{listed};
+ghost use Rattle.types.specs.Lists.{listed, roomFor, counted};
 ghost use Rattle.types.specs.Table.{answer, first};
 ghost use Rattle.raw.specs.Bytes.{overwrite, write, outcomeOf};
 ghost use Rattle.types.specs.Zipped.{zipped, inserted, removed};
@@ -19,7 +19,7 @@ ghost use Rattle.cursor.specs.Ranges.{range, offsets};
 ghost use Rattle.cursor.specs.Snapshot.{rangesBytes, bodyBytes, encodeCursor, readRanges, decodeTable};
 ghost use Rattle.cursor.specs.Cursor.{settled, ackBounded, commitUpTo, rangeTable, resumeTable};
 ghost use Rattle.cursor.specs.View.{ackCursor, view, Sound, Whole, Fresh};
-ghost use Rattle.cursor.specs.Answers.{ackOf, Updated, resumeFault, ResumedIs, listedOf, roomFor, counted, decodeFault, DecodedIs};
+ghost use Rattle.cursor.specs.Answers.{ackOf, Updated, resumeFault, ResumedIs, listedOf, decodeFault, DecodedIs};
 ghost use Rattle.cursor.specs.Taking.{Taken};
 ghost use Rattle.cursor.specs.declared.Range.{Range};
 ghost use Rattle.cursor.specs.Place.{Spotted, rangeAt, joinedAt};
@@ -665,7 +665,7 @@ impl AckCursor {
     // Whether the ranges fit into a list of this length.
     fn room_for(self, len: usize) -> Listed
         requires { ⌜ Sound self ⌝ }
-        ensures { λ r. ⌜ listedOf r ≡ roomFor (view self .ahead) len ⌝ }
+        ensures { λ r. ⌜ listedOf r ≡ roomFor (length (view self .ahead)) len ⌝ }
     {
         if len < self.runs {
             return Listed::OutTooShort;

@@ -10,8 +10,9 @@ use lib.Seq.{length-take-le, take-suc-set}
 use Rattle.types.specs.Keyed.{Entry, entry, entries}
 use Rattle.types.proofs.Scan.{map-take}
 use Rattle.types.proofs.Loops.{Filling, filling-more}
-use Rattle.attempt.specs.Codec.{entryOf, entriesOf, nil}
-use Rattle.attempt.specs.declared.Pair.{Pair}
+use Rattle.types.specs.Lists.{entryOf, entriesOf}
+use Rattle.attempt.specs.Codec.{nil}
+use Rattle.types.specs.declared.Pair.{Pair}
 use Rattle.exports.specs.Snapshots.{front}
 
 -- what a loop that fills the places of a lent column from another leaves

@@ -32,8 +32,9 @@ use Rattle.cursor.specs.declared.Decode.the-variants as decodes
 use Rattle.cursor.specs.declared.Decoded as cursor-decoded
 use Rattle.cursor.proofs.Search.{runs-is}
 use Rattle.attempt.specs.Snapshot.{encodeInto, decodeAttempts}
-use Rattle.attempt.specs.Codec.{entriesOf, encodeOf, decodeOf, counted, encodeFirst, DecodedIs}
-use Rattle.attempt.specs.declared.Pair.{Pair}
+use Rattle.types.specs.Lists.{entriesOf, counted}
+use Rattle.attempt.specs.Codec.{encodeOf, decodeOf, encodeFirst, DecodedIs}
+use Rattle.types.specs.declared.Pair.{Pair}
 use Rattle.attempt.specs.declared.Encode.{Encode}
 use Rattle.attempt.specs.declared.Decoded.{Decoded}
 use Rattle.attempt.proofs.Codec.{decoded-refused, decoded-pairs}

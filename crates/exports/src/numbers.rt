@@ -29,11 +29,11 @@ use consumer::checkpoint::StepAnswer;
 use consumer::starts::StartAnswer;
 use cursor::AckCursorError;
 use cursor::SnapshotError;
-use lease::Listed;
 use lease::lookup::LeaseAt;
 use machine::calls::AskAnswer;
 use machine::calls::CallAnswer;
 use machine::calls::Reply;
+use types::lent::Listed;
 
 // What a call answers: 01's number, 0 where nothing was refused; how many values there are; and the first four of them.
 #[repr(C)]

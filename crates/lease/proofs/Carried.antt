@@ -3,32 +3,38 @@
 -- Assumes nothing.
 use Prim.Native.Nat.{ℕ, _+_, _≤_, _<_}
 use native.Mathlib.Omega.{arith}
-use mathlib.Core.Path.{_≡_, refl, subst}
+use native.Mathlib.Numerals.{add-one}
+use mathlib.Core.Path.{_≡_, refl, ap, _∙_, subst}
+use mathlib.Core.Bool.{true, false}
 use mathlib.Core.List.{List, [], _∷_}
 use mathlib.Core.Option.{Option, none, some}
 use lib.Dec.{eqb, ltb}
-use lib.ListN.{length, take, drop, set}
-use borrow.Author.Tests.{lt-ltb, le-ltb, eq-eqb, ne-eqb}
-use Rattle.types.specs.Limits.{CARRIED}
+use lib.ListN.{length, take, drop, getD, set, drop-of-length-le}
+use lib.Seq.{drop-cons}
+use borrow.Author.Tests.{ltb-true, ltb-false, lt-ltb, le-ltb, eq-eqb, ne-eqb}
+use Rattle.types.specs.Limits.{MAX, MAX32, CARRIED}
 use Rattle.types.specs.Refusal.{refused, done, TooManyPairs}
-use Rattle.types.specs.Table.{_⇒_}
-use Rattle.types.specs.Keyed.{Entry, entry, entries, lookup, put, Rising, All}
+use Rattle.types.specs.Table.{answer}
+use Rattle.types.specs.Keyed.{Entry, entries, lookup, put, Rising}
+use Rattle.types.specs.Lists.{pair, entriesOf}
+use Rattle.types.specs.declared.Pair.{Pair}
 use Rattle.types.proofs.Cases.{split}
 use Rattle.types.proofs.Keyed.{length-put-old, length-put-new}
 use Rattle.types.proofs.Columns.{length-used}
 use Rattle.types.specs.Zipped.{inserted}
-use Rattle.lease.specs.State.{Sound, view, carriedOf, withCarried}
+use Rattle.lease.specs.State.{Table, Valid, Sound, view, withCarried}
 use Rattle.lease.specs.Counts.{carry, carryAll, resumeAttempts}
-use Rattle.lease.specs.Helpers.{Placed, Carries}
+use Rattle.lease.specs.Helpers.{Placed, Carries, heldIn, carriedIn, within, carryOnAll, Tidy, CarriesPair, resumedWith}
 use Rattle.lease.specs.Answers.{Answers}
 use Rattle.lease.specs.declared.LeaseTable.{LeaseTable}
+use Rattle.lease.specs.declared.lent.Carried.{Carried}
 use Rattle.lease.specs.declared.columns.Place.{Place}
 use Rattle.lease.specs.declared.columns.Place.the-variants.{Found, Missing}
 use Rattle.lease.specs.declared.columns.CarryOutcome.{CarryOutcome}
 use Rattle.lease.specs.declared.columns.CarryOutcome.the-variants.{Kept, Full}
 use Rattle.lease.proofs.Slots.{stands, lacks}
-use Rattle.lease.proofs.Returns.{Shows, refuses, takes-effect}
-use Rattle.lease.proofs.Valid.{Fits, carry-rising, valid-resume}
+use Rattle.lease.proofs.Returns.{Shows, sound-as}
+use Rattle.lease.proofs.Valid.{carry-rising, carry-counted, valid-carried}
 
 -- ## the answers
 module _ (n : ℕ) (ks vs : List ℕ) (full : length ks ≡ CARRIED) (full′ : length vs ≡ CARRIED) (few : n ≤ CARRIED) (rise : Rising 0 (entries (take n ks) (take n vs))) (x c : ℕ) where
@@ -65,50 +71,71 @@ length-carry-all [] l r = omega arith
 length-carry-all (p ∷ ps) l r =
     omega (arith, length-carry (p .key) (p .value) 0 l r, length-carry-all ps (carry (p .key) (p .value) l) (carry-rising (p .key) (p .value) l r))
 
--- the pairs before i are carried
-pub record Carrying (ps start : List (Entry ℕ)) (ks vs : List ℕ) (n i : ℕ) : Type 0 where
-  pub few : n ≤ CARRIED
-  pub full : length ks ≡ CARRIED
-  pub full-counts : length vs ≡ CARRIED
-  pub rise : Rising 0 (entries (take n ks) (take n vs))
-  pub is : carryAll (drop i ps) (entries (take n ks) (take n vs)) ≡ carryAll ps start
+-- what `carry` keeps, or refuses, is the list with the pair in it, or none
+module _ (p : Pair) (c : Carried) (tidy : Tidy c) (room : c .full ≡ false) where
+  abbrev more : List (Entry ℕ)
+  more = carry (p .offset) (p .attempt) (heldIn c)
 
-module _ {ps start : List (Entry ℕ)} {ks vs : List ℕ} {n i : ℕ} (inv : Carrying ps start ks vs n i) where
-  module _ (x c : ℕ) (here : drop i ps ≡ entry x c ∷ drop (i + 1) ps) where
-    pub carrying-more : (m : ℕ) (ks′ vs′ : List ℕ) → length ks′ ≡ CARRIED → length vs′ ≡ CARRIED → {r : CarryOutcome} → r ≡ Kept m
-        → Carries (carry x c (entries (take n ks) (take n vs))) r ks′ vs′ → Carrying ps start ks′ vs′ m (i + 1)
-    carrying-more m ks′ vs′ f g e p =
-        let h = subst (λ (r : CarryOutcome). Carries (carry x c (entries (take n ks) (take n vs))) r ks′ vs′) e p in
-        record {
-          few = h .0;
-          full = f;
-          full-counts = g;
-          rise = rw (h .1) (carry-rising x c (entries (take n ks) (take n vs)) (inv .rise));
-          is = rw (h .1) (rw here at (inv .is));
-        }
+  pub pair-carried : p .offset ≤ MAX → p .attempt ≤ MAX32 → (n : ℕ) (ks vs : List ℕ) → length ks ≡ CARRIED → length vs ≡ CARRIED → {r : CarryOutcome} → r ≡ Kept n → Carries more r ks vs
+      → CarriesPair p c (record { offsets = ks; counts = vs; len = n; full = false })
+  pair-carried fits fits′ n ks vs f g e h =
+      let k = subst (λ (r : CarryOutcome). Carries more r ks vs) e h in
+      let few : length more ≤ CARRIED = rw (← k .1, length-used 0 n ks vs (omega (arith, k .0)) (omega (arith, k .0))) (k .0) in
+      record {
+        is = rw (room, k .1, le-ltb CARRIED (length more) few);
+        tidy = record {
+          few = k .0;
+          rising = rw (k .1) (carry-rising (p .offset) (p .attempt) (heldIn c) (tidy .rising));
+          counted = rw (k .1) (carry-counted (p .offset) (p .attempt) (heldIn c) fits fits′ (tidy .counted));
+        };
+      }
 
-    pub too-many : (ks′ vs′ : List ℕ) {r : CarryOutcome} → r ≡ Full → Carries (carry x c (entries (take n ks) (take n vs))) r ks′ vs′ → CARRIED < length (carryAll ps start)
-    too-many ks′ vs′ e p =
-        let more = carry x c (entries (take n ks) (take n vs)) in
-        let h = subst (λ (r : CarryOutcome). Carries more r ks′ vs′) e p in
-        rw (← inv .is, here) (omega (arith, h, length-carry-all (drop (i + 1) ps) more (carry-rising x c (entries (take n ks) (take n vs)) (inv .rise))))
+  pub pair-refused : (ks vs : List ℕ) {r : CarryOutcome} → r ≡ Full → Carries more r ks vs
+      → CarriesPair p c (record { offsets = c .offsets; counts = c .counts; len = c .len; full = true })
+  pair-refused ks vs e h =
+      let k = subst (λ (r : CarryOutcome). Carries more r ks vs) e h in
+      record { is = rw (room, lt-ltb CARRIED (length more) k); tidy = record { few = tidy .few; rising = tidy .rising; counted = tidy .counted } }
 
-  module _ (e : drop i ps ≡ []) where
-    pub carried-all : entries (take n ks) (take n vs) ≡ carryAll ps start
-    carried-all = rw e at (inv .is)
+-- with too many, nothing is carried any more
+pub pair-kept : (p : Pair) (c : Carried) → Tidy c → c .full ≡ true → CarriesPair p c c
+pair-kept p c tidy e = record { is = rw e; tidy = tidy }
 
-    pub carried-few : length (carryAll ps start) ≤ CARRIED
-    carried-few = rw (← carried-all, length-used 0 n ks vs (omega (arith, inv .few, inv .full)) (omega (arith, inv .few, inv .full-counts))) (inv .few)
+-- once there are too many, there are too many at the end
+pub carried-within : (ps l : List (Entry ℕ)) → Rising 0 l → length l ≤ CARRIED → carryOnAll ps (some l) ≡ within (carryAll ps l)
+carried-within [] l r h = rw (le-ltb CARRIED (length l) h)
+carried-within (p ∷ ps) l r h =
+    let more : List (Entry ℕ) = carry (p .key) (p .value) l in
+    let rise : Rising 0 more = carry-rising (p .key) (p .value) l r in
+    split (ltb CARRIED (length more))
+    (λ q. rw q (carried-none ps ∙ rw (lt-ltb CARRIED (length (carryAll ps more)) (omega (arith, ltb-true CARRIED (length more) q, length-carry-all ps more rise)))))
+    (λ q. rw q (carried-within ps more rise (ltb-false CARRIED (length more) q)))
+  where
+    carried-none : (qs : List (Entry ℕ)) → carryOnAll qs none ≡ none
+    carried-none [] = refl
+    carried-none (q ∷ qs) = carried-none qs
 
 -- ## the call
-module _ (t : LeaseTable) (ok : Sound t) (ps : List (Entry ℕ)) where
-  pub resume-refused : CARRIED < length (carryAll ps (carriedOf t)) → Answers (refused TooManyPairs) t t (resumeAttempts (view t) ps)
-  unfolding resumeAttempts
-  resume-refused h = refuses t ok (ltb CARRIED (length (carryAll ps (carriedOf t))) ⇒ TooManyPairs ∷ []) TooManyPairs _ (rw (lt-ltb CARRIED (length (carryAll ps (carriedOf t))) h))
+module _ (t : LeaseTable) (ok : Sound t) (c : Carried) (tidy : Tidy c) where
+  pub resume-refused : c .full ≡ true → Answers (refused TooManyPairs) t t (resumedWith (view t) (carriedIn c))
+  resume-refused e = record { is = rw e; sound = ok; kept = refl }
 
-  pub resumed : All Fits ps → length (carryAll ps (carriedOf t)) ≤ CARRIED → {after : LeaseTable} → Shows after (withCarried (view t) (carryAll ps (carriedOf t)))
-      → Answers (done tt) t after (resumeAttempts (view t) ps)
-  unfolding resumeAttempts
-  resumed f h m =
-      let e = le-ltb CARRIED (length (carryAll ps (carriedOf t))) h in
-      takes-effect t ok (ltb CARRIED (length (carryAll ps (carriedOf t))) ⇒ TooManyPairs ∷ []) tt (e, tt) m (valid-resume (view t) ps f e (ok .valid))
+  pub resumed : c .full ≡ false → length (heldIn c) ≤ CARRIED → {after : LeaseTable} → Shows after (withCarried (view t) (heldIn c)) → Answers (done tt) t after (resumedWith (view t) (carriedIn c))
+  resumed e few m =
+      record { is = rw e (ap (answer (done tt)) (m .is)); sound = sound-as m (valid-carried (view t) (heldIn c) (ok .valid) (tidy .rising) few (tidy .counted)); kept = tt }
+
+-- the pairs from place i on are left; one less, and none
+module _ (ps : List Pair) (i : ℕ) where
+  pub pair-more : (before after : Carried) → i < length ps → CarriesPair (getD ps i (pair 0 0)) before after
+      → carryOnAll (entriesOf (drop (i + 1) ps)) (carriedIn after) ≡ carryOnAll (entriesOf (drop i ps)) (carriedIn before)
+  pair-more before after h r = rw (drop-cons ps i (pair 0 0) h, r .is, add-one i)
+
+  pub pair-end : (c : Carried) → length ps ≤ i → carryOnAll (entriesOf (drop i ps)) (carriedIn c) ≡ carriedIn c
+  pair-end c h = rw (drop-of-length-le ps {i = i} h)
+
+-- what the counts carried on make of the table is what the definition says
+pub resumed-all : (t : Table) (ps : List (Entry ℕ)) → Valid t → resumedWith t (carryOnAll ps (some (t .carried))) ≡ resumeAttempts t ps
+unfolding resumeAttempts
+resumed-all t ps v =
+    let all : List (Entry ℕ) = carryAll ps (t .carried) in
+    ap (resumedWith t) (carried-within ps (t .carried) (v .carried-rising) (v .carried-few))
+    ∙ split (ltb CARRIED (length all)) (λ q. rw q) (λ q. rw q)

@@ -5,12 +5,11 @@ use native.Mathlib.Omega.{arith}
 use native.Mathlib.Numerals.{add-one}
 use mathlib.Core.Path.{_≡_, refl, sym, ap, _∙_}
 use mathlib.Core.List.{List, [], _∷_, _++_, map, append-nil}
-use lib.Dec.{leb}
-use lib.ListN.{length, take, drop, getD, set, length-set}
+use lib.ListN.{length, take, drop, getD, set, length-set, replicate, length-replicate}
 use lib.Seq.{take-suc-set, append-snoc}
 use borrow.Author.Tests.{le-leb, lt-leb}
-use Rattle.types.specs.Limits.{LEASES}
 use Rattle.types.specs.Keyed.{entry, entries}
+use Rattle.types.proofs.Loops.{rest-more}
 use Rattle.types.proofs.Columns.{drop-used, drop-unused, entries-map}
 use Rattle.lease.specs.State.{Sound, view, leasesOf}
 use Rattle.lease.specs.Counts.{attemptCounts}
@@ -38,15 +37,16 @@ counts-listed t ks ns i e p q =
 pub record Listing (t : LeaseTable) (now : ℕ) (offsets : List ℕ) (n i : ℕ) : Type 0 where
   pub inside : i ≤ t .len
   pub few : n ≤ i
-  pub full-list : length offsets ≡ LEASES
+  pub full-list : length offsets ≡ 128
   pub is : take n offsets ++ dueOffsets now (drop i (leasesOf t)) ≡ dueOffsets now (leasesOf t)
+  pub rest : drop n offsets ≡ drop n (replicate 128 0)
 
 module _ (t : LeaseTable) (full : Full t) (ok : Sound t) (now : ℕ) where
   head : (i : ℕ) → i < t .len → drop i (leasesOf t) ≡ entry (getD (t .offsets) i 0) (getD (t .leases) i nil) ∷ drop (i + 1) (leasesOf t)
   head = drop-used nil (t .len) (t .offsets) (t .leases) (omega (arith, full .offsets, ok .len)) (omega (arith, full .leases, ok .len))
 
-  pub listing : (offsets : List ℕ) → length offsets ≡ LEASES → Listing t now offsets 0 0
-  listing offsets h = record { inside = omega arith; few = omega arith; full-list = h; is = refl }
+  pub listing : Listing t now (replicate 128 0) 0 0
+  listing = record { inside = omega arith; few = omega arith; full-list = length-replicate {A = ℕ} 128 0; is = refl; rest = refl }
 
   module _ {offsets : List ℕ} {n i : ℕ} (inv : Listing t now offsets n i) (h : i < t .len) where
     pub listing-due : getD (t .leases) i nil .deadline ≤ now → Listing t now (set offsets n (getD (t .offsets) i 0)) (n + 1) (i + 1)
@@ -57,6 +57,7 @@ module _ (t : LeaseTable) (full : Full t) (ok : Sound t) (now : ℕ) where
           few = omega (arith, inv .few);
           full-list = length-set offsets n (getD (t .offsets) i 0) ∙ inv .full-list;
           is = rw (add-one n, take-suc-set offsets n (getD (t .offsets) i 0) k, append-snoc) (rw (head i h, le-leb _ _ d) at (inv .is));
+          rest = rest-more n offsets (replicate 128 0) (getD (t .offsets) i 0) (inv .rest);
         }
 
     pub listing-running : now < getD (t .leases) i nil .deadline → Listing t now offsets n (i + 1)
@@ -66,6 +67,7 @@ module _ (t : LeaseTable) (full : Full t) (ok : Sound t) (now : ℕ) where
           few = omega (arith, inv .few);
           full-list = inv .full-list;
           is = rw (head i h, lt-leb _ _ d) at (inv .is);
+          rest = inv .rest;
         }
 
   pub due-listed : {offsets : List ℕ} {n i : ℕ} → Listing t now offsets n i → t .len ≤ i → take n offsets ≡ dueOffsets now (leasesOf t)

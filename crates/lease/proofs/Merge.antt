@@ -8,12 +8,12 @@ use native.Mathlib.Numerals.{add-one}
 use mathlib.Core.Path.{_≡_, refl, sym, ap, _∙_}
 use mathlib.Core.List.{List, [], _∷_, _++_, append-nil}
 use mathlib.Core.Option.{none, some}
-use lib.Dec.{ltb, eqb}
-use lib.ListN.{length, take, drop, set, length-set, drop-of-length-le}
+use lib.ListN.{length, take, drop, set, length-set, drop-of-length-le, replicate, length-replicate}
 use lib.Seq.{length-take-le, take-suc-set, append-snoc}
 use borrow.Author.Tests.{lt-ltb, le-ltb, eq-eqb, ne-eqb}
 use Rattle.types.specs.Keyed.{Entry, entry, entries, lookup, Rising}
 use Rattle.types.proofs.Keyed.{rising-weaken, lookup-under, rising-mapValues}
+use Rattle.types.proofs.Loops.{rest-more}
 use Rattle.types.proofs.Columns.{entries-snoc}
 use Rattle.lease.specs.State.{Sound, view, leasesOf, carriedOf}
 use Rattle.lease.specs.Counts.{raise, raiseAll, attemptCounts, allAttemptCounts}
@@ -93,9 +93,21 @@ pub record Merging (k l : List (Entry ℕ)) (ks vs : List ℕ) (i j n : ℕ) : T
   pub full : length ks ≡ 192
   pub full-counts : length vs ≡ 192
   pub is : entries (take n ks) (take n vs) ++ merge (drop i k) (drop j l) ≡ merge k l
+  pub rest : drop n ks ≡ drop n (replicate 192 0)
+  pub rest-counts : drop n vs ≡ drop n (replicate 192 0)
 
-pub merging : (k l : List (Entry ℕ)) (ks vs : List ℕ) → length ks ≡ 192 → length vs ≡ 192 → Merging k l ks vs 0 0 0
-merging k l ks vs f g = record { left = omega arith; right = omega arith; few = omega arith; full = f; full-counts = g; is = refl }
+pub merging : (k l : List (Entry ℕ)) → Merging k l (replicate 192 0) (replicate 192 0) 0 0 0
+merging k l =
+    record {
+      left = omega arith;
+      right = omega arith;
+      few = omega arith;
+      full = length-replicate {A = ℕ} 192 0;
+      full-counts = length-replicate {A = ℕ} 192 0;
+      is = refl;
+      rest = refl;
+      rest-counts = refl;
+    }
 
 module _ {k l : List (Entry ℕ)} {ks vs : List ℕ} {i j n : ℕ} (inv : Merging k l ks vs i j n) where
   pub merging-more : i + j < length k + length l → length k + length l ≤ 192 → (r : Pick) → Picked k l i j r
@@ -113,6 +125,8 @@ module _ {k l : List (Entry ℕ)} {ks vs : List ℕ} {i j n : ℕ} (inv : Mergin
         is =
             rw (add-one n, take-suc-set ks n (r .offset) a, take-suc-set vs n (r .attempt) b, entries-snoc (r .offset) (r .attempt) (take n ks) (take n vs) even, append-snoc)
             (rw (p .is) at (inv .is));
+        rest = rest-more n ks (replicate 192 0) (r .offset) (inv .rest);
+        rest-counts = rest-more n vs (replicate 192 0) (r .attempt) (inv .rest-counts);
       }
 
   pub merged : length k + length l ≤ i + j → entries (take n ks) (take n vs) ≡ merge k l

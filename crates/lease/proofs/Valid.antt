@@ -1,23 +1,23 @@
 -- Every operation keeps what holds of a table: sorted, within its limits, one lease and one carried count for an offset,
 -- numbers of their types, no count of 0.
 -- Assumes nothing.
-use Prim.Native.Nat.{ℕ, suc, _+_, _≤_}
+use Prim.Native.Nat.{ℕ, _+_, _≤_}
 use native.Mathlib.Omega.{arith}
 use mathlib.Core.Path.{_≡_, refl}
 use mathlib.Core.Bool.{false, _&&_}
-use mathlib.Core.List.{List, [], _∷_}
+use mathlib.Core.List.{List}
 use mathlib.Core.Option.{Option, none, some}
-use lib.Dec.{ltb, leb, eqb}
-use lib.ListN.{length, getD}
-use borrow.Author.Tests.{ltb-false, leb-false, eqb-false}
+use lib.Dec.{leb, eqb}
+use lib.ListN.{length}
+use borrow.Author.Tests.{leb-false, eqb-false}
 use Rattle.types.specs.Limits.{MAX, MAX32, LEASES, CARRIED, sat32}
-use Rattle.types.specs.Keyed.{Entry, entries, lookup, put, update, delete, dropBelow, Rising, All, mapValues}
+use Rattle.types.specs.Keyed.{Entry, lookup, put, update, delete, Rising, All, mapValues}
 use Rattle.types.proofs.Cases.{split}
 use Rattle.types.proofs.Keyed.{rising-put, length-put, length-put-old, all-put, rising-delete, length-delete, all-delete, rising-update, length-update, all-update, rising-dropBelow, length-dropBelow, all-dropBelow, rising-mapValues, length-mapValues, all-mapValues}
 use Rattle.lease.specs.State.{Table, withLeases, withCarried, startingAt, Counted, Valid}
 use Rattle.lease.specs.Operations.{leaseOf, isNone, handedOut, nextCount, consumed, grant, lease, requeue, requeuedAs, deadlineFrom}
 use Rattle.lease.specs.Rest.{attemptsFlushed, releaseBelow, shiftedBy, shiftDeadlines}
-use Rattle.lease.specs.Counts.{carry, carryAll}
+use Rattle.lease.specs.Counts.{carry}
 use Rattle.lease.specs.declared.LeaseConfig.{LeaseConfig}
 use Rattle.lease.specs.declared.Lease.{Lease}
 
@@ -143,34 +143,8 @@ valid-grant t o now h n f v =
 pub carry-rising : (o n : ℕ) (c : List (Entry ℕ)) → Rising 0 c → Rising 0 (carry o n c)
 carry-rising o n c r = split (eqb n 0) (λ q. rw q r) (λ q. rw q (rising-put 0 o n c (omega arith) r))
 
-carry-counted : (o n : ℕ) (c : List (Entry ℕ)) → o ≤ MAX → n ≤ MAX32 → All Counted c → All Counted (carry o n c)
+pub carry-counted : (o n : ℕ) (c : List (Entry ℕ)) → o ≤ MAX → n ≤ MAX32 → All Counted c → All Counted (carry o n c)
 carry-counted o n c h m a =
     split (eqb n 0)
     (λ q. rw q a)
     (λ q. rw q (all-put Counted o n c (record { offset-fits = h; once = omega (arith, eqb-false n 0 q); count-fits = m }) a))
-
--- an offset and a count of their types
-abbrev pub Fits : ℕ → ℕ → Type 0
-Fits o n = (o ≤ MAX) × (n ≤ MAX32)
-
-carry-all-rising : (ps c : List (Entry ℕ)) → Rising 0 c → Rising 0 (carryAll ps c)
-carry-all-rising [] c r = r
-carry-all-rising (p ∷ ps) c r = carry-all-rising ps (carry (p .key) (p .value) c) (carry-rising (p .key) (p .value) c r)
-
-carry-all-counted : (ps c : List (Entry ℕ)) → All Fits ps → All Counted c → All Counted (carryAll ps c)
-carry-all-counted [] c f a = a
-carry-all-counted (p ∷ ps) c f a = carry-all-counted ps (carry (p .key) (p .value) c) (f .1) (carry-counted (p .key) (p .value) c (f .0 .0) (f .0 .1) a)
-
-pub valid-resume : (t : Table) (ps : List (Entry ℕ)) → All Fits ps → ltb CARRIED (length (carryAll ps (t .carried))) ≡ false → Valid t
-    → Valid (withCarried t (carryAll ps (t .carried)))
-valid-resume t ps f n v =
-    valid-carried t (carryAll ps (t .carried)) v
-    (carry-all-rising ps (t .carried) (v .carried-rising))
-    (omega (arith, ltb-false CARRIED (length (carryAll ps (t .carried))) n))
-    (carry-all-counted ps (t .carried) f (v .carried-counted))
-
--- the numbers of two columns are of their types
-pub all-fit : (ks vs : List ℕ) → ((i : ℕ) → getD ks i 0 ≤ MAX) → ((i : ℕ) → getD vs i 0 ≤ MAX32) → All Fits (entries ks vs)
-all-fit [] vs h g = tt
-all-fit (k ∷ ks) [] h g = tt
-all-fit (k ∷ ks) (v ∷ vs) h g = ((h 0, g 0), all-fit ks vs (λ i. h (suc i)) (λ i. g (suc i)))

@@ -1,15 +1,12 @@
 -- What the answers of lease.rs mean: each enum of the code as an outcome or one of 01's refusals, case by case, and the
 -- records that the contracts state.
-use Prim.Native.Nat.{ℕ, _≤_}
+use Prim.Native.Nat.{ℕ}
 use mathlib.Core.Path.{_≡_}
 use mathlib.Core.Bool.{Bool, false}
-use mathlib.Core.List.{List}
 use mathlib.Core.Option.{Option, none, some}
-use lib.ListN.{take}
 use Rattle.types.specs.Refusal.{Result, refused, done}
 use Rattle.types.specs.Refusal as refusal
 use Rattle.types.specs.Table.{Answer, answer, Kept}
-use Rattle.types.specs.Keyed.{Entry, entries}
 use Rattle.lease.specs.State.{Table, view, Sound}
 use Rattle.lease.specs.Operations.{Grant, grantOf}
 use Rattle.lease.specs.declared.LeaseTable.{LeaseTable}
@@ -23,9 +20,6 @@ use Rattle.lease.specs.declared.NackOutcome.{NackOutcome}
 use Rattle.lease.specs.declared.NackOutcome.the-variants as nack
 use Rattle.lease.specs.declared.ResumeOutcome.{ResumeOutcome}
 use Rattle.lease.specs.declared.ResumeOutcome.the-variants as resume
-use Rattle.lease.specs.declared.Listed.{Listed}
-use Rattle.lease.specs.declared.Listed.the-variants as listed
-use Rattle.lease.specs.declared.AttemptCounts.{AttemptCounts}
 use Rattle.lease.specs.declared.Attempts.{Attempts}
 use Rattle.lease.specs.declared.Attempts.the-variants as attempts
 
@@ -54,10 +48,6 @@ abbrev pub resumeOf : ResumeOutcome → Result (Unit {0})
 resumeOf resume.Resumed = done tt
 resumeOf resume.TooManyPairs = refused refusal.TooManyPairs
 
-abbrev pub listedOf : Listed → Result ℕ
-listedOf (listed.Filled n) = done n
-listedOf listed.OutTooShort = refused refusal.OutTooShort
-
 abbrev pub attemptsOf : Attempts → Option ℕ
 attemptsOf (attempts.Some n) = some n
 attemptsOf attempts.None = none
@@ -79,8 +69,3 @@ pub record Tries (changed : Bool) (before after : LeaseTable) (right : Answer Bo
 pub record Becomes (after : LeaseTable) (right : Table) : Type 0 where
   pub is : view after ≡ right
   pub sound : Sound after
-
--- a list of counts in the first places of two arrays
-pub record Lists (r : AttemptCounts) (right : List (Entry ℕ)) : Type 0 where
-  pub len : r .len ≤ 192
-  pub is : entries (take (r .len) (r .offsets)) (take (r .len) (r .attempts)) ≡ right

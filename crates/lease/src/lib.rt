@@ -3,29 +3,26 @@
 // generation, so that whoever held the message before is fenced off. The caller brings the time, in nanoseconds of any
 // clock: it may stand still or run backwards.
 ghost use mathlib.Core.Path.{_≡_};
-ghost use Prim.Native.Nat.{_≤_, _<_, min};
+ghost use Prim.Native.Nat.{_≤_, _<_};
 ghost use lib.ListN.{take, getD};
 ghost use Rattle.types.specs.Limits.{MAX, LEASES, sat64, sat32};
 ghost use Rattle.types.specs.Refusal.{done};
-ghost use Rattle.types.specs.Table.{answer};
-ghost use Rattle.types.specs.Keyed.{entries};
-ghost use Rattle.types.specs.Lists.{listed};
 ghost use Rattle.lease.specs.Config.{nanos, fromMillis, defaultConfig};
 ghost use Rattle.lease.specs.State.{Sound, view, startingAt};
-ghost use Rattle.lease.specs.Operations.{lease, grantOf, claim, ack, extend, nack, capFrom, deadlineFrom, afterGrant, afterFlush};
-ghost use Rattle.lease.specs.Counts.{resumeAttempts, attemptCounts, allAttemptCounts};
-ghost use Rattle.lease.specs.Rest.{attemptsFlushed, releaseBelow, resealFromTo, deferRedelivery, shiftedBy, shiftDeadlines, inFlight, isClaimable, deliveries, holdsActive, pendingRedeliveryAttempt, expired};
-ghost use Rattle.lease.specs.Answers.{claimOf, ackOf, extendOf, nackOf, resumeOf, listedOf, attemptsOf, Answers, Tries, Becomes, Lists};
-ghost use Rattle.lease.specs.Helpers.{Placed, Shorter, Offsets};
+ghost use Rattle.lease.specs.Operations.{lease, grantOf, claim, ack, extend, nack, capFrom, deadlineFrom};
+ghost use Rattle.lease.specs.Rest.{attemptsFlushed, releaseBelow, resealFromTo, deferRedelivery, shiftedBy, shiftDeadlines, inFlight, isClaimable, deliveries, holdsActive, pendingRedeliveryAttempt};
+ghost use Rattle.lease.specs.Answers.{claimOf, ackOf, extendOf, nackOf, attemptsOf, Answers, Tries, Becomes};
+ghost use Rattle.lease.specs.Helpers.{Placed, Shorter};
 ghost use Rattle.lease.specs.declared.columns.Place.the-variants.{Missing};
-use columns::CarryOutcome;
 use columns::Place;
 use lookup::LeaseAt;
 use types::Generation;
 use types::Offset;
 
 mod columns;
+mod lent;
 pub mod lookup;
+pub mod redeliveries;
 
 // How long a hand-out lasts, in nanoseconds. A hard cap below the visibility shortens every lease to the cap; where one
 // of the two is 0, a lease runs out the moment it is granted.
@@ -159,12 +156,6 @@ pub enum ResumeOutcome {
     TooManyPairs,
 }
 
-// What a list into lent memory answers: how many places were filled, or refusal 20.
-pub enum Listed {
-    Filled(usize),
-    OutTooShort,
-}
-
 // An attempt count, where there is one.
 pub enum Attempts {
     Some(u32),
@@ -187,21 +178,6 @@ pub struct LeaseTable {
     pub next_generation: Generation,
     // Grants with a count of 2 or more since the counts were last made durable.
     pub redeliveries_since_flush: u32,
-}
-
-// Attempt counts by offset, rising: the offsets in one array, their counts at the same places of the other, of which the
-// first `len` are in use. A table has at most 192.
-#[repr(C)]
-pub struct AttemptCounts {
-    pub offsets: [u64; 192],
-    pub attempts: [u32; 192],
-    pub len: usize,
-}
-
-// The offsets of leases that have run out, rising, in the first `len` places.
-struct DueOffsets {
-    offsets: [u64; 64],
-    len: usize,
 }
 
 pub struct Claimed {
@@ -278,100 +254,8 @@ impl LeaseTable {
         requires { ⌜ Sound self ⌝ }
         ensures { λ r. ⌜ Becomes r (attemptsFlushed (view self)) ⌝ }
     {
-        self.redeliveries_since_flush = after_flush(self.redeliveries_since_flush);
+        self.redeliveries_since_flush = redeliveries::after_flush(self.redeliveries_since_flush);
         self
-    }
-
-    // Carries attempt counts over from before a restart, pairs of an offset and a count at the same places of the two columns:
-    // the next claim of an offset goes on from its count. Where one column is longer, its rest is no pair. A count of 0 says
-    // nothing, and of two counts for an offset the last stays.
-    pub fn resume_attempts<'a>(self, offsets: &'a [u64], attempts: &'a [u32]) -> Resumed
-        requires { ⌜ Sound self ⌝ }
-        ensures { λ r. ⌜ Answers (resumeOf (r .outcome)) self (r .table) (resumeAttempts (view self) (entries (now (offsets .entry)) (now (attempts .entry)))) ⌝ }
-    {
-        let len = shorter(offsets.len(), attempts.len());
-        let mut keys = self.carried_offsets;
-        let mut counts = self.carried_counts;
-        let mut n = self.carried_len;
-        let mut i: usize = 0;
-        while i < len {
-            let carried = columns::carry(&mut keys, &mut counts, n, offsets[i], attempts[i]);
-            let CarryOutcome::Kept(m) = carried else {
-                return Resumed {
-                    outcome: ResumeOutcome::TooManyPairs,
-                    table: self,
-                };
-            };
-            n = m;
-            i += 1;
-        }
-        let mut table = self;
-        table.carried_offsets = keys;
-        table.carried_counts = counts;
-        table.carried_len = n;
-        Resumed {
-            outcome: ResumeOutcome::Resumed,
-            table: table,
-        }
-    }
-
-    // How often each message in flight was handed out.
-    pub fn attempt_counts(self) -> AttemptCounts
-        requires { ⌜ Sound self ⌝ }
-        ensures { λ r. ⌜ Lists r (attemptCounts (view self)) ⌝ }
-    {
-        let len = self.len;
-        let mut offsets = [0u64; 192];
-        let mut attempts = [0u32; 192];
-        let mut i: usize = 0;
-        while i < len {
-            offsets[i] = self.offsets[i];
-            attempts[i] = self.leases[i].deliveries;
-            i += 1;
-        }
-        AttemptCounts {
-            offsets: offsets,
-            attempts: attempts,
-            len: len,
-        }
-    }
-
-    // The counts of all messages that were handed out and are not done: those in flight and the carried ones, the larger count
-    // where an offset has both.
-    pub fn all_attempt_counts(self) -> AttemptCounts
-        requires { ⌜ Sound self ⌝ }
-        ensures { λ r. ⌜ Lists r (allAttemptCounts (view self)) ⌝ }
-    {
-        let leased = self.attempt_counts();
-        let len = leased.len;
-        let n = self.carried_len;
-        let mut offsets = [0u64; 192];
-        let mut attempts = [0u32; 192];
-        let mut i: usize = 0;
-        let mut j: usize = 0;
-        let mut k: usize = 0;
-        while i + j < len + n {
-            let next = columns::pick_next(
-                &leased.offsets,
-                &leased.attempts,
-                len,
-                i,
-                &self.carried_offsets,
-                &self.carried_counts,
-                n,
-                j,
-            );
-            offsets[k] = next.offset;
-            attempts[k] = next.attempt;
-            i += next.left;
-            j += next.right;
-            k += 1;
-        }
-        AttemptCounts {
-            offsets: offsets,
-            attempts: attempts,
-            len: k,
-        }
     }
 
     // How many messages are in flight, their leases run out or not.
@@ -471,7 +355,10 @@ impl LeaseTable {
         self.leases[i] = held;
         self.len = len + 1;
         self.next_generation.0 = generation.0 + 1;
-        self.redeliveries_since_flush = after_grant(self.redeliveries_since_flush, deliveries);
+        self.redeliveries_since_flush = redeliveries::after_grant(
+            self.redeliveries_since_flush,
+            deliveries,
+        );
         Claimed {
             outcome: granted(offset, generation, deliveries),
             table: self,
@@ -500,7 +387,10 @@ impl LeaseTable {
         let deliveries = saturating_next(prior.deliveries);
         self.leases[at] = self.config.lease(generation, now, deliveries);
         self.next_generation.0 = generation.0 + 1;
-        self.redeliveries_since_flush = after_grant(self.redeliveries_since_flush, deliveries);
+        self.redeliveries_since_flush = redeliveries::after_grant(
+            self.redeliveries_since_flush,
+            deliveries,
+        );
         Claimed {
             outcome: granted(offset, generation, deliveries),
             table: self,
@@ -744,47 +634,6 @@ impl LeaseTable {
         }
         self
     }
-
-    // The offsets whose leases have run out, into a lent list: a claim of one would hand it out again.
-    pub fn expired(self, now: u64, out: &mut [u64]) -> Listed
-        requires { ⌜ Sound self ⌝ }
-        ensures { λ r. ⌜ answer (listedOf r) (out .exit .now) ≡ listed (expired (view self) now) (out .entry .now) ⌝ }
-    {
-        let due = self.due(now);
-        let n = due.len;
-        if out.len() < n {
-            return Listed::OutTooShort;
-        }
-        let mut i: usize = 0;
-        while i < n {
-            out[i] = due.offsets[i];
-            i += 1;
-        }
-        Listed::Filled(n)
-    }
-
-    // The same, in an array.
-    fn due(self, now: u64) -> DueOffsets
-        requires { ⌜ Sound self ⌝ }
-        ensures { λ r. ⌜ Offsets r (expired (view self) now) ⌝ }
-    {
-        let len = self.len;
-        let mut offsets = [0u64; 64];
-        let mut n: usize = 0;
-        let mut i: usize = 0;
-        while i < len {
-            let at = i;
-            i += 1;
-            if self.leases[at].deadline <= now {
-                offsets[n] = self.offsets[at];
-                n += 1;
-            }
-        }
-        DueOffsets {
-            offsets: offsets,
-            len: n,
-        }
-    }
 }
 
 // What a claim that is granted answers.
@@ -799,23 +648,6 @@ fn granted(offset: Offset, generation: Generation, deliveries: u32) -> Claim
         token: token,
         deliveries: deliveries,
     }
-}
-
-// The counter of redeliveries after a grant with this count.
-fn after_grant(counter: u32, deliveries: u32) -> u32
-    ensures { λ r. ⌜ r ≡ afterGrant counter deliveries ⌝ }
-{
-    if 2 <= deliveries {
-        return saturating_next(counter);
-    }
-    counter
-}
-
-// The counter once the attempt counts are durable.
-fn after_flush(counter: u32) -> u32
-    ensures { λ r. ⌜ r ≡ afterFlush counter ⌝ }
-{
-    0
 }
 
 // Milliseconds in nanoseconds, at most the largest number.
@@ -838,13 +670,6 @@ fn saturating_add(a: u64, b: u64) -> u64
     } else {
         18446744073709551615
     }
-}
-
-// The shorter of two lengths.
-fn shorter(a: usize, b: usize) -> usize
-    ensures { λ r. ⌜ r ≡ min a b ⌝ }
-{
-    if a < b { a } else { b }
 }
 
 // One more, at most the largest number.

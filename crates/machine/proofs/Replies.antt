@@ -11,9 +11,9 @@ use Rattle.types.specs.Table.{_⇒_, Answer, answer, checked}
 use Rattle.types.specs.Lists.{listed}
 use Rattle.types.proofs.Cases.{split}
 use Rattle.types.proofs.Checked.{refused-not-done, done-inj}
-use Rattle.lease.specs.Answers.{listedOf}
-use Rattle.lease.specs.declared.Listed.{Listed}
-use Rattle.lease.specs.declared.Listed.the-variants as lists
+use Rattle.types.specs.Lists.{listedOf}
+use Rattle.types.specs.declared.lent.Listed.{Listed}
+use Rattle.types.specs.declared.lent.Listed.the-variants as lists
 use Rattle.consumer.specs.Questions.{Question, Waiting, waitingAt, reply}
 use Rattle.consumer.specs.View.{view, Sound}
 use Rattle.consumer.specs.declared.Consumer.{Consumer}

@@ -9,8 +9,8 @@ use Rattle.types.specs.Refusal as refusal
 use Rattle.types.specs.Table.{Kept}
 use Rattle.delivery.specs.Config.{delayOf}
 use Rattle.lease.specs.Lookup.{leaseAt}
-use Rattle.lease.specs.declared.Listed.{Listed}
-use Rattle.lease.specs.declared.Listed.the-variants as listed
+use Rattle.types.specs.declared.lent.Listed.{Listed}
+use Rattle.types.specs.declared.lent.Listed.the-variants as listed
 use Rattle.consumer.specs.Questions.{Question, Waiting, Committed, IsSettled, LeaseOf, CountOf, InFlight, IsDue, BlocksLeft, bit, leaseValues}
 use Rattle.consumer.specs.View.{claimOf, settleOf, nackOf, progressOf, commitOf, Unmoved}
 use Rattle.consumer.specs.declared.checkpoint.BeginAnswer.{BeginAnswer}

@@ -101,7 +101,7 @@ fn reply(consumer: Consumer, question: Question, out: &mut [u64]) -> Reply
     ensures { λ r. ⌜ LookedIs consumer (questionOf (length (now (out .entry))) question) (now (out .entry)) r (now (out .exit)) ⌝ }
 {
     match question {
-        Question::Waiting { now } => Reply::Waiting(consumer.waiting(now, out)),
+        Question::Waiting { now } => Reply::Waiting(consumer.waiting_numbers(now, out)),
         Question::Committed => Reply::Committed(consumer.committed()),
         Question::IsSettled(offset) => Reply::IsSettled(consumer.is_settled(offset)),
         Question::LeaseOf(offset) => Reply::LeaseOf(consumer.lease_of(offset)),

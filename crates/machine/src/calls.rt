@@ -11,9 +11,9 @@ use consumer::queries::Due;
 use consumer::starts::StartAnswer;
 use delivery::Delay;
 use lease::LeaseToken;
-use lease::Listed;
 use lease::lookup::LeaseAt;
 use types::Offset;
+use types::lent::Listed;
 
 // What is asked of a consumer without changing it.
 pub enum Question {

@@ -11,3 +11,5 @@ pub mod Checked
 pub mod Entries
 pub mod Lists
 pub mod Loops
+pub mod Listing
+pub mod Walk

@@ -104,6 +104,10 @@ pub filled-more : {A : Type 0} (d : A) (list out : List A) (i : ℕ) → i < len
     → take (i + 1) (set out i (getD list i d)) ≡ take (i + 1) list
 filled-more d list out i h k e = rw (add-one, take-suc-set out i (getD list i d) k, take-suc list i d h, e)
 
+-- the places from i on are as they were; one less
+pub rest-more : {A : Type 0} (i : ℕ) (out start : List A) (a : A) → drop i out ≡ drop i start → drop (i + 1) (set out i a) ≡ drop (i + 1) start
+rest-more i out start a e = let h : i < i + 1 = omega arith in rw (drop-set-lt (i + 1) out i a h, ← drop-drop 1 i out, ← drop-drop 1 i start, e)
+
 -- lent places filled from a list: the first i are done, the others as they were
 pub record Filling {A : Type 0} (list start out : List A) (n i : ℕ) : Type 0 where
   pub inside : i ≤ n
@@ -118,11 +122,10 @@ filling list out n h = record { inside = omega arith; room = h; full = refl; don
 pub filling-more : {A : Type 0} (d : A) {list start out : List A} {n i : ℕ} → n ≤ length list → i < n → Filling list start out n i
     → Filling list start (set out i (getD list i d)) n (i + 1)
 filling-more d {list} {start} {out} {n} {i} h k inv =
-    let hs : i < i + 1 = omega arith in
     record {
       inside = omega arith;
       room = inv .room;
       full = length-set out i (getD list i d) ∙ inv .full;
       done = filled-more d list out i (omega arith) (omega (arith, inv .room, inv .full)) (inv .done);
-      rest = rw (drop-set-lt (i + 1) out i (getD list i d) hs, ← drop-drop 1 i out, ← drop-drop 1 i start, inv .rest);
+      rest = rest-more i out start (getD list i d) (inv .rest);
     }

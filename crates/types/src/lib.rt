@@ -1,6 +1,9 @@
-// The identifiers that the log and the lease table hand out, each a type of its own so that none is taken for another.
+// The identifiers that the log and the lease table hand out, each a type of its own so that none is taken for another, and an
+// offset with its attempt count.
 ghost use mathlib.Core.Path.{_≡_};
 ghost use Rattle.types.specs.Identifiers.{offset, checkedNext, nextOf};
+
+pub mod lent;
 
 // A position in the log: it names a message.
 #[repr(C)]
@@ -9,6 +12,13 @@ pub struct Offset(pub u64);
 // Names one hand-out of a message.
 #[repr(C)]
 pub struct Generation(pub u64);
+
+// An offset with its attempt count.
+#[repr(C)]
+pub struct Pair {
+    pub offset: u64,
+    pub attempt: u32,
+}
 
 // The offset behind another one, if there is one.
 pub enum NextOffset {

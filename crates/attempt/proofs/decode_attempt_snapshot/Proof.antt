@@ -39,11 +39,12 @@ use denote.Triple.Table.{entered, cited}
 use denote.Triple.Walked.{says, Stays, stay-dropped, gave-slice, walkOf, AllGo, goes-dropped, goes-gave-slice, Walks, ends-at, walked, walk-meets}
 use denote.Exit.{yes}
 use Rattle.types.specs.Table.{answer}
-use Rattle.attempt.specs.declared.Pair.{Pair}
+use Rattle.types.specs.declared.Pair.{Pair}
+use Rattle.types.specs.Lists.{entryOf, entriesOf, counted}
 use Rattle.attempt.specs.declared.Decode.{Decode}
 use Rattle.attempt.specs.Snapshot.{readPairs, decodeInto}
-use Rattle.attempt.specs.Codec.{entryOf, entriesOf, decodeOf, counted, RoomIs}
-use Rattle.attempt.proofs.Pair as T
+use Rattle.attempt.specs.Codec.{decodeOf, RoomIs}
+use Rattle.types.proofs.Pair as T
 use Rattle.attempt.proofs.Decode as E
 use Rattle.attempt.proofs.Decode.Laws as E′
 use Rattle.attempt.proofs.check_room as check-room

@@ -42,16 +42,17 @@ use denote.Triple.Table.{entered, cited}
 use denote.Triple.Walked.{says, Stays, stay-dropped, gave-slice, walkOf, AllGo, goes-dropped, goes-gave-slice, Walks, ends-at, walked, walk-meets}
 use denote.Exit.{yes}
 use Rattle.types.specs.Table.{answer}
-use Rattle.attempt.specs.declared.Pair.{Pair}
+use Rattle.types.specs.declared.Pair.{Pair}
+use Rattle.types.specs.Lists.{entriesOf}
 use Rattle.attempt.specs.declared.Encode.{Encode}
 use Rattle.attempt.specs.Snapshot.{encodeInto}
-use Rattle.attempt.specs.Codec.{entriesOf, encodeOf, encodeFirst}
-use Rattle.attempt.proofs.Pair as T
-use Rattle.attempt.proofs.Pair.Laws as T′
+use Rattle.attempt.specs.Codec.{encodeOf, encodeFirst}
+use Rattle.types.proofs.Pair as T
+use Rattle.types.proofs.Pair.Laws as T′
 use Rattle.attempt.proofs.Encode as E
 use Rattle.attempt.proofs.Encode.Laws as E′
 use Rattle.attempt.proofs.Writing.{lent-encoded}
-use Rattle.attempt.proofs.Walk.{vals}
+use Rattle.types.proofs.Walk.{array-val}
 use Rattle.attempt.proofs.at_most_128 as at-most
 use Rattle.attempt.proofs.at_most_128.Symbol as at-most-def
 use Rattle.attempt.proofs.at_most_128.Symbol.{name as #at-most}
@@ -71,6 +72,10 @@ use Rattle.attempt.proofs.encode_attempt_snapshot.Code as code
 
 abbrev R : RattleType
 R = T.the-row
+
+-- the machine value of an array of pairs
+abbrev vals : List Pair → List Val
+vals ps = array-val R (LL.vals T.the-type T′.the-laws) ps ∷ []
 
 abbrev D : RattleType
 D = E.the-row

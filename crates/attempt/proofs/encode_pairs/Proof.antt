@@ -4,8 +4,8 @@ use native.Mathlib.Omega.{arith}
 use mathlib.Core.Path.{_≡_}
 use lib.ListN.{length, take}
 use borrow.Author.Needs.{needs}
+use Rattle.types.specs.Lists.{entriesOf}
 use Rattle.types.proofs.Scan.{length-mapped}
-use Rattle.attempt.specs.Codec.{entriesOf}
 use Rattle.attempt.proofs.Writing.{count-entries, too-many, too-short, encoded}
 use Rattle.attempt.proofs.encode_pairs.Statement.{statement}
 use Rattle.attempt.proofs.encode_pairs.Tie as tie

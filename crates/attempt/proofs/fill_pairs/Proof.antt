@@ -38,7 +38,7 @@ use denote.Builtin.{u8, usize}
 use denote.Ref.{RefT}
 use denote.Slice.{sliceTy, sliceVal, ShrSlice, MutSlice, Room, at-slice, slice-vals, shr-slice-tells, mut-slice-tells, shr-slice-copy}
 use denote.Signature.{plain, shrSlice}
-use denote.Index.{opens-slice, elem-out, elem-put, closes-slice}
+use denote.Index.{place-is, opens-slice, elem-out, elem-put, closes-slice}
 use denote.Steps.{only, owned, peeks, heard, nothing}
 use denote.Struct.Laws as LL
 use denote.Triple.Statement.{Contract, Triple}
@@ -49,13 +49,14 @@ use denote.Triple.Spec.{Meets, tripleOf}
 use denote.Triple.Table.{entered, cited}
 use denote.Triple.Walked.{says, needs, Stays, stay-dropped, stay-slice, walkOf, AllGo, goes-dropped, goes-slice, Walks, ends-at, walked, walk-meets}
 use denote.Exit.{yes}
-use Rattle.attempt.specs.declared.Pair.{Pair}
+use Rattle.types.specs.declared.Pair.{Pair}
+use Rattle.types.specs.Lists.{entryOf, entriesOf}
 use Rattle.attempt.specs.Snapshot.{readPair, readPairs}
-use Rattle.attempt.specs.Codec.{entryOf, entriesOf, nil}
-use Rattle.attempt.proofs.Pair as T
-use Rattle.attempt.proofs.Pair.Laws as T′
+use Rattle.attempt.specs.Codec.{nil}
+use Rattle.types.proofs.Pair as T
+use Rattle.types.proofs.Pair.Laws as T′
 use Rattle.attempt.proofs.Reading.{get-more, get-end}
-use Rattle.attempt.proofs.Walk.{tests, place-pair}
+use Rattle.types.proofs.Walk.{tests}
 use Rattle.attempt.proofs.get_pair as get-pair
 use Rattle.attempt.proofs.get_pair.Symbol as get-pair-def
 use Rattle.attempt.proofs.get_pair.Symbol.{name as #get-pair}
@@ -195,7 +196,7 @@ module _ {M : Type 1} (𝓤 : URA M) (H : Heap 𝓤) (A : Atoms 𝓤) (W : Given
         -- [the token of bytes; true; what bytes owns; _9; …; _0; …; the token of pairs; what pairs owns]
         assigns ! (bin ! (load ! (from ! (stop !)) (look ! 11 refl)) (lit ! tt) (record { fits = times-fits less })) (from ! (stop !)) (init ! 5 refl (tt, record { fits = times-fits less })) $
         assigns ! (bin ! (load ! (from ! (fld ! refl (stop !))) (look-in ! 17 (sub ! 0 refl (whole !)))) (load ! (from ! (stop !)) (look ! 5 refl)) tt) (from ! (stop !)) (init ! 3 refl (tt, tt)) $
-        rewrite ! 3 (λ (k : ℕ). ‵ (fat fullShare tyPtr l₉ 0 (vptr b′ k))) (sym (place-pair o′ i)) refl $
+        rewrite ! 3 (λ (k : ℕ). ‵ (fat fullShare tyPtr l₉ 0 (vptr b′ k))) (sym (place-is 16 o′ i)) refl $
         -- the borrow of the pairs is opened, and the pair is stored
         move ! (24 ∷ 23 ∷ []) $ fsplit ! $ drop ! $ fsplit ! $
         opens-slice ! tt R zs b′ o′ $ elem-out ! R (Is R) (shows 𝓤 H A R) (LL.vals T.the-type T′.the-laws) (LL.tells T.the-type T′.the-laws) fullShare zs i nil b′ o′ (inside less) (λ _.

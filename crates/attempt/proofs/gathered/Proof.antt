@@ -38,7 +38,7 @@ use denote.Builtin.{usize}
 use denote.Ref.{RefT}
 use denote.Slice.{sliceTy, sliceVal, ShrSlice, Room, slice-vals, shr-slice-tells}
 use denote.Signature.{plain, shrSlice}
-use denote.Index.{row, looks-slice, elem-out, elem-back, elem-put, shuts-slice}
+use denote.Index.{row, place-is, looks-slice, elem-out, elem-back, elem-put, shuts-slice}
 use denote.Steps.{only, owned, peeks, nothing}
 use denote.Struct.Laws as LL
 use denote.Triple.Statement.{Contract, Triple}
@@ -49,11 +49,11 @@ use denote.Triple.Spec.{Meets, tripleOf}
 use denote.Triple.Table.{entered, cited}
 use denote.Triple.Walked.{says, needs, Stays, stay-dropped, walkOf, AllGo, goes-dropped, Walks, ends-at, walked, walk-meets}
 use denote.Exit.{yes}
-use Rattle.attempt.specs.declared.Pair.{Pair}
+use Rattle.types.specs.declared.Pair.{Pair}
 use Rattle.attempt.specs.Codec.{nil}
-use Rattle.attempt.proofs.Pair as T
-use Rattle.attempt.proofs.Pair.Laws as T′
-use Rattle.attempt.proofs.Walk.{tests, place-pair, vals, val, array-in, array-out}
+use Rattle.types.proofs.Pair as T
+use Rattle.types.proofs.Pair.Laws as T′
+use Rattle.types.proofs.Walk.{tests, array-val, array-in, array-out}
 use Rattle.attempt.proofs.no_pairs as no-pairs
 use Rattle.attempt.proofs.no_pairs.Symbol as no-pairs-def
 use Rattle.attempt.proofs.no_pairs.Symbol.{name as #no-pairs}
@@ -66,6 +66,16 @@ use Rattle.attempt.proofs.gathered.Code.Mir as piece
 
 abbrev R : RattleType
 R = T.the-row
+
+-- the machine value of a pair, and of an array of pairs
+abbrev spell : Pair → List Val
+spell = LL.vals T.the-type T′.the-laws
+
+abbrev val : List Pair → Val
+val = array-val R spell
+
+abbrev vals : List Pair → List Val
+vals ps = val ps ∷ []
 
 abbrev Arg : Type 0
 Arg = RefT (List Pair) × (ℕ × Unit {0})
@@ -175,7 +185,7 @@ module _ {M : Type 1} (𝓤 : URA M) (H : Heap 𝓤) (A : Atoms 𝓤) (W : Given
         -- element i is copied
         assigns ! (bin ! (load ! (from ! (stop !)) (look ! 16 refl)) (lit ! tt) (record { fits = times-fits less })) (from ! (stop !)) (init ! 10 refl (tt, record { fits = times-fits less })) $
         assigns ! (bin ! (load ! (from ! (fld ! refl (stop !))) (look-in ! 22 (sub ! 0 refl (whole !)))) (load ! (from ! (stop !)) (look ! 10 refl)) tt) (from ! (stop !)) (init ! 8 refl (tt, tt)) $
-        rewrite ! 8 (λ (k : ℕ). ‵ (fat fullShare tyPtr l₈ 0 (vptr b k))) (sym (place-pair o i)) refl $
+        rewrite ! 8 (λ (k : ℕ). ‵ (fat fullShare tyPtr l₈ 0 (vptr b k))) (sym (place-is 16 o i)) refl $
         move ! (27 ∷ 26 ∷ []) $ fsplit ! $ move ! (1 ∷ []) $ fsplit ! $ move ! (1 ∷ 3 ∷ []) $
         looks-slice ! tt R (Is R) (shows 𝓤 H A R) (LL.vals T.the-type T′.the-laws) (LL.tells T.the-type T′.the-laws) (LL.copy T.the-type T′.the-copy 𝓤 H A W) ps b o (λ q″.
         elem-out ! R (Is R) (shows 𝓤 H A R) (LL.vals T.the-type T′.the-laws) (LL.tells T.the-type T′.the-laws) q″ ps i nil b o (in-slice less) (λ is.
@@ -187,7 +197,7 @@ module _ {M : Type 1} (𝓤 : URA M) (H : Heap 𝓤) (A : Atoms 𝓤) (W : Given
         assigns ! (bin ! (load ! (from ! (stop !)) (look ! 18 refl)) (lit ! tt) (record { fits = times-fits less })) (from ! (stop !)) (init ! 6 refl (tt, record { fits = times-fits less })) $
         assigns ! (addr ! (from ! (stop !))) (from ! (stop !)) (init ! 4 refl (tt, tt)) $
         assigns ! (bin ! (load ! (from ! (stop !)) (look ! 4 refl)) (load ! (from ! (stop !)) (look ! 6 refl)) tt) (from ! (stop !)) (init ! 2 refl (tt, tt)) $
-        rewrite ! 2 (λ (k : ℕ). ‵ (fat fullShare tyPtr l₁₂ 0 (vptr l₃ k))) (sym (place-pair 0 i)) refl $
+        rewrite ! 2 (λ (k : ℕ). ‵ (fat fullShare tyPtr l₁₂ 0 (vptr l₃ k))) (sym (place-is 16 0 i)) refl $
         move ! (20 ∷ []) $ elem-out ! R (Is R) (shows 𝓤 H A R) (LL.vals T.the-type T′.the-laws) (LL.tells T.the-type T′.the-laws) fullShare zs i nil l₃ 0 (in-array less) (λ _.
         -- [first[i]; what it owns; the others; what pairs owns; its token; _12; …; _4; …; (_3) …; _2; …; _0; …]
         assigns ! (of-opd ! (load ! (from ! (stop !)) (look ! 11 refl))) (from ! (hop ! (look ! 5 refl) (stop !))) (store-raw ! 0 refl (LL.lawful T.the-type T′.the-laws 𝓤 H A W .typed p _ is .0)) $
@@ -198,7 +208,7 @@ module _ {M : Type 1} (𝓤 : URA M) (H : Heap 𝓤) (A : Atoms 𝓤) (W : Given
         keep ! (3 ∷ 4 ∷ 5 ∷ 6 ∷ 7 ∷ 8 ∷ 9 ∷ 10 ∷ 11 ∷ 12 ∷ 13 ∷ 14 ∷ 15 ∷ 16 ∷ 17 ∷ 18 ∷ 19 ∷ 20 ∷ 0 ∷ 21 ∷ 22 ∷ 23 ∷ 24 ∷ 25 ∷ 26 ∷ 27 ∷ 2 ∷ 1 ∷ []) $
         again ! Nearer At t (next less) (add-one-dec n i less)))))
         (λ over. exec ! C Λ En piece.t-5 (atRet En Post) $
-        move ! (18 ∷ []) $ use1 W (given (Is (Array R 128) zs (vals zs)) (‵ (fat fullShare arrayTy l₃ 0 (val zs)))) (array-out 𝓤 H A W fullShare 128 zs l₃ 0 (t .1 .1 .1 .0)) $ learn ! (λ iz.
+        move ! (18 ∷ []) $ use1 W (given (Is (Array R 128) zs (vals zs)) (‵ (fat fullShare arrayTy l₃ 0 (val zs)))) (array-out R spell 𝓤 H A W fullShare 128 zs l₃ 0 (LL.tells T.the-type T′.the-laws) (t .1 .1 .1 .0)) $ learn ! (λ iz.
         -- [_3; _12; …; _4; …; (_3) …; _2; …; _0; …; the token; what pairs owns]
         assigns ! (of-opd ! (load ! (from ! (stop !)) (look ! 0 refl))) (from ! (stop !)) (init ! 24 refl (typed zs (val zs) iz)) $
         returns ! (look ! 24 refl) $ forget ! 0 refl $ forget ! 13 refl $ forget ! 17 refl $ forget ! 20 refl $ forget ! 22 refl $ forget ! 24 refl $
@@ -247,7 +257,7 @@ module _ {M : Type 1} (𝓤 : URA M) (H : Heap 𝓤) (A : Atoms 𝓤) (W : Given
       -- [_12; …; _0; …; the token; what the parameters own]
       assigns ! (of-opd ! (load ! (from ! (stop !)) (look ! 14 refl))) (from ! (stop !)) (init ! 18 refl (typed r (val r) is)) $
       assigns ! (of-opd ! (lit ! tt)) (from ! (stop !)) (init ! 16 refl (tt, record { fits = lit< tt })) $ forget ! 14 refl $
-      move ! (18 ∷ []) $ use1 W (‵ (row R fullShare r l₃ 0)) (array-in 𝓤 H A W fullShare 128 r l₃ 0 is) $
+      move ! (18 ∷ []) $ use1 W (‵ (row R fullShare r l₃ 0)) (array-in R spell 𝓤 H A W fullShare 128 r l₃ 0 tt ((LL.makes T.the-type T′.the-plain) 𝓤 H A) is) $
       -- [the array's elements; _12; …; _4; …; (_3) …; _2; …; _0; …; the token; what the parameters own]
       move ! (27 ∷ []) $ fsplit ! $ move ! (28 ∷ []) $ split ! $
       -- [the token; true; what pairs owns; the number's; the array's elements; _12; …]

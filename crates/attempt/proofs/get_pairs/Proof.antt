@@ -7,8 +7,9 @@ use mathlib.Core.Path.{_≡_, sym, ap, _∙_}
 use mathlib.Core.List.{_++_}
 use lib.ListN.{length, take, drop, length-set}
 use borrow.Author.Needs.{needs}
+use Rattle.types.specs.Lists.{entriesOf}
 use Rattle.attempt.specs.Snapshot.{readPairs}
-use Rattle.attempt.specs.Codec.{entriesOf, blank}
+use Rattle.attempt.specs.Codec.{blank}
 use Rattle.attempt.proofs.Reading.{length-blank, get-more, get-end}
 use Rattle.attempt.proofs.get_pairs.Statement.{statement}
 use Rattle.attempt.proofs.get_pairs.Tie as tie

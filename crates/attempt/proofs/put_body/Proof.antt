@@ -3,8 +3,8 @@ use native.Mathlib.Omega.{arith}
 use mathlib.Core.Path.{_≡_, _∙_}
 use lib.ListN.{length, take, length-set}
 use borrow.Author.Needs.{needs}
+use Rattle.types.specs.Lists.{entriesOf}
 use Rattle.types.proofs.Scan.{length-mapped}
-use Rattle.attempt.specs.Codec.{entriesOf}
 use Rattle.attempt.proofs.Writing.{count-entries, body-put}
 use Rattle.attempt.proofs.put_body.Statement.{statement}
 use Rattle.attempt.proofs.put_body.Tie as tie

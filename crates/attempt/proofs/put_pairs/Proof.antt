@@ -5,10 +5,10 @@ use native.Mathlib.Omega.{arith}
 use mathlib.Core.Path.{_≡_, refl, sym, _∙_}
 use lib.ListN.{length, take, drop}
 use borrow.Author.Needs.{needs}
+use Rattle.types.specs.Lists.{entriesOf}
 use Rattle.types.proofs.Scan.{length-mapped}
 use Rattle.raw.specs.Bytes.{overwrite}
 use Rattle.attempt.specs.Snapshot.{pairsBytes}
-use Rattle.attempt.specs.Codec.{entriesOf}
 use Rattle.attempt.proofs.Writing.{put-more, put-end}
 use Rattle.attempt.proofs.put_pairs.Statement.{statement}
 use Rattle.attempt.proofs.put_pairs.Tie as tie

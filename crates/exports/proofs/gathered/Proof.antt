@@ -4,7 +4,7 @@ use native.Mathlib.Omega.{arith}
 use mathlib.Core.Path.{_≡_, refl}
 use lib.ListN.{length, take, length-set}
 use Rattle.types.specs.Keyed.{entries}
-use Rattle.attempt.specs.Codec.{entriesOf}
+use Rattle.types.specs.Lists.{entriesOf}
 use Rattle.exports.proofs.Columns.{gather-more}
 use Rattle.exports.proofs.gathered.Statement.{statement}
 use Rattle.exports.proofs.gathered.Tie as tie

@@ -9,16 +9,16 @@ use Rattle.consumer.proofs.checkpoint.encoded.Statement.{statement}
 use Rattle.consumer.proofs.checkpoint.encoded.Tie as tie
 
 -- ---- what is known at a place
-abbrev begun : tie.After-all-attempt-counts → tie.Start
+abbrev begun : tie.After-all-counts → tie.Start
 begun c = c .before .before .before
 
-listed : (c : tie.After-all-attempt-counts) → Full (c .all-attempt-counts .result)
-listed c = record { len = c .all-attempt-counts .ensures .len; offsets = search needs; attempts = search needs }
+listed : (c : tie.After-all-counts) → Full (c .all-counts .result)
+listed c = record { len = c .all-counts .ensures .few; offsets = search needs; attempts = search needs }
 
-few : (c : tie.After-all-attempt-counts) → c .all-attempt-counts .result .len ≤ 128
-few c = counts-fit-pairs (view (begun c .args .consumer)) (begun c .pre .valid) (c .all-attempt-counts .result) (listed c) (c .all-attempt-counts .ensures)
+few : (c : tie.After-all-counts) → c .all-counts .result .len ≤ 128
+few c = counts-fit-pairs (view (begun c .args .consumer)) (begun c .pre .valid) (c .all-counts .result) (listed c) (c .all-counts .ensures)
 
-abbrev counted : tie.After-behind-attempts → tie.After-all-attempt-counts
+abbrev counted : tie.After-behind-attempts → tie.After-all-counts
 counted c = c .before .before .before .before .before .before .before .before .before
 
 both : (c : tie.After-behind-attempts)
@@ -30,10 +30,10 @@ both c =
     let k = p .before .before in
     let n = k .before in
     let s = begun n in
-    both-encoded (view (s .args .consumer)) (s .pre .valid) (replicate 3606 0) (p .encode-snapshot .last .1 .0) (e .encode-pairs .last .1 .1 .0) _ _ (b .behind-cursor .result) (c .behind-attempts .result) (k .pairs-of .result) (n .all-attempt-counts .result .len) refl (few n) (k .pairs-of .ensures ∙ n .all-attempt-counts .ensures .is) (p .encode-snapshot .ensures) (b .behind-cursor .ensures) (e .encode-pairs .ensures) (c .behind-attempts .ensures)
+    both-encoded (view (s .args .consumer)) (s .pre .valid) (replicate 3606 0) (p .encode-snapshot .last .1 .0) (e .encode-pairs .last .1 .1 .0) _ _ (b .behind-cursor .result) (c .behind-attempts .result) (k .pairs-of .result) (n .all-counts .result .len) refl (few n) (k .pairs-of .ensures ∙ n .all-counts .ensures .is) (p .encode-snapshot .ensures) (b .behind-cursor .ensures) (e .encode-pairs .ensures) (c .behind-attempts .ensures)
 
-all-attempt-counts-requires : tie.Need-all-attempt-counts-requires
-all-attempt-counts-requires c κs = search needs
+all-counts-requires : tie.Need-all-counts-requires
+all-counts-requires c κs = search needs
 
 pairs-of-requires : tie.Need-pairs-of-requires
 pairs-of-requires c κs = few c
@@ -66,7 +66,7 @@ pub encoded-spec : {M : Type 1} → statement M
 encoded-spec =
     tie.close
     (tie.spec
-    all-attempt-counts-requires
+    all-counts-requires
     pairs-of-requires
     slice-aggregate-encode-snapshot
     encode-snapshot-requires

@@ -5,8 +5,7 @@ use mathlib.Core.Path.{_≡_, refl, sym, _∙_}
 use mathlib.Core.List.{_++_}
 use lib.ListN.{length, take, drop, length-set}
 use borrow.Author.Needs.{needs}
-use Rattle.attempt.specs.Codec.{entriesOf}
-use Rattle.consumer.specs.Writing.{countsIn}
+use Rattle.types.specs.Lists.{entriesOf, countsIn}
 use Rattle.consumer.proofs.Encoding.{Full, pair-more, pair-end}
 use Rattle.consumer.proofs.checkpoint.pairs_of.Statement.{statement}
 use Rattle.consumer.proofs.checkpoint.pairs_of.Tie as tie

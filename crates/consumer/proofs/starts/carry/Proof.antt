@@ -8,8 +8,8 @@ use mathlib.Core.Logic.{⊎-elim}
 use lib.ListN.{length, take, drop, length-set}
 use borrow.Author.Needs.{needs}
 use Rattle.types.specs.Keyed.{Entry, entries}
+use Rattle.types.specs.Lists.{entriesOf}
 use Rattle.cursor.specs.View as cursors
-use Rattle.attempt.specs.Codec.{entriesOf}
 use Rattle.types.proofs.Scan.{length-mapped}
 use Rattle.consumer.specs.Restart.{unsettledCounts}
 use Rattle.consumer.proofs.Carrying.{carried-more, dropped-more, carried-end}

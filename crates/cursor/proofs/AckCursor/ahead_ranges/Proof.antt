@@ -37,7 +37,7 @@ use denote.Builtin.{usize}
 use denote.Ref.{RefT}
 use denote.Slice.{sliceTy, sliceVal, MutSlice, Room, at-slice, slice-vals, mut-slice-tells}
 use denote.Signature.{plain}
-use denote.Index.{opens-slice, elem-out, elem-put, closes-slice}
+use denote.Index.{place-is, opens-slice, elem-out, elem-put, closes-slice}
 use denote.Steps.{only, owned, peeks, heard, nothing}
 use denote.Struct.Laws as LL
 use denote.Enum.Laws as EL
@@ -50,10 +50,10 @@ use denote.Triple.Table.{entered, cited}
 use denote.Triple.Walked.{says, needs, Stays, stay-dropped, stay-slice, walkOf, AllGo, goes-dropped, goes-slice, Walks, ends-at, walked, walk-meets}
 use denote.Exit.{yes}
 use Rattle.types.specs.Table.{answer}
-use Rattle.types.specs.Lists.{listed}
+use Rattle.types.specs.Lists.{listed, roomFor, counted}
 use Rattle.cursor.specs.Ranges.{range}
 use Rattle.cursor.specs.View.{view, Sound}
-use Rattle.cursor.specs.Answers.{listedOf, roomFor, counted}
+use Rattle.cursor.specs.Answers.{listedOf}
 use Rattle.cursor.specs.Place.{rangeAt}
 use Rattle.cursor.specs.declared.Range.{Range}
 use Rattle.cursor.specs.declared.AckCursor.{AckCursor}
@@ -64,8 +64,8 @@ use Rattle.cursor.proofs.AckCursor as G
 use Rattle.cursor.proofs.AckCursor.Laws as G′
 use Rattle.cursor.proofs.Listed as E
 use Rattle.cursor.proofs.Listed.Laws as E′
-use Rattle.cursor.proofs.Listing.{Written, counted-fits, none-written, one-more, all-written}
-use Rattle.cursor.proofs.Walk.{tests, place-range}
+use Rattle.types.proofs.Listing.{Written, counted-fits, none-written, one-more, all-written}
+use Rattle.types.proofs.Walk.{tests}
 use Rattle.cursor.proofs.AckCursor.room_for as room-for
 use Rattle.cursor.proofs.AckCursor.room_for.Symbol as room-for-def
 use Rattle.cursor.proofs.AckCursor.room_for.Symbol.{name as #room-for}
@@ -155,7 +155,7 @@ module _ {M : Type 1} (𝓤 : URA M) (H : Heap 𝓤) (A : Atoms 𝓤) (W : Given
       owned ! G.the-row (Is G.the-row) ((LL.makes G.the-type G′.the-plain) 𝓤 H A) g _ is-g $ fjoin ! $ done !
 
   abbrev Fitted : Listed → Type 0
-  Fitted r = listedOf r ≡ roomFor list (length ps)
+  Fitted r = listedOf r ≡ roomFor (length list) (length ps)
 
   said-fits : (r : Listed) → ent 𝓤 (ensured 𝓤 H A room-for.ended (room-for.clauses 𝓤 H A at-mem run) tt (g, (length ps, tt)) tt r) (fact 𝓤 (Fitted r))
   said-fits r = exE 𝓤 _ (λ ws. snd∗ 𝓤 (sem 𝓤 H A (lasts room-for.ended tt (g, (length ps, tt)) ws)) (fact 𝓤 (Fitted r)))
@@ -233,7 +233,7 @@ module _ {M : Type 1} (𝓤 : URA M) (H : Heap 𝓤) (A : Atoms 𝓤) (W : Given
         -- [_10; …; _0; …; the token; what out owns]
         assigns ! (bin ! (load ! (from ! (stop !)) (look ! 10 refl)) (lit ! tt) (record { fits = times-fits less })) (from ! (stop !)) (init ! 2 refl (tt, record { fits = times-fits less })) $
         assigns ! (bin ! (load ! (from ! (fld ! refl (stop !))) (look-in ! 16 (sub ! 0 refl (whole !)))) (load ! (from ! (stop !)) (look ! 2 refl)) tt) (from ! (stop !)) (init ! 0 refl (tt, tt)) $
-        rewrite ! 0 (λ (k : ℕ). ‵ (fat fullShare tyPtr l₁₀ 0 (vptr b k))) (sym (place-range o i)) refl $
+        rewrite ! 0 (λ (k : ℕ). ‵ (fat fullShare tyPtr l₁₀ 0 (vptr b k))) (sym (place-is 16 o i)) refl $
         -- the borrow is opened, and the range is stored
         move ! (23 ∷ 22 ∷ []) $ fsplit ! $ drop ! $ fsplit ! $
         opens-slice ! tt R zs b o $ elem-out ! R (Is R) (shows 𝓤 H A R) (LL.vals T.the-type T′.the-laws) (LL.tells T.the-type T′.the-laws) fullShare zs i (range 0 0) b o (inside less) (λ _.
@@ -279,7 +279,7 @@ module _ {M : Type 1} (𝓤 : URA M) (H : Heap 𝓤) (A : Atoms 𝓤) (W : Given
         times-fits less = omega (arith, gn .1, fits .1, less)
 
         next : i < n → (p : Range) → p ≡ rangeAt i list → State
-        next less p e = (i + 1, (set zs i p, subst (λ (u : Range). Written list ps n (i + 1) (set zs i u)) (sym e) (one-more list ps n i zs less fits (t .1 .1))))
+        next less p e = (i + 1, (set zs i p, subst (λ (u : Range). Written list ps n (i + 1) (set zs i u)) (sym e) (one-more list ps (range 0 0) n i zs less fits (t .1 .1))))
 
         all-done : Holds (not (ltb i n)) → answer (listedOf r) zs ≡ listed list ps
         all-done over = all-written list ps n zs (listedOf r) fitted n-is (subst (λ (k : ℕ). Written list ps n k zs) (le-antisymm (t .1 .1 .within) (nltb→le i n over)) (t .1 .1))

@@ -37,7 +37,7 @@ use denote.Builtin.{u64}
 use denote.Ref.{RefT}
 use denote.Slice.{sliceTy, sliceVal, ShrSlice, Room, slice-vals, shr-slice-tells}
 use denote.Signature.{plain, shrSlice}
-use denote.Index.{looks-slice, elem-out, elem-back, shuts-slice}
+use denote.Index.{place-is, looks-slice, elem-out, elem-back, shuts-slice}
 use denote.Steps.{only, owned, peeks, heard, nothing}
 use denote.Struct.Laws as LL
 use denote.Triple.Statement.{Contract, Triple}
@@ -63,7 +63,7 @@ use Rattle.cursor.proofs.Resumed as D
 use Rattle.cursor.proofs.Resumed.Laws as D′
 use Rattle.cursor.proofs.Resuming as B
 use Rattle.cursor.proofs.Resuming.Laws as B′
-use Rattle.cursor.proofs.Walk.{tests, place-range}
+use Rattle.types.proofs.Walk.{tests}
 use Rattle.cursor.proofs.begin as begin
 use Rattle.cursor.proofs.begin.Symbol as begin-def
 use Rattle.cursor.proofs.begin.Symbol.{name as #begin}
@@ -228,7 +228,7 @@ module _ {M : Type 1} (𝓤 : URA M) (H : Heap 𝓤) (A : Atoms 𝓤) (W : Given
         -- element i is copied
         assigns ! (bin ! (load ! (from ! (stop !)) (look ! 10 refl)) (lit ! tt) (record { fits = times-fits less })) (from ! (stop !)) (init ! 4 refl (tt, record { fits = times-fits less })) $
         assigns ! (bin ! (load ! (from ! (fld ! refl (stop !))) (look-in ! 16 (sub ! 0 refl (whole !)))) (load ! (from ! (stop !)) (look ! 4 refl)) tt) (from ! (stop !)) (init ! 2 refl (tt, tt)) $
-        rewrite ! 2 (λ (k : ℕ). ‵ (fat fullShare tyPtr l₉ 0 (vptr b k))) (sym (place-range o i)) refl $
+        rewrite ! 2 (λ (k : ℕ). ‵ (fat fullShare tyPtr l₉ 0 (vptr b k))) (sym (place-is 16 o i)) refl $
         move ! (23 ∷ 22 ∷ []) $ fsplit ! $ move ! (1 ∷ []) $ fsplit ! $ move ! (1 ∷ 3 ∷ []) $
         looks-slice ! tt R (Is R) (shows 𝓤 H A R) (LL.vals T.the-type T′.the-laws) (LL.tells T.the-type T′.the-laws) (LL.copy T.the-type T′.the-copy 𝓤 H A W) ps b o (λ q″.
         elem-out ! R (Is R) (shows 𝓤 H A R) (LL.vals T.the-type T′.the-laws) (LL.tells T.the-type T′.the-laws) q″ ps i (range 0 0) b o less (λ is.

@@ -4,7 +4,7 @@ use mathlib.Core.Path.{sym, ap, _∙_}
 use mathlib.Core.List.{List}
 use borrow.Author.Needs.{needs}
 use Rattle.types.specs.Refusal.{answered}
-use Rattle.lease.specs.declared.Listed.{Listed}
+use Rattle.types.specs.declared.lent.Listed.{Listed}
 use Rattle.machine.specs.Answers.{listOf}
 use Rattle.exports.specs.declared.numbers.Numbers.{Numbers}
 use Rattle.exports.specs.Numbers.{numbersOf, values}

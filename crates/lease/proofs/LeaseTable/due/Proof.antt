@@ -2,7 +2,6 @@
 -- Assumes nothing.
 use Prim.Native.Nat.{_-_, _≤_}
 use native.Mathlib.Omega.{arith}
-use mathlib.Core.Path.{refl}
 use borrow.Author.Needs.{needs}
 use Rattle.types.specs.Limits.{LEASES}
 use Rattle.lease.proofs.Slots.{length-mapped, Full}
@@ -20,7 +19,7 @@ full : (c : tie.Start Inv-loop μ-loop) → Full (c .args .t1)
 full c = record { offsets = search needs; leases = search (needs, length-mapped); carried-offsets = search needs; carried-counts = search needs }
 
 loop-holds : tie.Need-loop-holds Inv-loop μ-loop
-loop-holds c = listing (c .args .t1) (full c) (c .pre) (c .args .now) _ refl
+loop-holds c = listing (c .args .t1) (full c) (c .pre) (c .args .now)
 
 few : (c : tie.At-loop Inv-loop μ-loop) → c .before .args .t1 .len ≤ LEASES
 few c = c .before .pre .len
@@ -71,7 +70,11 @@ returns : tie.Need-returns Inv-loop μ-loop
 returns c =
     let l = c .before .loop in
     let s = c .before .before in
-    record { len = omega (arith, few (c .before), l .inv .inside, l .inv .few); is = due-listed (s .args .t1) (full s) (s .pre) (s .args .now) (l .inv) (c .loop-test .left) }
+    record {
+      few = omega (arith, few (c .before), l .inv .inside, l .inv .few);
+      is = due-listed (s .args .t1) (full s) (s .pre) (s .args .now) (l .inv) (c .loop-test .left);
+      rest = l .inv .rest;
+    }
 
 pub due-spec : {M : Type 1} → statement M
 due-spec =

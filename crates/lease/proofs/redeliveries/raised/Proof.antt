@@ -1,9 +1,9 @@
--- `after_grant` meets its contract.
+-- `raised` meets its contract.
 -- Assumes nothing.
 use borrow.Author.Needs.{needs}
 use borrow.Author.Tests.{le-leb, lt-leb}
-use Rattle.lease.proofs.after_grant.Statement.{statement}
-use Rattle.lease.proofs.after_grant.Tie as tie
+use Rattle.lease.proofs.redeliveries.raised.Statement.{statement}
+use Rattle.lease.proofs.redeliveries.raised.Tie as tie
 
 saturating-next-requires : tie.Need-saturating-next-requires
 saturating-next-requires c κs = search needs
@@ -14,5 +14,5 @@ returns c = simp (le-leb _ _ (c .before .if1 .taken)) (c .saturating-next .ensur
 returns-2 : tie.Need-returns-2
 returns-2 c = simp (lt-leb _ _ (c .if1 .left))
 
-pub after-grant-spec : {M : Type 1} → statement M
-after-grant-spec = tie.close (tie.spec saturating-next-requires returns returns-2)
+pub raised-spec : {M : Type 1} → statement M
+raised-spec = tie.close (tie.spec saturating-next-requires returns returns-2)

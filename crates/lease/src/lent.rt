@@ -1,0 +1,222 @@
+// The lists that a table takes and gives in lent memory, and the arrays that it gives them from.
+ghost use mathlib.Core.Path.{_≡_};
+ghost use Rattle.types.specs.Table.{answer};
+ghost use Rattle.types.specs.Lists.{listed, listedOf, numbersOf, entriesOf, ListsOffsets, ListsCounts};
+ghost use Rattle.lease.specs.State.{Sound, view};
+ghost use Rattle.lease.specs.Counts.{resumeAttempts, attemptCounts, allAttemptCounts};
+ghost use Rattle.lease.specs.Rest.{expired};
+ghost use Rattle.lease.specs.Answers.{resumeOf, Answers};
+ghost use Rattle.lease.specs.Helpers.{carriedIn, Tidy, CarriesPair, CarriesFrom, resumedWith};
+use crate::LeaseTable;
+use crate::ResumeOutcome;
+use crate::Resumed;
+use crate::columns;
+use crate::columns::CarryOutcome;
+use types::Offset;
+use types::Pair;
+use types::lent;
+use types::lent::AttemptCounts;
+use types::lent::Listed;
+use types::lent::OffsetList;
+
+// The carried counts while pairs are taken in one by one, in the first `len` places of two columns; or there would be more than
+// 128.
+pub(crate) struct Carried {
+    pub offsets: [u64; 128],
+    pub counts: [u32; 128],
+    pub len: usize,
+    pub full: bool,
+}
+
+// Carries one pair more.
+fn carry_pair(carried: Carried, pair: Pair) -> Carried
+    requires { ⌜ Tidy carried ⌝ }
+    ensures { λ r. ⌜ CarriesPair pair carried r ⌝ }
+{
+    if carried.full {
+        return carried;
+    }
+    let mut offsets = carried.offsets;
+    let mut counts = carried.counts;
+    let outcome = columns::carry(
+        &mut offsets,
+        &mut counts,
+        carried.len,
+        pair.offset,
+        pair.attempt,
+    );
+    let CarryOutcome::Kept(len) = outcome else {
+        let mut stopped = carried;
+        stopped.full = true;
+        return stopped;
+    };
+    Carried {
+        offsets: offsets,
+        counts: counts,
+        len: len,
+        full: false,
+    }
+}
+
+impl LeaseTable {
+    // Carries attempt counts over from before a restart: the next claim of an offset goes on from its count. A count of 0 says
+    // nothing, and of two counts for an offset the last stays. Refused where more than 128 would be carried (19).
+    pub fn resume_attempts(self, pairs: &[Pair]) -> Resumed
+        requires { ⌜ Sound self ⌝ }
+        ensures { λ r. ⌜ Answers (resumeOf (r .outcome)) self (r .table) (resumeAttempts (view self) (entriesOf (now (pairs .entry)))) ⌝ }
+    {
+        let mut carried = self.carried_so_far();
+        let n = pairs.len();
+        let mut i: usize = 0;
+        while i < n {
+            carried = carry_pair(carried, pairs[i]);
+            i += 1;
+        }
+        self.resumed(carried)
+    }
+
+    // How often each message in flight was handed out, into a lent list. 20 where it doesn't fit.
+    pub fn attempt_counts(self, out: &mut [Pair]) -> Listed
+        requires { ⌜ Sound self ⌝ }
+        ensures { λ r. ⌜ answer (listedOf r) (entriesOf (now (out .exit))) ≡ listed (attemptCounts (view self)) (entriesOf (now (out .entry))) ⌝ }
+    {
+        lent::list_pairs(self.lease_counts(), out)
+    }
+
+    // The counts of all messages that were handed out and are not done, into a lent list: those in flight and the carried ones,
+    // the larger count where an offset has both. 20 where it doesn't fit.
+    pub fn all_attempt_counts(self, out: &mut [Pair]) -> Listed
+        requires { ⌜ Sound self ⌝ }
+        ensures { λ r. ⌜ answer (listedOf r) (entriesOf (now (out .exit))) ≡ listed (allAttemptCounts (view self)) (entriesOf (now (out .entry))) ⌝ }
+    {
+        lent::list_pairs(self.all_counts(), out)
+    }
+
+    // The offsets whose leases have run out, into a lent list: a claim of one would hand it out again. 20 where it doesn't fit.
+    pub fn expired(self, now: u64, out: &mut [Offset]) -> Listed
+        requires { ⌜ Sound self ⌝ }
+        ensures { λ r. ⌜ answer (listedOf r) (numbersOf (out .exit .now)) ≡ listed (expired (view self) now) (numbersOf (out .entry .now)) ⌝ }
+    {
+        lent::list_offsets(self.due(now), out)
+    }
+
+    // The counts that are carried before any pair is taken in.
+    fn carried_so_far(self) -> Carried
+        requires { ⌜ Sound self ⌝ }
+        ensures { λ r. ⌜ CarriesFrom self r ⌝ }
+    {
+        let offsets = self.carried_offsets;
+        let counts = self.carried_counts;
+        Carried {
+            offsets: offsets,
+            counts: counts,
+            len: self.carried_len,
+            full: false,
+        }
+    }
+
+    // The table with other carried counts, or refusal 19.
+    fn resumed(self, carried: Carried) -> Resumed
+        requires { ⌜ Sound self × Tidy carried ⌝ }
+        ensures { λ r. ⌜ Answers (resumeOf (r .outcome)) self (r .table) (resumedWith (view self) (carriedIn carried)) ⌝ }
+    {
+        if carried.full {
+            return Resumed {
+                outcome: ResumeOutcome::TooManyPairs,
+                table: self,
+            };
+        }
+        let offsets = carried.offsets;
+        let counts = carried.counts;
+        let mut table = self;
+        table.carried_offsets = offsets;
+        table.carried_counts = counts;
+        table.carried_len = carried.len;
+        Resumed {
+            outcome: ResumeOutcome::Resumed,
+            table: table,
+        }
+    }
+
+    // How often each message in flight was handed out, in arrays.
+    fn lease_counts(self) -> AttemptCounts
+        requires { ⌜ Sound self ⌝ }
+        ensures { λ r. ⌜ ListsCounts r (attemptCounts (view self)) ⌝ }
+    {
+        let len = self.len;
+        let mut offsets = [0u64; 192];
+        let mut attempts = [0u32; 192];
+        let mut i: usize = 0;
+        while i < len {
+            offsets[i] = self.offsets[i];
+            attempts[i] = self.leases[i].deliveries;
+            i += 1;
+        }
+        AttemptCounts {
+            offsets: offsets,
+            attempts: attempts,
+            len: len,
+        }
+    }
+
+    // The counts of all messages that were handed out and are not done, in arrays: the two lists of counts, each rising, merged
+    // into one.
+    pub fn all_counts(self) -> AttemptCounts
+        requires { ⌜ Sound self ⌝ }
+        ensures { λ r. ⌜ ListsCounts r (allAttemptCounts (view self)) ⌝ }
+    {
+        let leased = self.lease_counts();
+        let len = leased.len;
+        let n = self.carried_len;
+        let mut offsets = [0u64; 192];
+        let mut attempts = [0u32; 192];
+        let mut i: usize = 0;
+        let mut j: usize = 0;
+        let mut k: usize = 0;
+        while i + j < len + n {
+            let next = columns::pick_next(
+                &leased.offsets,
+                &leased.attempts,
+                len,
+                i,
+                &self.carried_offsets,
+                &self.carried_counts,
+                n,
+                j,
+            );
+            offsets[k] = next.offset;
+            attempts[k] = next.attempt;
+            i += next.left;
+            j += next.right;
+            k += 1;
+        }
+        AttemptCounts {
+            offsets: offsets,
+            attempts: attempts,
+            len: k,
+        }
+    }
+
+    // The offsets whose leases have run out, in an array.
+    pub fn due(self, now: u64) -> OffsetList
+        requires { ⌜ Sound self ⌝ }
+        ensures { λ r. ⌜ ListsOffsets r (expired (view self) now) ⌝ }
+    {
+        let len = self.len;
+        let mut offsets = [0u64; 128];
+        let mut n: usize = 0;
+        let mut i: usize = 0;
+        while i < len {
+            let at = i;
+            i += 1;
+            if self.leases[at].deadline <= now {
+                offsets[n] = self.offsets[at];
+                n += 1;
+            }
+        }
+        OffsetList {
+            offsets: offsets,
+            len: n,
+        }
+    }
+}
