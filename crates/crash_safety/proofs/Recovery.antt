@@ -19,9 +19,9 @@ use Rattle.consumer.specs.Restart as restarts
 use Rattle.consumer.specs.Restart.{startTable}
 use Rattle.machine.specs.Calls.{step, restart, restarted, failed}
 use Rattle.machine.specs.Door.{Phase, idle, writing, off, Turn, restartedAs, door}
-use Rattle.power_cut.specs.Cut.{Cut, old, new, torn, isTorn}
+use Rattle.power_cut.specs.Cut.{Cut, old, new, torn, isTorn, cutAt}
 use Rattle.crash_safety.specs.Runs.{Item, call, cut, World, world, next, after, run, ends, begins}
-use Rattle.crash_safety.specs.Recovery.{DeterministicRecovery, begun, thenCut, HasRoom, WritesCount, EveryWriteCounts}
+use Rattle.crash_safety.specs.Recovery.{DeterministicRecovery, begun, thenCut, HasRoom, WritesCount, EveryWriteCounts, EveryCutMade}
 use Rattle.crash_safety.proofs.Law.{Ledger}
 use Rattle.crash_safety.proofs.Runs.{run-made, ends-made, run-none, ends-none}
 use Rattle.crash_safety.proofs.Invariant.{Saved, restored, Journal, Stands, Inv}
@@ -159,3 +159,17 @@ every-write-counts c n s items f e left here room =
     let r = reached c n s items f e in
     let w = ends c (begins s n) items in
     writes-count c n (r .accepted) (r .ledger) (w .phase) (w .journal) left here room (r .inv)
+
+-- ## cuts
+cut-made : (c : Settings) (n : ℕ) (l : Ledger) (p : Phase) (a : List ℕ) (w : Writing) → p ≡ writing w → Inv c n l (world p a)
+    → (k : Cut) → next c (world p a) (cut k) ≡ cutAt w a k
+unfolding next
+cut-made c n l p a w e =
+    rw e (λ inv k. rw (eq-eqb (length a) (w .state .size) (inv .journal .size ∙ sym (inv .callable .0 .size))))
+
+pub every-cut-made : EveryCutMade
+unfolding EveryCutMade
+every-cut-made c n s items f e w here =
+    let r = reached c n s items f e in
+    let u = ends c (begins s n) items in
+    cut-made c n (r .ledger) (u .phase) (u .journal) w here (r .inv)

@@ -1,7 +1,7 @@
 -- Recovery. A restart depends on the settings and the journal alone, changes no byte, and made twice answers the same twice. Every
 -- block write of a checkpoint counts: with the power failing in any of its steps, and the block not wholly written, a restart
 -- gives the consumer that a restart would have given in place of the checkpoint; with the header wholly written it gives the one
--- that a restart gives after the finished checkpoint.
+-- that a restart gives after the finished checkpoint. And whatever list came before, a step can be cut in each of its ways.
 use Prim.Native.Nat.{ℕ, suc, _+_, _≤_}
 use mathlib.Core.Path.{_≡_}
 use mathlib.Core.Bool.{true}
@@ -9,13 +9,13 @@ use mathlib.Core.List.{List, [], _∷_, _++_}
 use lib.ListN.{replicate}
 use Rattle.types.specs.Refusal.{done}
 use Rattle.consumer.specs.State.{Settings, State, blocksOf}
-use Rattle.consumer.specs.Checkpoint.{bodies}
+use Rattle.consumer.specs.Checkpoint.{bodies, Writing}
 use Rattle.consumer.specs.Restart.{start}
 use Rattle.consumer.specs.Valid.{Fits}
 use Rattle.machine.specs.Calls.{begin, step, restart}
-use Rattle.machine.specs.Door.{idle}
-use Rattle.power_cut.specs.Cut.{Cut, old, new, torn, isTorn}
-use Rattle.crash_safety.specs.Runs.{Item, call, cut, World, run, ends, begins}
+use Rattle.machine.specs.Door.{idle, writing}
+use Rattle.power_cut.specs.Cut.{Cut, old, new, torn, isTorn, cutAt}
+use Rattle.crash_safety.specs.Runs.{Item, call, cut, World, next, run, ends, begins}
 
 -- ## a restart
 pub record Deterministic (c : Settings) (w : World) : Type 0 where
@@ -53,3 +53,11 @@ EveryWriteCounts =
     (c : Settings) (size : ℕ) (s : State) (items : List Item) → Fits (c .policy) → start c size ≡ done s
     → (left : State) → ends c (begins s size) items .phase ≡ idle left → HasRoom left
     → WritesCount c (ends c (begins s size) items) left
+
+-- ## cuts
+-- the journal of a list always has the consumer's length, so that every step can be cut in each of its ways
+unfoldable pub EveryCutMade : Type 0
+EveryCutMade =
+    (c : Settings) (size : ℕ) (s : State) (items : List Item) → Fits (c .policy) → start c size ≡ done s
+    → (w : Writing) → ends c (begins s size) items .phase ≡ writing w
+    → (k : Cut) → next c (ends c (begins s size) items) (cut k) ≡ cutAt w (ends c (begins s size) items .journal) k

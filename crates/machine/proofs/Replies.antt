@@ -1,6 +1,6 @@
 -- What each call on the state owes its contract, from what the consumer's own function ensures. Assumes nothing.
 use Prim.Native.Nat.{ℕ}
-use mathlib.Core.Path.{_≡_, refl, sym, ap, subst}
+use mathlib.Core.Path.{_≡_, refl, sym, ap, subst, _∙_}
 use mathlib.Core.Bool.{true, false}
 use mathlib.Core.List.{List, [], _∷_}
 use lib.Dec.{ltb}
@@ -19,7 +19,7 @@ use Rattle.consumer.specs.View.{view, Sound}
 use Rattle.consumer.specs.declared.Consumer.{Consumer}
 use Rattle.machine.specs.Calls.{look, looked}
 use Rattle.machine.specs.Door.{turn, idle}
-use Rattle.machine.specs.Answers.{askOf, listOf, replyOf, answeredList, filledWith, listIn}
+use Rattle.machine.specs.Answers.{askOf, listOf, replyOf, answeredList, filledWith, listIn, argumentsIn, askedBy}
 use Rattle.machine.specs.View.{AskedIs, LookedIs}
 use Rattle.machine.specs.declared.calls.Ask as code
 use Rattle.machine.specs.declared.calls.Asked.{Asked}
@@ -29,9 +29,10 @@ use Rattle.machine.specs.declared.calls.AskAnswer.the-variants as answer
 
 -- ## questions
 -- a reply that fills no list
-pub replied : (c : Consumer) {q q′ : Question} (out : List ℕ) (r : Reply) → q ≡ q′ → replyOf r out ≡ reply (view c) q′ → listIn q′ (reply (view c) q′) ≡ []
+pub replied : (c : Consumer) {q q′ : Question} (out : List ℕ) (r : Reply) → q ≡ q′ → askedBy (argumentsIn q′) r ≡ q′ → replyOf r out ≡ reply (view c) q′
+    → listIn q′ (reply (view c) q′) ≡ []
     → LookedIs c q out r out
-replied c {q} {q′} out r e h l = subst (λ (x : Question). LookedIs c x out r out) (sym e) (record { is = h; lists = rw l })
+replied c {q} {q′} out r e k h l = subst (λ (x : Question). LookedIs c x out r out) (sym e) (record { kind = k; is = h; lists = rw l })
 
 -- a list that was put into lent memory, or had no room there
 module _ (list out out′ : List ℕ) where
@@ -65,14 +66,16 @@ pub waiting-replied : (c : Consumer) {q : Question} (now : ℕ) (out out′ : Li
     → answer (listedOf r) out′ ≡ listed (waitingAt (view c) now) out → LookedIs c q out (replies.Waiting r) out′
 waiting-replied c now out out′ r e h =
     let p = listed-puts (waitingAt (view c) now) out out′ r h in
-    subst (λ (x : Question). LookedIs c x out (replies.Waiting r) out′) (sym e) (record { is = p .is; lists = p .fills })
+    subst (λ (x : Question). LookedIs c x out (replies.Waiting r) out′) (sym e) (record { kind = refl; is = p .is; lists = p .fills })
 
 -- ## calls
 module _ {c : Consumer} {out out′ : List ℕ} where
   pub looked-asked : {q : Question} {r : Reply} → Sound c → LookedIs c q out r out′ → AskedIs c (look q) out (record { answer = answers.Looked r; consumer = c }) out′
   looked-asked {q} {r} ok h =
       record {
-        is = λ a. ap (λ (x : Result (List ℕ)). turn (looked q x) (idle (view c)) a) (h .is);
+        is = λ a.
+            ap (λ (x : Question). turn (looked x (replyOf r out′)) (idle (view c)) a) (h .kind)
+            ∙ ap (λ (x : Result (List ℕ)). turn (looked q x) (idle (view c)) a) (h .is);
         sound = ok;
         kept = refl;
         lists = λ a. h .lists;

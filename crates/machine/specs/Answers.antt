@@ -71,31 +71,52 @@ replyOf (reply.InFlight n) out = done (n ∷ [])
 replyOf (reply.IsDue d) out = done (bit (d .ceiling) ∷ bit (d .threshold) ∷ [])
 replyOf (reply.BlocksLeft n) out = done (n ∷ [])
 
--- the arguments of a call; those that it hasn't are 0, none and Committed
+-- the arguments of a call; those that it hasn't are 0 and none
 pub record Arguments : Type 0 where
   -- or the bound
   pub offset : ℕ
   pub generation : ℕ
   pub clock : ℕ
   pub delay : Option ℕ
-  pub question : Question
+  pub room : ℕ
 
-abbrev pub arguments : ℕ → ℕ → ℕ → Option ℕ → Question → Arguments
-arguments o g now d q = record { offset = o; generation = g; clock = now; delay = d; question = q }
+abbrev pub arguments : ℕ → ℕ → ℕ → Option ℕ → ℕ → Arguments
+arguments o g now d room = record { offset = o; generation = g; clock = now; delay = d; room = room }
 
 abbrev pub noArguments : Arguments
-noArguments = arguments 0 0 0 none Committed
+noArguments = arguments 0 0 0 none 0
+
+abbrev pub argumentsIn : Question → Arguments
+argumentsIn (Waiting now room) = arguments 0 0 now none room
+argumentsIn Committed = noArguments
+argumentsIn (IsSettled o) = arguments o 0 0 none 0
+argumentsIn (LeaseOf o) = arguments o 0 0 none 0
+argumentsIn (CountOf o) = arguments o 0 0 none 0
+argumentsIn InFlight = noArguments
+argumentsIn IsDue = noArguments
+argumentsIn BlocksLeft = noArguments
 
 abbrev pub argumentsOf : Ask → Arguments
-argumentsOf (claim o now) = arguments o 0 now none Committed
-argumentsOf (ack o g) = arguments o g 0 none Committed
-argumentsOf (term o g) = arguments o g 0 none Committed
-argumentsOf (nack o g now d) = arguments o g now d Committed
-argumentsOf (progress o g now) = arguments o g now none Committed
-argumentsOf (commit bound) = arguments bound 0 0 none Committed
-argumentsOf (look q) = arguments 0 0 0 none q
+argumentsOf (claim o now) = arguments o 0 now none 0
+argumentsOf (ack o g) = arguments o g 0 none 0
+argumentsOf (term o g) = arguments o g 0 none 0
+argumentsOf (nack o g now d) = arguments o g now d 0
+argumentsOf (progress o g now) = arguments o g now none 0
+argumentsOf (commit bound) = arguments bound 0 0 none 0
+argumentsOf (look q) = argumentsIn q
 
--- what is seen of a call on the state: its arguments with its answer
+-- the question that a reply answers
+abbrev pub askedBy : Arguments → Reply → Question
+askedBy g (reply.Waiting l) = Waiting (g .clock) (g .room)
+askedBy g (reply.Committed o) = Committed
+askedBy g (reply.IsSettled b) = IsSettled (g .offset)
+askedBy g (reply.LeaseOf l) = LeaseOf (g .offset)
+askedBy g (reply.CountOf n) = CountOf (g .offset)
+askedBy g (reply.InFlight n) = InFlight
+askedBy g (reply.IsDue d) = IsDue
+askedBy g (reply.BlocksLeft n) = BlocksLeft
+
+-- what is seen of a call on the state: its arguments with its answer, which also says what kind of call it was
 abbrev pub seenOf : Arguments → AskAnswer → List ℕ → Event
 seenOf g (answer.Claimed a) out = claimed (g .offset) (g .clock) (claimOf a)
 seenOf g (answer.Acked a) out = acked (g .offset) (g .generation) (settleOf a)
@@ -103,7 +124,7 @@ seenOf g (answer.Termed a) out = termed (g .offset) (g .generation) (settleOf a)
 seenOf g (answer.Nacked a) out = nacked (g .offset) (g .generation) (g .clock) (g .delay) (nackOf a)
 seenOf g (answer.Extended a) out = extended (g .offset) (g .generation) (g .clock) (progressOf a)
 seenOf g (answer.Committed a) out = committed (g .offset) (commitOf a)
-seenOf g (answer.Looked a) out = looked (g .question) (replyOf a out)
+seenOf g (answer.Looked a) out = looked (askedBy g a) (replyOf a out)
 
 -- a refusal and a question give back the very thing that was handed in, and so does a commit that moves nothing
 abbrev pub AskKept : {T : Type 0} → AskAnswer → T → T → Type 0

@@ -19,7 +19,7 @@ use Rattle.consumer.specs.declared.checkpoint.StepAnswer.{StepAnswer}
 use Rattle.consumer.specs.declared.checkpoint.StepAnswer.the-variants as steps
 use Rattle.machine.specs.Calls.{Ask, Call, ask, begin, step, restart, begun, stepped, restarted}
 use Rattle.machine.specs.Door.{Phase, idle, writing, off, Turn, turn, asked, door}
-use Rattle.machine.specs.Answers.{replyOf, Arguments, argumentsOf, noArguments, seenOf, AskKept, begunOf, filledWith, listIn, outAfter}
+use Rattle.machine.specs.Answers.{replyOf, Arguments, noArguments, argumentsIn, argumentsOf, askedBy, seenOf, AskKept, begunOf, filledWith, listIn, outAfter}
 use Rattle.machine.specs.declared.calls.Reply.{Reply}
 use Rattle.machine.specs.declared.calls.Asked.{Asked}
 use Rattle.machine.specs.declared.calls.CallAnswer.{CallAnswer}
@@ -36,8 +36,9 @@ pub record AskedIs (before : Consumer) (q : Ask) (out : List ℕ) (r : Asked) (o
   pub kept : AskKept (r .answer) before (r .consumer)
   pub lists : (a : List ℕ) → out′ ≡ outAfter (asked (view before) a q) out
 
--- a question: the reply, and the lent list
+-- a question: the reply, which is to just this question, and the lent list
 pub record LookedIs (c : Consumer) (q : Question) (out : List ℕ) (r : Reply) (out′ : List ℕ) : Type 0 where
+  pub kind : askedBy (argumentsIn q) r ≡ q
   pub is : replyOf r out′ ≡ reply (view c) q
   pub lists : out′ ≡ filledWith (listIn q (reply (view c) q)) out
 
@@ -78,15 +79,16 @@ pub record OffIs (s : Settings) (m : Machine) : Type 0 where
   pub sound : Sound m
 
 -- ## the door
-abbrev pub argumentsIn : Call → Arguments
-argumentsIn (ask q) = argumentsOf q
-argumentsIn begin = noArguments
-argumentsIn step = noArguments
-argumentsIn restart = noArguments
+-- the arguments of a call
+abbrev pub givenTo : Call → Arguments
+givenTo (ask q) = argumentsOf q
+givenTo begin = noArguments
+givenTo step = noArguments
+givenTo restart = noArguments
 
 -- what an answer, the machine and the lent memory beside it stand for
 abbrev pub turnOf : Call → CallAnswer → Machine → List ℕ → List ℕ → Option Turn
-turnOf q (answer.Asked a) m area out = turn (seenOf (argumentsIn q) a out) (phaseOf m) area
+turnOf q (answer.Asked a) m area out = turn (seenOf (givenTo q) a out) (phaseOf m) area
 turnOf q (answer.Begun a) m area out = turn (begun (begunOf a)) (phaseOf m) area
 turnOf q (answer.Stepped a) m area out = turn (stepped (stepOf a)) (phaseOf m) area
 turnOf q (answer.Restarted a) m area out = turn (restarted (startOf a (view (m .writing .consumer)))) (phaseOf m) area

@@ -70,43 +70,43 @@ returns-2 : tie.Need-returns-2
 returns-2 c =
     let g = c .before in
     let s = g .before .before .before in
-    replied (s .args .consumer) (s .args .out .now) _ (ap (questionOf (length (s .args .out .now))) (g .enum-told .given .1)) (c .committed .ensures) refl
+    replied (s .args .consumer) (s .args .out .now) _ (ap (questionOf (length (s .args .out .now))) (g .enum-told .given .1)) refl (c .committed .ensures) refl
 
 returns-3 : tie.Need-returns-3
 returns-3 c =
     let g = c .before .before in
     let s = g .before .before .before in
-    replied (s .args .consumer) (s .args .out .now) _ (ap (questionOf (length (s .args .out .now))) (g .question2 .given .1)) (c .is-settled .ensures) refl
+    replied (s .args .consumer) (s .args .out .now) _ (ap (questionOf (length (s .args .out .now))) (g .question2 .given .1)) refl (c .is-settled .ensures) refl
 
 returns-4 : tie.Need-returns-4
 returns-4 c =
     let g = c .before .before in
     let s = g .before .before .before in
-    replied (s .args .consumer) (s .args .out .now) _ (ap (questionOf (length (s .args .out .now))) (g .question3 .given .1)) (c .lease-of .ensures) refl
+    replied (s .args .consumer) (s .args .out .now) _ (ap (questionOf (length (s .args .out .now))) (g .question3 .given .1)) refl (c .lease-of .ensures) refl
 
 returns-5 : tie.Need-returns-5
 returns-5 c =
     let g = c .before .before in
     let s = g .before .before .before in
-    replied (s .args .consumer) (s .args .out .now) _ (ap (questionOf (length (s .args .out .now))) (g .question4 .given .1)) (c .count-of .ensures) refl
+    replied (s .args .consumer) (s .args .out .now) _ (ap (questionOf (length (s .args .out .now))) (g .question4 .given .1)) refl (c .count-of .ensures) refl
 
 returns-6 : tie.Need-returns-6
 returns-6 c =
     let g = c .before in
     let s = g .before .before .before in
-    replied (s .args .consumer) (s .args .out .now) _ (ap (questionOf (length (s .args .out .now))) (g .enum-told2 .given .1)) (c .in-flight .ensures) refl
+    replied (s .args .consumer) (s .args .out .now) _ (ap (questionOf (length (s .args .out .now))) (g .enum-told2 .given .1)) refl (c .in-flight .ensures) refl
 
 returns-7 : tie.Need-returns-7
 returns-7 c =
     let g = c .before in
     let s = g .before .before .before in
-    replied (s .args .consumer) (s .args .out .now) _ (ap (questionOf (length (s .args .out .now))) (g .enum-told3 .given .1)) (c .is-due .ensures) refl
+    replied (s .args .consumer) (s .args .out .now) _ (ap (questionOf (length (s .args .out .now))) (g .enum-told3 .given .1)) refl (c .is-due .ensures) refl
 
 returns-8 : tie.Need-returns-8
 returns-8 c =
     let g = c .before in
     let s = g .before .before .before in
-    replied (s .args .consumer) (s .args .out .now) _ (ap (questionOf (length (s .args .out .now))) (g .enum-told4 .given .1)) (c .blocks-left .ensures) refl
+    replied (s .args .consumer) (s .args .out .now) _ (ap (questionOf (length (s .args .out .now))) (g .enum-told4 .given .1)) refl (c .blocks-left .ensures) refl
 
 pub reply-spec : {M : Type 1} → statement M
 reply-spec =
