@@ -59,7 +59,7 @@ fn good_pairs(random: &mut Random, n: usize) -> Vec<(u64, u32)> {
     let mut offset = random.below(9);
     let mut pairs = Vec::new();
     for _ in 0..n {
-        pairs.push((offset, random.next() as u32));
+        pairs.push((offset, random.number() as u32));
         offset += 1 + random.below(3);
     }
     pairs
@@ -125,7 +125,7 @@ fn lengths(both: &mut Both, random: &mut Random) {
         .chain(around(2077))
     {
         for kind in 0..16 {
-            let mut bytes: Vec<u8> = (0..len).map(|_| random.next() as u8).collect();
+            let mut bytes: Vec<u8> = (0..len).map(|_| random.number() as u8).collect();
             if kind % 2 == 0 && len > 0 {
                 bytes[0] = 1;
             }
@@ -154,7 +154,7 @@ fn damage(both: &mut Both, random: &mut Random, good: &[u8]) {
         } else {
             vec![1 << random.below(8)]
         };
-        for change in changes.into_iter().chain([random.next() as u8]) {
+        for change in changes.into_iter().chain([random.number() as u8]) {
             let mut bytes = good.to_vec();
             bytes[place] ^= change;
             both_ways(both, bytes);
@@ -241,7 +241,7 @@ fn room(both: &mut Both, random: &mut Random) {
 
 /// Checks of every short length, and of some long ones.
 fn checks(both: &mut Both, random: &mut Random) {
-    let bytes: Vec<u8> = (0..1 << 16).map(|_| random.next() as u8).collect();
+    let bytes: Vec<u8> = (0..1 << 16).map(|_| random.number() as u8).collect();
     for len in (0..1100).chain([4095, 4096, 65_535, 65_536]) {
         both.check(&bytes[..len]);
         both.check(&vec![0; len]);
@@ -249,28 +249,41 @@ fn checks(both: &mut Both, random: &mut Random) {
     }
 }
 
-fn main() {
-    let seed = std::env::args().nth(1).map_or(1, |word| word.parse().expect("a seed"));
-    let mut random = Random(seed);
-    let mut both = Both::default();
-    checks(&mut both, &mut random);
-    short(&mut both);
-    small(&mut both);
+/// Everything that depends on no seed.
+fn fixed(both: &mut Both) {
+    short(both);
+    small(both);
     for version in 0..=255 {
         for len in 0..80 {
             let mut bytes = vec![version; len];
             seal(&mut bytes);
-            decode(&mut both, &bytes);
+            decode(both, &bytes);
         }
     }
-    lengths(&mut both, &mut random);
+}
+
+/// Everything else.
+fn seeded(both: &mut Both, random: &mut Random) {
+    checks(both, random);
+    lengths(both, random);
     for n in [0, 1, 2, 3, 5, 40, 128, 129] {
-        let ranges = good_ranges(&mut random, 77, n);
-        damage(&mut both, &mut random, &cursor_bytes(77, &ranges));
-        let pairs = good_pairs(&mut random, n);
-        damage(&mut both, &mut random, &attempt_bytes(n as u32, &pairs));
+        let ranges = good_ranges(random, 77, n);
+        damage(both, random, &cursor_bytes(77, &ranges));
+        let pairs = good_pairs(random, n);
+        damage(both, random, &attempt_bytes(n as u32, &pairs));
     }
-    counts(&mut both, &mut random);
-    room(&mut both, &mut random);
-    println!("compare: {} inputs, answered as the original answers them", both.inputs);
+    counts(both, random);
+    room(both, random);
+}
+
+fn main() {
+    let seeds = std::env::args()
+        .nth(1)
+        .map_or(1, |word| word.parse().expect("a number of seeds"));
+    let mut both = Both::default();
+    fixed(&mut both);
+    for seed in 1..=seeds {
+        seeded(&mut both, &mut Random(seed));
+    }
+    println!("compare: {} inputs, all answered as the original answers them", both.inputs);
 }

@@ -11,7 +11,7 @@ use std::process::{exit, Command, Stdio};
 
 /// The original's answer to each line, with the line.
 fn answers(lines: &[String]) -> Vec<(&str, String)> {
-    let mut state = State::new();
+    let mut state = State::fresh();
     lines
         .iter()
         .filter_map(|line| Some((line.as_str(), state.run_line(line)?)))

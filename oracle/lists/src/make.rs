@@ -22,7 +22,7 @@ struct Maker {
 /// A list: each of `rounds` rounds has one of each kind of scene.
 pub fn list(seed: u64, rounds: u64) -> Vec<String> {
     let mut maker = Maker {
-        state: State::new(),
+        state: State::fresh(),
         random: Random(seed),
         lines: Vec::new(),
     };

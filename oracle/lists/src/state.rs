@@ -112,7 +112,7 @@ pub fn starting_at(config: LeaseConfig, generation: u64) -> LeaseTable {
 }
 
 impl State {
-    pub fn new() -> State {
+    pub fn fresh() -> State {
         State {
             cursor: AckCursor::new(),
             table: LeaseTable::new(LeaseConfig::default()),
