@@ -12,10 +12,9 @@ use Rattle.types.specs.Limits.{MAX, LEASES, CARRIED, RANGES, STEPS}
 use Rattle.types.specs.Refusal.{Refusal, refused, done}
 use Rattle.types.specs.Table.{Passed, Answer, answer}
 use Rattle.types.specs.Keyed.{lookup, update, anyBelow}
-use Rattle.types.proofs.Cases.{split}
+use Rattle.types.proofs.Cases.{split, neither}
 use Rattle.types.proofs.Table.{guarded-cases, checked-done}
 use Rattle.cursor.specs.Cursor.{settled, ackBounded}
-use Rattle.cursor.proofs.Ranges.{or-none}
 use Rattle.delivery.specs.Policy.{unlimited}
 use Rattle.lease.specs.declared.Lease.{Lease}
 use Rattle.lease.specs.State.{Table, withLeases}
@@ -41,7 +40,7 @@ pub record ClaimOpen (s : State) (o now : ℕ) : Type 0 where
 module _ (t : Table) (o : ℕ) (full : isFull t o ≡ false) (no-lease : leaseOf t o ≡ none) where
   rooms : (leb LEASES (length (t .leases)) ≡ false)
       × ((isNone (lookup o (t .carried)) && leb CARRIED (length (t .leases) + length (t .carried))) ≡ false)
-  rooms = or-none (leb LEASES (length (t .leases))) _ (rw no-lease at full)
+  rooms = neither (leb LEASES (length (t .leases))) _ (rw no-lease at full)
 
   room-for-lease : length (t .leases) < LEASES
   room-for-lease = leb-false LEASES (length (t .leases)) (rooms .0)
@@ -51,7 +50,7 @@ module _ (t : Table) (o : ℕ) (full : isFull t o ≡ false) (no-lease : leaseOf
 
 pub claim-open : (s : State) (o now : ℕ) → Passed (claimTable s o now) → ClaimOpen s o now
 claim-open s o now p =
-    let due = or-none (atCeiling s) (atThreshold s) (p .1 .1 .1 .1 .0) in
+    let due = neither (atCeiling s) (atThreshold s) (p .1 .1 .1 .1 .0) in
     let full = p .1 .1 .1 .1 .1 .0 in
     record {
       not-last = eqb-false o MAX (p .0);

@@ -13,7 +13,7 @@ use borrow.Author.Tests.{eqb-true, eqb-false}
 use Rattle.types.specs.Limits.{MAX, CARRIED}
 use Rattle.types.specs.Refusal.{Result, refused, done}
 use Rattle.types.specs.Keyed.{Entry, lookup, Rising, All}
-use Rattle.types.proofs.Cases.{split}
+use Rattle.types.proofs.Cases.{split, neither}
 use Rattle.types.proofs.Keyed.{rising-weaken, lookup-under, lookup-all}
 use Rattle.types.proofs.Entries.{absent}
 use Rattle.types.proofs.Checked.{refused-not-done, done-inj, checked-says}
@@ -21,7 +21,6 @@ use Rattle.raw.specs.Bytes.{IsBytes}
 use Rattle.raw.proofs.Bytes.{bytes-append, bytes-take, bytes-drop, number-lt}
 use Rattle.cursor.specs.Cursor.{Cursor, settled, resume}
 use Rattle.cursor.specs.Cursor as cursors
-use Rattle.cursor.proofs.Ranges.{or-none}
 use Rattle.cursor.proofs.Snapshot.{decoded-valid}
 use Rattle.cursor.specs.Snapshot.{decodeCursor}
 use Rattle.attempt.specs.Snapshot.{PairsFit, decodeAttempts}
@@ -111,7 +110,7 @@ module _ (c : Cursor) where
       split (isDropped c e)
       (λ t. rw t (unsettled-counted l (f .1)))
       (λ t.
-      let n = eqb-false (e .value) 0 (or-none (eqb (e .value) 0) (settled c (e .key)) t .0) in
+      let n = eqb-false (e .value) 0 (neither (eqb (e .value) 0) (settled c (e .key)) t .0) in
       rw t (record { offset-fits = f .0 .0; once = omega (arith, n); count-fits = f .0 .1 }, unsettled-counted l (f .1)))
 
   unsettled-unsettled : (l : List (Entry ℕ)) → All (λ o n. settled c o ≡ false) (unsettledCounts c l)
@@ -119,7 +118,7 @@ module _ (c : Cursor) where
   unsettled-unsettled (e ∷ l) =
       split (isDropped c e)
       (λ t. rw t (unsettled-unsettled l))
-      (λ t. rw t (or-none (eqb (e .value) 0) (settled c (e .key)) t .1, unsettled-unsettled l))
+      (λ t. rw t (neither (eqb (e .value) 0) (settled c (e .key)) t .1, unsettled-unsettled l))
 
   -- the count carried of an offset: what was read, or none where it is settled
   pub carried-after : (lo o : ℕ) (l : List (Entry ℕ)) → Rising lo l

@@ -5,6 +5,5 @@ pub mod Checkpoint
 pub mod Restart
 pub mod Valid
 pub mod View
-pub mod Examples
 pub mod Starting
 pub mod Writing

@@ -3,7 +3,7 @@
 use Prim.Native.Nat.{ℕ, _+_, _≤_}
 use native.Mathlib.Omega.{arith}
 use mathlib.Core.Path.{_≡_, refl, sym, ap, _∙_}
-use mathlib.Core.Bool.{Bool, true, false, cond, _&&_, _||_, true≢false}
+use mathlib.Core.Bool.{Bool, true, cond, _||_}
 use mathlib.Core.List.{List}
 use mathlib.Core.Option.{Option}
 use lib.Dec.{ltb, leb, eqb}
@@ -11,7 +11,7 @@ use borrow.Author.Tests.{leb-true}
 use Rattle.types.specs.Limits.{MAX, sat32}
 use Rattle.types.specs.Refusal.{Result, done}
 use Rattle.types.specs.Table.{Answer}
-use Rattle.types.proofs.Cases.{split}
+use Rattle.types.proofs.Cases.{split, both}
 use Rattle.cursor.specs.Cursor.{Cursor}
 use Rattle.delivery.specs.Policy.{disposition}
 use Rattle.lease.specs.State.{Table}
@@ -33,10 +33,6 @@ use Rattle.crash_safety.specs.Runs.{world}
 use Rattle.crash_safety.proofs.Law.{Ledger, ledger, noted, Law, Lawful}
 use Rattle.crash_safety.proofs.Runs.{Made, Answered}
 use Rattle.crash_safety.proofs.Invariant.{Agrees, Stands, Inv}
-
-both : (p q : Bool) → (p && q) ≡ true → (p ≡ true) × (q ≡ true)
-both true q e = (refl, e)
-both false q e = absurd (true≢false (sym e))
 
 module _ (c : Settings) (n : ℕ) (l : Ledger) (s : State) (a : List ℕ) (inv : Inv c n l (world (idle s) a)) where
   -- what an answer says and leaves

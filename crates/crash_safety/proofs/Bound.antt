@@ -9,13 +9,13 @@
 use Prim.Native.Nat.{ℕ, _+_, _*_, _≤_, _<_, min}
 use native.Mathlib.Omega.{arith}
 use mathlib.Core.Path.{_≡_, refl}
-use mathlib.Core.Bool.{Bool, true, false, cond, _&&_, _||_, true≢false}
+use mathlib.Core.Bool.{Bool, true, false, cond, _&&_}
 use mathlib.Core.List.{List, [], _∷_}
 use lib.Dec.{leb, eqb}
 use borrow.Author.Tests.{leb-true, leb-false, eqb-true, ne-eqb, lt-ltb, le-ltb}
 use Rattle.types.specs.Limits.{MAX32, sat32}
 use Rattle.types.specs.Refusal.{refused, done}
-use Rattle.types.proofs.Cases.{split}
+use Rattle.types.proofs.Cases.{split, neither}
 use Rattle.delivery.specs.Policy.{Policy, disposition}
 use Rattle.consumer.specs.Calls.{HandOut}
 use Rattle.machine.specs.Calls.{Event, claimed, acked, termed, nacked, extended, committed, looked, begun, stepped, restarted, failed}
@@ -42,10 +42,6 @@ restartsSeen [] = 0
 restartsSeen (e ∷ es) = isRestart e + restartsSeen es
 
 -- ## pages
-neither : (a b : Bool) → (a || b) ≡ false → (a ≡ false) × (b ≡ false)
-neither true b e = absurd (true≢false e)
-neither false b e = (refl, e)
-
 -- what is unsettled on the second page is so on the first, with the same count
 record Fewer (p q : Page) : Type 0 where
   unsettled : (o : ℕ) → q .settled o ≡ false → p .settled o ≡ false

@@ -19,4 +19,3 @@ pub mod Settled
 pub mod Checkpoints
 pub mod Recovery
 pub mod Useful
-pub mod SettledExamples

@@ -4,7 +4,7 @@
 use Prim.Native.Nat.{ℕ, suc, _≤_, _<_}
 use native.Mathlib.Omega.{arith}
 use mathlib.Core.Path.{_≡_, refl, sym, _∙_}
-use mathlib.Core.Bool.{Bool, true, false, _&&_, _||_, true≢false, or-true}
+use mathlib.Core.Bool.{Bool, true, false, _&&_, true≢false, or-true}
 use mathlib.Core.List.{List, [], _∷_}
 use mathlib.Core.Option.{Option, none, some, Option·none-ne-some}
 use lib.Dec.{ltb, eqb}
@@ -13,7 +13,7 @@ use borrow.Author.Tests.{ltb-true, eqb-true, ne-eqb, lt-ltb}
 use Rattle.types.specs.Refusal.{Result, refused, done, Fenced}
 use Rattle.types.specs.Table.{Answer, Passed}
 use Rattle.types.specs.Keyed.{Entry, lookup, put, update, delete, dropBelow}
-use Rattle.types.proofs.Cases.{split}
+use Rattle.types.proofs.Cases.{split, both, either}
 use Rattle.types.proofs.Keyed.{lookup-put-same, lookup-put-other, lookup-delete-same, lookup-delete-other, lookup-drop-below, lookup-keep-above}
 use Rattle.consumer.proofs.Updates.{lookup-update-same, lookup-update-other}
 use Rattle.cursor.specs.Cursor.{settled}
@@ -53,14 +53,6 @@ abbrev leasesOf : Phase → List (Entry Lease)
 leasesOf (idle s) = s .table .leases
 leasesOf (writing w) = w .state .table .leases
 leasesOf off = []
-
-either : (p q : Bool) → (p || q) ≡ true → (p ≡ false → q ≡ true)
-either true q e n = absurd (true≢false n)
-either false q e n = e
-
-both : (p q : Bool) → (p && q) ≡ true → (p ≡ true) × (q ≡ true)
-both true q e = (refl, e)
-both false q e = absurd (true≢false (sym e))
 
 some-inj : {A : Type 0} {x y : A} → some x ≡ some y → x ≡ y
 some-inj e = cc

@@ -3,13 +3,13 @@
 use Prim.Native.Nat.{ℕ, suc, _+_, _*_, _/_, _≤_, _<_}
 use native.Mathlib.Omega.{arith}
 use native.Mathlib.Decide.{ℕ-discrete}
-use mathlib.Core.Path.{_≡_, refl, sym, ap, _∙_}
-use mathlib.Core.Bool.{Bool, true, false, not, _&&_, true≢false}
+use mathlib.Core.Path.{_≡_, sym, ap, _∙_}
+use mathlib.Core.Bool.{true, false, not}
 use mathlib.Core.List.{List}
 use lib.Dec.{eqb}
 use lib.ListN.{length}
 use borrow.Author.Tests.{eqb-true, leb-false, not-true}
-use Rattle.types.proofs.Cases.{split}
+use Rattle.types.proofs.Cases.{split, both}
 use Rattle.crc.specs.Seal.{isSealed}
 use Rattle.journal.specs.Area.{writeAt}
 use Rattle.journal.specs.Sound.{heads}
@@ -24,10 +24,6 @@ use Rattle.crash_safety.specs.Runs.{isTorn}
 use Rattle.crash_safety.proofs.Law.{Ledger}
 use Rattle.crash_safety.proofs.Invariant.{Saved, Journal, Stands, Written}
 use Rattle.crash_safety.proofs.Journals.{block-kept, stored, header-kept}
-
-both : (p q : Bool) → (p && q) ≡ true → (p ≡ true) × (q ≡ true)
-both true q e = (refl, e)
-both false q e = absurd (true≢false (sym e))
 
 -- 512 bytes whose check fails are no header
 torn-block : (b : List ℕ) → isTorn b ≡ true → (length b ≡ 512) × (heads b ≡ false)

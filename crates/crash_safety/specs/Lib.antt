@@ -5,4 +5,3 @@ pub mod Tokens
 pub mod Settled
 pub mod Recovery
 pub mod Useful
-pub mod Examples

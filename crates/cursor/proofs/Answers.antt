@@ -10,6 +10,7 @@ use borrow.Author.Tests.{eqb-false, le-leb, lt-leb}
 use Rattle.types.specs.Limits.{MAX, RANGES}
 use Rattle.types.specs.Refusal.{refused, done, Shed}
 use Rattle.types.specs.Table.{Answer, answer}
+use Rattle.types.proofs.Cases.{neither}
 use Rattle.cursor.specs.Cursor.{Cursor, Valid, settled, fragments, recorded, ackBounded, committedTo, commitUpTo}
 use Rattle.cursor.specs.View.{ackCursor, view, Sound}
 use Rattle.cursor.specs.Answers.{ackOf, Updated}
@@ -18,7 +19,6 @@ use Rattle.cursor.specs.declared.AckCursor.{AckCursor}
 use Rattle.cursor.specs.declared.BoundedAck.the-variants.{Recorded}
 use Rattle.cursor.specs.declared.Noted.{Noted}
 use Rattle.cursor.specs.declared.Spot.the-variants.{Settled}
-use Rattle.cursor.proofs.Ranges.{or-none}
 use Rattle.cursor.proofs.Cursor.{recorded-valid, commit-valid}
 
 module _ (c : Cursor) (o limit : ℕ) where
@@ -40,7 +40,7 @@ near-lands {c} limit t = rw (t .nearby) (and-false (leb (min limit RANGES) (leng
 
 -- an offset that is not settled is not the last
 pub not-last : {c : Cursor} {o : ℕ} {near : Bool} {after : Cursor} → Open c o near after → o ≤ MAX → o < MAX
-not-last {c} {o} t h = omega (arith, eqb-false o MAX (or-none (settled c o) (eqb o MAX) (t .unsettled) .1))
+not-last {c} {o} t h = omega (arith, eqb-false o MAX (neither (settled c o) (eqb o MAX) (t .unsettled) .1))
 
 -- the answer of the code with these parts
 pub noted : {g : AckCursor} {s e : List ℕ} {n k : ℕ} {right : Answer Bool Cursor} (r : Noted) → r ≡ record { outcome = Recorded; committed = n; runs = k }
@@ -58,7 +58,7 @@ module _ (g : AckCursor) (x limit : ℕ) (ok : Sound g) where
     landed : {near : Bool} {after : Cursor} → Open (view g) x near after → fragments (view g) x limit ≡ false → view h ≡ after → Updated g (done true) h (ackBounded (view g) x limit)
     landed t f e =
         let s = e ∙ sym (t .made) in
-        let u = or-none (settled (view g) x) (eqb x MAX) (t .unsettled) in
+        let u = neither (settled (view g) x) (eqb x MAX) (t .unsettled) in
         record {
           is = ap (answer (done true)) s ∙ sym (ack-new (view g) x limit (t .unsettled) f);
           sound = record { few = n; valid = subst Valid (sym s) (recorded-valid (view g) x (ok .valid) (u .0) limit (not-last t m) f) };

@@ -11,11 +11,11 @@ use borrow.Author.Tests.{ltb-true, ltb-false, leb-true, leb-false, eqb-true, eqb
 use Rattle.types.specs.Limits.{MAX, RANGES}
 use Rattle.types.specs.Refusal.{refused, done, Shed}
 use Rattle.types.specs.Table.{Answer, answer}
-use Rattle.types.proofs.Cases.{split}
+use Rattle.types.proofs.Cases.{split, neither}
 use Rattle.cursor.specs.Ranges.{Above, inside, touches, joined, insert}
 use Rattle.cursor.specs.Cursor.{Cursor, cursor, Valid, settled, advanced, recorded, fragments, ackBounded, committedTo, commitUpTo, resume}
 use Rattle.cursor.specs.declared.Range.{Range}
-use Rattle.cursor.proofs.Ranges.{or-none, or-left, below-join, below-next, inside-above, insert-in, insert-above, insert-length, insert-touching}
+use Rattle.cursor.proofs.Ranges.{or-left, below-join, below-next, inside-above, insert-in, insert-above, insert-length, insert-touching}
 
 -- ## what an ack records
 
@@ -68,11 +68,11 @@ advanced-length n (r ∷ rs) = split (eqb (r .start) n) (λ p. rw p (omega arith
 
 module _ (c : Cursor) (o : ℕ) (v : Valid c) (u : settled c o ≡ false) where
   out : inside o (c .ahead) ≡ false
-  out = or-none (ltb o (c .committed)) (inside o (c .ahead)) u .1
+  out = neither (ltb o (c .committed)) (inside o (c .ahead)) u .1
 
   by-place : {P : Type 0} → (o ≡ c .committed → P) → (c .committed < o → P) → P
   by-place next ahead =
-      let h = ltb-false o (c .committed) (or-none (ltb o (c .committed)) (inside o (c .ahead)) u .0) in
+      let h = ltb-false o (c .committed) (neither (ltb o (c .committed)) (inside o (c .ahead)) u .0) in
       split (eqb o (c .committed))
       (λ p. next (eqb-true o (c .committed) p))
       (λ p. ahead (omega (arith, eqb-false o (c .committed) p)))
@@ -112,7 +112,7 @@ unfolding ackBounded
 ack-cases c o limit P duplicate shed new =
     split (settled c o || eqb o MAX)
     (λ p. rw p (duplicate p))
-    (λ p. let q = or-none (settled c o) (eqb o MAX) p in
+    (λ p. let q = neither (settled c o) (eqb o MAX) p in
     split (fragments c o limit)
     (λ f. rw (p, f) (shed (q .0) (eqb-false o MAX (q .1)) f))
     (λ f. rw (p, f) (new (q .0) (eqb-false o MAX (q .1)) f)))

@@ -12,7 +12,7 @@ use lib.ListN.{length, drop, set}
 use borrow.Author.Tests.{ltb-true, leb-true, leb-false, eqb-true, eqb-false, eq-eqb, ne-eqb, lt-ltb, le-ltb, le-leb, lt-leb}
 use Rattle.types.specs.Limits.{MAX}
 use Rattle.types.specs.Zipped.{inserted, removed}
-use Rattle.types.proofs.Cases.{split}
+use Rattle.types.proofs.Cases.{split, both}
 use Rattle.cursor.specs.Ranges.{range, Above, touches, joined}
 use Rattle.cursor.specs.Cursor.{Cursor, cursor, settled, advanced, recorded, committedTo}
 use Rattle.cursor.specs.Place.{rangeAt, stretched, Spotted}
@@ -137,10 +137,6 @@ recorded-at o lo (r ∷ rs) a u =
     ∙ placed-step lo o (place o rs) r rs))
     (λ p. rw p (recorded-first o lo (r ∷ rs) (leb-false (r .start) o p, a .1, a .2, a .3) a (rw p at u)))
 
-and-first : (a b : Bool) → (a && b) ≡ true → a ≡ true
-and-first true b h = refl
-and-first false b h = h
-
 -- what the search for an offset answers, by the tests at its place
 module _ (c : Cursor) (o i : ℕ) (a : Above (c .committed) (c .ahead)) (e : i ≡ place o (c .ahead)) where
   abbrev end : ℕ
@@ -166,7 +162,7 @@ module _ (c : Cursor) (o i : ℕ) (a : Above (c .committed) (c .ahead)) (e : i �
     few = rw e (place-most o (c .ahead))
 
     next-in : nextAt o i (c .ahead) ≡ true → i < length (c .ahead)
-    next-in q = ltb-true i (length (c .ahead)) (and-first (ltb i (length (c .ahead))) (eqb (rangeAt i (c .ahead) .start) (o + 1)) q)
+    next-in q = ltb-true i (length (c .ahead)) (both (ltb i (length (c .ahead))) (eqb (rangeAt i (c .ahead) .start) (o + 1)) q .0)
 
     pub spot-behind : end ≡ o → nextAt o i (c .ahead) ≡ false → Spotted c o (Behind i)
     spot-behind p q = (few, record { unsettled = unsettled; nearby = rw (near-is, eq-eqb end o p); made = rw (made-is, eq-eqb end o p, q) })

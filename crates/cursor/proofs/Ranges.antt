@@ -10,17 +10,13 @@ use lib.Dec.{ltb, leb, eqb}
 use lib.ListN.{length, getD}
 use borrow.Author.Tests.{ltb-true, ltb-false, leb-true, eqb-true, eqb-false, ne-eqb, lt-ltb, le-ltb, le-leb, lt-leb}
 use Rattle.types.specs.Limits.{MAX}
-use Rattle.types.proofs.Cases.{split}
+use Rattle.types.proofs.Cases.{split, neither}
 use Rattle.cursor.specs.Ranges.{range, Above, inside, touches, joined, insert, offsets}
 use Rattle.cursor.specs.declared.Range.{Range}
 
 -- a test of an offset that lies at a bound or on one of its sides
 abbrev within : ℕ → ℕ → ℕ → Bool
 within start end o = leb start o && ltb o end
-
-pub or-none : (a b : Bool) → (a || b) ≡ false → (a ≡ false) × (b ≡ false)
-or-none true b e = absurd (true≢false e)
-or-none false b e = (refl, e)
 
 pub or-left : (a b c : Bool) → (a || (b || c)) ≡ (b || (a || c))
 or-left a b c = sym (or-assoc a b c) ∙ rw (or-comm a b) (or-assoc b a c)
@@ -84,7 +80,7 @@ insert-in o x lo (r ∷ rs) a n =
     rw (p, q) (joined-in (r .start) (o + 1) x (r .end) rs (omega arith) (a .3)
     ∙ rw (within-join (r .start) o (o + 1) x (omega arith) (omega arith), within-one o x, e, or-comm (within (r .start) o x) (eqb x o))
     (or-assoc (eqb x o) (within (r .start) o x) (inside x rs))))
-    (λ q. rw (p, q, insert-in o x (r .end) rs (a .3) (or-none (within (r .start) (r .end) o) (inside o rs) n .1))
+    (λ q. rw (p, q, insert-in o x (r .end) rs (a .3) (neither (within (r .start) (r .end) o) (inside o rs) n .1))
     (or-left (within (r .start) (r .end) x) (eqb x o) (inside x rs))))
 
 joined-above : (lo s o : ℕ) (l : List Range) → lo < s → s ≤ o → o < MAX → Above o l → Above lo (joined s (o + 1) l)
@@ -97,7 +93,7 @@ joined-above lo s o (r ∷ rs) h k m a =
 -- an offset in no range that is not before the first is not below its end
 behind : (o : ℕ) (r : Range) (rs : List Range) → inside o (r ∷ rs) ≡ false → ltb o (r .start) ≡ false → r .end ≤ o
 behind o r rs n p =
-    ltb-false o (r .end) (rw (le-leb (r .start) o (ltb-false o (r .start) p)) at (or-none (within (r .start) (r .end) o) (inside o rs) n .0))
+    ltb-false o (r .end) (rw (le-leb (r .start) o (ltb-false o (r .start) p)) at (neither (within (r .start) (r .end) o) (inside o rs) n .0))
 
 pub insert-above : (o lo : ℕ) (l : List Range) → lo < o → o < MAX → inside o l ≡ false → Above lo l → Above lo (insert o l)
 insert-above o lo [] h m n a = (h, omega arith, omega arith, tt)
@@ -108,7 +104,7 @@ insert-above o lo (r ∷ rs) h m n a =
     split (eqb (r .end) o)
     (λ q. let e = eqb-true (r .end) o q in
     rw (p, q) (joined-above lo (r .start) o rs (a .0) (omega arith) m (rw e at (a .3))))
-    (λ q. rw (p, q) (a .0, a .1, a .2, insert-above o (r .end) rs (omega (arith, eqb-false (r .end) o q)) m (or-none (within (r .start) (r .end) o) (inside o rs) n .1) (a .3))))
+    (λ q. rw (p, q) (a .0, a .1, a .2, insert-above o (r .end) rs (omega (arith, eqb-false (r .end) o q)) m (neither (within (r .start) (r .end) o) (inside o rs) n .1) (a .3))))
 
 joined-length : (s e : ℕ) (l : List Range) → length (joined s e l) ≤ suc (length l)
 joined-length s e [] = omega arith

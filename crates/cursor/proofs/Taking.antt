@@ -1,11 +1,11 @@
 -- A resumption takes range by range what `resumeWithAhead` tests and keeps. Assumes nothing.
-use Prim.Native.Nat.{ℕ, suc, _+_, _≤_, _<_, min}
+use Prim.Native.Nat.{ℕ, zero, suc, _+_, _≤_, _<_, min}
 use native.Mathlib.Omega.{arith}
 use mathlib.Core.Path.{_≡_, refl, sym, ap, subst, _∙_}
 use mathlib.Core.List.{List, [], _∷_, _++_}
 use mathlib.Core.Option.{none, some, Option·none-ne-some}
 use lib.Dec.{ltb}
-use lib.ListN.{length, take, set, length-append}
+use lib.ListN.{length, take, getD, set, length-append}
 use borrow.Author.Tests.{lt-ltb, le-ltb}
 use Rattle.types.specs.Limits.{MAX, RANGES}
 use Rattle.types.specs.Refusal.{TooManyRuns}
@@ -39,6 +39,22 @@ last-more n (p ∷ l) r = last-more (p .end) l r
 fits-more : (l : List Range) (r : Range) → EndsFit l → r .end ≤ MAX → EndsFit (l ++ r ∷ [])
 fits-more [] r f h = (h, tt)
 fits-more (p ∷ l) r f h = (f .0, fits-more l r (f .1) h)
+
+-- the ranges of two columns: one more, and all of them
+pub columns-more : (k : ℕ) (xs ys : List ℕ) → k < length xs → k < length ys
+    → take k (zipped range xs ys) ++ range (getD xs k 0) (getD ys k 0) ∷ [] ≡ take (suc k) (zipped range xs ys)
+columns-more k [] ys hx hy = absurd (omega arith)
+columns-more k (x ∷ xs) [] hx hy = absurd (omega arith)
+columns-more zero (x ∷ xs) (y ∷ ys) hx hy = refl
+columns-more (suc k) (x ∷ xs) (y ∷ ys) hx hy = ap (λ (l : List Range). range x y ∷ l) (columns-more k xs ys (omega arith) (omega arith))
+
+pub columns-all : (k : ℕ) (xs ys : List ℕ) → min (length xs) (length ys) ≤ k → take k (zipped range xs ys) ≡ zipped range xs ys
+columns-all zero [] ys h = refl
+columns-all (suc k) [] ys h = refl
+columns-all zero (x ∷ xs) [] h = refl
+columns-all (suc k) (x ∷ xs) [] h = refl
+columns-all zero (x ∷ xs) (y ∷ ys) h = absurd (omega arith)
+columns-all (suc k) (x ∷ xs) (y ∷ ys) h = ap (λ (l : List Range). range x y ∷ l) (columns-all k xs ys (omega arith))
 
 -- the row of 12
 abbrev limit : List Range → List Row

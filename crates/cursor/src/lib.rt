@@ -346,6 +346,13 @@ fn larger(a: u64, b: u64) -> u64
     if a < b { b } else { a }
 }
 
+// The shorter of two lengths.
+fn shorter(a: usize, b: usize) -> usize
+    ensures { λ r. ⌜ r ≡ min a b ⌝ }
+{
+    if a < b { a } else { b }
+}
+
 // A commit in place: what `commit_up_to` does to the parts of a cursor.
 fn commit_in_place(
     committed: u64,
@@ -625,6 +632,20 @@ impl AckCursor {
         while i < n {
             let r = ahead[i];
             under_way = take_range(under_way, r.start, r.end);
+            i += 1;
+        }
+        finish(under_way)
+    }
+
+    // The same with the starts and the ends in columns of their own, a range for each place that both have.
+    pub fn resume_with_columns<'a>(committed: Offset, starts: &'a [u64], ends: &'a [u64]) -> Resumed
+        ensures { λ r. ⌜ ResumedIs (committed .0) (zipped range (now (starts .entry)) (now (ends .entry))) r ⌝ }
+    {
+        let n = shorter(starts.len(), ends.len());
+        let mut under_way = begin(committed.0);
+        let mut i: usize = 0;
+        while i < n {
+            under_way = take_range(under_way, starts[i], ends[i]);
             i += 1;
         }
         finish(under_way)

@@ -1,2 +1,4 @@
+pub mod Columns
+pub mod Snapshots
 mod Places
 mod Turned

@@ -1,2 +1,4 @@
+pub mod Answers
+pub mod Snapshots
 pub mod Numbers
 pub mod Door

@@ -1,4 +1,288 @@
-// The functions that Rust calls. Each is thin over a function that takes its state by value.
+// What programs in other languages call: the snapshots and the check, on numbers and slices. A slice crosses as a pointer
+// and a length, a list of ranges or pairs as a column for each field. Nothing is required of a caller but that its slices
+// are there, and that one that is written to overlaps no other. The door to a consumer is in `door`.
+ghost use mathlib.Core.Path.{_≡_};
+ghost use mathlib.Core.List.{[], _∷_};
+ghost use Prim.Native.Nat.{_≤_, min};
+ghost use lib.ListN.{length, take};
+ghost use Rattle.types.specs.Refusal.{done, answered};
+ghost use Rattle.types.specs.Table.{unless};
+ghost use Rattle.types.specs.Keyed.{entries};
+ghost use Rattle.types.specs.Zipped.{zipped};
+ghost use Rattle.raw.specs.Bytes.{outcomeOf};
+ghost use Rattle.crc.specs.Crc32c.{crc};
+ghost use Rattle.cursor.specs.Ranges.{range};
+ghost use Rattle.cursor.specs.Answers.{rangesError, snapshotError, decodeFault};
+ghost use Rattle.attempt.specs.Snapshot.{encodeInto};
+ghost use Rattle.attempt.specs.Codec.{entriesOf, encodeOf, decodeOf};
+ghost use Rattle.exports.specs.Answers.{tells, refuses, one, crossed, cross};
+ghost use Rattle.exports.specs.Snapshots.{columns, keysOf, valuesOf, front, encodeRanges, decodeRanges, decodePairs};
+use attempt::Encode;
+use attempt::Pair;
+use cursor::AckCursor;
+use cursor::AckCursorError;
+use cursor::Resume;
+use cursor::SnapshotError;
+use raw::Write;
+use types::Offset;
+
 pub mod door;
 pub mod kinds;
 pub mod numbers;
+
+// 01's number of an answer, 0 where nothing is refused, and its values, 0 where there are fewer than two.
+#[repr(C)]
+pub struct Told {
+    pub number: u64,
+    pub first: u64,
+    pub second: u64,
+}
+
+fn numbered(number: u64, first: u64, second: u64) -> Told
+    ensures { λ r. ⌜ r ≡ record { number = number; first = first; second = second } ⌝ }
+{
+    Told {
+        number,
+        first,
+        second,
+    }
+}
+
+// The refusals of ranges.
+fn ranges_told(error: AckCursorError) -> Told
+    ensures { λ r. ⌜ r ≡ refuses (rangesError error) ⌝ }
+{
+    match error {
+        AckCursorError::EmptyRange { start, end } => numbered(10, start, end),
+        AckCursorError::NotSortedDisjointAndAboveCommitted { start, prev_end } => {
+            numbered(11, start, prev_end)
+        }
+        AckCursorError::TooManyRuns => numbered(12, 0, 0),
+    }
+}
+
+// The refusals of a cursor snapshot.
+fn snapshot_told(error: SnapshotError) -> Told
+    ensures { λ r. ⌜ r ≡ refuses (snapshotError error) ⌝ }
+{
+    match error {
+        SnapshotError::Truncated => numbered(6, 0, 0),
+        SnapshotError::BadLength { len } => numbered(7, len as u64, 0),
+        SnapshotError::UnsupportedVersion(version) => numbered(8, version as u64, 0),
+        SnapshotError::BadCrc => numbered(9, 0, 0),
+        SnapshotError::Ranges(error) => ranges_told(error),
+    }
+}
+
+// What a decoded cursor answers: its committed offset and the number of its ranges.
+fn cursor_told(outcome: cursor::Decode, committed: u64, runs: usize) -> Told
+    ensures { λ r. ⌜ r ≡ tells (answered (λ v. v) (unless (decodeFault outcome) (done (committed ∷ runs ∷ [])))) ⌝ }
+{
+    match outcome {
+        cursor::Decode::Restored => numbered(0, committed, runs as u64),
+        cursor::Decode::Refused(error) => snapshot_told(error),
+    }
+}
+
+// What writing a cursor snapshot answers: the position behind it.
+fn write_told(outcome: Write) -> Told
+    ensures { λ r. ⌜ r ≡ tells (answered one (outcomeOf outcome)) ⌝ }
+{
+    match outcome {
+        Write::Next(pos) => numbered(0, pos as u64, 0),
+        Write::OutTooShort => numbered(20, 0, 0),
+    }
+}
+
+// What writing an attempt snapshot answers: the position behind it.
+fn encode_told(outcome: Encode) -> Told
+    ensures { λ r. ⌜ r ≡ tells (answered one (encodeOf outcome)) ⌝ }
+{
+    match outcome {
+        Encode::Next(pos) => numbered(0, pos as u64, 0),
+        Encode::TooManyPairs => numbered(19, 0, 0),
+        Encode::OutTooShort => numbered(20, 0, 0),
+    }
+}
+
+// What decoded attempt counts answer: how many pairs there are.
+fn pairs_told(outcome: attempt::Decode) -> Told
+    ensures { λ r. ⌜ r ≡ tells (answered one (decodeOf outcome)) ⌝ }
+{
+    match outcome {
+        attempt::Decode::Pairs(count) => numbered(0, count as u64, 0),
+        attempt::Decode::Truncated => numbered(13, 0, 0),
+        attempt::Decode::UnsupportedVersion(version) => numbered(14, version as u64, 0),
+        attempt::Decode::BadLength { len } => numbered(15, len as u64, 0),
+        attempt::Decode::CountMismatch { declared, actual } => numbered(
+            16,
+            declared as u64,
+            actual,
+        ),
+        attempt::Decode::BadCrc => numbered(17, 0, 0),
+        attempt::Decode::NotSorted {
+            offset,
+            prev_offset,
+        } => numbered(18, offset, prev_offset),
+        attempt::Decode::TooManyPairs => numbered(19, 0, 0),
+        attempt::Decode::OutTooShort => numbered(20, 0, 0),
+    }
+}
+
+// Puts the first n numbers of a column at the front of a lent one.
+fn list_column(column: &[u64; 128], n: usize, out: &mut [u64])
+    requires { ⌜ (length (now column) ≡ 128) × (n ≤ 128) × (n ≤ length (now out)) ⌝ }
+    ensures { λ _. ⌜ now (out .exit) ≡ front (take n (now (column .entry))) (now (out .entry)) ⌝ }
+{
+    let mut i: usize = 0;
+    while i < n {
+        out[i] = column[i];
+        i += 1;
+    }
+}
+
+// Puts the offsets of the first n pairs at the front of a lent column.
+fn list_offsets(pairs: [Pair; 128], n: usize, out: &mut [u64])
+    requires { ⌜ (n ≤ 128) × (n ≤ length (now out)) ⌝ }
+    ensures { λ _. ⌜ now (out .exit) ≡ front (keysOf (entriesOf (take n pairs))) (now (out .entry)) ⌝ }
+{
+    let mut i: usize = 0;
+    while i < n {
+        out[i] = pairs[i].offset;
+        i += 1;
+    }
+}
+
+// Puts the counts of the first n pairs at the front of a lent column.
+fn list_attempts(pairs: [Pair; 128], n: usize, out: &mut [u32])
+    requires { ⌜ (n ≤ 128) × (n ≤ length (now out)) ⌝ }
+    ensures { λ _. ⌜ now (out .exit) ≡ front (valuesOf (entriesOf (take n pairs))) (now (out .entry)) ⌝ }
+{
+    let mut i: usize = 0;
+    while i < n {
+        out[i] = pairs[i].attempt;
+        i += 1;
+    }
+}
+
+// The shorter of two lengths.
+fn shorter(a: usize, b: usize) -> usize
+    ensures { λ r. ⌜ r ≡ min a b ⌝ }
+{
+    if a < b { a } else { b }
+}
+
+// The first n pairs of two columns at the front of an array.
+fn gathered<'a>(offsets: &'a [u64], attempts: &'a [u32], n: usize) -> [Pair; 128]
+    requires { ⌜ (n ≤ 128) × (n ≤ length (now offsets)) × (n ≤ length (now attempts)) ⌝ }
+    ensures { λ r. ⌜ entriesOf (take n r) ≡ take n (entries (now (offsets .entry)) (now (attempts .entry))) ⌝ }
+{
+    let none = Pair {
+        offset: 0,
+        attempt: 0,
+    };
+    let mut pairs = [none; 128];
+    let mut i: usize = 0;
+    while i < n {
+        pairs[i] = Pair {
+            offset: offsets[i],
+            attempt: attempts[i],
+        };
+        i += 1;
+    }
+    pairs
+}
+
+// The check of the bytes.
+#[no_mangle]
+pub extern "C" fn ninotskev_crc32c(bytes: &[u8]) -> u32
+    ensures { λ r. ⌜ r ≡ crc (now (bytes .entry)) ⌝ }
+{
+    crc::crc32c(bytes)
+}
+
+// Writes the snapshot of a cursor, given by its committed offset and a range for each place that both columns have, from a
+// position on. Answers the position behind it, or 10, 11, 12 or 20.
+#[no_mangle]
+pub extern "C" fn ninotskev_encode_cursor<'a>(
+    committed: u64,
+    starts: &'a [u64],
+    ends: &'a [u64],
+    out: &mut [u8],
+    at: usize,
+) -> Told
+    ensures { λ r. ⌜ crossed r (now (out .exit)) ≡ cross one (encodeRanges committed (zipped range (now (starts .entry)) (now (ends .entry))) at (now (out .entry))) ⌝ }
+{
+    let resumed = AckCursor::resume_with_columns(Offset(committed), starts, ends);
+    let outcome = resumed.outcome;
+    match outcome {
+        Resume::Resumed => write_told(resumed.cursor.encode_snapshot(out, at)),
+        Resume::Refused(error) => ranges_told(error),
+    }
+}
+
+// Reads the snapshot of a cursor, and puts the starts and the ends of its ranges at the front of two lent columns. Answers the
+// committed offset and the number of ranges, or 6 to 12, or 20 where a column is too short.
+#[no_mangle]
+pub extern "C" fn ninotskev_decode_cursor(
+    input: &[u8],
+    starts: &mut [u64],
+    ends: &mut [u64],
+) -> Told
+    ensures { λ r. ⌜ crossed r (columns (now (starts .exit)) (now (ends .exit))) ≡ cross (λ v. v) (decodeRanges (now (input .entry)) (columns (now (starts .entry)) (now (ends .entry)))) ⌝ }
+{
+    let decoded = AckCursor::decode_snapshot(input);
+    let cursor = decoded.cursor;
+    let n = cursor.runs;
+    if starts.len() < n {
+        return numbered(20, 0, 0);
+    }
+    if ends.len() < n {
+        return numbered(20, 0, 0);
+    }
+    list_column(&cursor.starts, n, starts);
+    list_column(&cursor.ends, n, ends);
+    let outcome = decoded.outcome;
+    cursor_told(outcome, cursor.committed, n)
+}
+
+// Writes the snapshot of attempt counts, a pair for each place that both columns have, from a position on. Answers the
+// position behind it, or 19 or 20.
+#[no_mangle]
+pub extern "C" fn ninotskev_encode_attempts<'a>(
+    offsets: &'a [u64],
+    attempts: &'a [u32],
+    out: &mut [u8],
+    at: usize,
+) -> Told
+    ensures { λ r. ⌜ crossed r (now (out .exit)) ≡ cross one (encodeInto (entries (now (offsets .entry)) (now (attempts .entry))) at (now (out .entry))) ⌝ }
+{
+    let n = shorter(offsets.len(), attempts.len());
+    let pairs = gathered(offsets, attempts, shorter(n, 128));
+    encode_told(attempt::encode_pairs(pairs, n, out, at))
+}
+
+// Reads the snapshot of attempt counts, and puts its offsets and its counts at the front of two lent columns. Answers the
+// number of pairs, or 13 to 19, or 20 where a column is too short.
+#[no_mangle]
+pub extern "C" fn ninotskev_decode_attempts(
+    input: &[u8],
+    offsets: &mut [u64],
+    attempts: &mut [u32],
+) -> Told
+    ensures { λ r. ⌜ crossed r (columns (now (offsets .exit)) (now (attempts .exit))) ≡ cross (λ v. v) (decodePairs (now (input .entry)) (columns (now (offsets .entry)) (now (attempts .entry)))) ⌝ }
+{
+    let decoded = attempt::decode_pairs(input);
+    let n = decoded.count;
+    if offsets.len() < n {
+        return numbered(20, 0, 0);
+    }
+    if attempts.len() < n {
+        return numbered(20, 0, 0);
+    }
+    let pairs = decoded.pairs;
+    list_offsets(pairs, n, offsets);
+    list_attempts(pairs, n, attempts);
+    let outcome = decoded.outcome;
+    pairs_told(outcome)
+}

@@ -11,7 +11,7 @@ use lib.Dec.{leb, eqb}
 use lib.ListN.{length, take, drop, getD, drop-of-length-le}
 use lib.Seq.{drop-cons}
 use borrow.Author.Tests.{eqb-true, leb-true, eq-eqb, ne-eqb, le-leb}
-use Rattle.types.proofs.Cases.{split}
+use Rattle.types.proofs.Cases.{split, both}
 use Rattle.crc.specs.Seal.{isSealed}
 use Rattle.journal.specs.Blocks.{
   bodiesFor,
@@ -46,10 +46,6 @@ use Rattle.journal.proofs.Blocks.{
   body-number,
   body-rest,
 }
-
-both : (p q : Bool) → (p && q) ≡ true → (p ≡ true) × (q ≡ true)
-both true q e = (refl, e)
-both false q e = absurd (true≢false (sym e))
 
 -- a test is false where it cannot be true
 refuted : (t : Bool) → (t ≡ true → ⊥) → false ≡ t

@@ -3,4 +3,3 @@ pub mod Blocks
 pub mod Sound
 pub mod Walks
 pub mod Answers
-pub mod Examples

@@ -16,9 +16,10 @@ use Rattle.types.specs.Keyed.{Entry, entry, entries, lookup, put, Rising, All}
 use Rattle.types.proofs.Cases.{split}
 use Rattle.types.proofs.Keyed.{length-put-old, length-put-new}
 use Rattle.types.proofs.Columns.{length-used}
+use Rattle.types.specs.Zipped.{inserted}
 use Rattle.lease.specs.State.{Sound, view, carriedOf, withCarried}
 use Rattle.lease.specs.Counts.{carry, carryAll, resumeAttempts}
-use Rattle.lease.specs.Helpers.{Placed, inserted, Carries}
+use Rattle.lease.specs.Helpers.{Placed, Carries}
 use Rattle.lease.specs.Answers.{Answers}
 use Rattle.lease.specs.declared.LeaseTable.{LeaseTable}
 use Rattle.lease.specs.declared.columns.Place.{Place}

@@ -9,9 +9,9 @@ use lib.Seq.{length-take-le}
 use Rattle.types.specs.Keyed.{entries, dropBelow, Rising}
 use Rattle.types.specs.Sorted.{below}
 use Rattle.types.proofs.Columns.{rising-ascending, drop-below-place, entries-map}
+use Rattle.types.specs.Zipped.{removed}
 use Rattle.lease.specs.State.{Sound, view, withLeases}
 use Rattle.lease.specs.Rest.{releaseBelow, shiftedBy, shiftDeadlines}
-use Rattle.lease.specs.Helpers.{without}
 use Rattle.lease.specs.Answers.{Becomes}
 use Rattle.lease.specs.declared.Lease.{Lease}
 use Rattle.lease.specs.declared.LeaseTable.{LeaseTable}
@@ -22,7 +22,7 @@ use Rattle.lease.proofs.Valid.{valid-release, valid-shift}
 -- ## released below a bound
 -- two columns without what lies below
 released : {A : Type 0} (b n first : ℕ) (ks : List ℕ) (vs : List A) (ks′ : List ℕ) (vs′ : List A) → n ≤ length ks → n ≤ length vs → Rising 0 (entries (take n ks) (take n vs))
-    → first ≡ below b (take n ks) → take (n - (first - 0)) ks′ ≡ without 0 first (take n ks) → take (n - (first - 0)) vs′ ≡ without 0 first (take n vs)
+    → first ≡ below b (take n ks) → take (n - (first - 0)) ks′ ≡ removed 0 first (take n ks) → take (n - (first - 0)) vs′ ≡ removed 0 first (take n vs)
     → entries (take (n - first) ks′) (take (n - first) vs′) ≡ dropBelow b (entries (take n ks) (take n vs))
 released b n first ks vs ks′ vs′ h k r e p q =
     let z : n - first ≡ n - (first - 0) = omega arith in
@@ -46,12 +46,13 @@ shortened t ks vs n cks cvs m =
 
 module _ (t : LeaseTable) (full : Full t) (ok : Sound t) (b first carried : ℕ) (ks : List ℕ) (vs : List Lease) (cks cvs : List ℕ) where
   pub releases : first ≡ below b (take (t .len) (t .offsets)) → carried ≡ below b (take (t .«carried_len») (t .«carried_offsets»))
-      → take (t .len - (first - 0)) ks ≡ without 0 first (take (t .len) (t .offsets)) → take (t .len - (first - 0)) vs ≡ without 0 first (take (t .len) (t .leases))
-      → take (t .«carried_len» - (carried - 0)) cks ≡ without 0 carried (take (t .«carried_len») (t .«carried_offsets»))
-      → take (t .«carried_len» - (carried - 0)) cvs ≡ without 0 carried (take (t .«carried_len») (t .«carried_counts»))
-      → {after : LeaseTable} → after ≡ shortened t ks vs (t .len - first) cks cvs (t .«carried_len» - carried) → Becomes after (releaseBelow (view t) b)
+      → take (t .len - (first - 0)) ks ≡ removed 0 first (take (t .len) (t .offsets)) → take (t .len - (first - 0)) vs ≡ removed 0 first (take (t .len) (t .leases))
+      → take (t .«carried_len» - (carried - 0)) cks ≡ removed 0 carried (take (t .«carried_len») (t .«carried_offsets»))
+      → take (t .«carried_len» - (carried - 0)) cvs ≡ removed 0 carried (take (t .«carried_len») (t .«carried_counts»))
+      → {after : LeaseTable} → after ≡ shortened t ks vs (t .len - (first - 0)) cks cvs (t .«carried_len» - carried) → Becomes after (releaseBelow (view t) b)
   releases e c p q v w same =
-      rw same (becomes (record {
+      let z : first - 0 ≡ first = omega arith in
+      rw (same ∙ ap (λ (n : ℕ). shortened t ks vs (t .len - n) cks cvs (t .«carried_len» - carried)) z) (becomes (record {
         len = omega (arith, ok .len);
         carried-len = omega (arith, ok .carried-len);
         is =

@@ -12,9 +12,10 @@ use borrow.Author.Tests.{le-leb, lt-leb, eq-eqb, ne-eqb}
 use Rattle.types.specs.Limits.{MAX, LEASES, sat32}
 use Rattle.types.specs.Refusal.{Result, refused, done, InFlight, Exhausted, Full}
 use Rattle.types.specs.Keyed.{Entry, put}
+use Rattle.types.specs.Zipped.{inserted, removed}
 use Rattle.lease.specs.State.{Table, Sound, view, leasesOf, carriedOf}
 use Rattle.lease.specs.Operations.{lease, leaseOf, isNone, running, deadlineFrom, nextCount, consumed, afterGrant, Grant, grantOf, grant, granted, claimRows, claim}
-use Rattle.lease.specs.Helpers.{inserted, without, Spans}
+use Rattle.lease.specs.Helpers.{Spans}
 use Rattle.lease.specs.Answers.{Answers}
 use Rattle.lease.specs.declared.Lease.{Lease}
 use Rattle.lease.specs.declared.LeaseTable.{LeaseTable}
@@ -64,21 +65,6 @@ made-grant : (s : Table) (o now d : ℕ) (l : List (Entry Lease)) (c : List (Ent
     → r ≡ afterGrant (s .redeliveries) d → made s l c r ≡ grant s o now
 made-grant s o now d l c r e p q w = rw (p, q, w, ← e)
 
--- a table with these leases, after a grant
-abbrev pub finished : LeaseTable → List Lease → ℕ → ℕ → ℕ → LeaseTable
-finished t vs n g r =
-    record {
-      config = t .config;
-      offsets = t .offsets;
-      leases = vs;
-      len = n;
-      «carried_offsets» = t .«carried_offsets»;
-      «carried_counts» = t .«carried_counts»;
-      «carried_len» = t .«carried_len»;
-      «next_generation» = record { 0 = g };
-      «redeliveries_since_flush» = r;
-    }
-
 -- the count that is handed out, where there is a lease and where there is none
 pub count-again : (t : LeaseTable) (o at d : ℕ) → Leased t o at → d ≡ sat32 (getD (t .leases) at nil .deliveries) 1 → nextCount (view t) o ≡ d
 count-again t o at d here e = rw (here .is) (sym e)
@@ -116,8 +102,8 @@ module _ (t : LeaseTable) (ok : Sound t) (o at now : ℕ) where
     pub granted-first : Free t o at → t .len < LEASES → (c : Span) → Spans o (take (t .«carried_len») (t .«carried_offsets»)) (take (t .«carried_len») (t .«carried_counts»)) c
         → d ≡ sat32 (c .count) 1 → (ks : List ℕ) (vs : List Lease) (cks cvs : List ℕ)
         → take (t .len + 1) ks ≡ inserted at o (take (t .len) (t .offsets)) → take (t .len + 1) vs ≡ inserted at new (take (t .len) (t .leases))
-        → take (t .«carried_len» - (c .to - c .from)) cks ≡ without (c .from) (c .to) (take (t .«carried_len») (t .«carried_offsets»))
-        → take (t .«carried_len» - (c .to - c .from)) cvs ≡ without (c .from) (c .to) (take (t .«carried_len») (t .«carried_counts»))
+        → take (t .«carried_len» - (c .to - c .from)) cks ≡ removed (c .from) (c .to) (take (t .«carried_len») (t .«carried_offsets»))
+        → take (t .«carried_len» - (c .to - c .from)) cvs ≡ removed (c .from) (c .to) (take (t .«carried_len») (t .«carried_counts»))
         → {u : LeaseTable} → u ≡ after ks vs (t .len + 1) cks cvs (t .«carried_len» - (c .to - c .from)) r → Shows u (grant (view t) o now)
     granted-first here room c prior e ks vs cks cvs p q v w same =
         rw same (record {

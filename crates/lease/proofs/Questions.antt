@@ -2,7 +2,7 @@
 -- that was found.
 -- Assumes nothing.
 use Prim.Native.Nat.{ℕ, _≤_, _<_}
-use mathlib.Core.Path.{_≡_, refl, ap, _∙_}
+use mathlib.Core.Path.{_≡_, refl, sym, ap, _∙_}
 use mathlib.Core.Bool.{true, false, true≢false}
 use mathlib.Core.Option.{none, some}
 use lib.Dec.{ltb, leb}
@@ -16,10 +16,21 @@ use Rattle.lease.specs.State.{Table, Sound, view, leasesOf, withLeases}
 use Rattle.lease.specs.Operations.{leaseOf, owns, running, dueAt}
 use Rattle.lease.specs.Rest.{resealedAs, resealFromTo, overdue, deferRedelivery, isClaimable, deliveries, pendingRedeliveryAttempt}
 use Rattle.lease.specs.Answers.{Tries}
+use Rattle.lease.specs.Lookup.{leaseAt}
 use Rattle.lease.specs.declared.Lease.{Lease}
 use Rattle.lease.specs.declared.LeaseTable.{LeaseTable}
+use Rattle.lease.specs.declared.lookup.LeaseAt.{LeaseAt}
+use Rattle.lease.specs.declared.lookup.LeaseAt.the-variants.{Some, None}
 use Rattle.lease.proofs.Returns.{Shows, sound-as}
 use Rattle.lease.proofs.Valid.{valid-update}
+
+-- ## what a look-up found
+module _ (s : Table) (o : ℕ) {r : LeaseAt} (p : leaseAt r ≡ leaseOf s o) where
+  pub found-lease : {l : Lease} → r ≡ Some l → leaseOf s o ≡ some l
+  found-lease e = sym p ∙ ap leaseAt e
+
+  pub found-none : r ≡ None → leaseOf s o ≡ none
+  found-none e = sym p ∙ ap leaseAt e
 
 -- ## changes
 module _ (t : LeaseTable) (ok : Sound t) (o from to : ℕ) where

@@ -14,9 +14,10 @@ use Rattle.types.specs.Sorted.{Ascending, below}
 use Rattle.types.proofs.Sorted.{below-le}
 use Rattle.types.proofs.Keyed.{delete-absent}
 use Rattle.types.proofs.Columns.{length-entries, rising-ascending, lookup-found, put-found, delete-found, lookup-missing, put-missing}
+use Rattle.types.specs.Zipped.{inserted, removed}
 use Rattle.lease.specs.State.{Sound, leasesOf}
 use Rattle.lease.specs.Operations.{lease}
-use Rattle.lease.specs.Helpers.{Placed, Spans, inserted, without}
+use Rattle.lease.specs.Helpers.{Placed, Spans, rebuilt}
 use Rattle.lease.specs.declared.Lease.{Lease}
 use Rattle.lease.specs.declared.LeaseTable.{LeaseTable}
 use Rattle.lease.specs.declared.columns.Place.{Place}
@@ -30,21 +31,7 @@ nil = lease 0 0 0 0
 pub length-mapped : {A B : Type 0} (f : A → B) (l : List A) (n : ℕ) → length (map f l) ≡ n → length l ≡ n
 length-mapped f l n e = sym (length-map l f) ∙ e
 
--- a table with other leases in it, in columns of which the first n places are in use; and with other values alone
-abbrev pub rebuilt : LeaseTable → List ℕ → List Lease → ℕ → LeaseTable
-rebuilt t ks vs n =
-    record {
-      config = t .config;
-      offsets = ks;
-      leases = vs;
-      len = n;
-      «carried_offsets» = t .«carried_offsets»;
-      «carried_counts» = t .«carried_counts»;
-      «carried_len» = t .«carried_len»;
-      «next_generation» = t .«next_generation»;
-      «redeliveries_since_flush» = t .«redeliveries_since_flush»;
-    }
-
+-- a table with other values in its leases
 abbrev pub holding : LeaseTable → List Lease → LeaseTable
 holding t vs = rebuilt t (t .offsets) vs (t .len)
 
@@ -72,7 +59,7 @@ pub record Stands {A : Type 0} (d : A) (n : ℕ) (ks : List ℕ) (vs : List A) (
   pub inside : at < n
   pub is : lookup x (entries (take n ks) (take n vs)) ≡ some (getD vs at d)
   pub put : (v : A) → entries (take n ks) (take n (set vs at v)) ≡ put x v (entries (take n ks) (take n vs))
-  pub gone : entries (without at (at + 1) (take n ks)) (without at (at + 1) (take n vs)) ≡ delete x (entries (take n ks) (take n vs))
+  pub gone : entries (removed at (at + 1) (take n ks)) (removed at (at + 1) (take n vs)) ≡ delete x (entries (take n ks) (take n vs))
 
 -- x stands nowhere, and belongs at a place
 pub record Lacks {A : Type 0} (n : ℕ) (ks : List ℕ) (vs : List A) (x at : ℕ) : Type 0 where

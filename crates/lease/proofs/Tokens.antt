@@ -16,10 +16,10 @@ use Rattle.types.proofs.Keyed.{update-put}
 use Rattle.lease.specs.State.{Table, Sound, view, leasesOf, withLeases}
 use Rattle.lease.specs.Operations.{leaseOf, owns, tokenRow, ack, capFrom, deadlineFrom, dueAt, extendRows, extended, extend, nackRows, requeuedAs, requeue, nack}
 use Rattle.lease.specs.Answers.{Answers}
-use Rattle.lease.specs.Helpers.{without}
+use Rattle.lease.specs.Helpers.{Shorter}
 use Rattle.lease.specs.declared.Lease.{Lease}
 use Rattle.lease.specs.declared.LeaseTable.{LeaseTable}
-use Rattle.lease.proofs.Slots.{nil, Leased, rebuilt, holding}
+use Rattle.lease.proofs.Slots.{nil, Leased, holding}
 use Rattle.lease.proofs.Returns.{Shows, refuses, takes-effect}
 use Rattle.lease.proofs.Valid.{valid-update, valid-ack, valid-requeue}
 
@@ -71,16 +71,13 @@ module _ (t : LeaseTable) (ok : Sound t) (o at : ℕ) (here : Leased t o at) whe
         is = ap (λ (l : List (Entry Lease)). withNext (withLeases (view t) l)) (stored-leases (requeuedAs (t .«next_generation» .0) deadline));
       }
 
-  -- the columns without the place
-  pub shows-removed : (ks : List ℕ) (vs : List Lease) → take (t .len - (at + 1 - at)) ks ≡ without at (at + 1) (take (t .len) (t .offsets))
-      → take (t .len - (at + 1 - at)) vs ≡ without at (at + 1) (take (t .len) (t .leases))
-      → {after : LeaseTable} → after ≡ rebuilt t ks vs (t .len - 1) → Shows after (withLeases (view t) (delete o (leasesOf t)))
-  shows-removed ks vs p q e =
-      let n : t .len - (at + 1 - at) ≡ t .len - 1 = omega arith in
-      rw e (record {
+  -- without the place
+  pub shows-removed : {after : LeaseTable} → Shorter t at (at + 1) after → Shows after (withLeases (view t) (delete o (leasesOf t)))
+  shows-removed w =
+      rw (w .rest) (record {
         len = omega (arith, ok .len);
         carried-len = ok .carried-len;
-        is = ap (withLeases (view t)) (rw (← n, p, q) (here .gone));
+        is = ap (withLeases (view t)) (rw (w .keys, w .values) (here .gone));
       })
 
 -- ## ack

@@ -1,12 +1,12 @@
 // Sorted tables held as columns: an array of keys, and an array of values at the same places. The first `len` places of
 // each are in use.
 ghost use mathlib.Core.Path.{_≡_};
-ghost use Prim.Native.Nat.{_+_, _-_, _≤_, _<_, max};
+ghost use Prim.Native.Nat.{_+_, _≤_, _<_, max};
 ghost use lib.ListN.{length, take};
 ghost use Rattle.types.specs.Limits.{CARRIED};
 ghost use Rattle.types.specs.Keyed.{entries, Rising};
 ghost use Rattle.types.specs.Sorted.{Ascending, below};
-ghost use Rattle.lease.specs.Helpers.{inserted, without, Placed, Spans, Picked, Carries};
+ghost use Rattle.lease.specs.Helpers.{Placed, Spans, Picked, Carries};
 ghost use Rattle.lease.specs.Counts.{carry};
 
 // Where a key stands, or where it would stand.
@@ -84,93 +84,6 @@ pub(crate) fn count_of<'a>(keys: &'a [u64], counts: &'a [u32], len: usize, x: u6
             count: 0,
         },
     }
-}
-
-// Puts x in at a place.
-pub(crate) fn insert(column: &mut [u64], len: usize, at: usize, x: u64)
-    requires { ⌜ (at ≤ len) × (len < length (now column)) ⌝ }
-    ensures { λ _. ⌜ take (len + 1) (now (column .exit)) ≡ inserted at x (take len (now (column .entry))) ⌝ }
-{
-    let mut held = x;
-    let mut i = at;
-    while i < len {
-        let next = column[i];
-        column[i] = held;
-        held = next;
-        i += 1;
-    }
-    column[i] = held;
-}
-
-pub(crate) fn insert_count(column: &mut [u32], len: usize, at: usize, x: u32)
-    requires { ⌜ (at ≤ len) × (len < length (now column)) ⌝ }
-    ensures { λ _. ⌜ take (len + 1) (now (column .exit)) ≡ inserted at x (take len (now (column .entry))) ⌝ }
-{
-    let mut held = x;
-    let mut i = at;
-    while i < len {
-        let next = column[i];
-        column[i] = held;
-        held = next;
-        i += 1;
-    }
-    column[i] = held;
-}
-
-// Takes the places from `from` up to `to` out.
-pub(crate) fn remove(column: &mut [u64], len: usize, from: usize, to: usize)
-    requires { ⌜ (from ≤ to) × (to ≤ len) × (len ≤ length (now column)) ⌝ }
-    ensures { λ _. ⌜ take (len - (to - from)) (now (column .exit)) ≡ without from to (take len (now (column .entry))) ⌝ }
-{
-    let mut i = from;
-    let mut j = to;
-    while j < len {
-        column[i] = column[j];
-        i += 1;
-        j += 1;
-    }
-}
-
-pub(crate) fn remove_counts(column: &mut [u32], len: usize, from: usize, to: usize)
-    requires { ⌜ (from ≤ to) × (to ≤ len) × (len ≤ length (now column)) ⌝ }
-    ensures { λ _. ⌜ take (len - (to - from)) (now (column .exit)) ≡ without from to (take len (now (column .entry))) ⌝ }
-{
-    let mut i = from;
-    let mut j = to;
-    while j < len {
-        column[i] = column[j];
-        i += 1;
-        j += 1;
-    }
-}
-
-// The same in an array that lies in a table.
-pub(crate) fn insert_64(column: &mut [u64; 64], len: usize, at: usize, x: u64)
-    requires { ⌜ (at ≤ len) × (len < 64) ⌝ }
-    ensures { λ _. ⌜ take (len + 1) (now (column .exit)) ≡ inserted at x (take len (now (column .entry))) ⌝ }
-{
-    insert(column, len, at, x);
-}
-
-pub(crate) fn remove_64(column: &mut [u64; 64], len: usize, from: usize, to: usize)
-    requires { ⌜ (from ≤ to) × (to ≤ len) × (len ≤ 64) ⌝ }
-    ensures { λ _. ⌜ take (len - (to - from)) (now (column .exit)) ≡ without from to (take len (now (column .entry))) ⌝ }
-{
-    remove(column, len, from, to);
-}
-
-pub(crate) fn remove_128(column: &mut [u64; 128], len: usize, from: usize, to: usize)
-    requires { ⌜ (from ≤ to) × (to ≤ len) × (len ≤ 128) ⌝ }
-    ensures { λ _. ⌜ take (len - (to - from)) (now (column .exit)) ≡ without from to (take len (now (column .entry))) ⌝ }
-{
-    remove(column, len, from, to);
-}
-
-pub(crate) fn remove_counts_128(column: &mut [u32; 128], len: usize, from: usize, to: usize)
-    requires { ⌜ (from ≤ to) × (to ≤ len) × (len ≤ 128) ⌝ }
-    ensures { λ _. ⌜ take (len - (to - from)) (now (column .exit)) ≡ without from to (take len (now (column .entry))) ⌝ }
-{
-    remove_counts(column, len, from, to);
 }
 
 // Two lists of counts merged, the larger count where a key stands in both: the first pair of what is left of them, from
@@ -262,8 +175,8 @@ pub(crate) fn carry<'a, 'b>(
             if len == 128 {
                 return CarryOutcome::Full;
             }
-            insert(keys, len, at, x);
-            insert_count(counts, len, at, count);
+            tables::insert(keys, len, at, x);
+            tables::insert_count(counts, len, at, count);
             CarryOutcome::Kept(len + 1)
         }
     }

@@ -3,9 +3,9 @@
 // generation, so that whoever held the message before is fenced off. The caller brings the time, in nanoseconds of any
 // clock: it may stand still or run backwards.
 ghost use mathlib.Core.Path.{_≡_};
-ghost use Prim.Native.Nat.{_<_, min};
-ghost use lib.ListN.{getD};
-ghost use Rattle.types.specs.Limits.{sat64, sat32};
+ghost use Prim.Native.Nat.{_≤_, _<_, min};
+ghost use lib.ListN.{take, getD};
+ghost use Rattle.types.specs.Limits.{LEASES, sat64, sat32};
 ghost use Rattle.types.specs.Refusal.{done};
 ghost use Rattle.types.specs.Table.{answer};
 ghost use Rattle.types.specs.Keyed.{entries};
@@ -16,9 +16,11 @@ ghost use Rattle.lease.specs.Operations.{lease, grantOf, claim, ack, ext
 ghost use Rattle.lease.specs.Counts.{resumeAttempts, attemptCounts, allAttemptCounts};
 ghost use Rattle.lease.specs.Rest.{attemptsFlushed, releaseBelow, resealFromTo, deferRedelivery, shiftedBy, shiftDeadlines, inFlight, isClaimable, deliveries, holdsActive, pendingRedeliveryAttempt, expired};
 ghost use Rattle.lease.specs.Answers.{claimOf, ackOf, extendOf, nackOf, resumeOf, listedOf, attemptsOf, Answers, Tries, Becomes, Lists};
-ghost use Rattle.lease.specs.Helpers.{Offsets};
+ghost use Rattle.lease.specs.Helpers.{Placed, Shorter, Longer, Offsets};
+ghost use Rattle.lease.specs.declared.columns.Place.the-variants.{Missing};
 use columns::CarryOutcome;
 use columns::Place;
+use lookup::LeaseAt;
 use types::Generation;
 use types::Offset;
 
@@ -387,39 +389,52 @@ impl LeaseTable {
     {
         let n = self.carried_len;
         let carried = columns::position(&self.carried_offsets, n, up_to.0);
-        columns::remove_128(&mut self.carried_offsets, n, 0, carried);
-        columns::remove_counts_128(&mut self.carried_counts, n, 0, carried);
+        tables::remove_128(&mut self.carried_offsets, n, 0, carried);
+        tables::remove_counts_128(&mut self.carried_counts, n, 0, carried);
         self.carried_len = n - carried;
+        let first = columns::position(&self.offsets, self.len, up_to.0);
+        self.without_leases(0, first)
+    }
+
+    // Takes the leases at the places from `from` up to `to` out.
+    fn without_leases(mut self, from: usize, to: usize) -> LeaseTable
+        requires { ⌜ (from ≤ to) × (to ≤ self .len) × (self .len ≤ LEASES) ⌝ }
+        ensures { λ r. ⌜ Shorter self from to r ⌝ }
+    {
         let len = self.len;
-        let first = columns::position(&self.offsets, len, up_to.0);
-        columns::remove_64(&mut self.offsets, len, 0, first);
-        let mut i: usize = 0;
-        let mut j = first;
+        tables::remove_64(&mut self.offsets, len, from, to);
+        let mut i = from;
+        let mut j = to;
         while j < len {
             let next = self.leases[j];
             self.leases[i] = next;
             i += 1;
             j += 1;
         }
-        self.len = len - first;
+        self.len = len - (to - from);
         self
     }
 
     // Claims an offset for delivery. One with no lease, or with a lease that has run out, is granted: the attempt begins now,
     // under the next generation, which fences off whoever held the offset before. The count goes on from the lease's, or
     // from the carried one, which the new lease takes over.
-    pub fn claim(mut self, offset: Offset, now: u64) -> Claimed
+    pub fn claim(self, offset: Offset, now: u64) -> Claimed
         requires { ⌜ Sound self ⌝ }
         ensures { λ r. ⌜ Answers (claimOf (r .outcome)) self (r .table) (claim (view self) (offset .0) now) ⌝ }
     {
+        let place = columns::find(&self.offsets, self.len, offset.0);
+        match place {
+            Place::Found(at) => self.claim_again(at, offset, now),
+            Place::Missing(at) => self.claim_first(at, offset, now),
+        }
+    }
+
+    // Claims an offset that has no lease, and whose lease belongs at a place.
+    fn claim_first(mut self, at: usize, offset: Offset, now: u64) -> Claimed
+        requires { ⌜ Sound self × Placed (offset .0) (take (self .len) (self .offsets)) (Missing at) ⌝ }
+        ensures { λ r. ⌜ Answers (claimOf (r .outcome)) self (r .table) (claim (view self) (offset .0) now) ⌝ }
+    {
         let len = self.len;
-        let place = columns::find(&self.offsets, len, offset.0);
-        let at = match place {
-            Place::Found(at) => {
-                return self.claim_again(at, offset, now);
-            }
-            Place::Missing(at) => at,
-        };
         let generation = self.next_generation;
         if generation.0 == 18446744073709551615 {
             return Claimed {
@@ -435,12 +450,28 @@ impl LeaseTable {
         }
         let n = self.carried_len;
         let prior = columns::count_of(&self.carried_offsets, &self.carried_counts, n, offset.0);
-        columns::remove_128(&mut self.carried_offsets, n, prior.from, prior.to);
-        columns::remove_counts_128(&mut self.carried_counts, n, prior.from, prior.to);
+        tables::remove_128(&mut self.carried_offsets, n, prior.from, prior.to);
+        tables::remove_counts_128(&mut self.carried_counts, n, prior.from, prior.to);
         self.carried_len = n - (prior.to - prior.from);
         let deliveries = saturating_next(prior.count);
-        columns::insert_64(&mut self.offsets, len, at, offset.0);
-        let mut held = self.config.lease(generation, now, deliveries);
+        self.next_generation.0 = generation.0 + 1;
+        self.redeliveries_since_flush = after_grant(self.redeliveries_since_flush, deliveries);
+        let lease = self.config.lease(generation, now, deliveries);
+        let outcome = granted(offset, generation, deliveries);
+        Claimed {
+            outcome: outcome,
+            table: self.with_lease(at, offset, lease),
+        }
+    }
+
+    // Puts a lease in at a place.
+    fn with_lease(mut self, at: usize, offset: Offset, lease: Lease) -> LeaseTable
+        requires { ⌜ (at ≤ self .len) × (self .len < LEASES) ⌝ }
+        ensures { λ r. ⌜ Longer self at (offset .0) lease r ⌝ }
+    {
+        let len = self.len;
+        tables::insert_64(&mut self.offsets, len, at, offset.0);
+        let mut held = lease;
         let mut i = at;
         while i < len {
             let next = self.leases[i];
@@ -450,12 +481,7 @@ impl LeaseTable {
         }
         self.leases[i] = held;
         self.len = len + 1;
-        self.next_generation.0 = generation.0 + 1;
-        self.redeliveries_since_flush = after_grant(self.redeliveries_since_flush, deliveries);
-        Claimed {
-            outcome: granted(offset, generation, deliveries),
-            table: self,
-        }
+        self
     }
 
     // Claims an offset whose lease stands at a place.
@@ -523,20 +549,19 @@ impl LeaseTable {
         requires { ⌜ Sound self ⌝ }
         ensures { λ r. ⌜ r ≡ isClaimable (view self) (offset .0) now ⌝ }
     {
-        let place = columns::find(&self.offsets, self.len, offset.0);
-        let Place::Found(at) = place else {
+        let found = self.lease_of(offset);
+        let LeaseAt::Some(lease) = found else {
             return true;
         };
-        self.leases[at].deadline <= now
+        lease.deadline <= now
     }
 
     // Acks the lease that the token owns: the message is in flight no longer.
-    pub fn ack(mut self, token: LeaseToken) -> Acked
+    pub fn ack(self, token: LeaseToken) -> Acked
         requires { ⌜ Sound self ⌝ }
         ensures { λ r. ⌜ Answers (ackOf (r .outcome)) self (r .table) (ack (view self) (token .offset .0) (token .generation .0)) ⌝ }
     {
-        let len = self.len;
-        let place = columns::find(&self.offsets, len, token.offset.0);
+        let place = columns::find(&self.offsets, self.len, token.offset.0);
         let Place::Found(at) = place else {
             return Acked {
                 outcome: AckOutcome::Fenced,
@@ -549,19 +574,9 @@ impl LeaseTable {
                 table: self,
             };
         }
-        columns::remove_64(&mut self.offsets, len, at, at + 1);
-        let mut i = at;
-        let mut j = at + 1;
-        while j < len {
-            let next = self.leases[j];
-            self.leases[i] = next;
-            i += 1;
-            j += 1;
-        }
-        self.len = len - 1;
         Acked {
             outcome: AckOutcome::Acked,
-            table: self,
+            table: self.without_leases(at, at + 1),
         }
     }
 
@@ -604,11 +619,10 @@ impl LeaseTable {
         requires { ⌜ Sound self ⌝ }
         ensures { λ r. ⌜ attemptsOf r ≡ deliveries (view self) (token .offset .0) (token .generation .0) ⌝ }
     {
-        let place = columns::find(&self.offsets, self.len, token.offset.0);
-        let Place::Found(at) = place else {
+        let found = self.lease_of(token.offset);
+        let LeaseAt::Some(lease) = found else {
             return Attempts::None;
         };
-        let lease = self.leases[at];
         if lease.generation.0 != token.generation.0 {
             return Attempts::None;
         }
@@ -620,11 +634,10 @@ impl LeaseTable {
         requires { ⌜ Sound self ⌝ }
         ensures { λ r. ⌜ r ≡ holdsActive (view self) (token .offset .0) (token .generation .0) now ⌝ }
     {
-        let place = columns::find(&self.offsets, self.len, token.offset.0);
-        let Place::Found(at) = place else {
+        let found = self.lease_of(token.offset);
+        let LeaseAt::Some(lease) = found else {
             return false;
         };
-        let lease = self.leases[at];
         if lease.generation.0 != token.generation.0 {
             return false;
         }
@@ -677,11 +690,10 @@ impl LeaseTable {
         requires { ⌜ Sound self ⌝ }
         ensures { λ r. ⌜ attemptsOf r ≡ pendingRedeliveryAttempt (view self) (offset .0) now ⌝ }
     {
-        let place = columns::find(&self.offsets, self.len, offset.0);
-        let Place::Found(at) = place else {
+        let found = self.lease_of(offset);
+        let LeaseAt::Some(lease) = found else {
             return Attempts::None;
         };
-        let lease = self.leases[at];
         if now < lease.deadline {
             return Attempts::None;
         }

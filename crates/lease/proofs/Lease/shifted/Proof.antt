@@ -11,7 +11,7 @@ saturating-add-requires-2 : tie.Need-saturating-add-requires-2
 saturating-add-requires-2 c κs = search needs
 
 returns : tie.Need-returns
-returns c = cc
+returns c = rw (c .before .saturating-add .ensures, c .saturating-add2 .ensures)
 
 pub shifted-spec : {M : Type 1} → statement M
 shifted-spec = tie.close (tie.spec saturating-add-requires saturating-add-requires-2 returns)

@@ -11,7 +11,7 @@ to-nanos-requires-2 : tie.Need-to-nanos-requires-2
 to-nanos-requires-2 c κs = search needs
 
 returns : tie.Need-returns
-returns c = cc
+returns c = rw (c .before .to-nanos .ensures, c .to-nanos2 .ensures)
 
 pub from-millis-spec : {M : Type 1} → statement M
 from-millis-spec = tie.close (tie.spec to-nanos-requires to-nanos-requires-2 returns)

@@ -3,6 +3,7 @@
 use Prim.Native.Nat.{_≤_, _<_}
 use native.Mathlib.Omega.{arith}
 use borrow.Author.Needs.{needs}
+use Rattle.tables.proofs.Columns.{put-in-front}
 use Rattle.lease.proofs.Slots.{ascends, found-inside, missing-inside}
 use Rattle.lease.proofs.Carried.{carries-nothing, carries-anew, carries-full, carries-more}
 use Rattle.lease.proofs.columns.carry.Statement.{statement}
@@ -58,14 +59,10 @@ returns-2 c =
     carries-full (s .args .len) (s .args .keys .now) (s .args .counts .now) (s .pre .0) (s .pre .1) (s .pre .2) (s .pre .3) (s .args .x) (s .args .count) (e .if1 .left) (p .before .before .find .ensures) (p .place2 .given .1) (c .if2 .taken)
 
 insert-requires : tie.Need-insert-requires
-insert-requires c κs =
-    let p = c .before .before .before in
-    (place-inside p, omega (arith, start (some-count (p .before .before)) .pre))
+insert-requires c κs = search needs
 
 insert-count-requires : tie.Need-insert-count-requires
-insert-count-requires c κs =
-    let p = c .before .before .before .before .before .before .before in
-    (place-inside p, omega (arith, start (some-count (p .before .before)) .pre))
+insert-count-requires c κs = search needs
 
 add-t21 : tie.Need-add-t21
 add-t21 c = search needs
@@ -97,7 +94,9 @@ returns-4 c =
     let e = some-count (p .before .before) in
     let s = start e in
     carries-more (s .args .len) (s .args .keys .now) (s .args .counts .now) (s .pre .0) (s .pre .1) (s .pre .2) (s .pre .3) (s .args .x) (s .args .count) (e .if1 .left) (p .before .before .find .ensures) (p .place2 .given .1)
-    (i .before .before .if2 .left) (i .insert .last .0) (n .insert-count .last .0) (i .insert .ensures) (n .insert-count .ensures)
+    (i .before .before .if2 .left) (i .insert .last .0) (n .insert-count .last .0)
+    (put-in-front (s .args .len) (p .place2 .given .0 .0) (s .args .x) (s .args .keys .now) (place-inside p) (omega (arith, s .pre)) (i .insert .ensures))
+    (put-in-front (s .args .len) (p .place2 .given .0 .0) (s .args .count) (s .args .counts .now) (place-inside p) (omega (arith, s .pre)) (n .insert-count .ensures))
 
 pub carry-spec : {M : Type 1} → statement M
 carry-spec =

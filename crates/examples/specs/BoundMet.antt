@@ -1,0 +1,41 @@
+-- A list that meets demand 3's bound, run by computing: with less than M + C × (N + 1) the demand would be false, and its lists
+-- are lists in which things happen.
+use Prim.Native.Nat.{_+_, _*_}
+use mathlib.Core.Path.{_≡_, refl}
+use mathlib.Core.Bool.{xor}
+use mathlib.Core.List.{List, [], _∷_}
+use lib.ListN.{replicate}
+use Rattle.crc.specs.Crc32c.{bits, unbits, polynomial, crc}
+use Rattle.crc.specs.Seal.{isSealed}
+use Rattle.cursor.specs.Snapshot.{encodeCursor, decodeCursor}
+use Rattle.attempt.specs.Snapshot.{encodeAttempts1, decodeAttempts}
+use Rattle.lease.specs.Counts.{allAttemptCounts}
+use Rattle.journal.specs.Area.{blockAt, writeAt}
+use Rattle.journal.specs.Blocks.{headerBlock, bodyBlock}
+use Rattle.journal.specs.Sound.{isKind, formed, soundHeader, soundBody}
+use Rattle.journal.specs.Walks.{groupAt, walkOver, walkFrom, payload}
+use Rattle.consumer.specs.Calls as consumer
+use Rattle.consumer.specs.Checkpoint as checkpoint
+use Rattle.consumer.specs.Restart as restarts
+use Rattle.consumer.specs.Restart.{fresh, fromWalk}
+use Rattle.examples.specs.Consumer.{settings}
+use Rattle.machine.specs.Calls.{claim, ask, begin, step, restart}
+use Rattle.machine.specs.Door.{door}
+use Rattle.crash_safety.specs.Runs.{Item, call, cut, torn, next, run, begins}
+use Rattle.crash_safety.specs.Demand3.{delivers, handOuts, restartsIn}
+
+-- a checkpoint; offset 0 is handed out twice; the power fails in the header of the next checkpoint; a restart, a checkpoint, and
+-- offset 0 is handed out twice again, as the counts since the first checkpoint are lost
+abbrev pub items : List Item
+items =
+    call begin ∷ call step ∷ call step
+    ∷ call (ask (claim 0 0)) ∷ call (ask (claim 0 10))
+    ∷ call begin ∷ call step ∷ cut (torn (replicate 512 0))
+    ∷ call restart
+    ∷ call begin ∷ call step ∷ call step
+    ∷ call (ask (claim 0 20)) ∷ call (ask (claim 0 30)) ∷ []
+
+pub bound-met : handOuts (delivers 0) (run settings (begins (fresh settings 9216) 9216) items)
+    ≡ settings .policy .maxDeliver + restartsIn items * (settings .policy .flushRedeliveries + 1)
+unfolding handOuts restartsIn run next door consumer.claim checkpoint.begin checkpoint.step restarts.restart fromWalk allAttemptCounts encodeCursor decodeCursor encodeAttempts1 decodeAttempts blockAt writeAt headerBlock bodyBlock isKind formed soundHeader soundBody groupAt walkOver walkFrom payload isSealed bits unbits polynomial crc xor
+bound-met = refl

@@ -1,0 +1,98 @@
+-- The settled examples 13 and 14 of document 01, and a restart on a foreign journal, computed on the definitions that the
+-- contracts cite.
+use Prim.Native.Nat.{ℕ, zero, suc}
+use mathlib.Core.Path.{_≡_, refl}
+use mathlib.Core.Bool.{false, xor}
+use mathlib.Core.List.{List, [], _∷_, _++_}
+use lib.ListN.{length, replicate}
+use Rattle.types.specs.Limits.{MAX}
+use Rattle.types.specs.Keyed.{entry}
+use Rattle.types.specs.Refusal.{Result, refused, done, CheckpointDue}
+use Rattle.crc.specs.Crc32c.{bits, unbits, polynomial, crc}
+use Rattle.crc.specs.Seal.{isSealed}
+use Rattle.cursor.specs.Cursor.{cursor}
+use Rattle.cursor.specs.Snapshot.{encodeCursor, decodeCursor}
+use Rattle.attempt.specs.Snapshot.{encodeAttempts1, decodeAttempts}
+use Rattle.delivery.specs.Policy.{policy, Destination, Deliver, DeadLetter}
+use Rattle.lease.specs.Counts.{allAttemptCounts}
+use Rattle.journal.specs.Area.{blockAt, writeAt}
+use Rattle.journal.specs.Blocks.{headerBlock, bodyBlock}
+use Rattle.journal.specs.Sound.{isKind, formed, soundHeader, soundBody}
+use Rattle.journal.specs.Walks.{groupAt, walkOver, walkFrom, payload}
+use Rattle.consumer.specs.State.{Settings, State, seatAt}
+use Rattle.consumer.specs.Calls.{HandOut, claim}
+use Rattle.consumer.specs.Checkpoint.{bodies, begin, Left, going, finished, Lent, lent, step}
+use Rattle.consumer.specs.Restart.{resumed, fresh, start, fromWalk, restart}
+
+-- M 2, N 1, visibility 10, cap 25
+abbrev pub settings : Settings
+settings = record { policy = policy 2 false [] 1; lease = record { «visibility_nanos» = 10; «hard_cap_nanos» = 25 } }
+
+-- what is made of a result that is no refusal
+abbrev pub onDone : {A B : Type 0} → Result A → (A → List B) → List B
+onDone (refused r) f = []
+onDone (done a) f = f a
+
+-- n steps, and what is made of the state that the last one gives back
+abbrev pub stepOn : Left → List ℕ → Lent
+stepOn (going w) a = step w a .state
+stepOn (finished s) a = lent (finished s) a
+
+abbrev pub onState : {B : Type 0} → Left → List ℕ → (State → List ℕ → List B) → List B
+onState (going w) a f = []
+onState (finished s) a f = f s a
+
+abbrev pub steps : {B : Type 0} → ℕ → Left → List ℕ → (State → List ℕ → List B) → List B
+steps zero l a f = onState l a f
+steps (suc n) l a f = steps n (stepOn l a .left) (stepOn l a .area) f
+
+pub data Act : Type 0 where
+  -- begin, and a step for each block
+  checkpoints : Act
+  -- a claim of offset 0 at a clock
+  claims : ℕ → Act
+  restarts : Act
+
+-- what the claims answer
+abbrev pub answers : State → List ℕ → List Act → List (Result HandOut)
+answers s a [] = []
+answers s a (checkpoints ∷ l) = onDone (begin s) (λ w. steps (suc (bodies s)) (going w) a (λ t b. answers t b l))
+answers s a (claims now ∷ l) = claim s 0 now .outcome ∷ answers (claim s 0 now .state) a l
+answers s a (restarts ∷ l) = onDone (restart settings a) (λ t. answers t a l)
+
+abbrev pub handedOut : ℕ → ℕ → Destination → Result HandOut
+handedOut generation deliveries destination =
+    done (record { offset = 0; generation = generation; deliveries = deliveries; destination = destination })
+
+-- from a start on a zeroed area of 18 blocks
+abbrev pub fromStart : List Act → List (Result HandOut)
+fromStart l = onDone (start settings 9216) (λ s. answers s (replicate 9216 0) l)
+
+-- fresh consumer, claim 0: refusal 26; whatever its settings, its area and the clock are
+pub record Example13 : Type 0 where
+  pub started : fromStart (claims 0 ∷ []) ≡ refused CheckpointDue ∷ []
+  pub always : (c : Settings) (size now : ℕ) → claim (fresh c size) 0 now .outcome ≡ refused CheckpointDue
+
+pub example-13 : Example13
+unfolding start claim
+example-13 = record { started = refl; always = λ c size now. refl }
+
+-- checkpoint; claims of 0 at 0, 10, 20 give Deliver 1, Deliver 2, refusal 26; checkpoint, restart, checkpoint; claim gives
+-- DeadLetter 3, generation 4098
+pub record Example14 : Type 0 where
+  pub answered : fromStart (checkpoints ∷ claims 0 ∷ claims 10 ∷ claims 20 ∷ checkpoints ∷ restarts ∷ checkpoints ∷ claims 30 ∷ [])
+      ≡ handedOut 0 1 Deliver ∷ handedOut 1 2 Deliver ∷ refused CheckpointDue ∷ handedOut 4098 3 DeadLetter ∷ []
+
+pub example-14 : Example14
+unfolding start claim begin step restart fromWalk allAttemptCounts encodeCursor decodeCursor encodeAttempts1 decodeAttempts blockAt writeAt headerBlock bodyBlock isKind formed soundHeader soundBody groupAt walkOver walkFrom payload isSealed bits unbits polynomial crc xor
+example-14 = record { answered = refl }
+
+-- a foreign journal of one group, with a count of a settled offset, a zero and a count for MAX: a restart drops, drops and
+-- carries them
+abbrev foreign : List ℕ → List ℕ → List ℕ
+foreign b d = headerBlock 1 7 (length b) (length d) ++ bodyBlock 1 1 (b ++ d)
+
+pub foreign-counts : restart settings (foreign (encodeCursor (cursor 5 [])) (encodeAttempts1 (entry 3 2 ∷ entry 6 0 ∷ entry 9 1 ∷ entry MAX 4 ∷ [])))
+    ≡ done (resumed settings 1024 (cursor 5 []) (entry 9 1 ∷ entry MAX 4 ∷ []) 7 (seatAt 2 2))
+unfolding restart fromWalk encodeCursor decodeCursor encodeAttempts1 decodeAttempts blockAt headerBlock bodyBlock isKind formed soundHeader soundBody groupAt walkOver walkFrom payload isSealed bits unbits polynomial crc xor
+foreign-counts = refl

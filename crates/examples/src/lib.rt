@@ -1,0 +1,1 @@
+// Examples computed on the definitions: see specs/ and proofs/.

@@ -1,0 +1,57 @@
+-- `ninotskev_encode_cursor` meets its contract. Assumes nothing.
+use borrow.Author.Needs.{needs}
+use Rattle.exports.proofs.Snapshots.{cursor-written, cursor-not-written}
+use Rattle.exports.proofs.ninotskev_encode_cursor.Statement.{statement}
+use Rattle.exports.proofs.ninotskev_encode_cursor.Tie as tie
+
+resume-with-columns-requires : tie.Need-resume-with-columns-requires
+resume-with-columns-requires c κs = search needs
+
+enum-told : tie.Need-enum-told
+enum-told c = search needs
+
+encode-snapshot-requires : tie.Need-encode-snapshot-requires
+encode-snapshot-requires c κs = search needs
+
+write-told-requires : tie.Need-write-told-requires
+write-told-requires c κs = search needs
+
+enum-known-outcome : tie.Need-enum-known-outcome
+enum-known-outcome c = search needs
+
+ranges-told-requires : tie.Need-ranges-told-requires
+ranges-told-requires c κs = search needs
+
+same-length : tie.Need-same-length
+same-length c = search needs
+
+returns : tie.Need-returns
+returns c =
+    let w = c .before .before .before in
+    let t = w .before .before in
+    let k = t .before .before in
+    let a = k .before .before .before .before .args in
+    cursor-written (a .committed) _ (k .resume-with-columns .result) (k .resume-with-columns .ensures) (a .at) (a .out .now) (w .encode-snapshot .result) _ _
+    (t .enum-told .given .1) (w .encode-snapshot .ensures) (c .write-told .ensures)
+
+returns-2 : tie.Need-returns-2
+returns-2 c =
+    let t = c .before .before in
+    let k = t .before .before in
+    let a = k .before .before .before .before .args in
+    cursor-not-written (a .committed) _ (k .resume-with-columns .result) (k .resume-with-columns .ensures) (a .at) (a .out .now) _ _
+    (t .outcome .given .1) (c .ranges-told .ensures)
+
+pub ninotskev-encode-cursor-spec : {M : Type 1} → statement M
+ninotskev-encode-cursor-spec =
+    tie.close
+    (tie.spec
+    resume-with-columns-requires
+    enum-told
+    encode-snapshot-requires
+    write-told-requires
+    enum-known-outcome
+    ranges-told-requires
+    same-length
+    returns
+    returns-2)

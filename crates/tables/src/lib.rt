@@ -1,0 +1,117 @@
+// Columns of sorted tables: arrays of numbers of which the first `len` places are in use.
+ghost use mathlib.Core.Path.{_≡_};
+ghost use Rattle.tables.specs.Columns.{putIn, takenOut};
+
+// Puts x in at a place, what stood from there on one place further. Where there is no such place, or no room, the column
+// stays as it is.
+pub fn insert(column: &mut [u64], len: usize, at: usize, x: u64)
+    ensures { λ _. ⌜ now (column .exit) ≡ putIn len at x (now (column .entry)) ⌝ }
+{
+    if len < at {
+        return;
+    }
+    if column.len() <= len {
+        return;
+    }
+    let mut held = x;
+    let mut i = at;
+    while i < len {
+        let next = column[i];
+        column[i] = held;
+        held = next;
+        i += 1;
+    }
+    column[i] = held;
+}
+
+// The same in a column of counts.
+pub fn insert_count(column: &mut [u32], len: usize, at: usize, x: u32)
+    ensures { λ _. ⌜ now (column .exit) ≡ putIn len at x (now (column .entry)) ⌝ }
+{
+    if len < at {
+        return;
+    }
+    if column.len() <= len {
+        return;
+    }
+    let mut held = x;
+    let mut i = at;
+    while i < len {
+        let next = column[i];
+        column[i] = held;
+        held = next;
+        i += 1;
+    }
+    column[i] = held;
+}
+
+// The same in an array that lies in a table.
+pub fn insert_64(column: &mut [u64; 64], len: usize, at: usize, x: u64)
+    ensures { λ _. ⌜ now (column .exit) ≡ putIn len at x (now (column .entry)) ⌝ }
+{
+    insert(column, len, at, x);
+}
+
+// Takes the places from `from` up to `to` out; the places that fall free keep what they held. Where those are no places in
+// use, the column stays as it is.
+fn remove(column: &mut [u64], len: usize, from: usize, to: usize)
+    ensures { λ _. ⌜ now (column .exit) ≡ takenOut len from to (now (column .entry)) ⌝ }
+{
+    if to < from {
+        return;
+    }
+    if len < to {
+        return;
+    }
+    if column.len() < len {
+        return;
+    }
+    let mut i = from;
+    let mut j = to;
+    while j < len {
+        column[i] = column[j];
+        i += 1;
+        j += 1;
+    }
+}
+
+// The same in a column of counts.
+fn remove_counts(column: &mut [u32], len: usize, from: usize, to: usize)
+    ensures { λ _. ⌜ now (column .exit) ≡ takenOut len from to (now (column .entry)) ⌝ }
+{
+    if to < from {
+        return;
+    }
+    if len < to {
+        return;
+    }
+    if column.len() < len {
+        return;
+    }
+    let mut i = from;
+    let mut j = to;
+    while j < len {
+        column[i] = column[j];
+        i += 1;
+        j += 1;
+    }
+}
+
+// The same in arrays that lie in a table.
+pub fn remove_64(column: &mut [u64; 64], len: usize, from: usize, to: usize)
+    ensures { λ _. ⌜ now (column .exit) ≡ takenOut len from to (now (column .entry)) ⌝ }
+{
+    remove(column, len, from, to);
+}
+
+pub fn remove_128(column: &mut [u64; 128], len: usize, from: usize, to: usize)
+    ensures { λ _. ⌜ now (column .exit) ≡ takenOut len from to (now (column .entry)) ⌝ }
+{
+    remove(column, len, from, to);
+}
+
+pub fn remove_counts_128(column: &mut [u32; 128], len: usize, from: usize, to: usize)
+    ensures { λ _. ⌜ now (column .exit) ≡ takenOut len from to (now (column .entry)) ⌝ }
+{
+    remove_counts(column, len, from, to);
+}

@@ -1,0 +1,3 @@
+pub mod Parsing
+mod Taking
+mod Putting

@@ -1,0 +1,12 @@
+-- `line_at` meets its contract. Assumes nothing.
+use Rattle.text.proofs.lines.line_at.Statement.{statement}
+use Rattle.text.proofs.lines.line_at.Tie as tie
+
+returns : tie.Need-returns
+returns c = rw (c .if1 .taken)
+
+returns-2 : tie.Need-returns-2
+returns-2 c = rw (c .if1 .left)
+
+pub line-at-spec : {M : Type 1} → statement M
+line-at-spec = tie.close (tie.spec returns returns-2)

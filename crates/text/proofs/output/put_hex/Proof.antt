@@ -1,0 +1,41 @@
+-- `put_hex` meets its contract. Assumes nothing.
+use Prim.Native.Nat.{ℕ}
+use mathlib.Core.Path.{ap, _∙_}
+use mathlib.Core.List.{List}
+use Rattle.text.specs.Output.{put}
+use borrow.Author.Needs.{needs}
+use Rattle.text.proofs.output.put_hex.Statement.{statement}
+use Rattle.text.proofs.output.put_hex.Tie as tie
+
+hex-requires : tie.Need-hex-requires
+hex-requires c κs = search needs
+
+array-share-prefix-text : tie.Need-array-share-prefix-text
+array-share-prefix-text c = search needs
+
+slice-aggregate-put : tie.Need-slice-aggregate-put
+slice-aggregate-put c = search needs
+
+put-requires : tie.Need-put-requires
+put-requires c κs = search needs
+
+same-length : tie.Need-same-length
+same-length c = search needs
+
+returns : tie.Need-returns
+returns c =
+    let a = c .before .before .before .before .before .before .before .before .args in
+    let d = c .before .before .before .before .before .hex in
+    let p = c .before .before .put in
+    record { k = d .result; fewest = d .ensures .1 .0; is = p .ensures .is ∙ ap (λ (bs : List ℕ). put (a .at) bs (a .out .now)) (d .ensures .1 .1) }
+
+pub put-hex-spec : {M : Type 1} → statement M
+put-hex-spec =
+    tie.close
+    (tie.spec
+    hex-requires
+    array-share-prefix-text
+    slice-aggregate-put
+    put-requires
+    same-length
+    returns)
