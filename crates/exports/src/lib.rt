@@ -1,6 +1,6 @@
 // What programs in other languages call: the snapshots and the check, on numbers and slices. A slice crosses as a pointer
 // and a length, a list of ranges or pairs as a column for each field. Nothing is required of a caller but that its slices
-// are there, and that one that is written to overlaps no other. The door to a consumer is in `door`.
+// are there, and that one that is written to overlaps no other.
 ghost use mathlib.Core.Path.{_≡_};
 ghost use mathlib.Core.List.{[], _∷_};
 ghost use Prim.Native.Nat.{_≤_, min};
@@ -25,10 +25,6 @@ use cursor::Resume;
 use cursor::SnapshotError;
 use raw::Write;
 use types::Offset;
-
-pub mod door;
-pub mod kinds;
-pub mod numbers;
 
 // 01's number of an answer, 0 where nothing is refused, and its values, 0 where there are fewer than two.
 #[repr(C)]
