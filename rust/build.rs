@@ -1,5 +1,5 @@
-//! Links the proved library, `target/staticlib/libexports.a` of the repository, which `rt staticlib exports` writes. Another
-//! place can be named by the environment variable `NINOTSKEV_LIB`: the folder that has `libexports.a`.
+//! Links the proved library, `target/staticlib/libserver.a` of the repository, which `rt staticlib server` writes. Another
+//! place can be named by the environment variable `NINOTSKEV_LIB`: the folder that has `libserver.a`.
 
 use std::env;
 use std::path::PathBuf;
@@ -10,15 +10,15 @@ fn main() {
         || PathBuf::from(env!("CARGO_MANIFEST_DIR")).join("../target/staticlib"),
         PathBuf::from,
     );
-    let archive = folder.join("libexports.a");
+    let archive = folder.join("libserver.a");
     println!("cargo:rerun-if-changed={}", archive.display());
     if !archive.is_file() {
         panic!(
-            "{} is missing. Write it by `rt staticlib exports` in the folder above rust/, or name the folder that has it by \
+            "{} is missing. Write it by `rt staticlib server` in the folder above rust/, or name the folder that has it by \
              NINOTSKEV_LIB.",
             archive.display()
         );
     }
     println!("cargo:rustc-link-search=native={}", folder.display());
-    println!("cargo:rustc-link-lib=static=exports");
+    println!("cargo:rustc-link-lib=static=server");
 }

@@ -97,8 +97,10 @@ impl<S> Consumer<S> {
     /// # Errors
     /// Refusals 21, 22, 23, 25, 26 and 27. After 26 comes a [checkpoint](Consumer::begin).
     pub fn claim(&mut self, offset: Offset, now: u64) -> Result<HandOut, Refusal> {
-        let [generation, deliveries, dead, _] =
-            self.machine.ask(Ask::Claim, [offset.get(), now, 0, 0])?.values;
+        let [generation, deliveries, dead, _] = self
+            .machine
+            .ask(Ask::Claim, [offset.get(), now, 0, 0])?
+            .values;
         let token = LeaseToken {
             offset,
             generation: Generation::new(generation),
@@ -111,13 +113,7 @@ impl<S> Consumer<S> {
     }
 
     // A call under a token, with what comes behind it.
-    fn under(
-        &mut self,
-        ask: Ask,
-        token: LeaseToken,
-        now: u64,
-        delay: u64,
-    ) -> Result<u64, Refusal> {
+    fn under(&mut self, ask: Ask, token: LeaseToken, now: u64, delay: u64) -> Result<u64, Refusal> {
         let numbers = [token.offset.get(), token.generation.get(), now, delay];
         Ok(self.machine.ask(ask, numbers)?.values[0])
     }

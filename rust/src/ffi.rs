@@ -1,6 +1,6 @@
 //! The proved library, and the only unsafe code of this crate.
 //!
-//! `crates/exports/src/door.rt` of the repository has the functions with their contracts. They take the state behind `&mut`
+//! `crates/server/src/door.rt` of the repository has the functions with their contracts. They take the state behind `&mut`
 //! and require one thing, the invariant of the state that every start, restart and call is proved to leave. So a [`Machine`] is
 //! made here by a start or a restart alone, nothing outside this file sees its fields, and the structs below are laid out as
 //! the library's, field by field, which `tests` at the end compares.
@@ -87,7 +87,7 @@ pub(crate) struct Numbers {
     pub(crate) values: [u64; 4],
 }
 
-/// The calls on a consumer, by their numbers in `crates/exports/specs/Numbers.antt`.
+/// The calls on a consumer, by their numbers in `crates/server/specs/Numbers.antt`.
 #[derive(Clone, Copy, Debug, PartialEq, Eq)]
 #[repr(u64)]
 pub(crate) enum Ask {
@@ -159,8 +159,10 @@ impl Numbers {
         if self.number == 0 {
             return Ok(self);
         }
-        Err(Refusal::of_number(self.number, self.values[0], self.values[1])
-            .expect("the library answers document 01's numbers"))
+        Err(
+            Refusal::of_number(self.number, self.values[0], self.values[1])
+                .expect("the library answers document 01's numbers"),
+        )
     }
 }
 
@@ -266,6 +268,176 @@ impl Machine {
         Wrote {
             block: usize::try_from(numbers.values[0]).expect("a block is below 128"),
             last: numbers.values[1] != 0,
+        }
+    }
+}
+
+#[cfg(test)]
+mod tests {
+    use super::*;
+    use std::mem::{offset_of, size_of};
+
+    // A machine with bytes behind it that nobody may touch.
+    #[repr(C)]
+    struct Guarded {
+        machine: Machine,
+        machine_end: [u8; 64],
+        numbers: Numbers,
+        numbers_end: [u8; 64],
+    }
+
+    impl Guarded {
+        fn new() -> Box<Guarded> {
+            // SAFETY: as for `Machine::blank`.
+            let mut guarded = unsafe { Box::<Guarded>::new_zeroed().assume_init() };
+            guarded.machine_end = [0xa5; 64];
+            guarded.numbers_end = [0xa5; 64];
+            guarded
+        }
+
+        fn untouched(&self) {
+            assert_eq!(self.machine_end, [0xa5; 64]);
+            assert_eq!(self.numbers_end, [0xa5; 64]);
+        }
+
+        fn call(&mut self, kind: u64, [a, b, c, d]: [u64; 4], area: &mut [u8], out: &mut [u64]) {
+            // SAFETY: as for `Machine::call`; the machine was started.
+            unsafe {
+                ninotskev_call(
+                    &mut self.machine,
+                    &mut self.numbers,
+                    kind,
+                    a,
+                    b,
+                    c,
+                    d,
+                    area.as_mut_ptr(),
+                    area.len(),
+                    out.as_mut_ptr(),
+                    out.len(),
+                );
+            }
+            self.untouched();
+        }
+    }
+
+    fn told(number: u64, count: u64, values: [u64; 4]) -> Numbers {
+        Numbers {
+            number,
+            count,
+            values,
+        }
+    }
+
+    #[test]
+    fn sizes_are_those_of_the_fields() {
+        assert_eq!(size_of::<Settings>(), 152 + 16);
+        assert_eq!(size_of::<AckCursor>(), 8 + 1024 + 1024 + 8);
+        assert_eq!(size_of::<Lease>(), 32);
+        assert_eq!(
+            size_of::<LeaseTable>(),
+            16 + 512 + 64 * 32 + 8 + 1024 + 512 + 8 + 8 + 8
+        );
+        assert_eq!(offset_of!(Machine, writing), 168 + 8);
+        assert_eq!(size_of::<Numbers>(), 48);
+    }
+
+    // Each field that the library fills is read here under its name, and nothing behind the structs is touched: the last field of
+    // the machine, `attempt_len`, is where the library puts it.
+    #[test]
+    fn the_layout_is_the_librarys() {
+        let settings = Settings {
+            delivery: DeliveryConfig::new(3, true, &[11, 12]).with_attempts_flush_redeliveries(7),
+            lease: LeaseConfig {
+                visibility_nanos: 100,
+                hard_cap_nanos: 1000,
+            },
+        };
+        let mut guarded = Guarded::new();
+        let mut area = [0; 512 * 20];
+        let mut out = [0; 4];
+        // SAFETY: as for `Machine::start`.
+        unsafe {
+            ninotskev_start(
+                &mut guarded.machine,
+                &mut guarded.numbers,
+                &settings,
+                area.len(),
+            );
+        }
+        guarded.untouched();
+        assert_eq!(guarded.numbers, told(0, 0, [0; 4]));
+        assert_eq!(guarded.machine.settings, settings);
+        assert_eq!(guarded.machine.phase, 0);
+        assert_eq!(guarded.machine.writing.consumer.delivery, settings.delivery);
+        assert_eq!(
+            guarded.machine.writing.consumer.table.config,
+            settings.lease
+        );
+        assert_eq!(guarded.machine.writing.consumer.area_len, area.len());
+        assert_eq!(guarded.machine.writing.consumer.seat.number, 1);
+        guarded.call(BEGIN, [0; 4], &mut [], &mut []);
+        assert_eq!(guarded.numbers, told(0, 1, [2, 0, 0, 0]));
+        assert_eq!(guarded.machine.phase, 1);
+        assert_eq!(guarded.machine.writing.cursor_len, 13);
+        assert_eq!(guarded.machine.writing.attempt_len, 9);
+        assert_eq!(guarded.machine.writing.payload[0], 1);
+        guarded.call(STEP, [0; 4], &mut area, &mut []);
+        assert_eq!(guarded.numbers, told(0, 2, [1, 0, 0, 0]));
+        assert_eq!(guarded.machine.writing.written, 1);
+        guarded.call(STEP, [0; 4], &mut area, &mut []);
+        assert_eq!(guarded.numbers, told(0, 2, [0, 1, 0, 0]));
+        assert_eq!(guarded.machine.phase, 0);
+        assert_eq!(guarded.machine.writing.consumer.ceiling, 4096);
+        assert_eq!(guarded.machine.writing.consumer.seat.block, 2);
+        for offset in [5, 9] {
+            guarded.call(Ask::Claim as u64, [offset, 50, 0, 0], &mut [], &mut out);
+        }
+        assert_eq!(guarded.numbers, told(0, 3, [1, 1, 0, 0]));
+        let table = &guarded.machine.writing.consumer.table;
+        assert_eq!((table.len, table.next_generation), (2, 2));
+        assert_eq!(table.offsets[..2], [5, 9]);
+        let lease = table.leases[1];
+        assert_eq!((lease.generation, lease.attempt_start), (1, 50));
+        assert_eq!((lease.deadline, lease.deliveries), (150, 1));
+        guarded.call(Ask::Ack as u64, [9, 1, 0, 0], &mut [], &mut out);
+        let cursor = &guarded.machine.writing.consumer.cursor;
+        assert_eq!((cursor.committed, cursor.runs), (0, 1));
+        assert_eq!((cursor.starts[0], cursor.ends[0]), (9, 10));
+        guarded.call(BEGIN, [0; 4], &mut [], &mut []);
+        assert_eq!(guarded.machine.writing.cursor_len, 13 + 16);
+        assert_eq!(guarded.machine.writing.attempt_len, 9 + 12);
+        // While a record is out, the consumer can't be called.
+        guarded.call(Ask::Claim as u64, [6, 50, 0, 0], &mut [], &mut out);
+        assert_eq!(guarded.numbers, told(32, 0, [0; 4]));
+        guarded.call(STEP, [0; 4], &mut area, &mut []);
+        guarded.call(STEP, [0; 4], &mut area, &mut []);
+        guarded.call(RESTART, [0; 4], &mut area, &mut []);
+        assert_eq!(guarded.numbers, told(0, 0, [0; 4]));
+        let table = &guarded.machine.writing.consumer.table;
+        assert_eq!((table.carried_len, table.carried_offsets[0]), (1, 5));
+        assert_eq!((table.carried_counts[0], table.next_generation), (1, 4098));
+        assert_eq!(table.redeliveries_since_flush, 0);
+        guarded.call(Ask::Waiting as u64, [50, 0, 0, 0], &mut [], &mut out);
+        assert_eq!(guarded.numbers, told(0, 1, [5, 0, 0, 0]));
+        assert_eq!(out[0], 5);
+    }
+
+    #[test]
+    fn a_number_that_is_no_call_is_refused() {
+        let mut guarded = Guarded::new();
+        // SAFETY: as for `Machine::start`.
+        unsafe {
+            ninotskev_start(
+                &mut guarded.machine,
+                &mut guarded.numbers,
+                &Settings::default(),
+                512,
+            );
+        }
+        for kind in [STEP, 18, u64::MAX] {
+            guarded.call(kind, [0; 4], &mut [0; 512], &mut []);
+            assert_eq!(guarded.numbers, told(32, 0, [0; 4]));
         }
     }
 }

@@ -262,9 +262,7 @@ impl fmt::Display for Refusal {
             }
             Refusal::Shed => f.write_str("there is no room for another range of settled offsets"),
             Refusal::Held => f.write_str("an offset below the bound is in flight"),
-            Refusal::JournalFull => {
-                f.write_str("fewer blocks are left than the checkpoint needs")
-            }
+            Refusal::JournalFull => f.write_str("fewer blocks are left than the checkpoint needs"),
         }
     }
 }
@@ -280,7 +278,9 @@ mod tests {
         for number in 1..=31 {
             let refusal = Refusal::of_number(number, 7, 9).unwrap();
             assert_eq!(refusal.number(), number);
-            assert!(refusal.to_string().starts_with(&format!("refused ({number}): ")));
+            assert!(refusal
+                .to_string()
+                .starts_with(&format!("refused ({number}): ")));
         }
         assert_eq!(Refusal::of_number(0, 0, 0), None);
         assert_eq!(Refusal::of_number(32, 0, 0), None);

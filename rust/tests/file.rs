@@ -83,9 +83,15 @@ fn the_fourteenth_example() {
     assert_eq!((lease.attempt_start, lease.deadline), (30, 40));
     assert_eq!(lease.generation, token.generation);
     assert_eq!(consumer.lease_of(Offset::new(1)), None);
-    assert_eq!((consumer.in_flight(), consumer.committed()), (1, Offset::ZERO));
+    assert_eq!(
+        (consumer.in_flight(), consumer.committed()),
+        (1, Offset::ZERO)
+    );
     consumer.term(token).unwrap();
-    assert_eq!((consumer.in_flight(), consumer.committed()), (0, Offset::new(1)));
+    assert_eq!(
+        (consumer.in_flight(), consumer.committed()),
+        (0, Offset::new(1))
+    );
 }
 
 #[test]
@@ -94,7 +100,10 @@ fn calls_give_01s_answers() {
     let settings = settings(3, 9, 10, 25);
     let consumer = Consumer::start(&settings, NewJournal::create(&path, 18).unwrap()).unwrap();
     let mut consumer = consumer.checkpoint().unwrap();
-    assert_eq!(consumer.claim(Offset::new(u64::MAX), 0), Err(Refusal::LastOffset));
+    assert_eq!(
+        consumer.claim(Offset::new(u64::MAX), 0),
+        Err(Refusal::LastOffset)
+    );
     let token = consumer.claim(Offset::new(3), 100).unwrap().token();
     assert_eq!(consumer.progress(token, 109), Ok(119));
     assert_eq!(consumer.progress(token, 120), Ok(125));
@@ -175,8 +184,14 @@ fn settings_are_refused_by_01s_numbers() {
 #[test]
 fn a_journal_that_is_there_can_only_be_opened() {
     let path = fresh_path("there");
-    assert!(matches!(NewJournal::create(&path, 0), Err(JournalError::BadBlocks(0))));
-    assert!(matches!(NewJournal::create(&path, 129), Err(JournalError::BadBlocks(129))));
+    assert!(matches!(
+        NewJournal::create(&path, 0),
+        Err(JournalError::BadBlocks(0))
+    ));
+    assert!(matches!(
+        NewJournal::create(&path, 129),
+        Err(JournalError::BadBlocks(129))
+    ));
     assert!(matches!(Journal::open(&path), Err(JournalError::Io(_))));
     let settings = settings(3, 1, 10, 25);
     let consumer = Consumer::start(&settings, NewJournal::create(&path, 18).unwrap()).unwrap();
@@ -185,7 +200,10 @@ fn a_journal_that_is_there_can_only_be_opened() {
     let storage = journal.into_storage();
     assert!(matches!(NewJournal::on(storage), Err(JournalError::Used)));
     let before = fs::read(&path).unwrap();
-    assert!(matches!(NewJournal::create(&path, 18), Err(JournalError::Exists)));
+    assert!(matches!(
+        NewJournal::create(&path, 18),
+        Err(JournalError::Exists)
+    ));
     assert_eq!(fs::read(&path).unwrap(), before);
     // Nothing else is left in the folder.
     let names = fs::read_dir(path.parent().unwrap()).unwrap();
@@ -203,9 +221,13 @@ fn a_damaged_journal_is_refused() {
     let mut bytes = fs::read(&path).unwrap();
     bytes[BLOCK + 20] ^= 1;
     fs::write(&path, &bytes).unwrap();
-    let (refusal, journal) = Consumer::restart(&settings, Journal::open(&path).unwrap()).unwrap_err();
+    let (refusal, journal) =
+        Consumer::restart(&settings, Journal::open(&path).unwrap()).unwrap_err();
     assert_eq!(refusal, Refusal::Damaged { block: 1 });
-    assert_eq!(refusal.to_string(), "refused (5): block 1 of the journal is damaged");
+    assert_eq!(
+        refusal.to_string(),
+        "refused (5): block 1 of the journal is damaged"
+    );
     assert_eq!(journal.bytes(), bytes);
 }
 

@@ -5,8 +5,8 @@ mod common;
 
 use common::{fresh_path, settings, Book, Cut, Cuttable, Power, Random};
 use ironbus_delivery_state::{
-    CheckpointError, Consumer, HandOut, Journal, LeaseToken, NewJournal, Offset, Refusal,
-    Settings, Writing,
+    CheckpointError, Consumer, HandOut, Journal, LeaseToken, NewJournal, Offset, Refusal, Settings,
+    Writing,
 };
 use std::cell::RefCell;
 use std::path::Path;

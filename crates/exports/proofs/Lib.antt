@@ -1,4 +1,2 @@
 pub mod Columns
 pub mod Snapshots
-mod Places
-mod Turned

@@ -1,4 +1,2 @@
 pub mod Answers
 pub mod Snapshots
-pub mod Numbers
-pub mod Door

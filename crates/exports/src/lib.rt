@@ -1,5 +1,4 @@
-// What programs in other languages call: here the snapshots and the check, on numbers and slices; in `door` the consumer, with its
-// state behind `&mut`, `kinds` and `numbers` giving its calls and answers as numbers. A slice crosses as a pointer
+// What programs in other languages call: the snapshots and the check, on numbers and slices. A slice crosses as a pointer
 // and a length, a list of ranges or pairs as a column for each field. Nothing is required of a caller but that its slices
 // are there, and that one that is written to overlaps no other.
 ghost use mathlib.Core.Path.{_≡_};
@@ -27,10 +26,6 @@ use cursor::SnapshotError;
 use raw::Write;
 use types::Offset;
 use types::Pair;
-
-pub mod door;
-pub mod kinds;
-pub mod numbers;
 
 // 01's number of an answer, 0 where nothing is refused, and its values, 0 where there are fewer than two.
 #[repr(C)]

@@ -1,0 +1,144 @@
+-- What the machine's contracts say, in numbers: the answer of a call, who can be called next and the lent memory are what the
+-- door makes. Assumes nothing.
+use Prim.Native.Nat.{ℕ}
+use mathlib.Core.Path.{_≡_, refl, ap, subst, _∙_}
+use mathlib.Core.List.{List, []}
+use mathlib.Core.Option.{Option, none, some}
+use lib.ListN.{length}
+use Rattle.types.specs.Refusal.{Refusal, done}
+use Rattle.types.specs.Refusal as refusal
+use Rattle.types.specs.Table.{Kept, unless}
+use Rattle.consumer.specs.State.{State}
+use Rattle.consumer.specs.View.{view}
+use Rattle.consumer.specs.View as consumer
+use Rattle.consumer.specs.Starting.{settingsOf, startFault}
+use Rattle.consumer.specs.declared.Consumer.{Consumer}
+use Rattle.consumer.specs.declared.Settings.{Settings}
+use Rattle.machine.specs.Calls.{Ask, Call}
+use Rattle.machine.specs.Door.{Phase, idle, Turn, asked, door}
+use Rattle.machine.specs.Answers.{Arguments, argumentsOf, seenOf, AskKept, outAfter}
+use Rattle.machine.specs.View.{phaseOf, Sound, AskedIs, CalledIs, StartedIs, turnOf, CallKept, held}
+use Rattle.machine.specs.declared.Machine.{Machine}
+use Rattle.machine.specs.declared.Called.{Called}
+use Rattle.machine.specs.declared.Started.{Started}
+use Rattle.machine.specs.declared.calls.Asked.{Asked}
+use Rattle.machine.specs.declared.calls.AskAnswer.{AskAnswer}
+use Rattle.machine.specs.declared.calls.AskAnswer.the-variants as asks
+use Rattle.machine.specs.declared.calls.CallAnswer.{CallAnswer}
+use Rattle.machine.specs.declared.calls.CallAnswer.the-variants as calls
+use Rattle.server.specs.Numbers.{askAt, callAt, numbersOf, notNow, noValues, seenNumbers}
+use Rattle.server.specs.Door.{onAsk, onCall, numbersIn, phaseIn, areaIn, answered, answeredBy, KeptBy, KeptIn, AskIs, CallIs, StartIs}
+use Rattle.server.specs.declared.numbers.Numbers.{Numbers}
+
+-- ## parts
+-- the answer of a start has no values, whatever state stands beside it
+pub start-numbers : (o : Option Refusal) (s : State)
+    → numbersOf (refusal.answered noValues (unless o (done (tt {0})))) ≡ numbersOf (refusal.answered noValues (unless o (done s)))
+start-numbers none s = refl
+start-numbers (some r) s = refl
+
+start-kept : {T : Type 0} (before after : T) (o : Option Refusal) (s : State) → Kept (unless o (done (tt {0}))) before after
+    → Kept (unless o (done s)) before after
+start-kept before after none s k = k
+start-kept before after (some r) s k = k
+
+ask-kept : {T : Type 0} (before after : T) (g : Arguments) (a : AskAnswer) (out : List ℕ) → AskKept a before after
+    → KeptBy (seenOf g a out) before after
+ask-kept before after g (asks.Claimed a) out k = k
+ask-kept before after g (asks.Acked a) out k = k
+ask-kept before after g (asks.Termed a) out k = k
+ask-kept before after g (asks.Nacked a) out k = k
+ask-kept before after g (asks.Extended a) out k = k
+ask-kept before after g (asks.Committed a) out k = k
+ask-kept before after g (asks.Looked a) out k = k
+
+-- an answer is what the door makes where it is so part by part
+parts : {n : Numbers} {p′ : Phase} {a′ out′ : List ℕ} (p : Phase) (a out : List ℕ) (t d : Option Turn) → t ≡ d → n ≡ numbersIn t → p′ ≡ phaseIn p t
+    → a′ ≡ areaIn a t → out′ ≡ outAfter d out → answered n p′ a′ out′ ≡ answeredBy p a out d
+parts p a out t d e same-n same-p same-a same-out = cc
+
+-- ## a call on a state
+module _ (x : Consumer) (kind a b c d : ℕ) (out : List ℕ) where
+  pub ask-none : consumer.Sound x → none ≡ askAt kind a b c d (length out) → AskIs x kind a b c d out notNow x out
+  ask-none sound e =
+      record {
+        is = λ area. ap (λ (o : Option Ask). answeredBy (idle (view x)) area out (onAsk o (asked (view x) area))) e;
+        sound = sound;
+        kept = subst (λ (o : Option Ask). KeptIn (onAsk o (asked (view x) [])) x x) e refl;
+      }
+
+  pub ask-some : (q : Ask) (r : Asked) (out′ : List ℕ) (n : Numbers) → some q ≡ askAt kind a b c d (length out) → AskedIs x q out r out′
+      → n ≡ seenNumbers (seenOf (argumentsOf q) (r .answer) out′) → AskIs x kind a b c d out n (r .consumer) out′
+  ask-some q r out′ n e h m =
+      record {
+        is =
+            λ area.
+            parts (idle (view x)) area out _ _ (h .is area) m refl refl (h .lists area)
+            ∙ ap (λ (o : Option Ask). answeredBy (idle (view x)) area out (onAsk o (asked (view x) area))) e;
+        sound = h .sound;
+        kept =
+            subst (λ (o : Option Ask). KeptIn (onAsk o (asked (view x) [])) x (r .consumer)) e
+            (subst (λ (t : Option Turn). KeptIn t x (r .consumer)) (h .is []) (ask-kept x (r .consumer) (argumentsOf q) (r .answer) out′ (h .kept)));
+      }
+
+-- ## a call of the door
+module _ (m : Machine) (area : List ℕ) (q : Call) (m′ : Machine) (area′ out′ : List ℕ) where
+  call-phase : (a : CallAnswer) → CallKept a (held m area) (held m′ area′) → phaseOf m′ ≡ phaseIn (phaseOf m) (turnOf q a m′ area′ out′)
+  call-phase (calls.Asked a) k = refl
+  call-phase (calls.Begun a) k = refl
+  call-phase (calls.Stepped a) k = refl
+  call-phase (calls.Restarted a) k = refl
+  call-phase calls.NotNow k = ap (λ h. phaseOf (h .machine)) k
+
+  call-area : (a : CallAnswer) → CallKept a (held m area) (held m′ area′) → area′ ≡ areaIn area (turnOf q a m′ area′ out′)
+  call-area (calls.Asked a) k = refl
+  call-area (calls.Begun a) k = refl
+  call-area (calls.Stepped a) k = refl
+  call-area (calls.Restarted a) k = refl
+  call-area calls.NotNow k = ap (λ h. h .area) k
+
+  call-kept : (a : CallAnswer) → CallKept a (held m area) (held m′ area′) → KeptIn (turnOf q a m′ area′ out′) (held m area) (held m′ area′)
+  call-kept (calls.Asked a) k = ask-kept (held m area) (held m′ area′) _ a out′ k
+  call-kept (calls.Begun a) k = k
+  call-kept (calls.Stepped a) k = k
+  call-kept (calls.Restarted a) k = start-kept (held m area) (held m′ area′) (startFault a) _ k
+  call-kept calls.NotNow k = k
+
+module _ (m : Machine) (kind a b c d : ℕ) (area out : List ℕ) where
+  pub call-none : Sound m → none ≡ callAt kind a b c d (length out) → CallIs m kind a b c d area out notNow m area out
+  call-none sound e =
+      record {
+        is = ap (λ (o : Option Call). answeredBy (phaseOf m) area out (onCall o (door (settingsOf (m .settings)) (phaseOf m) area))) e;
+        sound = sound;
+        settings = refl;
+        kept =
+            subst (λ (o : Option Call). KeptIn (onCall o (door (settingsOf (m .settings)) (phaseOf m) area)) (held m area) (held m area)) e refl;
+      }
+
+  pub call-some : (q : Call) (r : Called) (area′ out′ : List ℕ) (n : Numbers) → some q ≡ callAt kind a b c d (length out)
+      → CalledIs m q area out r area′ out′ → n ≡ numbersIn (turnOf q (r .answer) (r .machine) area′ out′)
+      → CallIs m kind a b c d area out n (r .machine) area′ out′
+  call-some q r area′ out′ n e h same =
+      record {
+        is =
+            parts (phaseOf m) area out _ _ (h .is) same (call-phase m area q (r .machine) area′ out′ (r .answer) (h .kept))
+            (call-area m area q (r .machine) area′ out′ (r .answer) (h .kept)) (h .lists)
+            ∙ ap (λ (o : Option Call). answeredBy (phaseOf m) area out (onCall o (door (settingsOf (m .settings)) (phaseOf m) area))) e;
+        sound = h .sound;
+        settings = h .settings;
+        kept =
+            subst (λ (o : Option Call). KeptIn (onCall o (door (settingsOf (m .settings)) (phaseOf m) area)) (held m area) (held (r .machine) area′)) e
+            (subst (λ (t : Option Turn). KeptIn t (held m area) (held (r .machine) area′)) (h .is)
+            (call-kept m area q (r .machine) area′ out′ (r .answer) (h .kept)));
+      }
+
+-- ## a start
+pub start-is : (s : Settings) (size : ℕ) (r : Started) (n : Numbers) → StartedIs s size r
+    → n ≡ numbersOf (refusal.answered noValues (unless (startFault (r .answer)) (done (tt {0})))) → StartIs s size n (r .machine)
+start-is s size r n h e =
+    record {
+      is = e ∙ start-numbers (startFault (r .answer)) _ ∙ ap (λ u. numbersOf (refusal.answered noValues u)) (h .is);
+      phase = h .phase;
+      settings = h .settings;
+      sound = h .sound;
+    }

@@ -1,0 +1,32 @@
+-- `place` meets its contract: behind the first n, and behind the list, there is 0. Assumes nothing.
+use native.Mathlib.Omega.{arith}
+use mathlib.Core.Path.{sym}
+use lib.ListN.{take, length-take, List·getD-eq-default}
+use lib.Seq.{getD-take}
+use borrow.Author.Needs.{needs}
+use Rattle.server.proofs.numbers.place.Statement.{statement}
+use Rattle.server.proofs.numbers.place.Tie as tie
+
+mul-result : tie.Need-mul-result
+mul-result c = search needs
+
+shared-slice-read-result : tie.Need-shared-slice-read-result
+shared-slice-read-result c = search needs
+
+returns : tie.Need-returns
+returns c =
+    let x = c .before .before .before .args in
+    sym (getD-take (x .n) (x .list .now) (x .i) 0 (omega arith))
+
+returns-2 : tie.Need-returns-2
+returns-2 c =
+    let x = c .before .before .args in
+    sym (List·getD-eq-default (take (x .n) (x .list .now)) 0 {n = x .i} (simp length-take (omega arith)))
+
+returns-3 : tie.Need-returns-3
+returns-3 c =
+    let x = c .before .args in
+    sym (List·getD-eq-default (take (x .n) (x .list .now)) 0 {n = x .i} (simp length-take (omega arith)))
+
+pub place-spec : {M : Type 1} → statement M
+place-spec = tie.close (tie.spec mul-result shared-slice-read-result returns returns-2 returns-3)

@@ -1,0 +1,99 @@
+-- What the functions that Rust calls make of a state and of lent memory: what the door makes, in numbers.
+use Prim.Native.Nat.{ℕ}
+use mathlib.Core.Path.{_≡_}
+use mathlib.Core.List.{List, []}
+use mathlib.Core.Option.{Option, none, some}
+use lib.ListN.{length}
+use Rattle.types.specs.Refusal as refusal
+use Rattle.types.specs.Table.{Kept}
+use Rattle.consumer.specs.Restart as restarts
+use Rattle.consumer.specs.View.{view, Unmoved}
+use Rattle.consumer.specs.View as consumer
+use Rattle.consumer.specs.Starting.{settingsOf}
+use Rattle.consumer.specs.declared.Consumer.{Consumer}
+use Rattle.consumer.specs.declared.Settings.{Settings}
+use Rattle.machine.specs.Calls.{Ask, Call, Event, claimed, acked, termed, nacked, extended, committed, looked, begun, stepped, restarted, failed}
+use Rattle.machine.specs.Door.{Phase, idle, Turn, asked, door}
+use Rattle.machine.specs.Answers.{outAfter}
+use Rattle.machine.specs.View.{phaseOf, Sound, startedAs, held}
+use Rattle.machine.specs.declared.Machine.{Machine}
+use Rattle.server.specs.Numbers.{askAt, callAt, numbersOf, notNow, noValues, seenNumbers}
+use Rattle.server.specs.declared.numbers.Numbers.{Numbers}
+
+-- ## what a call made, `none` where it can't be made or is no call
+abbrev pub onAsk : Option Ask → (Ask → Option Turn) → Option Turn
+onAsk none f = none
+onAsk (some q) f = f q
+
+abbrev pub onCall : Option Call → (Call → Option Turn) → Option Turn
+onCall none f = none
+onCall (some q) f = f q
+
+abbrev pub numbersIn : Option Turn → Numbers
+numbersIn none = notNow
+numbersIn (some t) = seenNumbers (t .event)
+
+abbrev pub phaseIn : Phase → Option Turn → Phase
+phaseIn p none = p
+phaseIn p (some t) = t .phase
+
+abbrev pub areaIn : List ℕ → Option Turn → List ℕ
+areaIn a none = a
+areaIn a (some t) = t .area
+
+-- the answer, who can be called next, and the lent memory
+pub record Answered : Type 0 where
+  pub numbers : Numbers
+  pub phase : Phase
+  pub area : List ℕ
+  pub out : List ℕ
+
+abbrev pub answered : Numbers → Phase → List ℕ → List ℕ → Answered
+answered n p a out = record { numbers = n; phase = p; area = a; out = out }
+
+abbrev pub answeredBy : Phase → List ℕ → List ℕ → Option Turn → Answered
+answeredBy p a out t = answered (numbersIn t) (phaseIn p t) (areaIn a t) (outAfter t out)
+
+-- a refusal, a question and a call that can't be made give back the very thing that was handed in
+abbrev pub KeptBy : {T : Type 0} → Event → T → T → Type 0
+KeptBy (claimed o now r) before after = Kept r before after
+KeptBy (acked o g r) before after = Kept r before after
+KeptBy (termed o g r) before after = Kept r before after
+KeptBy (nacked o g now d r) before after = Kept r before after
+KeptBy (extended o g now r) before after = Kept r before after
+KeptBy (committed bound r) before after = Unmoved r before after
+KeptBy (looked q r) before after = after ≡ before
+KeptBy (begun r) before after = Kept r before after
+KeptBy (stepped r) before after = Kept r before after
+KeptBy (restarted r) before after = Kept r before after
+KeptBy (failed new) before after = Unit {0}
+
+abbrev pub KeptIn : {T : Type 0} → Option Turn → T → T → Type 0
+KeptIn none before after = after ≡ before
+KeptIn (some t) before after = KeptBy (t .event) before after
+
+-- ## a call on a state alone, with whatever area
+abbrev pub askTurn : Consumer → ℕ → ℕ → ℕ → ℕ → ℕ → List ℕ → List ℕ → Option Turn
+askTurn s kind a b c d out area = onAsk (askAt kind a b c d (length out)) (asked (view s) area)
+
+pub record AskIs (before : Consumer) (kind a b c d : ℕ) (out : List ℕ) (n : Numbers) (after : Consumer) (out′ : List ℕ) : Type 0 where
+  pub is : (area : List ℕ) → answered n (idle (view after)) area out′ ≡ answeredBy (idle (view before)) area out (askTurn before kind a b c d out area)
+  pub sound : consumer.Sound after
+  pub kept : KeptIn (askTurn before kind a b c d out []) before after
+
+-- ## a call of the door
+abbrev pub callTurn : Machine → ℕ → ℕ → ℕ → ℕ → ℕ → List ℕ → List ℕ → Option Turn
+callTurn m kind a b c d area out = onCall (callAt kind a b c d (length out)) (door (settingsOf (m .settings)) (phaseOf m) area)
+
+pub record CallIs (before : Machine) (kind a b c d : ℕ) (area out : List ℕ) (n : Numbers) (after : Machine) (area′ out′ : List ℕ) : Type 0 where
+  pub is : answered n (phaseOf after) area′ out′ ≡ answeredBy (phaseOf before) area out (callTurn before kind a b c d area out)
+  pub sound : Sound after
+  pub settings : after .settings ≡ before .settings
+  pub kept : KeptIn (callTurn before kind a b c d area out) (held before area) (held after area′)
+
+-- ## a start, whatever stood in the machine's place before
+pub record StartIs (s : Settings) (size : ℕ) (n : Numbers) (m : Machine) : Type 0 where
+  pub is : n ≡ numbersOf (refusal.answered noValues (restarts.start (settingsOf s) size))
+  pub phase : phaseOf m ≡ startedAs (restarts.start (settingsOf s) size)
+  pub settings : m .settings ≡ s
+  pub sound : Sound m

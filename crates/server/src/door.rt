@@ -1,0 +1,164 @@
+// The door, for Rust: the state behind `&mut`, calls and answers in numbers. Whoever calls keeps one machine and hands the same
+// one in each time, so that each call gets what the one before left.
+ghost use Rattle.consumer.specs.View as consumers;
+ghost use Rattle.machine.specs.View.{Sound, OffIs};
+ghost use Rattle.server.specs.Door.{AskIs, CallIs, StartIs};
+use crate::kinds;
+use crate::kinds::Asking;
+use crate::kinds::Calling;
+use crate::numbers;
+use crate::numbers::Numbers;
+use consumer::Consumer;
+use consumer::Settings;
+use machine::Machine;
+
+pub struct ConsumerAnswer {
+    pub numbers: Numbers,
+    pub consumer: Consumer,
+}
+
+pub struct MachineAnswer {
+    pub numbers: Numbers,
+    pub machine: Machine,
+}
+
+// A call on a state alone.
+pub fn ask(
+    consumer: Consumer,
+    kind: u64,
+    a: u64,
+    b: u64,
+    c: u64,
+    d: u64,
+    out: &mut [u64],
+) -> ConsumerAnswer
+    requires { ⌜ consumers.Sound consumer ⌝ }
+    ensures { λ r. ⌜ AskIs consumer kind a b c d (now (out .entry)) (r .numbers) (r .consumer) (now (out .exit)) ⌝ }
+{
+    let asking = kinds::ask_of(kind, a, b, c, d);
+    let Asking::Ask(ask) = asking else {
+        return ConsumerAnswer {
+            numbers: Numbers(32, 0, 0, 0, 0, 0),
+            consumer: consumer,
+        };
+    };
+    let asked = machine::asks::ask(consumer, ask, out);
+    let answer = asked.answer;
+    let after = asked.consumer;
+    ConsumerAnswer {
+        numbers: numbers::of_ask(answer, out),
+        consumer: after,
+    }
+}
+
+// A call of the door.
+pub fn call(
+    machine: Machine,
+    kind: u64,
+    a: u64,
+    b: u64,
+    c: u64,
+    d: u64,
+    area: &mut [u8],
+    out: &mut [u64],
+) -> MachineAnswer
+    requires { ⌜ Sound machine ⌝ }
+    ensures { λ r. ⌜ CallIs machine kind a b c d (now (area .entry)) (now (out .entry)) (r .numbers) (r .machine) (now (area .exit)) (now (out .exit)) ⌝ }
+{
+    let calling = kinds::call_of(kind, a, b, c, d);
+    let Calling::Call(call) = calling else {
+        return MachineAnswer {
+            numbers: Numbers(32, 0, 0, 0, 0, 0),
+            machine: machine,
+        };
+    };
+    let called = machine::call(machine, call, area, out);
+    let answer = called.answer;
+    let after = called.machine;
+    MachineAnswer {
+        numbers: numbers::of_call(answer, out),
+        machine: after,
+    }
+}
+
+// A fresh machine for so many zeroed bytes.
+pub fn start(settings: Settings, area_len: usize) -> MachineAnswer
+    ensures { λ r. ⌜ StartIs settings «area_len» (r .numbers) (r .machine) ⌝ }
+{
+    let started = Machine::start(settings, area_len);
+    let answer = started.answer;
+    let machine = started.machine;
+    MachineAnswer {
+        numbers: numbers::of_start(answer),
+        machine: machine,
+    }
+}
+
+// `start`, into the machine's place.
+#[no_mangle]
+pub extern "C" fn ninotskev_start(
+    machine: &mut Machine,
+    numbers: &mut Numbers,
+    settings: &Settings,
+    area_len: usize,
+)
+    ensures { λ _. ⌜ StartIs (now (settings .entry)) «area_len» (now (numbers .exit)) (now (machine .exit)) ⌝ }
+{
+    let given = *settings;
+    let started = start(given, area_len);
+    *machine = started.machine;
+    *numbers = started.numbers;
+}
+
+// A machine that is off, into its place: only a restart is possible.
+#[no_mangle]
+pub extern "C" fn ninotskev_off(machine: &mut Machine, settings: &Settings)
+    ensures { λ _. ⌜ OffIs (now (settings .entry)) (now (machine .exit)) ⌝ }
+{
+    let given = *settings;
+    let made = Machine::off(given);
+    *machine = made;
+}
+
+// `call` on the machine in its place.
+#[no_mangle]
+pub extern "C" fn ninotskev_call(
+    machine: &mut Machine,
+    numbers: &mut Numbers,
+    kind: u64,
+    a: u64,
+    b: u64,
+    c: u64,
+    d: u64,
+    area: &mut [u8],
+    out: &mut [u64],
+)
+    requires { ⌜ Sound (now machine) ⌝ }
+    ensures { λ _. ⌜ CallIs (now (machine .entry)) kind a b c d (now (area .entry)) (now (out .entry)) (now (numbers .exit)) (now (machine .exit)) (now (area .exit)) (now (out .exit)) ⌝ }
+{
+    let before = *machine;
+    let called = call(before, kind, a, b, c, d, area, out);
+    *machine = called.machine;
+    *numbers = called.numbers;
+}
+
+// `ask` on the consumer in its place: that of a machine whose consumer can be called.
+#[no_mangle]
+pub extern "C" fn ninotskev_ask(
+    consumer: &mut Consumer,
+    numbers: &mut Numbers,
+    kind: u64,
+    a: u64,
+    b: u64,
+    c: u64,
+    d: u64,
+    out: &mut [u64],
+)
+    requires { ⌜ consumers.Sound (now consumer) ⌝ }
+    ensures { λ _. ⌜ AskIs (now (consumer .entry)) kind a b c d (now (out .entry)) (now (numbers .exit)) (now (consumer .exit)) (now (out .exit)) ⌝ }
+{
+    let before = *consumer;
+    let asked = ask(before, kind, a, b, c, d, out);
+    *consumer = asked.consumer;
+    *numbers = asked.numbers;
+}

@@ -1,0 +1,95 @@
+//! A server's loop over one consumer: it claims, works, acknowledges, and makes a checkpoint when one is due. The jobs here are
+//! numbers, and some fail at first.
+//!
+//! `cargo run --example server -- /tmp/recipes.journal`, again and again: each run goes on where the last one was.
+
+use std::error::Error;
+use std::path::Path;
+use std::time::Instant;
+
+use ironbus_delivery_state::{
+    CheckpointError, Consumer, HandOut, Journal, LeaseToken, NewJournal, Offset, Refusal, Settings,
+};
+
+/// The journal's consumer: restarted where there is a journal, else started on a new one.
+fn open(path: &Path, settings: &Settings) -> Result<Consumer, Box<dyn Error>> {
+    if path.exists() {
+        let journal = Journal::open(path)?;
+        println!("restarting from {journal:?}");
+        return Ok(Consumer::restart(settings, journal).map_err(|(refusal, _)| refusal)?);
+    }
+    println!("a new journal");
+    let journal = NewJournal::create(path, 128)?;
+    Ok(Consumer::start(settings, journal).map_err(|(refusal, _)| refusal)?)
+}
+
+/// Whether a job can be done: every third one fails once.
+fn work(token: LeaseToken, deliveries: u32) -> bool {
+    token.offset.get() % 3 != 0 || deliveries > 1
+}
+
+/// Hands one job out and settles it, or gives it back.
+fn serve(consumer: &mut Consumer, offset: Offset, now: u64) -> Result<(), Refusal> {
+    match consumer.claim(offset, now)? {
+        HandOut::Deliver { token, deliveries } if work(token, deliveries) => consumer.ack(token),
+        HandOut::Deliver { token, .. } => consumer.nack(token, now, Some(0)).map(drop),
+        HandOut::DeadLetter { token, deliveries } => {
+            println!("{offset} goes to the dead letters after {deliveries} hand-outs");
+            consumer.term(token)
+        }
+    }
+}
+
+/// The next job: one that waits, or else the first that isn't settled and not in flight.
+fn next(consumer: &mut Consumer, now: u64, end: u64) -> Option<Offset> {
+    let mut waiting = [Offset::ZERO; 128];
+    if consumer.waiting(now, &mut waiting).ok()? > 0 {
+        return Some(waiting[0]);
+    }
+    (consumer.committed().get()..end)
+        .map(Offset::new)
+        .find(|offset| !consumer.is_settled(*offset) && consumer.lease_of(*offset).is_none())
+}
+
+fn main() -> Result<(), Box<dyn Error>> {
+    let path = std::env::args_os().nth(1);
+    let path = path
+        .as_deref()
+        .map_or(Path::new("recipes.journal"), Path::new);
+    let settings = Settings::default();
+    let mut consumer = open(path, &settings)?;
+    let clock = Instant::now();
+    let end = consumer.committed().get() + 20;
+    loop {
+        let now = u64::try_from(clock.elapsed().as_nanos())?;
+        let Some(offset) = next(&mut consumer, now, end) else {
+            break;
+        };
+        match serve(&mut consumer, offset, now) {
+            Ok(()) => {}
+            // Nothing was handed out: the checkpoint comes first, and then the same job again.
+            Err(Refusal::CheckpointDue) => {
+                consumer = match consumer.checkpoint() {
+                    Ok(consumer) => consumer,
+                    Err(CheckpointError::Refused(refusal, _)) => return Err(refusal.into()),
+                    // Only a restart is left.
+                    Err(CheckpointError::Failed(failed)) => {
+                        eprintln!("{failed}; restarting");
+                        let journal = failed.reopen()?;
+                        Consumer::restart(&settings, journal).map_err(|(refusal, _)| refusal)?
+                    }
+                };
+            }
+            Err(refusal) => return Err(refusal.into()),
+        }
+    }
+    match consumer.checkpoint() {
+        Ok(mut consumer) => println!(
+            "settled below {}, {} blocks left",
+            consumer.committed(),
+            consumer.blocks_left()
+        ),
+        Err(error) => println!("{error}: the last jobs are done again after a restart"),
+    }
+    Ok(())
+}
