@@ -9,11 +9,13 @@ use mathlib.Core.Path.{_≡_, refl, sym, ap, _∙_}
 use mathlib.Core.List.{List, [], _∷_, _++_, append-assoc, append-nil}
 use mathlib.Core.Option.{none}
 use lib.Dec.{leb}
-use lib.ListN.{length, take, getD, set, length-set, length-take}
+use lib.ListN.{length, take, drop, getD, set, replicate, length-set, length-take}
 use lib.Seq.{take-take, take-suc, take-suc-set}
 use Rattle.types.specs.Limits.{CARRIED}
 use Rattle.types.specs.Keyed.{Entry, entries, lookup}
+use Rattle.types.specs.Lists.{ListsOffsets}
 use Rattle.types.proofs.Cases.{split}
+use Rattle.types.proofs.Loops.{rest-more}
 use Rattle.lease.specs.declared.Lease.{Lease}
 use Rattle.lease.specs.declared.LeaseTable.{LeaseTable}
 use Rattle.lease.specs.State.{carriedOf}
@@ -60,18 +62,21 @@ due-few now [] = omega arith
 due-few now (e ∷ l) = split (leb (e .value .deadline) now) (λ q. rw q (omega (arith, due-few now l))) (λ q. rw q (omega (arith, due-few now l)))
 
 -- both fit one array
-pub both-fit : (s : State) → Valid s → (now n m : ℕ) → n ≡ length (s .table .carried) → m ≡ length (dueOffsets now (s .table .leases)) → n + m ≤ CARRIED
-both-fit s v now n m e f = omega (arith, due-few now (s .table .leases), v .together)
+pub both-fit : (s : State) → Valid s → (now n m : ℕ) → n ≡ length (keysOf (s .table .carried)) → m ≡ length (dueOffsets now (s .table .leases)) → n + m ≤ CARRIED
+both-fit s v now n m e f = omega (arith, length-keys (s .table .carried), due-few now (s .table .leases), v .together)
 
 -- the first i of the second list stand behind the n of the first
 pub record Behind (first more out : List ℕ) (n m i : ℕ) : Type 0 where
   pub inside : i ≤ m
   pub full : length out ≡ length first
   pub is : take (n + i) out ≡ take n first ++ take i more
+  pub rest : drop (n + i) out ≡ drop (n + i) (replicate 128 0)
 
 module _ (first more : List ℕ) (n m : ℕ) where
-  pub behind : Behind first more first n m 0
-  behind = record { inside = omega arith; full = refl; is = let e : n + 0 ≡ n = omega arith in rw e (sym (append-nil (take n first))) }
+  pub behind : drop n first ≡ drop n (replicate 128 0) → Behind first more first n m 0
+  behind r =
+      let e : n + 0 ≡ n = omega arith in
+      record { inside = omega arith; full = refl; is = rw e (sym (append-nil (take n first))); rest = rw e r }
 
   pub behind-more : {out : List ℕ} {i : ℕ} → i < m → m ≤ length more → n + m ≤ length first → Behind first more out n m i
       → Behind first more (set out (n + i) (getD more i 0)) n m (i + 1)
@@ -83,7 +88,10 @@ module _ (first more : List ℕ) (n m : ℕ) where
         is =
             rw (e, take-suc-set out (n + i) (getD more i 0) (omega (arith, inv .full)), inv .is, add-one i, take-suc more i 0 (omega arith))
             (append-assoc (take n first) (take i more) (getD more i 0 ∷ []));
+        rest = let q : n + (i + 1) ≡ n + i + 1 = omega arith in rw q (rest-more (n + i) out (replicate 128 0) (getD more i 0) (inv .rest));
       }
 
-  pub both : {out : List ℕ} {i : ℕ} → m ≤ i → Behind first more out n m i → take (n + m) out ≡ take n first ++ take m more
-  both h inv = let e = le-antisymm (inv .inside) h in rw (← e) (inv .is)
+  pub both : (out : List ℕ) (i : ℕ) → m ≤ i → n + m ≤ 128 → Behind first more out n m i → ListsOffsets (record { offsets = out; len = n + m }) (take n first ++ take m more)
+  both out i h few inv =
+      let e = le-antisymm (inv .inside) h in
+      record { few = few; is = rw (← e) (inv .is); rest = rw (← e) (inv .rest) }

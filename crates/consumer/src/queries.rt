@@ -2,7 +2,7 @@
 ghost use mathlib.Core.Path.{_≡_};
 ghost use Prim.Native.Nat.{_-_};
 ghost use Rattle.types.specs.Identifiers.{offset};
-ghost use Rattle.types.specs.Lists.{listed, listedOf, numbersOf, offsetsIn};
+ghost use Rattle.types.specs.Lists.{listed, listedOf, numbersOf, ListsOffsets};
 ghost use Rattle.types.specs.Table.{answer};
 ghost use Rattle.cursor.specs.Cursor.{settled};
 ghost use Rattle.lease.specs.Operations.{leaseOf};
@@ -10,7 +10,7 @@ ghost use Rattle.lease.specs.Lookup.{leaseAt};
 ghost use Rattle.lease.specs.Rest.{inFlight};
 ghost use Rattle.consumer.specs.State.{blocksOf};
 ghost use Rattle.consumer.specs.Calls.{atCeiling, atThreshold};
-ghost use Rattle.consumer.specs.Questions.{countOf, waitingAt};
+ghost use Rattle.consumer.specs.Questions.{countOf, keysOf, waitingAt};
 ghost use Rattle.consumer.specs.View.{view, Sound};
 use crate::Consumer;
 use lease::Attempts;
@@ -102,14 +102,14 @@ impl Consumer {
     }
 
     // The same, in an array.
-    fn waiting_list(self, now: u64) -> OffsetList
+    pub fn waiting_list(self, now: u64) -> OffsetList
         requires { ⌜ Sound self ⌝ }
-        ensures { λ r. ⌜ offsetsIn r ≡ waitingAt (view self) now ⌝ }
+        ensures { λ r. ⌜ ListsOffsets r (waitingAt (view self) now) ⌝ }
     {
-        let table = self.table;
-        let n = table.carried();
-        let due = table.due(now);
-        let mut offsets = table.carried_offsets;
+        let carried = self.carried_list();
+        let n = carried.len;
+        let due = self.table.due(now);
+        let mut offsets = carried.offsets;
         let mut i: usize = 0;
         while i < due.len {
             offsets[n + i] = due.offsets[i];
@@ -118,6 +118,25 @@ impl Consumer {
         OffsetList {
             offsets: offsets,
             len: n + due.len,
+        }
+    }
+
+    // The carried offsets, in an array.
+    fn carried_list(self) -> OffsetList
+        requires { ⌜ Sound self ⌝ }
+        ensures { λ r. ⌜ ListsOffsets r (keysOf (view self .table .carried)) ⌝ }
+    {
+        let table = self.table;
+        let n = table.carried();
+        let mut offsets = [0u64; 128];
+        let mut i: usize = 0;
+        while i < n {
+            offsets[i] = table.carried_offsets[i];
+            i += 1;
+        }
+        OffsetList {
+            offsets: offsets,
+            len: n,
         }
     }
 }

@@ -72,6 +72,22 @@ pub fn list_offsets(list: OffsetList, out: &mut [Offset]) -> Listed
     outcome
 }
 
+// Lists the numbers of offsets, for a caller that takes numbers.
+pub fn list_numbers(list: OffsetList, out: &mut [u64]) -> Listed
+    ensures { λ r. ⌜ answer (listedOf r) (now (out .exit)) ≡ listed (offsetsIn list) (now (out .entry)) ⌝ }
+{
+    let n = shorter(list.len, 128);
+    if out.len() < n {
+        return Listed::OutTooShort;
+    }
+    let mut i: usize = 0;
+    while i < n {
+        out[i] = list.offsets[i];
+        i += 1;
+    }
+    Listed::Filled(n)
+}
+
 // Lists attempt counts as pairs.
 pub fn list_pairs(counts: AttemptCounts, out: &mut [Pair]) -> Listed
     ensures { λ r. ⌜ answer (listedOf r) (entriesOf (now (out .exit))) ≡ listed (countsIn counts) (entriesOf (now (out .entry))) ⌝ }

@@ -40,7 +40,7 @@ use denote.Triple.Table.{entered, cited}
 use denote.Triple.Walked.{says, needs, Stays, stay-dropped, gave-slice, walkOf, AllGo, goes-dropped, goes-gave-slice, Walks, ends-at, walked, walk-meets}
 use denote.Exit.{yes}
 use Rattle.types.specs.Table.{answer}
-use Rattle.types.specs.Lists.{listed, listedOf, numbersOf, offsetsIn}
+use Rattle.types.specs.Lists.{listed, listedOf, numbersOf, offsetsIn, ListsOffsets}
 use Rattle.types.specs.declared.Offset.{Offset}
 use Rattle.types.specs.declared.lent.OffsetList.{OffsetList}
 use Rattle.types.specs.declared.lent.Listed.{Listed}
@@ -126,8 +126,8 @@ module _ {M : Type 1} (𝓤 : URA M) (H : Heap 𝓤) (A : Atoms 𝓤) (W : Given
   goes-core =
       qed W [] ∵ says ! sound $ nothing ! $ frame ! $ nothing ! $ owned ! u64 (Is u64) (uint-makes 𝓤 H A W w64) now _ (refl, now-fits) $ fjoin ! $ owned ! S.the-row (Is S.the-row) ((LL.makes S.the-type S′.the-plain) 𝓤 H A) t _ is-t $ fjoin ! $ done !
 
-  said-core : (c : OffsetList) → ent 𝓤 (ensured 𝓤 H A core.ended (core.clauses 𝓤 H A at-mem run) tt (t, (now, tt)) tt c) (fact 𝓤 (offsetsIn c ≡ waitingAt (view t) now))
-  said-core c = exE 𝓤 _ (λ ws. snd∗ 𝓤 (sem 𝓤 H A (lasts core.ended tt (t, (now, tt)) ws)) (fact 𝓤 (offsetsIn c ≡ waitingAt (view t) now)))
+  said-core : (c : OffsetList) → ent 𝓤 (ensured 𝓤 H A core.ended (core.clauses 𝓤 H A at-mem run) tt (t, (now, tt)) tt c) (fact 𝓤 (ListsOffsets c (waitingAt (view t) now)))
+  said-core c = exE 𝓤 _ (λ ws. snd∗ 𝓤 (sem 𝓤 H A (lasts core.ended tt (t, (now, tt)) ws)) (fact 𝓤 (ListsOffsets c (waitingAt (view t) now))))
 
   abbrev to-fill : OffsetList → Fill 𝓤 H A at-mem run .Ghost
   to-fill c = (((κ, tt), (q, tt), tt, (c, (out, tt)), (G′.lowered c ∷ [], (s ∷ [], tt))), tt)
@@ -154,7 +154,7 @@ module _ {M : Type 1} (𝓤 : URA M) (H : Heap 𝓤) (A : Atoms 𝓤) (W : Given
         use0 W (raw (Core 𝓤 H A at-mem run .pre to-core)) goes-core $
         calls-at ! fm (Core 𝓤 H A at-mem run) known-core to-core (and-then ! (load ! (from ! (stop !)) (look ! 11 refl)) (and-then ! (load ! (from ! (stop !)) (look ! 9 refl)) (no-more !))) (λ w.
         use1 W (later (some (λ (c : OffsetList). (‵ ftrue ⊛ ‵ (L .own c (w ∷ []))) ⊛ raw (ensured 𝓤 H A core.ended (core.clauses 𝓤 H A at-mem run) tt (t, (now, tt)) tt c)))) (id⊢ 𝓤 _) $ await ! tt $ pick ! (λ c.
-        split ! $ move ! (1 ∷ []) $ use1 W (raw (fact 𝓤 (offsetsIn c ≡ waitingAt (view t) now))) (said-core c) $ heard ! (offsetsIn c ≡ waitingAt (view t) now) (λ lists. split ! $ drop ! $
+        split ! $ move ! (1 ∷ []) $ use1 W (raw (fact 𝓤 (ListsOffsets c (waitingAt (view t) now)))) (said-core c) $ heard ! (ListsOffsets c (waitingAt (view t) now)) (λ lists. split ! $ drop ! $
         peeks ! L (Is L) (shows 𝓤 H A L) c (w ∷ []) (λ is-w. let is-c = subst (Is L c) (G′.lowers .val-is c (w ∷ []) is-w) is-w in
         land ! (from ! (stop !)) (init ! 5 refl (LL.lawful G.the-type G′.the-laws 𝓤 H A W .typed c _ is-w .0)) $ rewrite ! 5 (λ (u : Val). ‵ (fat fullShare G′.mir l₄ 0 u)) (ap only (G′.lowers .val-is c (w ∷ []) is-w)) refl $ drop ! $
         -- the slice is handed on
@@ -171,7 +171,7 @@ module _ {M : Type 1} (𝓤 : URA M) (H : Heap 𝓤) (A : Atoms 𝓤) (W : Given
         land ! (from ! (stop !)) (init ! 16 refl (typed r w₂ is-r)) $ rewrite ! 16 (λ (u : Val). ‵ (fat fullShare E′.mir l₀ 0 u)) (ap only (E′.lowers .val-is r (w₂ ∷ []) is-r)) refl $ drop ! $
         returns ! (look ! 15 refl) $ forget ! 3 refl $ forget ! 5 refl $ forget ! 7 refl $ forget ! 9 refl $ forget ! 11 refl $ forget ! 13 refl $ forget ! 15 refl $
         move ! (15 ∷ 16 ∷ []) $ free1 ! $ move ! (13 ∷ 14 ∷ []) $ free1 ! $ move ! (11 ∷ 12 ∷ []) $ free1 ! $ move ! (9 ∷ 10 ∷ []) $ free1 ! $ move ! (7 ∷ 8 ∷ []) $ free1 ! $ move ! (5 ∷ 6 ∷ []) $ free1 ! $ move ! (3 ∷ 4 ∷ []) $ free1 ! $ free0 ! $
-        keep ! (0 ∷ 1 ∷ []) $ by ! (exits r (ws .1 .0) len (e ∙ ap (λ (k : List ℕ). listed k (numbersOf xs)) lists) is))))))))))))))))))
+        keep ! (0 ∷ 1 ∷ []) $ by ! (exits r (ws .1 .0) len (e ∙ ap (λ (k : List ℕ). listed k (numbersOf xs)) (lists .is)) is))))))))))))))))))
 
 module _ {M : Type 1} (𝓤 : URA M) (H : Heap 𝓤) (A : Atoms 𝓤) (W : Given 𝓤 H A) (at-mem : Memory → SProp 𝓤) (run : Routine → Fun 𝓤) where
   walks : (C : Calls 𝓤 H) (Λ : Loops 𝓤 H) → FmC 𝓤 H (W .laws) C → Triple 𝓤 (C #core) (Core 𝓤 H A at-mem run) → Triple 𝓤 (C #fill) (Fill 𝓤 H A at-mem run) → Walks 𝓤 H A f.ended stayed (WpFn 𝓤 H C Λ code.function) (f.clauses 𝓤 H A at-mem run)

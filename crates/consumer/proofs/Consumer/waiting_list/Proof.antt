@@ -8,7 +8,7 @@ use lib.Seq.{length-take-le}
 use borrow.Author.Needs.{needs}
 use Rattle.types.specs.Limits.{CARRIED}
 use Rattle.consumer.specs.View.{view}
-use Rattle.consumer.proofs.Asked.{carried-keys, both-fit, Behind, behind, behind-more, both}
+use Rattle.consumer.proofs.Asked.{both-fit, Behind, behind, behind-more, both}
 use Rattle.consumer.proofs.Consumer.waiting_list.Statement.{statement}
 use Rattle.consumer.proofs.Consumer.waiting_list.Tie as tie
 
@@ -18,27 +18,30 @@ Inv-loop now n due offsets₀ i₀ offsets i = Behind offsets₀ (due .offsets) 
 abbrev μ-loop : tie.MeasureT-loop
 μ-loop now n due offsets₀ i₀ offsets i = due .len - i
 
--- both lists fit one array
 due-full : (c : tie.After-due Inv-loop μ-loop) → length (c .due .result .offsets) ≡ CARRIED
 due-full c = search needs
 
-offsets-full : (c : tie.Start Inv-loop μ-loop) → length (c .args .self .table .«carried_offsets») ≡ CARRIED
-offsets-full c = search needs
+carried-full : (c : tie.After-carried-list Inv-loop μ-loop) → length (c .carried-list .result .offsets) ≡ CARRIED
+carried-full c = search needs
 
-room : (c : tie.After-due Inv-loop μ-loop) → c .before .carried .result + c .due .result .len ≤ CARRIED
+-- both lists fit one array
+room : (c : tie.After-due Inv-loop μ-loop) → c .before .carried-list .result .len + c .due .result .len ≤ CARRIED
 room c =
-    let s = c .before .before .before in
-    let size = length-take-le (c .due .result .len) (c .due .result .offsets) (omega (arith, due-full c, c .due .ensures .few)) in
-    both-fit (view (s .args .self)) (s .pre .valid) (s .args .now) (c .before .carried .result) (c .due .result .len) (c .before .carried .ensures) (sym size ∙ ap length (c .due .ensures .is))
+    let k = c .before .carried-list in
+    let d = c .due in
+    let s = c .before .before in
+    let held = length-take-le (k .result .len) (k .result .offsets) (omega (arith, carried-full (c .before), k .ensures .few)) in
+    let size = length-take-le (d .result .len) (d .result .offsets) (omega (arith, due-full c, d .ensures .few)) in
+    both-fit (view (s .args .self)) (s .pre .valid) (s .args .now) (k .result .len) (d .result .len) (sym held ∙ ap length (k .ensures .is)) (sym size ∙ ap length (d .ensures .is))
 
-carried-requires : tie.Need-carried-requires Inv-loop μ-loop
-carried-requires c κs = search needs
+carried-list-requires : tie.Need-carried-list-requires Inv-loop μ-loop
+carried-list-requires c κs = search needs
 
 due-requires : tie.Need-due-requires Inv-loop μ-loop
 due-requires c κs = search needs
 
 loop-holds : tie.Need-loop-holds Inv-loop μ-loop
-loop-holds c = behind _ _ _ _
+loop-holds c = behind _ _ _ _ (c .before .before .carried-list .ensures .rest)
 
 mul-offsets : tie.Need-mul-offsets Inv-loop μ-loop
 mul-offsets c = omega (arith, room (c .before .before .before), c .loop-test .taken)
@@ -65,17 +68,17 @@ loop-again : tie.Need-loop-again Inv-loop μ-loop
 loop-again c =
     let l = c .before .before in
     let d = l .before .before in
-    behind-more _ _ _ _ (c .before .loop-test .taken) (omega (arith, room d, due-full d)) (omega (arith, room d, offsets-full (d .before .before .before))) (l .loop .inv)
+    behind-more _ _ _ _ (c .before .loop-test .taken) (omega (arith, room d, due-full d)) (omega (arith, room d, carried-full (d .before))) (l .loop .inv)
 
 add-t20 : tie.Need-add-t20 Inv-loop μ-loop
 add-t20 c = omega (arith, room (c .before .before .before))
 
 returns : tie.Need-returns Inv-loop μ-loop
 returns c =
+    let l = c .before .loop in
     let d = c .before .before .before in
-    let s = d .before .before .before in
-    both _ _ _ _ (c .loop-test .left) (c .before .loop .inv)
-    ∙ rw (← carried-keys (s .args .self .table) (d .before .carried .result) (d .before .carried .ensures), d .due .ensures .is)
+    let k = d .before .carried-list in
+    rw (← k .ensures .is, ← d .due .ensures .is) (both (k .result .offsets) (d .due .result .offsets) (k .result .len) (d .due .result .len) (l .offsets) (l .i) (c .loop-test .left) (room d) (l .inv))
 
 pub waiting-list-spec : {M : Type 1} → statement M
 waiting-list-spec =
@@ -83,7 +86,7 @@ waiting-list-spec =
     (tie.spec
     Inv-loop
     μ-loop
-    carried-requires
+    carried-list-requires
     due-requires
     loop-holds
     mul-offsets
