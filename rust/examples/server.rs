@@ -25,7 +25,7 @@ fn open(path: &Path, settings: &Settings) -> Result<Consumer, Box<dyn Error>> {
 
 /// Whether a job can be done: every third one fails once.
 fn work(token: LeaseToken, deliveries: u32) -> bool {
-    token.offset.get() % 3 != 0 || deliveries > 1
+    !token.offset.get().is_multiple_of(3) || deliveries > 1
 }
 
 /// Hands one job out and settles it, or gives it back.

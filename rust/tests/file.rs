@@ -266,8 +266,9 @@ fn role() {
     match Journal::open(std::env::var_os("NINOTSKEV_PATH").unwrap()) {
         Ok(_journal) => {
             println!("says open");
-            while role == "hold" {
-                std::thread::sleep(std::time::Duration::from_secs(1));
+            // long enough for the other process to stop it
+            if role == "hold" {
+                std::thread::sleep(std::time::Duration::from_secs(600));
             }
         }
         Err(error) => println!("says {error}"),
