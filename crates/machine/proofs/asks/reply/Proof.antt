@@ -10,8 +10,8 @@ use Rattle.machine.proofs.asks.reply.Tie as tie
 enum-known-question : tie.Need-enum-known-question
 enum-known-question c = search needs
 
-waiting-requires : tie.Need-waiting-requires
-waiting-requires c κs = search needs
+waiting-numbers-requires : tie.Need-waiting-numbers-requires
+waiting-numbers-requires c κs = search needs
 
 enum-told : tie.Need-enum-told
 enum-told c = search needs
@@ -63,8 +63,8 @@ returns c =
     let k = c .before .before in
     let g = k .before .before .before in
     let s = g .before .before .before in
-    waiting-replied (s .args .consumer) _ (s .args .out .now) (k .waiting .last .1 .1 .0) (k .waiting .result)
-    (ap (questionOf (length (s .args .out .now))) (g .question .given .1)) (k .waiting .ensures)
+    waiting-replied (s .args .consumer) _ (s .args .out .now) (k .waiting-numbers .last .1 .1 .0) (k .waiting-numbers .result)
+    (ap (questionOf (length (s .args .out .now))) (g .question .given .1)) (k .waiting-numbers .ensures)
 
 returns-2 : tie.Need-returns-2
 returns-2 c =
@@ -113,7 +113,7 @@ reply-spec =
     tie.close
     (tie.spec
     enum-known-question
-    waiting-requires
+    waiting-numbers-requires
     enum-told
     committed-requires
     enum-known-question-2
