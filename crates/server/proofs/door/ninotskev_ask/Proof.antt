@@ -180,8 +180,8 @@ module _ {M : Type 1} (𝓤 : URA M) (H : Heap 𝓤) (A : Atoms 𝓤) (W : Given
         peeks ! TConsumerAnswer.the-row (Is TConsumerAnswer.the-row) (shows 𝓤 H A TConsumerAnswer.the-row) r (v ∷ []) (λ is-v. let is = subst (Is TConsumerAnswer.the-row r) (TConsumerAnswer′.lowers .val-is r (v ∷ []) is-v) is-v in
         -- [the result; the tokens of the slices; their last lists; …; the numbers' four; the consumer's four; _12; …; _0; …]
         land ! (from ! (stop !)) (init ! 16 refl (LL.lawful TConsumerAnswer.the-type TConsumerAnswer′.the-laws 𝓤 H A W .typed r _ is-v .0)) $ rewrite ! 16 (λ (u : Val). ‵ (fat fullShare TConsumerAnswer′.mir l₁₀ 0 u)) (ap only (TConsumerAnswer′.lowers .val-is r (v ∷ []) is-v)) refl $ drop ! $
-        assigns ! (of-opd ! (load ! (from ! (fld ! refl (stop !))) (look-in ! 15 (sub ! 1 refl (whole !))))) (from ! (hop ! (look ! 33 refl) (stop !))) (store-raw ! 7 refl (LL.lawful TConsumer.the-type TConsumer′.the-laws 𝓤 H A W .typed (r .consumer) _ (is-consumer r is) .0)) $
-        assigns ! (of-opd ! (load ! (from ! (fld ! refl (stop !))) (look-in ! 15 (sub ! 0 refl (whole !))))) (from ! (hop ! (look ! 31 refl) (stop !))) (store-raw ! 3 refl (LL.lawful TNumbers.the-type TNumbers′.the-laws 𝓤 H A W .typed (r .numbers) _ (is-numbers r is) .0)) $
+        assigns ! (of-opd ! (load ! (from ! (fld ! {τ = TConsumer′.mir} {d = 48} refl (stop !))) (look-in ! 15 (sub ! 1 {τ = TConsumer′.mir} {d = 48} refl (whole !))))) (from ! (hop ! (look ! 33 refl) (stop !))) (store-raw ! 7 refl (LL.lawful TConsumer.the-type TConsumer′.the-laws 𝓤 H A W .typed (r .consumer) _ (is-consumer r is) .0)) $
+        assigns ! (of-opd ! (load ! (from ! (fld ! {τ = TNumbers′.mir} {d = 0} refl (stop !))) (look-in ! 15 (sub ! 0 {τ = TNumbers′.mir} {d = 0} refl (whole !))))) (from ! (hop ! (look ! 31 refl) (stop !))) (store-raw ! 3 refl (LL.lawful TNumbers.the-type TNumbers′.the-laws 𝓤 H A W .typed (r .numbers) _ (is-numbers r is) .0)) $
         assigns ! (of-opd ! (unit-lit !)) (from ! (stop !)) (init ! 35 refl (tt, tt)) $
         owned ! TNumbers.the-row (Is TNumbers.the-row) ((LL.makes TNumbers.the-type TNumbers′.the-plain) 𝓤 H A) (r .numbers) _ (is-numbers r is) $ move ! (4 ∷ 0 ∷ 5 ∷ 6 ∷ 7 ∷ []) $ closes ! tt TNumbers.the-row (r .numbers) (low-numbers (r .numbers)) b2 o2 $
         owned ! TConsumer.the-row (Is TConsumer.the-row) ((LL.makes TConsumer.the-type TConsumer′.the-plain) 𝓤 H A) (r .consumer) _ (is-consumer r is) $ move ! (7 ∷ 0 ∷ 8 ∷ 9 ∷ 10 ∷ []) $ closes ! tt TConsumer.the-row (r .consumer) (low (r .consumer)) b1 o1 $
