@@ -6,7 +6,7 @@ use borrow.Author.Needs.{needs}
 use Rattle.consumer.specs.View.{view}
 use Rattle.consumer.specs.Starting.{startFault}
 use Rattle.machine.specs.Calls.{Call}
-use Rattle.machine.specs.View.{turnOf, argumentsIn}
+use Rattle.machine.specs.View.{turnOf, givenTo}
 use Rattle.machine.specs.declared.Machine.{Machine}
 use Rattle.machine.specs.declared.calls.CallAnswer.{CallAnswer}
 use Rattle.server.specs.Door.{numbersIn}
@@ -46,7 +46,7 @@ enum-told : tie.Need-enum-told
 enum-told c = search needs
 
 returns : tie.Need-returns
-returns c q m a = c .of-ask .ensures (argumentsIn q) ∙ ap (told q m a (c .before .before .before .before .before .args .out .now)) (sym (c .before .before .answer .given .1))
+returns c q m a = c .of-ask .ensures (givenTo q) ∙ ap (told q m a (c .before .before .before .before .before .args .out .now)) (sym (c .before .before .answer .given .1))
 
 returns-2 : tie.Need-returns-2
 returns-2 c q m a = c .of-begin .ensures ∙ ap (told q m a (c .before .before .before .before .before .args .out .now)) (sym (c .before .before .answer2 .given .1))
