@@ -85,6 +85,7 @@ impl Original {
     fn checkpoint(&mut self) {
         let mut payload = Vec::new();
         self.cursor.encode_snapshot(&mut payload);
+        let cursor_len = payload.len() as u16;
         encode_attempt_snapshot(&self.table.all_attempt_counts(), &mut payload);
         let bodies = payload.chunks(500).count();
         for (index, part) in payload.chunks(500).enumerate() {
@@ -94,7 +95,12 @@ impl Original {
             front[2..6].copy_from_slice(&self.group.to_le_bytes());
             self.put(self.block + 1 + index, 2, index as u8 + 1, &front, 2);
         }
-        self.put(self.block, 1, bodies as u8, &4096u64.to_le_bytes(), 8);
+        let attempt_len = payload.len() as u16 - cursor_len;
+        // the original has no ceiling
+        let mut front = 0u64.to_le_bytes().to_vec();
+        front.extend(cursor_len.to_le_bytes());
+        front.extend(attempt_len.to_le_bytes());
+        self.put(self.block, 1, bodies as u8, &front, 8);
         self.table.note_attempts_flushed();
         self.group += 1;
         self.block += bodies + 1;
