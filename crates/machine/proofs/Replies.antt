@@ -2,9 +2,9 @@
 use Prim.Native.Nat.{ℕ}
 use mathlib.Core.Path.{_≡_, refl, sym, ap, subst, _∙_}
 use mathlib.Core.Bool.{true, false}
-use mathlib.Core.List.{List, [], _∷_}
+use mathlib.Core.List.{List, [], _∷_, _++_, append-assoc}
 use lib.Dec.{ltb}
-use lib.ListN.{length, drop}
+use lib.ListN.{length, drop, replicate}
 use lib.Seq.{take-at}
 use Rattle.types.specs.Refusal.{Result, refused, done, OutTooShort}
 use Rattle.types.specs.Table.{_⇒_, Answer, answer, checked}
@@ -19,7 +19,7 @@ use Rattle.consumer.specs.View.{view, Sound}
 use Rattle.consumer.specs.declared.Consumer.{Consumer}
 use Rattle.machine.specs.Calls.{look, looked}
 use Rattle.machine.specs.Door.{turn, idle}
-use Rattle.machine.specs.Answers.{askOf, listOf, replyOf, answeredList, filledWith, listIn, argumentsIn, askedBy}
+use Rattle.machine.specs.Answers.{askOf, firstPlaces, listOf, replyOf, answeredList, filledWith, listIn, argumentsIn, askedBy}
 use Rattle.machine.specs.View.{AskedIs, LookedIs}
 use Rattle.machine.specs.declared.calls.Ask as code
 use Rattle.machine.specs.declared.calls.Asked.{Asked}
@@ -49,6 +49,10 @@ module _ (list out out′ : List ℕ) where
   room : (o : Result ℕ) → ltb (length out) (length list) ≡ false → answer o out′ ≡ listed list out → answer o out′ ≡ answer (done (length list)) (filledWith list out)
   room o t e = rw t at e
 
+  at-front : (n : ℕ) → length list ≡ n → firstPlaces n (filledWith list out) ≡ list
+  at-front n m =
+      rw (append-assoc list (drop (length list) out) (replicate n 0)) (take-at list (drop (length list) out ++ replicate n 0) n m)
+
   listed-puts : (r : Listed) → answer (listedOf r) out′ ≡ listed list out → Puts r
   listed-puts lists.OutTooShort e =
       split (ltb (length out) (length list))
@@ -60,7 +64,7 @@ module _ (list out out′ : List ℕ) where
       (λ t.
       let whole : out′ ≡ filledWith list out = ap (λ (a : Answer ℕ (List ℕ)). a .state) (room (done n) t e) in
       let m : length list ≡ n = sym (done-inj (ap (λ (a : Answer ℕ (List ℕ)). a .outcome) (room (done n) t e))) in
-      record { is = rw (t, whole) (ap done (take-at list (drop (length list) out) n m)); fills = rw t whole })
+      record { is = rw (t, whole) (ap done (at-front n m)); fills = rw t whole })
 
 pub waiting-replied : (c : Consumer) {q : Question} (now : ℕ) (out out′ : List ℕ) (r : Listed) → q ≡ Waiting now (length out)
     → answer (listedOf r) out′ ≡ listed (waitingAt (view c) now) out → LookedIs c q out (replies.Waiting r) out′

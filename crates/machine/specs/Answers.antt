@@ -3,7 +3,7 @@ use Prim.Native.Nat.{ℕ}
 use mathlib.Core.Path.{_≡_}
 use mathlib.Core.List.{List, [], _∷_, _++_}
 use mathlib.Core.Option.{Option, none, some}
-use lib.ListN.{take, drop, length}
+use lib.ListN.{take, drop, length, replicate}
 use Rattle.types.specs.Refusal.{Result, refused, done}
 use Rattle.types.specs.Refusal as refusal
 use Rattle.types.specs.Table.{Kept}
@@ -56,9 +56,13 @@ callOf room calls.Step = step
 callOf room calls.Restart = restart
 
 -- ## answers
+-- the first n places of lent memory, 0 past its end
+abbrev pub firstPlaces : ℕ → List ℕ → List ℕ
+firstPlaces n out = take n (out ++ replicate n 0)
+
 -- what a question is answered, a list standing in the first places of `out`
 abbrev pub listOf : Listed → List ℕ → Result (List ℕ)
-listOf (listed.Filled n) out = done (take n out)
+listOf (listed.Filled n) out = done (firstPlaces n out)
 listOf listed.OutTooShort out = refused refusal.OutTooShort
 
 abbrev pub replyOf : Reply → List ℕ → Result (List ℕ)

@@ -2,7 +2,7 @@
 ghost use mathlib.Core.Path.{_≡_};
 ghost use Prim.Native.Nat.{ℕ};
 ghost use mathlib.Core.List.{List};
-ghost use lib.ListN.{length, take, getD};
+ghost use lib.ListN.{getD};
 ghost use Rattle.types.specs.Refusal.{done, told, numbered, answered};
 ghost use Rattle.types.specs.Table.{unless};
 ghost use Rattle.cursor.specs.Answers.{rangesError, snapshotError};
@@ -12,7 +12,7 @@ ghost use Rattle.consumer.specs.View.{claimOf, settleOf, nackOf, progressOf, co
 ghost use Rattle.consumer.specs.Starting.{refusalIn, startFault};
 ghost use Rattle.consumer.specs.Writing.{stepOf};
 ghost use Rattle.lease.specs.Lookup.{leaseAt};
-ghost use Rattle.machine.specs.Answers.{begunOf, listOf, replyOf, Arguments, seenOf};
+ghost use Rattle.machine.specs.Answers.{begunOf, firstPlaces, listOf, replyOf, Arguments, seenOf};
 ghost use Rattle.machine.specs.Calls.{Call};
 ghost use Rattle.machine.specs.View.{turnOf};
 ghost use Rattle.machine.specs.declared.Machine.{Machine};
@@ -189,7 +189,7 @@ pub fn of_start(answer: StartAnswer) -> Numbers
 
 // The number at a place of the first n of a list, 0 where there is none.
 fn place(list: &[u64], n: usize, i: usize) -> u64
-    ensures { λ r. ⌜ r ≡ getD (take n (now (list .entry))) i 0 ⌝ }
+    ensures { λ r. ⌜ r ≡ getD (firstPlaces n (now (list .entry))) i 0 ⌝ }
 {
     if i < n {
         if i < list.len() {
@@ -199,16 +199,6 @@ fn place(list: &[u64], n: usize, i: usize) -> u64
     0
 }
 
-// The smaller of a number and the length of a list.
-fn within(list: &[u64], n: usize) -> usize
-    ensures { λ r. ⌜ r ≡ length (take n (now (list .entry))) ⌝ }
-{
-    if n < list.len() {
-        return n;
-    }
-    list.len()
-}
-
 // A list that stands in the first places of `out`.
 fn of_list(listed: Listed, out: &[u64]) -> Numbers
     ensures { λ r. ⌜ r ≡ numbersOf (answered values (listOf listed (now (out .entry)))) ⌝ }
@@ -216,10 +206,9 @@ fn of_list(listed: Listed, out: &[u64]) -> Numbers
     let Listed::Filled(n) = listed else {
         return Numbers(20, 0, 0, 0, 0, 0);
     };
-    let count = within(out, n) as u64;
     Numbers(
         0,
-        count,
+        n as u64,
         place(out, n, 0),
         place(out, n, 1),
         place(out, n, 2),

@@ -8,7 +8,7 @@ use Rattle.types.specs.declared.lent.Listed.{Listed}
 use Rattle.machine.specs.Answers.{listOf}
 use Rattle.server.specs.declared.numbers.Numbers.{Numbers}
 use Rattle.server.specs.Numbers.{numbersOf, values}
-use Rattle.server.proofs.Places.{same-numbers}
+use Rattle.server.proofs.Places.{first-length, same-numbers}
 use Rattle.server.proofs.numbers.of_list.Statement.{statement}
 use Rattle.server.proofs.numbers.of_list.Tie as tie
 
@@ -23,9 +23,6 @@ enum-told c = search needs
 
 returns : tie.Need-returns
 returns c = ap (told (c .before .before .before .args .out .now)) (sym (c .enum-told .given .1))
-
-within-requires : tie.Need-within-requires
-within-requires c κs = search needs
 
 place-requires : tie.Need-place-requires
 place-requires c κs = search needs
@@ -42,9 +39,10 @@ place-requires-4 c κs = search needs
 returns-2 : tie.Need-returns-2
 returns-2 c =
     let d = c .before .before .before .before in
-    same-numbers (d .within .ensures) (c .before .before .before .place .ensures) (c .before .before .place2 .ensures)
-    (c .before .place3 .ensures) (c .place4 .ensures)
-    ∙ ap (told (d .before .before .before .before .before .args .out .now)) (sym (d .before .before .listed .given .1))
+    let out = d .before .before .before .before .args .out .now in
+    same-numbers (sym (first-length (d .before .listed .given .0 .0) out)) (c .before .before .before .place .ensures)
+    (c .before .before .place2 .ensures) (c .before .place3 .ensures) (c .place4 .ensures)
+    ∙ ap (told out) (sym (d .before .listed .given .1))
 
 pub of-list-spec : {M : Type 1} → statement M
 of-list-spec =
@@ -53,7 +51,6 @@ of-list-spec =
     enum-known-listed
     enum-told
     returns
-    within-requires
     place-requires
     place-requires-2
     place-requires-3
