@@ -68,7 +68,7 @@ not-idle zero w f h = absurd (h refl)
 not-idle (suc zero) w f h = refl
 not-idle (suc (suc n)) w f h = refl
 
-not-writing : (n : ℕ) (w : Writing) (f : checkpoint.Writing → Option Turn) → (n ≡ 1 → ⊥) → onRecord (phaseAt n w) f ≡ none
+pub not-writing : (n : ℕ) (w : Writing) (f : checkpoint.Writing → Option Turn) → (n ≡ 1 → ⊥) → onRecord (phaseAt n w) f ≡ none
 not-writing zero w f h = refl
 not-writing (suc zero) w f h = absurd (h refl)
 not-writing (suc (suc n)) w f h = refl
