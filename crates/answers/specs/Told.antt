@@ -1,9 +1,8 @@
 -- What a program is told of an answer: 01's number, 0 where nothing was refused, and the values of a refusal.
 use Prim.Native.Nat.{ℕ}
-use mathlib.Core.List.{List, [], _∷_}
-use mathlib.Core.Option.{Option, none, some}
+use mathlib.Core.List.{[], _∷_}
 use lib.ListN.{take}
-use Rattle.types.specs.Refusal.{Refusal, numbered, Result, refused, done, answered}
+use Rattle.types.specs.Refusal.{numbered, Result, answered}
 use Rattle.types.specs.Refusal as refusal
 use Rattle.attempt.specs.Codec.{decodeOf}
 use Rattle.cursor.specs.Answers.{snapshotError}

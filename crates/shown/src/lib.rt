@@ -1,0 +1,137 @@
+// What the programs print alike: refusals, and the state of a consumer.
+use answers::Told;
+use consumer::Consumer;
+use cursor::AckCursor;
+use lease::Lease;
+use lease::LeaseTable;
+use text::output::put;
+use text::output::put_number;
+
+// A text and a number behind it.
+pub fn with(out: &mut [u8], at: usize, text: &[u8], n: u64) -> usize {
+    let next = put(out, at, text);
+    put_number(out, next, n)
+}
+
+// A line of a text and a number.
+pub fn numbered(out: &mut [u8], at: usize, text: &[u8], n: u64) -> usize {
+    let next = with(out, at, text, n);
+    put(out, next, b"\n")
+}
+
+// A value behind a space, where it is there.
+pub fn value(out: &mut [u8], at: usize, there: bool, n: u64) -> usize {
+    if !there {
+        return at;
+    }
+    with(out, at, b" ", n)
+}
+
+// A refusal: 01's number and values.
+pub fn refused(out: &mut [u8], at: usize, told: Told) -> usize {
+    let number = with(out, at, b"refused ", told.number);
+    let first = value(out, number, 0 < told.count, told.first);
+    let second = value(out, first, 1 < told.count, told.second);
+    put(out, second, b"\n")
+}
+
+// What stands in front of entry i of a list, and what an empty list is.
+fn before(out: &mut [u8], at: usize, i: usize) -> usize {
+    if i == 0 {
+        return put(out, at, b" ");
+    }
+    put(out, at, b",")
+}
+
+fn or_none(out: &mut [u8], at: usize, n: usize) -> usize {
+    if n == 0 {
+        return put(out, at, b" none");
+    }
+    at
+}
+
+// The ranges ahead of committed.
+pub fn ranges(out: &mut [u8], at: usize, cursor: AckCursor) -> usize {
+    let mut next = put(out, at, b" ranges");
+    next = or_none(out, next, cursor.runs);
+    let mut i: usize = 0;
+    while i < 128 {
+        if cursor.runs <= i {
+            break;
+        }
+        next = before(out, next, i);
+        next = put_number(out, next, cursor.starts[i]);
+        next = with(out, next, b"-", cursor.ends[i]);
+        i += 1;
+    }
+    next
+}
+
+fn lease(out: &mut [u8], at: usize, offset: u64, lease: Lease) -> usize {
+    let mut next = put_number(out, at, offset);
+    next = with(out, next, b":", lease.generation.0);
+    next = with(out, next, b":", lease.attempt_start);
+    next = with(out, next, b":", lease.deadline);
+    with(out, next, b":", lease.deliveries as u64)
+}
+
+fn leases(out: &mut [u8], at: usize, table: LeaseTable) -> usize {
+    let mut next = put(out, at, b" leases");
+    next = or_none(out, next, table.len);
+    let mut i: usize = 0;
+    while i < 64 {
+        if table.len <= i {
+            break;
+        }
+        next = before(out, next, i);
+        next = lease(out, next, table.offsets[i], table.leases[i]);
+        i += 1;
+    }
+    next
+}
+
+// A u32 as a u64.
+fn wide(x: u32) -> u64 {
+    x as u64
+}
+
+fn carried(out: &mut [u8], at: usize, table: LeaseTable) -> usize {
+    let mut next = put(out, at, b" carried");
+    next = or_none(out, next, table.carried_len);
+    let mut i: usize = 0;
+    while i < 128 {
+        if table.carried_len <= i {
+            break;
+        }
+        next = before(out, next, i);
+        next = put_number(out, next, table.carried_offsets[i]);
+        next = with(out, next, b":", wide(table.carried_counts[i]));
+        i += 1;
+    }
+    next
+}
+
+// Generations, the redelivery counter, and where the next group goes.
+fn numbers(out: &mut [u8], at: usize, consumer: Consumer) -> usize {
+    let mut next = with(out, at, b" next ", consumer.table.next_generation.0);
+    next = with(out, next, b" ceiling ", consumer.ceiling.0);
+    next = with(
+        out,
+        next,
+        b" counter ",
+        wide(consumer.table.redeliveries_since_flush),
+    );
+    next = with(out, next, b" group ", consumer.seat.number);
+    numbered(out, next, b" block ", consumer.seat.block as u64)
+}
+
+// The whole state.
+pub fn state(out: &mut [u8], at: usize, consumer: Consumer) -> usize {
+    let cursor = consumer.cursor;
+    let table = consumer.table;
+    let mut next = with(out, at, b"state committed ", cursor.committed);
+    next = ranges(out, next, cursor);
+    next = leases(out, next, table);
+    next = carried(out, next, table);
+    numbers(out, next, consumer)
+}
