@@ -8,7 +8,6 @@ use consumer::checkpoint::BeginAnswer;
 use consumer::checkpoint::StepAnswer;
 use consumer::starts::StartAnswer;
 use lease::LeaseToken;
-use lease::Listed;
 use machine::calls::AskAnswer;
 use machine::calls::CallAnswer;
 use machine::calls::Reply;
@@ -17,6 +16,7 @@ use shown::refused;
 use shown::with;
 use text::output::put;
 use text::output::put_hex;
+use types::lent::Listed;
 
 fn handed_out(out: &mut [u8], at: usize, text: &[u8], token: LeaseToken, deliveries: u32) -> usize {
     let offset = with(out, at, text, token.offset.0);
