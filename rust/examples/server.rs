@@ -1,7 +1,7 @@
 //! A server's loop over one consumer: it claims, works, acknowledges, and makes a checkpoint when one is due. The jobs here are
 //! numbers, and some fail at first.
 //!
-//! `cargo run --example server -- /tmp/recipes.journal`, again and again: each run goes on where the last one was.
+//! `cargo run --example server -- recipes.journal`, again and again: each run goes on where the last one was.
 
 use std::error::Error;
 use std::path::Path;
