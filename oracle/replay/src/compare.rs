@@ -1,0 +1,82 @@
+//! Runs the model and a program on the same scripts.
+use crate::make::script;
+use crate::program::{lines, Program};
+use std::io::Write;
+use std::process::{Command, Stdio};
+
+/// How many lines are shown before one that differs.
+const SHOWN: usize = 12;
+
+/// The model's answers to a text.
+pub fn answers(text: &[u8]) -> String {
+    let mut program = Program::default();
+    lines(text)
+        .filter_map(|line| program.answer(line))
+        .map(|answer| answer + "\n")
+        .collect()
+}
+
+/// What a program writes when it is given a text.
+fn output_of(program: &str, input: Vec<u8>) -> Result<String, String> {
+    let mut child = Command::new(program)
+        .stdin(Stdio::piped())
+        .stdout(Stdio::piped())
+        .spawn()
+        .map_err(|error| format!("{program}: {error}"))?;
+    let mut stdin = child.stdin.take().unwrap();
+    let feeding = std::thread::spawn(move || stdin.write_all(&input));
+    let output = child.wait_with_output().map_err(|error| error.to_string())?;
+    if feeding.join().unwrap().is_err() {
+        return Err(format!("{program} left input unread: {}", output.status));
+    }
+    if !output.status.success() {
+        return Err(format!("{program}: {}", output.status));
+    }
+    Ok(String::from_utf8_lossy(&output.stdout).into_owned())
+}
+
+/// A line as it is shown, cut short where it is long.
+fn shown(line: &[u8]) -> String {
+    let text = line.escape_ascii().to_string();
+    if text.len() <= 1_200 {
+        return text;
+    }
+    format!("{}.. ({} bytes)", &text[..1_200], line.len())
+}
+
+/// The first difference between the model's answers to a script and those given, with the lines before it.
+pub fn difference(text: &[u8], given: &str) -> Result<usize, String> {
+    let mut program = Program::default();
+    let mut given = given.lines();
+    let mut before: Vec<String> = Vec::new();
+    let mut answered = 0;
+    for (i, line) in lines(text).enumerate() {
+        let Some(right) = program.answer(line) else { continue };
+        let got = given.next().unwrap_or("nothing");
+        if got != right {
+            let from = before.len().saturating_sub(SHOWN);
+            return Err(format!(
+                "{}line {}: {}\n  the model:   {right}\n  the program: {got}",
+                before[from..].concat(),
+                i + 1,
+                shown(line)
+            ));
+        }
+        before.push(format!("{}\n    {}\n", shown(line), shown(right.as_bytes())));
+        answered += 1;
+    }
+    match given.next() {
+        Some(more) => Err(format!("the program answers more than was asked: {more}")),
+        None => Ok(answered),
+    }
+}
+
+/// Runs both on the script of a seed; every second one has no line end at its last line.
+pub fn compare(program: &str, seed: u64, lines: usize) -> Result<usize, String> {
+    let mut text = script(seed, lines).join(&b'\n');
+    if seed % 2 == 0 {
+        text.push(b'\n');
+    }
+    let given = output_of(program, text.clone())?;
+    difference(&text, &given).map_err(|said| format!("seed {seed}, {said}"))
+}

@@ -1,0 +1,218 @@
+//! 01's consumer over the original's cursor, lease table and delivery policy. Each call runs down 01's refusals in their order, then
+//! lets the original act.
+use crate::journal::{walk, writes, Stored};
+use ironbus::cursor::{AckCursor, BoundedAck};
+use ironbus::delivery::{DeliveryConfig, Disposition};
+use ironbus::lease::{AckOutcome, Claim, ExtendOutcome, LeaseConfig, LeaseTable, LeaseToken, NackOutcome};
+use ironbus::types::Offset;
+use lists::codecs::{decode_attempts, decode_cursor, Told, RANGES};
+use lists::state::{read_table, starting_at, Table};
+
+const LEASES: usize = 64;
+const COUNTS: usize = 128;
+const BACKOFFS: usize = 16;
+const GENERATIONS: u64 = 4_096;
+
+#[derive(Clone)]
+pub struct Settings {
+    delivery: DeliveryConfig,
+    lease: LeaseConfig,
+}
+
+impl Settings {
+    /// Refusals 1 to 3.
+    pub fn new(limit: u32, opt_in: bool, threshold: u32, lease: LeaseConfig, backoffs: &[u64]) -> Result<Settings, Told> {
+        let delivery = DeliveryConfig::new(limit, opt_in, backoffs.to_vec()).map_err(|_| vec![1])?;
+        if backoffs.len() > BACKOFFS {
+            return Err(vec![2]);
+        }
+        if threshold == 0 {
+            return Err(vec![3]);
+        }
+        Ok(Settings {
+            delivery: delivery.with_attempts_flush_redeliveries(threshold),
+            lease,
+        })
+    }
+}
+
+#[derive(Clone)]
+pub struct Consumer {
+    pub cursor: AckCursor,
+    table: LeaseTable,
+    pub ceiling: u64,
+    pub group: u32,
+    pub block: usize,
+    blocks: usize,
+    settings: Settings,
+}
+
+/// A checkpoint on its way: the consumer as it will be given back, and the writes still to come.
+pub struct Writing {
+    pub after: Consumer,
+    pub writes: Vec<(usize, Vec<u8>)>,
+}
+
+/// What a claim answers.
+pub struct HandOut {
+    pub dead: bool,
+    pub generation: u64,
+    pub count: u32,
+}
+
+fn token(offset: u64, generation: u64) -> LeaseToken {
+    LeaseToken {
+        offset: Offset::new(offset),
+        generation,
+    }
+}
+
+impl Consumer {
+    /// Restarts on an area whose length is tested; a fresh consumer is one restarted on a zeroed area.
+    pub fn restart(settings: &Settings, area: &[u8]) -> Result<Consumer, Told> {
+        let found = walk(area)?;
+        let (cursor, pairs, ceiling) = match &found.last {
+            Some(stored) => {
+                let cursor = decode_cursor(&stored.cursor)?;
+                (cursor, decode_attempts(&stored.attempts)?, stored.ceiling)
+            }
+            None => (AckCursor::new(), Vec::new(), 0),
+        };
+        let mut table = starting_at(settings.lease, ceiling);
+        table.resume_attempts(pairs.into_iter().filter(|&(offset, _)| !cursor.is_acked(Offset::new(offset))));
+        Ok(Consumer {
+            cursor,
+            table,
+            ceiling,
+            group: found.group,
+            block: found.block,
+            blocks: area.len() / crate::block::BLOCK,
+            settings: settings.clone(),
+        })
+    }
+
+    /// All that the lease table holds.
+    pub fn table(&self) -> Table {
+        read_table(&self.table)
+    }
+
+    /// Refusals 21, 22, 23, 25, 26, 27.
+    pub fn claim(&mut self, offset: u64, now: u64) -> Result<HandOut, Told> {
+        let table = self.table();
+        let leased = table.leases.iter().any(|lease| lease.offset == offset);
+        let counted = table.carried.iter().any(|&(carried, _)| carried == offset);
+        let counts = table.leases.len() + table.carried.len();
+        if offset == u64::MAX {
+            return Err(vec![21]);
+        }
+        if self.cursor.is_acked(Offset::new(offset)) {
+            return Err(vec![22]);
+        }
+        if !self.table.is_claimable(Offset::new(offset), now) {
+            return Err(vec![23]);
+        }
+        if table.next_generation == u64::MAX {
+            return Err(vec![25]);
+        }
+        let threshold = self.settings.delivery.attempts_flush_redeliveries();
+        if table.next_generation >= self.ceiling || self.table.redeliveries_since_flush() >= threshold {
+            return Err(vec![26]);
+        }
+        if (!leased && table.leases.len() >= LEASES) || (!leased && !counted && counts >= COUNTS) {
+            return Err(vec![27]);
+        }
+        match self.table.claim(Offset::new(offset), now) {
+            Claim::Granted { token, deliveries } => Ok(HandOut {
+                dead: self.settings.delivery.disposition(deliveries) == Disposition::DeadLetter,
+                generation: token.generation,
+                count: deliveries,
+            }),
+            Claim::InFlight => Err(vec![23]),
+            Claim::Exhausted => Err(vec![25]),
+        }
+    }
+
+    /// Ack and Term: refusals 24, 29.
+    pub fn settle(&mut self, offset: u64, generation: u64) -> Result<(), Told> {
+        let mut after = self.clone();
+        if after.table.ack(&token(offset, generation)) == AckOutcome::Fenced {
+            return Err(vec![24]);
+        }
+        if after.cursor.ack_bounded(Offset::new(offset), RANGES) == BoundedAck::Shed {
+            return Err(vec![29]);
+        }
+        *self = after;
+        Ok(())
+    }
+
+    /// Refusals 24, 25, 26. The answer is the new deadline.
+    pub fn nack(&mut self, offset: u64, generation: u64, now: u64, delay: Option<u64>) -> Result<u64, Told> {
+        let token = token(offset, generation);
+        let Some(attempt) = self.table.deliveries(&token) else {
+            return Err(vec![24]);
+        };
+        let next = self.table().next_generation;
+        if next == u64::MAX {
+            return Err(vec![25]);
+        }
+        if next >= self.ceiling {
+            return Err(vec![26]);
+        }
+        let delay = self.settings.delivery.effective_nack_delay(attempt, delay);
+        match self.table.nack(&token, now, delay) {
+            NackOutcome::Requeued { deadline } => Ok(deadline),
+            NackOutcome::Fenced => Err(vec![24]),
+            NackOutcome::Exhausted => Err(vec![25]),
+        }
+    }
+
+    /// Refusals 24, 28. The answer is the new deadline.
+    pub fn progress(&mut self, offset: u64, generation: u64, now: u64) -> Result<u64, Told> {
+        match self.table.extend(&token(offset, generation), now) {
+            ExtendOutcome::Extended(deadline) => Ok(deadline),
+            ExtendOutcome::Fenced => Err(vec![24]),
+            ExtendOutcome::CapReached => Err(vec![28]),
+        }
+    }
+
+    /// Refusal 30. The answer is false where nothing changes.
+    pub fn commit(&mut self, bound: u64) -> Result<bool, Told> {
+        if bound <= self.cursor.committed().get() {
+            return Ok(false);
+        }
+        if self.table().leases.iter().any(|lease| lease.offset < bound) {
+            return Err(vec![30]);
+        }
+        self.cursor.commit_up_to(Offset::new(bound));
+        self.table.release_below(Offset::new(bound));
+        Ok(true)
+    }
+
+    /// Carried offsets, then those whose deadline has come; 01 leaves the order free.
+    pub fn waiting(&self, now: u64) -> Vec<u64> {
+        let mut offsets: Vec<u64> = self.table().carried.iter().map(|&(offset, _)| offset).collect();
+        offsets.extend(self.table.expired(now).into_iter().map(Offset::get));
+        offsets
+    }
+
+    /// Refusal 31.
+    pub fn begin(&self) -> Result<Writing, Told> {
+        let mut stored = Stored {
+            ceiling: self.table().next_generation.saturating_add(GENERATIONS),
+            cursor: Vec::new(),
+            attempts: Vec::new(),
+        };
+        self.cursor.encode_snapshot(&mut stored.cursor);
+        ironbus::attempt::encode_attempt_snapshot(&self.table.all_attempt_counts(), &mut stored.attempts);
+        let writes = writes(&stored, self.group, self.block);
+        if self.blocks - self.block < writes.len() {
+            return Err(vec![31]);
+        }
+        let mut after = self.clone();
+        after.ceiling = stored.ceiling;
+        after.table.note_attempts_flushed();
+        after.group += 1;
+        after.block += writes.len();
+        Ok(Writing { after, writes })
+    }
+}

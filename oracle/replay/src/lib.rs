@@ -1,0 +1,10 @@
+//! A model of the program `replay`: document 01's consumer and journal, step by step, over the original's modules.
+pub mod block;
+pub mod compare;
+pub mod consumer;
+pub mod journal;
+pub mod line;
+pub mod make;
+pub mod program;
+pub mod scenes;
+pub mod wear;

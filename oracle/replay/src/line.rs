@@ -1,0 +1,100 @@
+//! How a line of a script is read.
+
+/// The longest line that is read; a longer one is none of the calls (docs/DECISIONS.md).
+pub const LINE: usize = 65_536;
+
+pub struct Start {
+    pub limit: u32,
+    pub opt_in: bool,
+    pub threshold: u32,
+    pub visibility: u64,
+    pub cap: u64,
+    pub bytes: u64,
+    pub backoffs: Vec<u64>,
+}
+
+#[derive(Clone, Copy, PartialEq)]
+pub enum Left {
+    Old,
+    New,
+    Torn,
+}
+
+pub enum Call {
+    Start(Start),
+    Claim(u64, u64),
+    Settle(u64, u64),
+    Nack(u64, u64, u64, Option<u64>),
+    Progress(u64, u64, u64),
+    Commit(u64),
+    Waiting(u64),
+    Begin,
+    Step(Option<u64>),
+    Cut(Left),
+    Restart(Option<u64>),
+    State,
+    Poke(u64, u64, u64),
+    Peek(u64),
+}
+
+/// One or more digits whose number a u64 can hold.
+fn number(word: &str) -> Option<u64> {
+    if word.is_empty() || !word.bytes().all(|byte| byte.is_ascii_digit()) {
+        return None;
+    }
+    word.parse().ok()
+}
+
+fn start(numbers: &[u64]) -> Option<Call> {
+    let &[limit, opt_in, threshold, visibility, cap, bytes, ref backoffs @ ..] = numbers else {
+        return None;
+    };
+    Some(Call::Start(Start {
+        limit: limit.try_into().ok()?,
+        opt_in: match opt_in {
+            0 => false,
+            1 => true,
+            _ => return None,
+        },
+        threshold: threshold.try_into().ok()?,
+        visibility,
+        cap,
+        bytes,
+        backoffs: backoffs.to_vec(),
+    }))
+}
+
+/// The call that a line makes, or nothing where it is none.
+pub fn read(line: &[u8]) -> Option<Call> {
+    if line.len() > LINE {
+        return None;
+    }
+    match line {
+        b"cut old" => return Some(Call::Cut(Left::Old)),
+        b"cut new" => return Some(Call::Cut(Left::New)),
+        b"cut torn" => return Some(Call::Cut(Left::Torn)),
+        _ => (),
+    }
+    let mut words = std::str::from_utf8(line).ok()?.split(' ');
+    let word = words.next()?;
+    let numbers: Vec<u64> = words.map(number).collect::<Option<_>>()?;
+    Some(match (word, &numbers[..]) {
+        ("start", numbers) => return start(numbers),
+        ("claim", &[offset, now]) => Call::Claim(offset, now),
+        ("ack" | "term", &[offset, generation]) => Call::Settle(offset, generation),
+        ("nack", &[offset, generation, now]) => Call::Nack(offset, generation, now, None),
+        ("nack", &[offset, generation, now, delay]) => Call::Nack(offset, generation, now, Some(delay)),
+        ("progress", &[offset, generation, now]) => Call::Progress(offset, generation, now),
+        ("commit", &[bound]) => Call::Commit(bound),
+        ("waiting", &[now]) => Call::Waiting(now),
+        ("begin", &[]) => Call::Begin,
+        ("step", &[]) => Call::Step(None),
+        ("step", &[bytes]) => Call::Step(Some(bytes)),
+        ("restart", &[]) => Call::Restart(None),
+        ("restart", &[bytes]) => Call::Restart(Some(bytes)),
+        ("state", &[]) => Call::State,
+        ("poke", &[block, byte, value]) => Call::Poke(block, byte, value),
+        ("peek", &[block]) => Call::Peek(block),
+        _ => return None,
+    })
+}

@@ -1,0 +1,265 @@
+//! The program: what stands where, which calls can be made there, and the line that answers each.
+use crate::block::BLOCK;
+use crate::consumer::{Consumer, Settings, Writing};
+use crate::journal::{area_length, block_of};
+use crate::line::{read, Call, Left, Start};
+use ironbus::lease::LeaseConfig;
+use lists::codecs::Told;
+
+pub enum Phase {
+    Idle(Consumer),
+    Writing(Writing),
+    /// The power failed in a step.
+    Cut,
+}
+
+/// What a `start` has made: its settings, the area, and who can be called.
+pub struct Started {
+    settings: Settings,
+    pub area: Vec<u8>,
+    pub phase: Phase,
+}
+
+#[derive(Default)]
+pub struct Program {
+    pub started: Option<Started>,
+}
+
+const NOT_NOW: &str = "not now";
+
+/// A refusal as a line.
+fn refused(told: Told) -> String {
+    format!("refused {}", words(&told))
+}
+
+fn words(numbers: &[u64]) -> String {
+    let words: Vec<String> = numbers.iter().map(u64::to_string).collect();
+    words.join(" ")
+}
+
+/// Entries with commas between them, or `none`.
+fn listed(entries: Vec<String>) -> String {
+    if entries.is_empty() {
+        return "none".to_string();
+    }
+    entries.join(",")
+}
+
+fn state(consumer: &Consumer) -> String {
+    let table = consumer.table();
+    let ranges = consumer
+        .cursor
+        .ahead_ranges()
+        .iter()
+        .map(|(start, end)| format!("{start}-{end}"));
+    let leases = table.leases.iter().map(|l| {
+        format!(
+            "{}:{}:{}:{}:{}",
+            l.offset, l.generation, l.attempt_start, l.deadline, l.deliveries
+        )
+    });
+    let carried = table.carried.iter().map(|(offset, count)| format!("{offset}:{count}"));
+    format!(
+        "state committed {} ranges {} leases {} carried {} next {} ceiling {} counter {} group {} block {}",
+        consumer.cursor.committed().get(),
+        listed(ranges.collect()),
+        listed(leases.collect()),
+        listed(carried.collect()),
+        table.next_generation,
+        consumer.ceiling,
+        table.redeliveries,
+        consumer.group,
+        consumer.block
+    )
+}
+
+/// A call on a consumer that has no record out.
+fn ask(consumer: &mut Consumer, call: &Call) -> Result<String, Told> {
+    Ok(match *call {
+        Call::Claim(offset, now) => {
+            let answer = consumer.claim(offset, now)?;
+            let word = if answer.dead { "deadletter" } else { "deliver" };
+            format!("{word} {offset} {} {}", answer.generation, answer.count)
+        }
+        Call::Settle(offset, generation) => consumer.settle(offset, generation).map(|()| "settled".to_string())?,
+        Call::Nack(offset, generation, now, delay) => format!("requeued {}", consumer.nack(offset, generation, now, delay)?),
+        Call::Progress(offset, generation, now) => format!("extended {}", consumer.progress(offset, generation, now)?),
+        Call::Commit(bound) => match consumer.commit(bound)? {
+            true => "committed".to_string(),
+            false => "unchanged".to_string(),
+        },
+        Call::Waiting(now) => {
+            let offsets: String = consumer.waiting(now).iter().map(|offset| format!(" {offset}")).collect();
+            format!("waiting{offsets}")
+        }
+        Call::State => state(consumer),
+        _ => NOT_NOW.to_string(),
+    })
+}
+
+impl Started {
+    fn fresh(start: &Start) -> Result<Started, Told> {
+        let lease = LeaseConfig {
+            visibility_nanos: start.visibility,
+            hard_cap_nanos: start.cap,
+        };
+        let settings = Settings::new(start.limit, start.opt_in, start.threshold, lease, &start.backoffs)?;
+        area_length(start.bytes)?;
+        let area = vec![0; start.bytes as usize];
+        let consumer = Consumer::restart(&settings, &area)?;
+        Ok(Started {
+            settings,
+            area,
+            phase: Phase::Idle(consumer),
+        })
+    }
+
+    fn call(&mut self, call: &Call) -> String {
+        match call {
+            Call::Restart(bytes) => self.restart(*bytes),
+            Call::Poke(block, byte, value) => self.poke(*block, *byte, *value),
+            Call::Peek(block) => self.peek(*block),
+            Call::Begin => self.begin(),
+            Call::Step(bytes) => self.step(*bytes),
+            Call::Cut(left) => self.cut(*left),
+            _ => match &mut self.phase {
+                Phase::Idle(consumer) => ask(consumer, call).unwrap_or_else(refused),
+                _ => NOT_NOW.to_string(),
+            },
+        }
+    }
+
+    fn begin(&mut self) -> String {
+        let Phase::Idle(consumer) = &self.phase else {
+            return NOT_NOW.to_string();
+        };
+        match consumer.begin() {
+            Ok(writing) => {
+                let answer = format!("begun {}", writing.writes.len());
+                self.phase = Phase::Writing(writing);
+                answer
+            }
+            Err(told) => refused(told),
+        }
+    }
+
+    /// What of the area is lent, nothing where it hasn't that much.
+    fn lent(&self, bytes: Option<u64>) -> Option<u64> {
+        let length = self.area.len() as u64;
+        let bytes = bytes.unwrap_or(length);
+        (bytes <= length).then_some(bytes)
+    }
+
+    fn write(&mut self, block: usize, bytes: &[u8]) {
+        self.area[BLOCK * block..BLOCK * (block + 1)].copy_from_slice(bytes);
+    }
+
+    fn step(&mut self, bytes: Option<u64>) -> String {
+        let lent = self.lent(bytes);
+        let Phase::Writing(writing) = &mut self.phase else {
+            return NOT_NOW.to_string();
+        };
+        let Some(lent) = lent else {
+            return NOT_NOW.to_string();
+        };
+        if lent != self.area.len() as u64 {
+            return refused(vec![4]);
+        }
+        let (block, new) = writing.writes.remove(0);
+        if !writing.writes.is_empty() {
+            self.write(block, &new);
+            return format!("wrote {block}");
+        }
+        self.phase = Phase::Idle(writing.after.clone());
+        self.write(block, &new);
+        format!("done {block}")
+    }
+
+    fn cut(&mut self, left: Left) -> String {
+        let Phase::Writing(writing) = &mut self.phase else {
+            return NOT_NOW.to_string();
+        };
+        let (block, mut new) = writing.writes.remove(0);
+        if left == Left::Torn {
+            new[511] = new[511].wrapping_add(1);
+        }
+        if left != Left::Old {
+            self.write(block, &new);
+        }
+        self.phase = Phase::Cut;
+        format!("cut {block}")
+    }
+
+    fn restart(&mut self, bytes: Option<u64>) -> String {
+        let Some(bytes) = self.lent(bytes) else {
+            return NOT_NOW.to_string();
+        };
+        let restarted = area_length(bytes).and_then(|()| Consumer::restart(&self.settings, &self.area[..bytes as usize]));
+        match restarted {
+            Ok(consumer) => {
+                self.area.truncate(bytes as usize);
+                self.phase = Phase::Idle(consumer);
+                "restarted".to_string()
+            }
+            Err(told) => refused(told),
+        }
+    }
+
+    fn has_block(&self, block: u64) -> bool {
+        block < (self.area.len() / BLOCK) as u64
+    }
+
+    fn poke(&mut self, block: u64, byte: u64, value: u64) -> String {
+        if !self.has_block(block) || byte >= BLOCK as u64 || value > 255 {
+            return NOT_NOW.to_string();
+        }
+        self.area[BLOCK * block as usize + byte as usize] = value as u8;
+        "poked".to_string()
+    }
+
+    fn peek(&self, block: u64) -> String {
+        if !self.has_block(block) {
+            return NOT_NOW.to_string();
+        }
+        let digits: String = block_of(&self.area, block as usize)
+            .iter()
+            .map(|byte| format!("{byte:02x}"))
+            .collect();
+        format!("block {digits}")
+    }
+}
+
+impl Program {
+    /// The answer to a line, or nothing for an empty line and a comment.
+    pub fn answer(&mut self, line: &[u8]) -> Option<String> {
+        if line.is_empty() || line[0] == b'#' {
+            return None;
+        }
+        Some(match read(line) {
+            None => "bad line".to_string(),
+            Some(Call::Start(start)) => match Started::fresh(&start) {
+                Ok(started) => {
+                    self.started = Some(started);
+                    "started".to_string()
+                }
+                Err(told) => refused(told),
+            },
+            Some(call) => match &mut self.started {
+                Some(started) => started.call(&call),
+                None => NOT_NOW.to_string(),
+            },
+        })
+    }
+
+    pub fn consumer(&self) -> Option<&Consumer> {
+        match &self.started.as_ref()?.phase {
+            Phase::Idle(consumer) => Some(consumer),
+            _ => None,
+        }
+    }
+}
+
+/// The lines of a text; what stands behind the last line end is a line too.
+pub fn lines(text: &[u8]) -> impl Iterator<Item = &[u8]> {
+    text.split(|&byte| byte == b'\n')
+}

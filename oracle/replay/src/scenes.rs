@@ -1,0 +1,284 @@
+//! The scenes of a script: what a consumer may live through.
+use crate::make::Maker;
+
+/// A checkpoint gives out so many generations.
+pub const GENERATIONS: u64 = 4_096;
+
+const KINDS: [&str; 3] = ["old", "new", "torn"];
+
+/// Begins a checkpoint and makes all its steps. Answers whether the journal had room.
+pub fn checkpoint(maker: &mut Maker) -> bool {
+    maker.say("begin");
+    let room = maker.writing();
+    while maker.writing() {
+        maker.say("step");
+    }
+    room
+}
+
+/// Calls of all kinds, checkpoints, power failures and restarts in any order.
+pub fn life(maker: &mut Maker) {
+    maker.start_any();
+    if maker.random.below(8) > 0 {
+        checkpoint(maker);
+    }
+    let mut calls = 20 + maker.random.below(200);
+    while calls > 0 {
+        calls -= 1;
+        match maker.random.below(60) {
+            0..=2 => interrupted(maker),
+            3 => drop(checkpoint(maker)),
+            4 => drop(maker.say("restart")),
+            5 => {
+                let line = maker.bad_line();
+                maker.say(line);
+            }
+            6 => out_of_place(maker),
+            7 => drop(maker.say("step")),
+            _ => {
+                let call = maker.call();
+                let answer = maker.say(call);
+                if answer == "refused 26" && maker.random.below(3) > 0 && !checkpoint(maker) {
+                    calls = calls.min(5);
+                }
+            }
+        }
+    }
+    maker.say("state");
+}
+
+/// A checkpoint in which anything may happen.
+fn interrupted(maker: &mut Maker) {
+    maker.say("begin");
+    while maker.writing() {
+        match maker.random.below(12) {
+            0 => {
+                let kind = maker.random.pick(&KINDS);
+                maker.say(format!("cut {kind}"));
+            }
+            1 => out_of_place(maker),
+            2 => {
+                let call = maker.call();
+                maker.say(call);
+            }
+            3 => drop(maker.say("begin")),
+            4 => drop(maker.say("restart")),
+            _ => drop(maker.say("step")),
+        }
+    }
+    if maker.program.consumer().is_none() {
+        after_cut(maker);
+    }
+    maker.say("state");
+}
+
+/// What can and can't be called after a power failure, and then the restart.
+fn after_cut(maker: &mut Maker) {
+    for _ in 0..maker.random.below(4) {
+        let call = match maker.random.below(6) {
+            0 => "step".to_string(),
+            1 => "cut new".to_string(),
+            2 => "begin".to_string(),
+            3 => format!("peek {}", maker.random.below(4)),
+            _ => maker.call(),
+        };
+        maker.say(call);
+    }
+    maker.say("restart");
+}
+
+/// Calls with blocks, bytes and lengths that may not exist.
+fn out_of_place(maker: &mut Maker) {
+    let length = 512 * maker.blocks();
+    let near = maker.random.near(length);
+    let bytes = maker
+        .random
+        .pick(&[0, 1, 512, near, near, length, length / 2, 70_000, u64::MAX]);
+    let block = maker.random.pick(&[
+        0,
+        1,
+        maker.blocks(),
+        maker.blocks().wrapping_sub(1),
+        128,
+        u64::MAX / 512,
+        u64::MAX,
+    ]);
+    let call = match maker.random.below(6) {
+        0..=1 => format!("step {bytes}"),
+        2 => format!("restart {bytes}"),
+        3 => format!("peek {block}"),
+        4 => format!("poke {} {} 0", maker.random.pick(&[128, u64::MAX]), maker.random.below(512)),
+        _ => format!(
+            "poke {block} {} {}",
+            maker.random.pick(&[512, 1 << 32, u64::MAX]),
+            maker.random.below(300)
+        ),
+    };
+    maker.say(call);
+}
+
+/// Every write of a checkpoint cut in every way, with more and more to store.
+pub fn cuts(maker: &mut Maker) {
+    let blocks = maker.random.pick(&[9, 18, 60, 128]);
+    maker.start("2 0 3", 10, 25, blocks, &[5, 9]);
+    checkpoint(maker);
+    for round in 0..1 + maker.random.below(3) {
+        for i in 0..maker.random.below(30) {
+            maker.say(format!("claim {} {round}", 40 * round + 2 * i));
+        }
+        for _ in 0..maker.random.below(10) {
+            let token = maker.token();
+            maker.say(format!("ack {token}"));
+        }
+        for kind in KINDS {
+            cut_everywhere(maker, kind);
+        }
+        checkpoint(maker);
+    }
+}
+
+fn cut_everywhere(maker: &mut Maker, kind: &str) {
+    for steps in 0..9 {
+        maker.say("begin");
+        for _ in 0..steps {
+            if maker.writing() {
+                maker.say("step");
+            }
+        }
+        if !maker.writing() {
+            return;
+        }
+        let answer = maker.say(format!("cut {kind}"));
+        if maker.random.below(8) == 0 {
+            maker.say(answer.replace("cut", "peek"));
+        }
+        maker.say("restart");
+        maker.say("state");
+        let call = maker.call();
+        maker.say(call);
+    }
+}
+
+/// 64 leases, then 128 counts.
+pub fn full(maker: &mut Maker) {
+    maker.start("3 0 4294967295", 10, 25, 60, &[]);
+    checkpoint(maker);
+    for round in 0..3 {
+        for i in 0..66 {
+            let now = maker.random.below(3);
+            maker.say(format!("claim {} {now}", 100 * round + i));
+        }
+        maker.say("state");
+        for _ in 0..6 {
+            let call = maker.call();
+            maker.say(call);
+        }
+        maker.say(format!("claim {} 5", 100 * round + 90));
+        checkpoint(maker);
+        maker.say("restart");
+        maker.say("waiting 0");
+        checkpoint(maker);
+    }
+    for _ in 0..20 {
+        let call = maker.call();
+        maker.say(call);
+    }
+}
+
+/// 128 ranges ahead, and acks that would make one more.
+pub fn ranges(maker: &mut Maker) {
+    maker.start("5 0 5", 10, 25, 40, &[]);
+    checkpoint(maker);
+    for i in 0..130 {
+        let offset = 2 * i + 1;
+        maker.say(format!("claim {offset} 0"));
+        maker.say(format!("ack {offset} {i}"));
+    }
+    for _ in 0..3 {
+        for _ in 0..15 {
+            let offset = maker.offset();
+            let time = maker.time();
+            maker.say(format!("claim {offset} {time}"));
+            let token = maker.token();
+            maker.say(format!("{} {token}", if offset % 2 == 0 { "ack" } else { "term" }));
+        }
+        maker.say("state");
+        checkpoint(maker);
+        maker.say("restart");
+        checkpoint(maker);
+        let bound = maker.offset();
+        maker.say(format!("commit {bound}"));
+    }
+    maker.say("state");
+}
+
+/// All generations of one checkpoint, and the nack and the claim behind them.
+pub fn spend(maker: &mut Maker) {
+    maker.start("3 0 4294967295", 0, 25, 6, &[]);
+    checkpoint(maker);
+    let spare = maker.random.below(3);
+    for i in 0..GENERATIONS - spare {
+        maker.say(if i % 3 == 2 {
+            format!("nack 0 {} 0", i - 1)
+        } else {
+            "claim 0 0".to_string()
+        });
+    }
+    for i in 0..8 {
+        let call = maker.call();
+        maker.say(call);
+        maker.say(format!("claim {} 9", i % 2));
+        let token = maker.token();
+        maker.say(format!("nack {token} 7"));
+        maker.say("state");
+    }
+    checkpoint(maker);
+    maker.say("claim 1 90");
+}
+
+/// A journal whose ceiling is near the last generation.
+pub fn last_generations(maker: &mut Maker) {
+    let threshold = maker.random.pick(&[1, 2, 9]);
+    maker.start(&format!("3 0 {threshold}"), 5, 25, 20, &[4]);
+    checkpoint(maker);
+    maker.say("claim 0 0");
+    checkpoint(maker);
+    let under = maker
+        .random
+        .pick(&[0, 1, 2, 3, 5, GENERATIONS - 1, GENERATIONS, GENERATIONS + 1]);
+    maker.poke(2, 8, &(u64::MAX - under).to_le_bytes());
+    maker.reseal(2);
+    for _ in 0..3 {
+        maker.say("restart");
+        maker.say("state");
+        maker.say("claim 1 0");
+        checkpoint(maker);
+        for _ in 0..12 {
+            let call = maker.call();
+            maker.say(call);
+        }
+        maker.say("state");
+    }
+}
+
+/// Settings and lengths that a start takes or refuses.
+pub fn starts(maker: &mut Maker) {
+    for _ in 0..12 {
+        let limit = maker
+            .random
+            .pick(&["0", "1", "4294967294", "4294967295", "4294967296", "007"]);
+        let opt_in = maker.random.pick(&["0", "0", "0", "1", "1", "01", "2", ""]);
+        let threshold = maker.random.pick(&["0", "1", "1", "4294967295", "4294967296"]);
+        let bytes = maker
+            .random
+            .pick(&[0, 1, 511, 512, 513, 1_024, 65_024, 65_536, 66_048, u64::MAX - 511, u64::MAX]);
+        let backoffs = " 1".repeat(maker.random.pick(&[0, 0, 15, 16, 17, 40]));
+        maker.say(format!("start {limit} {opt_in} {threshold} 10 25 {bytes}{backoffs}"));
+        for _ in 0..maker.random.below(3) {
+            maker.say("begin");
+            out_of_place(maker);
+            maker.say("step");
+            maker.say("state");
+        }
+    }
+}

@@ -1,0 +1,207 @@
+//! Scenes in which the journal's bytes change by wear, and journals that no checkpoint wrote.
+use crate::block::{bodies_for, body_block, header_block, seal, used, Header, BLOCK};
+use crate::journal::block_of;
+use crate::make::Maker;
+use crate::scenes::checkpoint;
+use ironbus::crc::crc32c;
+
+impl Maker {
+    pub fn poke(&mut self, block: usize, byte: usize, values: &[u8]) {
+        for (i, value) in values.iter().enumerate() {
+            self.say(format!("poke {block} {} {value}", byte + i));
+        }
+    }
+
+    fn block(&self, block: usize) -> Option<Vec<u8>> {
+        let started = self.program.started.as_ref()?;
+        Some(block_of(&started.area, block).to_vec())
+    }
+
+    /// Makes a block what is given, by pokes where it differs.
+    fn make_block(&mut self, block: usize, new: &[u8]) {
+        let Some(old) = self.block(block) else { return };
+        for i in (0..BLOCK).filter(|&i| old[i] != new[i]) {
+            self.poke(block, i, &new[i..=i]);
+        }
+    }
+
+    /// Puts the right check behind a block's bytes.
+    pub fn reseal(&mut self, block: usize) {
+        let Some(mut new) = self.block(block) else { return };
+        seal(&mut new);
+        self.make_block(block, &new);
+    }
+}
+
+/// A byte's place in a block, most often in a field.
+fn place(maker: &mut Maker) -> usize {
+    let any = maker.random.below(BLOCK as u64) as usize;
+    maker.random.pick(&[
+        0, 1, 2, 3, 4, 5, 7, 8, 15, 16, 17, 18, 19, 20, 21, 28, 29, 30, 31, 507, 508, 511, any, any,
+    ])
+}
+
+/// Some checkpoints, then wear on a block, with its check as it was or made anew, and restarts.
+pub fn worn(maker: &mut Maker) {
+    maker.start("3 0 9", 10, 25, 12, &[]);
+    let groups = 1 + maker.random.below(4);
+    for i in 0..groups {
+        checkpoint(maker);
+        maker.say(format!("claim {} 0", 3 * i + 1));
+        maker.say(format!("claim {} 0", 3 * i + 2));
+        maker.say(format!("ack {} {}", 3 * i + 2, 2 * i + 1));
+    }
+    for _ in 0..12 {
+        let block = maker.random.below(2 * groups) as usize;
+        let Some(old) = maker.block(block) else { return };
+        for _ in 0..1 + maker.random.below(2) {
+            let at = place(maker);
+            let value = match maker.random.below(3) {
+                0 => old[at] ^ (1 << maker.random.below(8)),
+                1 => old[at].wrapping_add(1),
+                _ => maker.random.below(256) as u8,
+            };
+            maker.poke(block, at, &[value]);
+        }
+        if maker.random.below(4) > 0 {
+            maker.reseal(block);
+        }
+        maker.say("restart");
+        maker.say("state");
+        if maker.random.below(6) > 0 {
+            maker.make_block(block, &old);
+            maker.say("restart");
+        }
+    }
+    shorter(maker);
+}
+
+/// The same journal with less and less of its area.
+fn shorter(maker: &mut Maker) {
+    let mut blocks = maker.blocks();
+    while blocks > 0 && maker.random.below(6) > 0 {
+        blocks -= maker.random.below(3).min(blocks);
+        maker.say(format!("restart {}", 512 * blocks));
+        maker.say("state");
+        checkpoint(maker);
+    }
+}
+
+/// What may be wrong with a snapshot.
+#[derive(Clone, Copy, PartialEq)]
+enum Fault {
+    None,
+    Version,
+    Length,
+    Count,
+    Check,
+    Order,
+}
+
+const FAULTS: [Fault; 5] = [Fault::Version, Fault::Length, Fault::Count, Fault::Check, Fault::Order];
+
+/// The bytes with their check behind them, and the fault that isn't in them yet.
+fn checked(maker: &mut Maker, mut bytes: Vec<u8>, fault: Fault) -> Vec<u8> {
+    if fault == Fault::Version {
+        bytes[0] = maker.random.pick(&[0, 2, 255]);
+    }
+    let check = crc32c(&bytes).to_le_bytes();
+    bytes.extend(check);
+    match fault {
+        Fault::Check => *bytes.last_mut().unwrap() ^= 1,
+        Fault::Length if maker.random.below(2) == 0 => bytes.push(0),
+        Fault::Length => drop(bytes.pop()),
+        _ => (),
+    }
+    bytes
+}
+
+fn cursor_bytes(maker: &mut Maker, fault: Fault) -> Vec<u8> {
+    let mut at = maker.random.pick(&[0, 0, 5, 9, u64::MAX - 40, u64::MAX]);
+    let mut bytes = vec![1];
+    bytes.extend(at.to_le_bytes());
+    let least = u64::from(fault != Fault::Order);
+    for _ in 0..maker.random.pick(&[0, 1, 2, 3]) {
+        let start = at.saturating_add(least + maker.random.below(3));
+        let end = start.saturating_add(least + maker.random.below(3));
+        bytes.extend(start.to_le_bytes());
+        bytes.extend(end.to_le_bytes());
+        at = end;
+    }
+    checked(maker, bytes, fault)
+}
+
+fn attempt_bytes(maker: &mut Maker, fault: Fault) -> Vec<u8> {
+    let count: u64 = maker.random.pick(&[0, 1, 2, 3, 5]);
+    let declared = if fault == Fault::Count {
+        maker.random.near(count)
+    } else {
+        count
+    };
+    let mut bytes = vec![1];
+    bytes.extend((declared as u32).to_le_bytes());
+    let mut offset = maker.random.pick(&[0, 0, 4, u64::MAX - 9]);
+    let least = u64::from(fault != Fault::Order);
+    for _ in 0..count {
+        bytes.extend(offset.to_le_bytes());
+        bytes.extend(maker.random.pick(&[0u32, 1, 2, 3, u32::MAX - 1, u32::MAX]).to_le_bytes());
+        offset = offset.saturating_add(least + maker.random.below(4));
+    }
+    checked(maker, bytes, fault)
+}
+
+/// Snapshots, sound and unsound, or bytes whose lengths are at the bounds of a sound header.
+fn snapshots(maker: &mut Maker) -> (Vec<u8>, Vec<u8>) {
+    let fault = maker.random.pick(&FAULTS);
+    match maker.random.below(6) {
+        0..=1 => return (cursor_bytes(maker, Fault::None), attempt_bytes(maker, Fault::None)),
+        2 => return (cursor_bytes(maker, fault), attempt_bytes(maker, fault)),
+        3..=4 => return (cursor_bytes(maker, Fault::None), attempt_bytes(maker, fault)),
+        _ => (),
+    }
+    let cursor = maker.random.pick(&[12, 13, 29, 480, 491, 492, 2_061, 2_062]);
+    let attempts = maker.random.pick(&[8, 9, 9, 21, 487, 488, 508, 509, 1_545, 1_546]);
+    (vec![0; cursor], vec![0; attempts])
+}
+
+/// A group of a foreign hand behind some checkpoints, then a restart on it and what follows.
+pub fn forged(maker: &mut Maker) {
+    maker.start("3 0 2", 10, 25, 16, &[]);
+    let groups = maker.random.below(3) as usize;
+    for _ in 0..groups {
+        checkpoint(maker);
+        maker.say("claim 1 0");
+    }
+    let (cursor, attempts) = snapshots(maker);
+    forge(maker, 2 * groups, groups as u32 + 1, &cursor, &attempts);
+    maker.say("restart");
+    maker.say("state");
+    checkpoint(maker);
+    for _ in 0..10 {
+        let call = maker.call();
+        maker.say(call);
+    }
+    checkpoint(maker);
+    maker.say("restart");
+    maker.say("state");
+}
+
+fn forge(maker: &mut Maker, at: usize, group: u32, cursor: &[u8], attempts: &[u8]) {
+    let payload = [cursor, attempts].concat();
+    let mut header = Header {
+        bodies: bodies_for(payload.len()),
+        group,
+        ceiling: maker.random.pick(&[0, 7, 4_096, u64::MAX - 2]),
+        cursor: cursor.len(),
+        attempts: attempts.len(),
+    };
+    for index in 1..=header.bodies {
+        let from = 500 * (index - 1);
+        let part = &payload[from..from + used(index, payload.len())];
+        maker.make_block(at + index, &body_block(group, index, part));
+    }
+    if maker.random.below(12) == 0 {
+        header.bodies = maker.random.near(header.bodies as u64) as usize;
+    }
+    maker.make_block(at, &header_block(&header));
+}
