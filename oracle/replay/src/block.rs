@@ -112,3 +112,91 @@ pub fn sound_body(block: &[u8], header: &Header, index: usize) -> bool {
         && u16_at(block, 2) == used
         && zeros(&block[PAYLOAD + used..CHECK])
 }
+
+#[cfg(test)]
+mod tests {
+    use super::*;
+
+    /// The payload of a checkpoint that has nothing to store: each snapshot with its check.
+    const EMPTY: [u8; 22] = [1, 0, 0, 0, 0, 0, 0, 0, 0, 235, 190, 219, 79, 1, 0, 0, 0, 0, 153, 25, 99, 125];
+
+    const HEADER: Header = Header {
+        bodies: 1,
+        group: 1,
+        ceiling: 4_096,
+        cursor: 13,
+        attempts: 9,
+    };
+
+    /// The blocks of the first checkpoint on a zeroed area. The checks were worked out apart, bit by bit.
+    #[test]
+    fn first_checkpoint_byte_by_byte() {
+        let mut header = [0; BLOCK];
+        header[..20].copy_from_slice(&[1, 1, 0, 0, 1, 0, 0, 0, 0, 16, 0, 0, 0, 0, 0, 0, 13, 0, 9, 0]);
+        header[508..].copy_from_slice(&[0x78, 0x98, 0x39, 0x7e]);
+        assert_eq!(header_block(&HEADER), header);
+        assert_eq!(sound_header(&header, 1, 2), Some(HEADER));
+        let mut body = [0; BLOCK];
+        body[..8].copy_from_slice(&[2, 1, 22, 0, 1, 0, 0, 0]);
+        body[8..30].copy_from_slice(&EMPTY);
+        body[508..].copy_from_slice(&[0xbc, 0xc1, 0xa1, 0x07]);
+        assert_eq!(body_block(1, 1, &EMPTY), body);
+        assert!(sound_body(&body, &HEADER, 1));
+    }
+
+    #[test]
+    fn payload_in_bodies() {
+        assert_eq!(
+            [22, 500, 501, 1_000, 1_001, 2_061 + 1_545].map(bodies_for),
+            [1, 1, 2, 2, 3, 8]
+        );
+        assert_eq!([1, 2, 7, 8].map(|index| used(index, 2_061 + 1_545)), [500, 500, 500, 106]);
+        assert_eq!([1, 2].map(|index| used(index, 1_000)), [500, 500]);
+    }
+
+    /// No block with one bit changed is sound. With its check made anew, it is sound only where the bit is free: the ceiling of
+    /// a header, the payload of a body. Lengths have bounds of their own, below.
+    #[test]
+    fn one_bit_changed() {
+        let header = header_block(&HEADER);
+        let body = body_block(1, 1, &EMPTY);
+        for bit in 0..8 * BLOCK {
+            let changed = |block: &[u8]| {
+                let mut block = block.to_vec();
+                block[bit / 8] ^= 1 << (bit % 8);
+                block
+            };
+            assert_eq!(sound_header(&changed(&header), 1, 2), None);
+            assert!(!sound_body(&changed(&body), &HEADER, 1));
+            let sealed = |block: &[u8]| {
+                let mut block = changed(block);
+                seal(&mut block);
+                block
+            };
+            let (byte, in_check) = (bit / 8, bit / 8 >= CHECK);
+            if !(16..20).contains(&byte) {
+                let sound = sound_header(&sealed(&header), 1, 2).is_some();
+                assert_eq!(sound, (8..16).contains(&byte) || in_check, "byte {byte}");
+            }
+            let sound = sound_body(&sealed(&body), &HEADER, 1);
+            assert_eq!(sound, (8..30).contains(&byte) || in_check, "byte {byte}");
+        }
+    }
+
+    #[test]
+    fn bounds_of_a_sound_header() {
+        let sound = |cursor, attempts, left| {
+            let header = Header {
+                bodies: bodies_for(cursor + attempts),
+                cursor,
+                attempts,
+                ..HEADER
+            };
+            sound_header(&header_block(&header), 1, left).is_some()
+        };
+        assert!(sound(13, 9, 2) && !sound(13, 9, 1) && !sound(12, 9, 2) && !sound(13, 8, 2));
+        assert!(sound(2_061, 1_545, 9) && !sound(2_061, 1_545, 8) && !sound(2_062, 1_545, 9) && !sound(2_061, 1_546, 9));
+        assert_eq!(sound_header(&header_block(&HEADER), 2, 2), None);
+        assert_eq!(sound_header(&header_block(&Header { bodies: 2, ..HEADER }), 1, 9), None);
+    }
+}

@@ -8,3 +8,6 @@ pub mod make;
 pub mod program;
 pub mod scenes;
 pub mod wear;
+
+#[cfg(test)]
+mod tests;

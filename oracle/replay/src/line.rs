@@ -1,7 +1,7 @@
 //! How a line of a script is read.
 
-/// The longest line that is read; a longer one is none of the calls (docs/DECISIONS.md).
-pub const LINE: usize = 65_536;
+/// The longest line that is read, one less than 65,536 for its line end; a longer one is none of the calls (docs/DECISIONS.md).
+pub const LINE: usize = 65_535;
 
 pub struct Start {
     pub limit: u32,
@@ -97,4 +97,85 @@ pub fn read(line: &[u8]) -> Option<Call> {
         ("peek", &[block]) => Call::Peek(block),
         _ => return None,
     })
+}
+
+#[cfg(test)]
+mod tests {
+    use super::{read, Call, LINE};
+
+    fn is_none(line: &str) -> bool {
+        read(line.as_bytes()).is_none()
+    }
+
+    #[test]
+    fn numbers() {
+        assert!(matches!(
+            read(b"claim 007 18446744073709551615"),
+            Some(Call::Claim(7, u64::MAX))
+        ));
+        for line in [
+            "claim 1 18446744073709551616",
+            "claim 1 +2",
+            "claim 1 -2",
+            "claim 1 0x2",
+            "claim 1 2a",
+            "claim 1 \u{661}",
+        ] {
+            assert!(is_none(line), "{line}");
+        }
+        assert!(read(b"claim 1 \xff").is_none());
+    }
+
+    #[test]
+    fn one_space_between_words() {
+        for line in [
+            "claim 1",
+            "claim 1 2 3",
+            "claim  1 2",
+            " claim 1 2",
+            "claim 1 2 ",
+            "claim 1 2\r",
+            "claim\t1 2",
+            "Claim 1 2",
+            " ",
+        ] {
+            assert!(is_none(line), "{line}");
+        }
+        for line in [
+            "begin 1",
+            "state 1",
+            "peek",
+            "poke 0 0",
+            "cut",
+            "cut Old",
+            "cut old 1",
+            "nack 1 2",
+            "nack 1 2 3 4 5",
+        ] {
+            assert!(is_none(line), "{line}");
+        }
+    }
+
+    #[test]
+    fn what_a_start_takes() {
+        assert!(
+            matches!(read(b"start 4294967295 01 4294967295 1 2 3"), Some(Call::Start(start)) if start.opt_in && start.backoffs.is_empty())
+        );
+        assert!(matches!(read(b"start 1 0 1 1 2 3 4 5"), Some(Call::Start(start)) if start.bytes == 3 && start.backoffs == [4, 5]));
+        for line in [
+            "start 4294967296 0 1 1 2 3",
+            "start 1 0 4294967296 1 2 3",
+            "start 1 2 1 1 2 3",
+            "start 1 0 1 1 2",
+        ] {
+            assert!(is_none(line), "{line}");
+        }
+    }
+
+    #[test]
+    fn long_lines() {
+        let line = |length: usize| format!("peek {}", "0".repeat(length - 5));
+        assert!(matches!(read(line(LINE).as_bytes()), Some(Call::Peek(0))));
+        assert!(is_none(&line(LINE + 1)));
+    }
 }

@@ -1,0 +1,221 @@
+//! 01's examples and the phases of the program, as scripts with their answers; and that the made scripts meet everything.
+use crate::compare::{answers, difference};
+use crate::make::script;
+use crate::program::Program;
+use std::collections::BTreeSet;
+
+/// Runs lines written as `LINE => ANSWER`; several steps of a checkpoint are written `checkpoint => BLOCK,..`.
+fn play(text: &str) {
+    let mut program = Program::default();
+    for line in text.lines().map(str::trim).filter(|line| !line.is_empty()) {
+        let (call, right) = line.split_once(" => ").expect(line);
+        if call != "checkpoint" {
+            assert_eq!(program.answer(call.as_bytes()).as_deref(), Some(right), "{call}");
+            continue;
+        }
+        let blocks: Vec<&str> = right.split(',').collect();
+        assert_eq!(program.answer(b"begin"), Some(format!("begun {}", blocks.len())));
+        for (i, block) in blocks.iter().enumerate() {
+            let word = if i + 1 == blocks.len() { "done" } else { "wrote" };
+            assert_eq!(program.answer(b"step"), Some(format!("{word} {block}")));
+        }
+    }
+}
+
+/// Examples 1, 2 and 4: acks in and out of order, and a commit that swallows a range.
+#[test]
+fn acks_and_commits() {
+    play(
+        "start 5 0 1 10 25 9216 => started
+        checkpoint => 1,0
+        claim 2 0 => deliver 2 0 1
+        claim 1 0 => deliver 1 1 1
+        claim 0 0 => deliver 0 2 1
+        ack 2 0 => settled
+        state => state committed 0 ranges 2-3 leases 0:2:0:10:1,1:1:0:10:1 carried none next 3 ceiling 4096 counter 0 group 2 block 2
+        ack 2 0 => refused 24
+        claim 2 0 => refused 22
+        term 1 1 => settled
+        commit 0 => unchanged
+        commit 1 => refused 30
+        ack 0 2 => settled
+        state => state committed 3 ranges none leases none carried none next 3 ceiling 4096 counter 0 group 2 block 2
+        commit 5 => committed
+        claim 8 0 => deliver 8 3 1
+        ack 8 3 => settled
+        claim 9 0 => deliver 9 4 1
+        ack 9 4 => settled
+        commit 7 => committed
+        state => state committed 7 ranges 8-10 leases none carried none next 5 ceiling 4096 counter 0 group 2 block 2
+        commit 8 => committed
+        commit 10 => unchanged
+        state => state committed 10 ranges none leases none carried none next 5 ceiling 4096 counter 0 group 2 block 2
+        claim 18446744073709551615 0 => refused 21",
+    );
+}
+
+/// Examples 7, 8 and 10: deadlines, the cap, backoffs.
+#[test]
+fn times() {
+    play(
+        "start 9 0 9 10 25 9216 5 9 => started
+        checkpoint => 1,0
+        claim 0 100 => deliver 0 0 1
+        claim 0 109 => refused 23
+        waiting 109 => waiting
+        waiting 110 => waiting 0
+        progress 0 0 120 => extended 125
+        progress 0 0 125 => refused 28
+        claim 0 125 => deliver 0 1 2
+        ack 0 0 => refused 24
+        nack 0 1 130 => requeued 139
+        nack 0 1 130 => refused 24
+        nack 0 2 130 7 => requeued 137
+        claim 0 136 => refused 23
+        claim 0 137 => deliver 0 4 3
+        nack 0 4 18446744073709551610 => requeued 18446744073709551615",
+    );
+}
+
+/// Examples 13 and 14, and what the checkpoints of 14 left in the area.
+#[test]
+fn dead_letter_behind_a_restart() {
+    play(
+        "start 2 0 1 10 25 9216 => started
+        claim 0 0 => refused 26
+        checkpoint => 1,0
+        claim 0 0 => deliver 0 0 1
+        claim 0 10 => deliver 0 1 2
+        claim 0 20 => refused 26
+        checkpoint => 3,2
+        state => state committed 0 ranges none leases 0:1:10:20:2 carried none next 2 ceiling 4098 counter 0 group 3 block 4
+        restart => restarted
+        state => state committed 0 ranges none leases none carried 0:2 next 4098 ceiling 4098 counter 0 group 3 block 4
+        claim 0 30 => refused 26
+        checkpoint => 5,4
+        claim 0 30 => deadletter 0 4098 3
+        restart 2048 => restarted
+        state => state committed 0 ranges none leases none carried 0:2 next 4098 ceiling 4098 counter 0 group 3 block 4
+        begin => refused 31
+        restart 9216 => not now
+        restart 2047 => refused 4
+        restart 1024 => restarted
+        state => state committed 0 ranges none leases none carried none next 4096 ceiling 4096 counter 0 group 2 block 2",
+    );
+}
+
+/// Old, new and torn at a body and at a header.
+#[test]
+fn power_failures() {
+    let before = "start 3 0 9 10 25 3072 => started
+        checkpoint => 1,0
+        claim 4 0 => deliver 4 0 1
+        begin => begun 2\n";
+    let old = "state committed 0 ranges none leases none carried none next 4096 ceiling 4096 counter 0 group 2 block 2";
+    let new = "state committed 0 ranges none leases none carried 4:1 next 4097 ceiling 4097 counter 0 group 3 block 4";
+    for kind in ["old", "new", "torn"] {
+        let right = if kind == "new" { new } else { old };
+        play(&format!(
+            "{before}cut {kind} => cut 3\nstate => not now\nrestart => restarted\nstate => {old}"
+        ));
+        play(&format!(
+            "{before}step => wrote 3\ncut {kind} => cut 2\nrestart => restarted\nstate => {right}"
+        ));
+    }
+}
+
+/// Wear: an unsound body that a sound header counts is refused, by its block; an unsound header ends the walk.
+#[test]
+fn worn_blocks() {
+    play(
+        "start 3 0 9 10 25 3072 => started
+        checkpoint => 1,0
+        checkpoint => 3,2
+        poke 3 100 1 => poked
+        restart => refused 5 3
+        poke 1 511 0 => poked
+        restart => refused 5 1
+        claim 0 0 => deliver 0 0 1
+        poke 1 511 7 => poked
+        poke 2 0 2 => poked
+        restart => restarted
+        state => state committed 0 ranges none leases none carried none next 4096 ceiling 4096 counter 0 group 2 block 2
+        poke 0 1 2 => poked
+        restart => restarted
+        state => state committed 0 ranges none leases none carried none next 0 ceiling 0 counter 0 group 1 block 0",
+    );
+}
+
+#[test]
+fn calls_out_of_place() {
+    play(
+        "restart => not now
+        peek 0 => not now
+        claim x 0 => bad line
+        start 0 0 0 1 1 0 => refused 1
+        start 1 0 0 1 1 0 1 1 1 1 1 1 1 1 1 1 1 1 1 1 1 1 1 => refused 2
+        start 1 0 0 1 1 0 => refused 3
+        start 1 0 1 1 1 0 => refused 4
+        start 1 0 1 1 1 66048 => refused 4
+        state => not now
+        start 1 0 1 1 1 1024 => started
+        start 1 0 1 1 1 1 => refused 4
+        step => not now
+        cut old => not now
+        begin => begun 2
+        begin => not now
+        claim 0 0 => not now
+        state => not now
+        step 1025 => not now
+        step 512 => refused 4
+        step 1024 => wrote 1
+        restart 0 => refused 4
+        poke 2 0 0 => not now
+        poke 1 512 0 => not now
+        poke 1 0 256 => not now
+        peek 2 => not now
+        step => done 0
+        begin => refused 31
+        restart 512 => restarted
+        state => state committed 0 ranges none leases none carried none next 0 ceiling 0 counter 0 group 1 block 0
+        begin => refused 31",
+    );
+}
+
+/// Lines that get no answer, and a last line without a line end.
+#[test]
+fn lines_of_a_text() {
+    assert_eq!(answers(b"\n# state\n\nstate\n\0\r\n#"), "not now\nbad line\n");
+    assert_eq!(answers(b"state"), "not now\n");
+    assert_eq!(answers(b""), "");
+}
+
+#[test]
+fn a_difference_is_shown() {
+    let text = b"start 1 0 1 1 1 1024\n\nbegin\nstep\n";
+    assert_eq!(difference(text, "started\nbegun 2\nwrote 1\n"), Ok(3));
+    assert!(difference(text, "started\nbegun 2\nwrote 0\n")
+        .unwrap_err()
+        .contains("line 4: step"));
+    assert!(difference(text, "started\nbegun 2\n").is_err());
+    assert!(difference(text, "started\nbegun 2\nwrote 1\nmore\n").is_err());
+}
+
+/// The scripts that `oracle/run compare` uses have every kind of answer, and every refusal that a script can meet: all but 6, 12, 13
+/// and 19, which a sound header's lengths rule out, and 20, as the waiting list always fits.
+#[test]
+fn scripts_have_everything() {
+    let mut words = BTreeSet::new();
+    let mut refusals = BTreeSet::new();
+    for seed in 1..=40 {
+        for answer in answers(&script(seed, 2_000).join(&b'\n')).lines() {
+            let mut parts = answer.split(' ');
+            words.insert(parts.next().unwrap().to_string());
+            if answer.starts_with("refused") {
+                refusals.insert(parts.next().unwrap().parse::<u64>().unwrap());
+            }
+        }
+    }
+    assert_eq!(words.len(), 20, "{words:?}");
+    assert_eq!(refusals, (1..=5).chain(7..=11).chain(14..=18).chain(21..=31).collect());
+}
