@@ -6,14 +6,13 @@ pub const GENERATIONS: u64 = 4_096;
 
 const KINDS: [&str; 3] = ["old", "new", "torn"];
 
-/// Begins a checkpoint and makes all its steps. Answers whether the journal had room.
-pub fn checkpoint(maker: &mut Maker) -> bool {
-    maker.say("begin");
-    let room = maker.writing();
+/// Begins a checkpoint and makes all its steps. Answers the header's block, or nothing where the journal had no room.
+pub fn checkpoint(maker: &mut Maker) -> Option<usize> {
+    let mut answer = maker.say("begin");
     while maker.writing() {
-        maker.say("step");
+        answer = maker.say("step");
     }
-    room
+    answer.strip_prefix("done ")?.parse().ok()
 }
 
 /// Calls of all kinds, checkpoints, power failures and restarts in any order.
@@ -38,7 +37,7 @@ pub fn life(maker: &mut Maker) {
             _ => {
                 let call = maker.call();
                 let answer = maker.say(call);
-                if answer == "refused 26" && maker.random.below(3) > 0 && !checkpoint(maker) {
+                if answer == "refused 26" && maker.random.below(3) > 0 && checkpoint(maker).is_none() {
                     calls = calls.min(5);
                 }
             }
@@ -159,10 +158,10 @@ fn cut_everywhere(maker: &mut Maker, kind: &str) {
     }
 }
 
-/// 64 leases, then 128 counts.
+/// 64 leases, then 128 counts, with generations left and without.
 pub fn full(maker: &mut Maker) {
     maker.start("3 0 4294967295", 10, 25, 60, &[]);
-    checkpoint(maker);
+    let mut header = checkpoint(maker);
     for round in 0..3 {
         for i in 0..66 {
             let now = maker.random.below(3);
@@ -177,11 +176,18 @@ pub fn full(maker: &mut Maker) {
         checkpoint(maker);
         maker.say("restart");
         maker.say("waiting 0");
-        checkpoint(maker);
+        maker.say(format!("claim {} 5", 100 * round + 90));
+        header = checkpoint(maker).or(header);
     }
     for _ in 0..20 {
         let call = maker.call();
         maker.say(call);
+    }
+    if let Some(block) = header {
+        maker.poke(block, 8, &u64::MAX.to_le_bytes());
+        maker.reseal(block);
+        maker.say("restart");
+        maker.say("claim 999 0");
     }
 }
 
