@@ -58,7 +58,9 @@ pub fn script(seed: u64, lines: usize) -> Vec<Vec<u8>> {
             9 => scenes::ranges(&mut maker),
             10 => scenes::last_generations(&mut maker),
             11 => scenes::starts(&mut maker),
-            12..=13 => wear::worn(&mut maker),
+            12 => scenes::filled(&mut maker),
+            13..=14 => wear::worn(&mut maker),
+            15 => wear::bounds(&mut maker),
             _ => wear::forged(&mut maker),
         }
     }

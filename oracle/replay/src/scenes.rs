@@ -158,32 +158,42 @@ fn cut_everywhere(maker: &mut Maker, kind: &str) {
     }
 }
 
-/// 64 leases, then 128 counts, with generations left and without.
+/// So many claims and acks of every second offset, the first of generation 0.
+fn fragment(maker: &mut Maker, acks: u64) {
+    for i in 0..acks {
+        let offset = 2 * i + 1;
+        maker.say(format!("claim {offset} 0"));
+        maker.say(format!("ack {offset} {i}"));
+    }
+}
+
+/// 64 leases, then 128 counts, with generations left and without; at most with 128 ranges, which is the largest group.
 pub fn full(maker: &mut Maker) {
-    maker.start("3 0 4294967295", 10, 25, 60, &[]);
-    let mut header = checkpoint(maker);
+    maker.start("3 0 4294967295", 10, 25, 128, &[]);
+    checkpoint(maker);
+    let acks = maker.random.pick(&[0, 0, 90, 128]);
+    fragment(maker, acks);
     for round in 0..3 {
+        let base = 300 + 100 * round;
         for i in 0..66 {
             let now = maker.random.below(3);
-            maker.say(format!("claim {} {now}", 100 * round + i));
+            maker.say(format!("claim {} {now}", base + i));
         }
         maker.say("state");
         for _ in 0..6 {
             let call = maker.call();
             maker.say(call);
         }
-        maker.say(format!("claim {} 5", 100 * round + 90));
+        maker.say(format!("claim {} 5", base + 90));
         checkpoint(maker);
         maker.say("restart");
         maker.say("waiting 0");
-        maker.say(format!("claim {} 5", 100 * round + 90));
-        header = checkpoint(maker).or(header);
+        maker.say(format!("claim {} 5", base + 90));
+        checkpoint(maker);
     }
-    for _ in 0..20 {
-        let call = maker.call();
-        maker.say(call);
-    }
-    if let Some(block) = header {
+    let kind = maker.random.pick(&KINDS);
+    cut_everywhere(maker, kind);
+    if let Some(block) = checkpoint(maker) {
         maker.poke(block, 8, &u64::MAX.to_le_bytes());
         maker.reseal(block);
         maker.say("restart");
@@ -191,15 +201,27 @@ pub fn full(maker: &mut Maker) {
     }
 }
 
+/// Checkpoints until there is no room, with more and less to store, and a restart on all of them.
+pub fn filled(maker: &mut Maker) {
+    let blocks = maker.random.pick(&[2, 3, 7, 20, 128]);
+    maker.start("3 0 9", 10, 25, blocks, &[]);
+    while checkpoint(maker).is_some() {
+        for _ in 0..maker.random.below(4) {
+            let call = maker.call();
+            maker.say(call);
+        }
+    }
+    maker.say("state");
+    maker.say("restart");
+    maker.say("state");
+    maker.say("begin");
+}
+
 /// 128 ranges ahead, and acks that would make one more.
 pub fn ranges(maker: &mut Maker) {
     maker.start("5 0 5", 10, 25, 40, &[]);
     checkpoint(maker);
-    for i in 0..130 {
-        let offset = 2 * i + 1;
-        maker.say(format!("claim {offset} 0"));
-        maker.say(format!("ack {offset} {i}"));
-    }
+    fragment(maker, 130);
     for _ in 0..3 {
         for _ in 0..15 {
             let offset = maker.offset();

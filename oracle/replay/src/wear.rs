@@ -121,8 +121,8 @@ fn cursor_bytes(maker: &mut Maker, fault: Fault) -> Vec<u8> {
     let mut bytes = vec![1];
     bytes.extend(at.to_le_bytes());
     let least = u64::from(fault != Fault::Order);
-    for _ in 0..maker.random.pick(&[0, 1, 2, 3]) {
-        let start = at.saturating_add(least + maker.random.below(3));
+    for _ in 0..maker.random.below(4).max(1 - least) {
+        let start = at.saturating_add(least + maker.random.below(2));
         let end = start.saturating_add(least + maker.random.below(3));
         bytes.extend(start.to_le_bytes());
         bytes.extend(end.to_le_bytes());
@@ -150,21 +150,19 @@ fn attempt_bytes(maker: &mut Maker, fault: Fault) -> Vec<u8> {
     checked(maker, bytes, fault)
 }
 
-/// Snapshots, sound and unsound, or bytes whose lengths are at the bounds of a sound header.
+/// Snapshots, at most one of them with a fault.
 fn snapshots(maker: &mut Maker) -> (Vec<u8>, Vec<u8>) {
     let fault = maker.random.pick(&FAULTS);
-    match maker.random.below(6) {
-        0..=1 => return (cursor_bytes(maker, Fault::None), attempt_bytes(maker, Fault::None)),
-        2 => return (cursor_bytes(maker, fault), attempt_bytes(maker, fault)),
-        3..=4 => return (cursor_bytes(maker, Fault::None), attempt_bytes(maker, fault)),
-        _ => (),
-    }
-    let cursor = maker.random.pick(&[12, 13, 29, 480, 491, 492, 2_061, 2_062]);
-    let attempts = maker.random.pick(&[8, 9, 9, 21, 487, 488, 508, 509, 1_545, 1_546]);
-    (vec![0; cursor], vec![0; attempts])
+    let (cursor, attempts) = maker.random.pick(&[
+        (Fault::None, Fault::None),
+        (fault, Fault::None),
+        (Fault::None, fault),
+        (fault, fault),
+    ]);
+    (cursor_bytes(maker, cursor), attempt_bytes(maker, attempts))
 }
 
-/// A group of a foreign hand behind some checkpoints, then a restart on it and what follows.
+/// Groups of a foreign hand behind some checkpoints, a restart on each, and what follows.
 pub fn forged(maker: &mut Maker) {
     maker.start("3 0 2", 10, 25, 16, &[]);
     let groups = maker.random.below(3) as usize;
@@ -172,10 +170,12 @@ pub fn forged(maker: &mut Maker) {
         checkpoint(maker);
         maker.say("claim 1 0");
     }
-    let (cursor, attempts) = snapshots(maker);
-    forge(maker, 2 * groups, groups as u32 + 1, &cursor, &attempts);
-    maker.say("restart");
-    maker.say("state");
+    for _ in 0..3 {
+        let (cursor, attempts) = snapshots(maker);
+        forge(maker, 2 * groups, groups as u32 + 1, &cursor, &attempts);
+        maker.say("restart");
+        maker.say("state");
+    }
     checkpoint(maker);
     for _ in 0..10 {
         let call = maker.call();
@@ -184,6 +184,17 @@ pub fn forged(maker: &mut Maker) {
     checkpoint(maker);
     maker.say("restart");
     maker.say("state");
+}
+
+/// Groups of zeros whose lengths are at the bounds of a sound header and of a body.
+pub fn bounds(maker: &mut Maker) {
+    maker.start("3 0 2", 10, 25, 9, &[]);
+    for _ in 0..12 {
+        let cursor = maker.random.pick(&[12, 13, 29, 480, 491, 492, 2_061, 2_062]);
+        let attempts = maker.random.pick(&[8, 9, 9, 21, 487, 488, 508, 509, 1_545, 1_546]);
+        forge(maker, 0, 1, &vec![0; cursor], &vec![0; attempts]);
+        maker.say("restart");
+    }
 }
 
 fn forge(maker: &mut Maker, at: usize, group: u32, cursor: &[u8], attempts: &[u8]) {
