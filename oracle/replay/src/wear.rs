@@ -1,5 +1,5 @@
 //! Scenes in which the journal's bytes change by wear, and journals that no checkpoint wrote.
-use crate::block::{bodies_for, body_block, header_block, seal, used, Header, BLOCK};
+use crate::block::{bodies_for, body_block, header_block, seal, used, Header, BLOCK, ROOM};
 use crate::journal::block_of;
 use crate::make::Maker;
 use crate::scenes::checkpoint;
@@ -207,7 +207,7 @@ fn forge(maker: &mut Maker, at: usize, group: u32, cursor: &[u8], attempts: &[u8
         attempts: attempts.len(),
     };
     for index in 1..=header.bodies {
-        let from = 500 * (index - 1);
+        let from = ROOM * (index - 1);
         let part = &payload[from..from + used(index, payload.len())];
         maker.make_block(at + index, &body_block(group, index, part));
     }
