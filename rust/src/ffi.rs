@@ -87,7 +87,7 @@ pub(crate) struct Numbers {
     pub(crate) values: [u64; 4],
 }
 
-/// The calls on a consumer, by their numbers in `crates/server/specs/Numbers.antt`.
+/// The calls on a consumer, by their numbers in `crates/wire/specs/Numbers.antt`.
 #[derive(Clone, Copy, Debug, PartialEq, Eq)]
 #[repr(u64)]
 pub(crate) enum Ask {
@@ -167,7 +167,7 @@ impl Numbers {
 }
 
 impl Machine {
-    // Memory for a machine, which a start or an off fills whole.
+    // Memory for a machine: an off or a start that isn't refused makes one of it.
     fn blank() -> Box<Machine> {
         // SAFETY: every field is a number, a bool or an array of numbers, for which zeros are a value.
         unsafe { Box::<Machine>::new_zeroed().assume_init() }
@@ -295,6 +295,12 @@ mod tests {
             guarded
         }
 
+        fn start(&mut self, settings: &Settings, area_len: usize) {
+            // SAFETY: as for `Machine::start`.
+            unsafe { ninotskev_start(&mut self.machine, &mut self.numbers, settings, area_len) };
+            self.untouched();
+        }
+
         fn untouched(&self) {
             assert_eq!(self.machine_end, [0xa5; 64]);
             assert_eq!(self.numbers_end, [0xa5; 64]);
@@ -356,16 +362,7 @@ mod tests {
         let mut guarded = Guarded::new();
         let mut area = [0; 512 * 20];
         let mut out = [0; 4];
-        // SAFETY: as for `Machine::start`.
-        unsafe {
-            ninotskev_start(
-                &mut guarded.machine,
-                &mut guarded.numbers,
-                &settings,
-                area.len(),
-            );
-        }
-        guarded.untouched();
+        guarded.start(&settings, area.len());
         assert_eq!(guarded.numbers, told(0, 0, [0; 4]));
         assert_eq!(guarded.machine.settings, settings);
         assert_eq!(guarded.machine.phase, 0);
@@ -426,18 +423,25 @@ mod tests {
     #[test]
     fn a_number_that_is_no_call_is_refused() {
         let mut guarded = Guarded::new();
-        // SAFETY: as for `Machine::start`.
-        unsafe {
-            ninotskev_start(
-                &mut guarded.machine,
-                &mut guarded.numbers,
-                &Settings::default(),
-                512,
-            );
-        }
+        guarded.start(&Settings::default(), 512 * 20);
         for kind in [STEP, 18, u64::MAX] {
             guarded.call(kind, [0; 4], &mut [0; 512], &mut []);
             assert_eq!(guarded.numbers, told(32, 0, [0; 4]));
         }
+    }
+
+    #[test]
+    fn a_refused_start_keeps_the_machine() {
+        let mut guarded = Guarded::new();
+        guarded.start(&Settings::default(), 512 * 20);
+        guarded.call(BEGIN, [0; 4], &mut [], &mut []);
+        assert_eq!(guarded.numbers, told(0, 1, [2, 0, 0, 0]));
+        guarded.start(&Settings::default(), 511);
+        assert_eq!(guarded.numbers, told(4, 0, [0; 4]));
+        assert_eq!(guarded.machine.phase, 1);
+        // What was begun goes on.
+        let mut area = [0; 512 * 20];
+        guarded.call(STEP, [0; 4], &mut area, &mut []);
+        assert_eq!(guarded.numbers, told(0, 2, [1, 0, 0, 0]));
     }
 }

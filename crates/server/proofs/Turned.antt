@@ -5,15 +5,18 @@ use mathlib.Core.Path.{_≡_, refl, ap, subst, _∙_}
 use mathlib.Core.List.{List, []}
 use mathlib.Core.Option.{Option, none, some}
 use lib.ListN.{length}
-use Rattle.types.specs.Refusal.{Refusal, done}
+use Rattle.types.specs.Refusal.{Refusal, refused, done}
 use Rattle.types.specs.Refusal as refusal
 use Rattle.types.specs.Table.{Kept, unless}
 use Rattle.consumer.specs.State.{State}
+use Rattle.consumer.specs.Restart as restarts
 use Rattle.consumer.specs.View.{view}
 use Rattle.consumer.specs.View as consumer
 use Rattle.consumer.specs.Starting.{settingsOf, startFault}
 use Rattle.consumer.specs.declared.Consumer.{Consumer}
 use Rattle.consumer.specs.declared.Settings.{Settings}
+use Rattle.consumer.specs.declared.starts.StartAnswer.the-variants as starts
+use Rattle.consumer.proofs.Restarting.{Other, other-faulty}
 use Rattle.machine.specs.Calls.{Ask, Call}
 use Rattle.machine.specs.Door.{Phase, idle, Turn, asked, door}
 use Rattle.machine.specs.Answers.{Arguments, argumentsOf, seenOf, AskKept, outAfter}
@@ -26,17 +29,12 @@ use Rattle.machine.specs.declared.calls.AskAnswer.{AskAnswer}
 use Rattle.machine.specs.declared.calls.AskAnswer.the-variants as asks
 use Rattle.machine.specs.declared.calls.CallAnswer.{CallAnswer}
 use Rattle.machine.specs.declared.calls.CallAnswer.the-variants as calls
-use Rattle.server.specs.Numbers.{askAt, callAt, numbersOf, notNow, noValues, seenNumbers}
-use Rattle.server.specs.Door.{onAsk, onCall, numbersIn, phaseIn, areaIn, answered, answeredBy, KeptBy, KeptIn, AskIs, CallIs, StartIs}
-use Rattle.server.specs.declared.numbers.Numbers.{Numbers}
+use Rattle.wire.specs.Numbers.{askAt, callAt, numbersOf, notNow, noValues, seenNumbers, numbersIn}
+use Rattle.wire.proofs.Starts.{start-numbers}
+use Rattle.server.specs.Door.{onAsk, onCall, phaseIn, areaIn, answered, answeredBy, KeptBy, KeptIn, AskIs, CallIs, StartIs}
+use Rattle.wire.specs.declared.numbers.Numbers.{Numbers}
 
 -- ## parts
--- the answer of a start has no values, whatever state stands beside it
-pub start-numbers : (o : Option Refusal) (s : State)
-    → numbersOf (refusal.answered noValues (unless o (done (tt {0})))) ≡ numbersOf (refusal.answered noValues (unless o (done s)))
-start-numbers none s = refl
-start-numbers (some r) s = refl
-
 start-kept : {T : Type 0} (before after : T) (o : Option Refusal) (s : State) → Kept (unless o (done (tt {0}))) before after
     → Kept (unless o (done s)) before after
 start-kept before after none s k = k
@@ -133,12 +131,18 @@ module _ (m : Machine) (kind a b c d : ℕ) (area out : List ℕ) where
       }
 
 -- ## a start
-pub start-is : (s : Settings) (size : ℕ) (r : Started) (n : Numbers) → StartedIs s size r
-    → n ≡ numbersOf (refusal.answered noValues (unless (startFault (r .answer)) (done (tt {0})))) → StartIs s size n (r .machine)
-start-is s size r n h e =
-    record {
-      is = e ∙ start-numbers (startFault (r .answer)) _ ∙ ap (λ u. numbersOf (refusal.answered noValues u)) (h .is);
-      phase = h .phase;
-      settings = h .settings;
-      sound = h .sound;
-    }
+module _ (before : Machine) (s : Settings) (size : ℕ) (r : Started) (n : Numbers) (h : StartedIs s size r)
+    (e : n ≡ numbersOf (refusal.answered noValues (unless (startFault (r .answer)) (done (tt {0}))))) where
+  start-said : n ≡ numbersOf (refusal.answered noValues (restarts.start (settingsOf s) size))
+  start-said = e ∙ start-numbers (startFault (r .answer)) _ ∙ ap (λ u. numbersOf (refusal.answered noValues u)) (h .is)
+
+  pub start-refused : Other (r .answer) → StartIs before s size n before
+  start-refused o =
+      let f = other-faulty (r .answer) o in
+      let w : refused (f .refusal) ≡ restarts.start (settingsOf s) size = rw (f .is) at (h .is) in
+      record { is = start-said; made = rw (← w) refl }
+
+  pub start-done : r .answer ≡ starts.Started → StartIs before s size n (r .machine)
+  start-done p =
+      let w : done (view (r .machine .writing .consumer)) ≡ restarts.start (settingsOf s) size = rw p at (h .is) in
+      record { is = start-said; made = rw (← w) (rw (← w) at (h .phase), h .settings, h .sound) }

@@ -4,8 +4,10 @@ use mathlib.Core.Path.{_≡_}
 use mathlib.Core.List.{List, []}
 use mathlib.Core.Option.{Option, none, some}
 use lib.ListN.{length}
+use Rattle.types.specs.Refusal.{Result, refused, done}
 use Rattle.types.specs.Refusal as refusal
 use Rattle.types.specs.Table.{Kept}
+use Rattle.consumer.specs.State.{State}
 use Rattle.consumer.specs.Restart as restarts
 use Rattle.consumer.specs.View.{view, Unmoved}
 use Rattle.consumer.specs.View as consumer
@@ -15,10 +17,10 @@ use Rattle.consumer.specs.declared.Settings.{Settings}
 use Rattle.machine.specs.Calls.{Ask, Call, Event, claimed, acked, termed, nacked, extended, committed, looked, begun, stepped, restarted, failed}
 use Rattle.machine.specs.Door.{Phase, idle, Turn, asked, door}
 use Rattle.machine.specs.Answers.{outAfter}
-use Rattle.machine.specs.View.{phaseOf, Sound, startedAs, held}
+use Rattle.machine.specs.View.{phaseOf, Sound, held}
 use Rattle.machine.specs.declared.Machine.{Machine}
-use Rattle.server.specs.Numbers.{askAt, callAt, numbersOf, notNow, noValues, seenNumbers}
-use Rattle.server.specs.declared.numbers.Numbers.{Numbers}
+use Rattle.wire.specs.Numbers.{askAt, callAt, numbersOf, noValues, numbersIn}
+use Rattle.wire.specs.declared.numbers.Numbers.{Numbers}
 
 -- ## what a call made, `none` where it can't be made or is no call
 abbrev pub onAsk : Option Ask → (Ask → Option Turn) → Option Turn
@@ -28,10 +30,6 @@ onAsk (some q) f = f q
 abbrev pub onCall : Option Call → (Call → Option Turn) → Option Turn
 onCall none f = none
 onCall (some q) f = f q
-
-abbrev pub numbersIn : Option Turn → Numbers
-numbersIn none = notNow
-numbersIn (some t) = seenNumbers (t .event)
 
 abbrev pub phaseIn : Phase → Option Turn → Phase
 phaseIn p none = p
@@ -92,8 +90,11 @@ pub record CallIs (before : Machine) (kind a b c d : ℕ) (area out : List ℕ) 
   pub kept : KeptIn (callTurn before kind a b c d area out) (held before area) (held after area′)
 
 -- ## a start, whatever stood in the machine's place before
-pub record StartIs (s : Settings) (size : ℕ) (n : Numbers) (m : Machine) : Type 0 where
+-- a fresh machine, or beside a refusal the very thing that stood there
+abbrev pub StartedAs : Result State → Settings → Machine → Machine → Type 0
+StartedAs (refused r) s before after = after ≡ before
+StartedAs (done fresh) s before after = (phaseOf after ≡ idle fresh) × (after .settings ≡ s) × Sound after
+
+pub record StartIs (before : Machine) (s : Settings) (size : ℕ) (n : Numbers) (after : Machine) : Type 0 where
   pub is : n ≡ numbersOf (refusal.answered noValues (restarts.start (settingsOf s) size))
-  pub phase : phaseOf m ≡ startedAs (restarts.start (settingsOf s) size)
-  pub settings : m .settings ≡ s
-  pub sound : Sound m
+  pub made : StartedAs (restarts.start (settingsOf s) size) s before after

@@ -3,14 +3,15 @@
 ghost use Rattle.consumer.specs.View as consumers;
 ghost use Rattle.machine.specs.View.{Sound, OffIs};
 ghost use Rattle.server.specs.Door.{AskIs, CallIs, StartIs};
-use crate::kinds;
-use crate::kinds::Asking;
-use crate::kinds::Calling;
-use crate::numbers;
-use crate::numbers::Numbers;
 use consumer::Consumer;
 use consumer::Settings;
+use consumer::starts::StartAnswer;
 use machine::Machine;
+use wire::kinds;
+use wire::kinds::Asking;
+use wire::kinds::Calling;
+use wire::numbers;
+use wire::numbers::Numbers;
 
 pub struct ConsumerAnswer {
     pub numbers: Numbers,
@@ -81,20 +82,27 @@ pub fn call(
     }
 }
 
-// A fresh machine for so many zeroed bytes.
-pub fn start(settings: Settings, area_len: usize) -> MachineAnswer
-    ensures { λ r. ⌜ StartIs settings «area_len» (r .numbers) (r .machine) ⌝ }
+// A fresh machine for so many zeroed bytes; refused, the one that was handed in.
+pub fn start(before: Machine, settings: Settings, area_len: usize) -> MachineAnswer
+    ensures { λ r. ⌜ StartIs before settings «area_len» (r .numbers) (r .machine) ⌝ }
 {
     let started = Machine::start(settings, area_len);
     let answer = started.answer;
+    let numbers = numbers::of_start(answer);
+    let StartAnswer::Started = answer else {
+        return MachineAnswer {
+            numbers: numbers,
+            machine: before,
+        };
+    };
     let machine = started.machine;
     MachineAnswer {
-        numbers: numbers::of_start(answer),
+        numbers: numbers,
         machine: machine,
     }
 }
 
-// `start`, into the machine's place.
+// `start`, into the machine's place, whatever stands there.
 #[no_mangle]
 pub extern "C" fn ninotskev_start(
     machine: &mut Machine,
@@ -102,10 +110,11 @@ pub extern "C" fn ninotskev_start(
     settings: &Settings,
     area_len: usize,
 )
-    ensures { λ _. ⌜ StartIs (now (settings .entry)) «area_len» (now (numbers .exit)) (now (machine .exit)) ⌝ }
+    ensures { λ _. ⌜ StartIs (now (machine .entry)) (now (settings .entry)) «area_len» (now (numbers .exit)) (now (machine .exit)) ⌝ }
 {
+    let before = *machine;
     let given = *settings;
-    let started = start(given, area_len);
+    let started = start(before, given, area_len);
     *machine = started.machine;
     *numbers = started.numbers;
 }

@@ -1,4 +1,2 @@
 // What a Rust server calls: the door to a consumer, whose state stays in one place.
 pub mod door;
-pub mod kinds;
-pub mod numbers;

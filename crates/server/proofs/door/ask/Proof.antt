@@ -2,7 +2,7 @@
 use mathlib.Core.Path.{sym, ap, _∙_}
 use lib.ListN.{length}
 use borrow.Author.Needs.{needs}
-use Rattle.server.specs.Numbers.{askingOf}
+use Rattle.wire.specs.Numbers.{askingOf}
 use Rattle.server.proofs.Turned.{ask-none, ask-some}
 use Rattle.server.proofs.door.ask.Statement.{statement}
 use Rattle.server.proofs.door.ask.Tie as tie

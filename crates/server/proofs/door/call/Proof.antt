@@ -2,7 +2,7 @@
 use mathlib.Core.Path.{sym, ap, _∙_}
 use lib.ListN.{length}
 use borrow.Author.Needs.{needs}
-use Rattle.server.specs.Numbers.{callingOf}
+use Rattle.wire.specs.Numbers.{callingOf}
 use Rattle.server.proofs.Turned.{call-none, call-some}
 use Rattle.server.proofs.door.call.Statement.{statement}
 use Rattle.server.proofs.door.call.Tie as tie

@@ -44,9 +44,9 @@ use denote.Exit.{yes}
 use Rattle.consumer.specs.declared.Consumer.{Consumer}
 use Rattle.consumer.proofs.Consumer as TConsumer
 use Rattle.consumer.proofs.Consumer.Laws as TConsumer′
-use Rattle.server.specs.declared.numbers.Numbers.{Numbers}
-use Rattle.server.proofs.numbers.Numbers as TNumbers
-use Rattle.server.proofs.numbers.Numbers.Laws as TNumbers′
+use Rattle.wire.specs.declared.numbers.Numbers.{Numbers}
+use Rattle.wire.proofs.numbers.Numbers as TNumbers
+use Rattle.wire.proofs.numbers.Numbers.Laws as TNumbers′
 use Rattle.server.specs.declared.door.ConsumerAnswer.{ConsumerAnswer}
 use Rattle.server.proofs.door.ConsumerAnswer as TConsumerAnswer
 use Rattle.server.proofs.door.ConsumerAnswer.Laws as TConsumerAnswer′

@@ -44,9 +44,9 @@ use denote.Exit.{yes}
 use Rattle.machine.specs.declared.Machine.{Machine}
 use Rattle.machine.proofs.Machine as TMachine
 use Rattle.machine.proofs.Machine.Laws as TMachine′
-use Rattle.server.specs.declared.numbers.Numbers.{Numbers}
-use Rattle.server.proofs.numbers.Numbers as TNumbers
-use Rattle.server.proofs.numbers.Numbers.Laws as TNumbers′
+use Rattle.wire.specs.declared.numbers.Numbers.{Numbers}
+use Rattle.wire.proofs.numbers.Numbers as TNumbers
+use Rattle.wire.proofs.numbers.Numbers.Laws as TNumbers′
 use Rattle.server.specs.declared.door.MachineAnswer.{MachineAnswer}
 use Rattle.server.proofs.door.MachineAnswer as TMachineAnswer
 use Rattle.server.proofs.door.MachineAnswer.Laws as TMachineAnswer′

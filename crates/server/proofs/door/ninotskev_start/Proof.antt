@@ -1,5 +1,5 @@
--- `ninotskev_start` meets its contract: a walk of its code, by hand. The settings are copied to a local, and what `start`, of which only
--- the contract is known, returned is stored behind both borrows. Assumes nothing.
+-- `ninotskev_start` meets its contract: a walk of its code, by hand. The machine and the settings are copied to locals, and what `start`,
+-- of which only the contract is known, returned is stored behind both borrows. Assumes nothing.
 use mathlib.Core.Path.{refl, ap, subst}
 use Prim.Native.Nat.{ℕ, _-_, _<_, _^_}
 use mathlib.Core.List.{List, [], _∷_}
@@ -41,9 +41,9 @@ use denote.Exit.{yes}
 use Rattle.machine.specs.declared.Machine.{Machine}
 use Rattle.machine.proofs.Machine as TMachine
 use Rattle.machine.proofs.Machine.Laws as TMachine′
-use Rattle.server.specs.declared.numbers.Numbers.{Numbers}
-use Rattle.server.proofs.numbers.Numbers as TNumbers
-use Rattle.server.proofs.numbers.Numbers.Laws as TNumbers′
+use Rattle.wire.specs.declared.numbers.Numbers.{Numbers}
+use Rattle.wire.proofs.numbers.Numbers as TNumbers
+use Rattle.wire.proofs.numbers.Numbers.Laws as TNumbers′
 use Rattle.consumer.specs.declared.Settings.{Settings}
 use Rattle.consumer.proofs.Settings as TSettings
 use Rattle.consumer.proofs.Settings.Laws as TSettings′
@@ -92,10 +92,10 @@ module _ {M : Type 1} (𝓤 : URA M) (H : Heap 𝓤) (A : Atoms 𝓤) (W : Given
   low-both h = TMachineAnswer′.lowered h ∷ []
 
   abbrev Said : MachineAnswer → Type 0
-  Said r = StartIs h3 n4 (r .numbers) (r .machine)
+  Said r = StartIs h1 h3 n4 (r .numbers) (r .machine)
 
-  said : (r : MachineAnswer) → ent 𝓤 (ensured 𝓤 H A start.ended (start.clauses 𝓤 H A at-mem run) tt (h3, (n4, tt)) tt r) (fact 𝓤 (Said r))
-  said r = exE 𝓤 _ (λ ws. snd∗ 𝓤 (sem 𝓤 H A (lasts start.ended tt (h3, (n4, tt)) ws)) (fact 𝓤 (Said r)))
+  said : (r : MachineAnswer) → ent 𝓤 (ensured 𝓤 H A start.ended (start.clauses 𝓤 H A at-mem run) tt (h1, (h3, (n4, tt))) tt r) (fact 𝓤 (Said r))
+  said r = exE 𝓤 _ (λ ws. snd∗ 𝓤 (sem 𝓤 H A (lasts start.ended tt (h1, (h3, (n4, tt))) ws)) (fact 𝓤 (Said r)))
 
   -- what is known of the fields of what was returned
   is-numbers : (r : MachineAnswer) → Is TMachineAnswer.the-row r (low-both r) → Is TNumbers.the-row (r .numbers) (low-numbers (r .numbers))
@@ -126,12 +126,13 @@ module _ {M : Type 1} (𝓤 : URA M) (H : Heap 𝓤) (A : Atoms 𝓤) (W : Given
       move ! (1 ∷ 0 ∷ []) $ fjoin ! $ move ! (1 ∷ 0 ∷ []) $ fjoin ! $ feqI ! (List Val) (vunit ∷ []) (vunit ∷ []) refl $ move ! (1 ∷ 0 ∷ []) $ done !
 
   abbrev to-start : C-start 𝓤 H A at-mem run .Ghost
-  to-start = ((tt, tt, tt, (h3, (n4, tt)), (low-settings h3, (vint w64 n4 ∷ [], tt))), tt)
+  to-start = ((tt, tt, tt, (h1, (h3, (n4, tt))), (low-machine h1, (low-settings h3, (vint w64 n4 ∷ [], tt)))), tt)
 
-  goes-start : Is TSettings.the-row h3 (low-settings h3) → ent 𝓤 (emp 𝓤) (C-start 𝓤 H A at-mem run .pre to-start)
-  goes-start is =
+  goes-start : Is TMachine.the-row h1 (low-machine h1) → Is TSettings.the-row h3 (low-settings h3) → ent 𝓤 (emp 𝓤) (C-start 𝓤 H A at-mem run .pre to-start)
+  goes-start was is =
       qed W [] ∵ nothing ! $ owned ! u64 (Is u64) (uint-makes 𝓤 H A W w64) n4 _ (refl, n4-fits) $ fjoin ! $
       owned ! TSettings.the-row (Is TSettings.the-row) ((LL.makes TSettings.the-type TSettings′.the-plain) 𝓤 H A) h3 _ is $ fjoin ! $
+      owned ! TMachine.the-row (Is TMachine.the-row) ((LL.makes TMachine.the-type TMachine′.the-plain) 𝓤 H A) h1 _ was $ fjoin ! $
       nothing ! $ join ! $ nothing ! $ move ! (1 ∷ 0 ∷ []) $ done !
 
   module _ (C : Calls 𝓤 H) (Λ : Loops 𝓤 H) (fm : FmC 𝓤 H (W .laws) C) (known-start : Triple 𝓤 (C #server·door·start) (C-start 𝓤 H A at-mem run)) where
@@ -142,32 +143,33 @@ module _ {M : Type 1} (𝓤 : URA M) (H : Heap 𝓤) (A : Atoms 𝓤) (W : Given
         fsplit ! $ fsplit3 ! $ drop ! $ move ! (8 ∷ []) $ split ! $ move ! (7 ∷ 8 ∷ 10 ∷ 5 ∷ 6 ∷ 9 ∷ 3 ∷ 0 ∷ []) $
         -- [the machine: obs, borrow, token; the numbers: obs, borrow, token; the settings: borrow, token; …]
         enter ! C Λ code.function (vptr b1 o1 ∷ vptr b2 o2 ∷ vptr b3 o3 ∷ vint w64 n4 ∷ []) _ $
-        alloc1 ! (λ l₀. alloc1 ! (λ l₁. alloc1 ! (λ l₂. alloc1 ! (λ l₃. alloc1 ! (λ l₄. alloc1 ! (λ l₅. alloc1 ! (λ l₆. alloc0 ! $ params1 ! $
-        pass1 ! (init ! 10 refl (tt, tt)) $ pass1 ! (init ! 8 refl (tt, tt)) $ pass1 ! (init ! 6 refl (tt, tt)) $ pass1 ! (init ! 4 refl (tt, record { fits = n4-fits })) $ pass0 ! $
-        move ! (14 ∷ 15 ∷ 16 ∷ []) $ opens ! tt TMachine.the-row {h = h1} b1 o1 (λ vs. spelt ! TMachine.the-row (Is TMachine.the-row) (shows 𝓤 H A TMachine.the-row) low-machine (TMachine′.lowers .val-is) fullShare h1 vs b1 o1 $
+        alloc1 ! (λ l₀. alloc1 ! (λ l₁. alloc1 ! (λ l₂. alloc1 ! (λ l₃. alloc1 ! (λ l₄. alloc1 ! (λ l₅. alloc1 ! (λ l₆. alloc1 ! (λ l₇. alloc0 ! $ params1 ! $
+        pass1 ! (init ! 12 refl (tt, tt)) $ pass1 ! (init ! 10 refl (tt, tt)) $ pass1 ! (init ! 8 refl (tt, tt)) $ pass1 ! (init ! 6 refl (tt, record { fits = n4-fits })) $ pass0 ! $
+        move ! (16 ∷ 17 ∷ 18 ∷ []) $ opens ! tt TMachine.the-row {h = h1} b1 o1 (λ vs. spelt ! TMachine.the-row (Is TMachine.the-row) (shows 𝓤 H A TMachine.the-row) low-machine (TMachine′.lowers .val-is) fullShare h1 vs b1 o1 $
+        move ! (1 ∷ []) $ peeks ! TMachine.the-row (Is TMachine.the-row) (shows 𝓤 H A TMachine.the-row) h1 (low-machine h1) (λ was. drop ! $
+        move ! (20 ∷ 21 ∷ 22 ∷ []) $ opens ! tt TNumbers.the-row {h = h2} b2 o2 (λ vs′. spelt ! TNumbers.the-row (Is TNumbers.the-row) (shows 𝓤 H A TNumbers.the-row) low-numbers (TNumbers′.lowers .val-is) fullShare h2 vs′ b2 o2 $
         move ! (1 ∷ []) $ drop ! $
-        move ! (18 ∷ 19 ∷ 20 ∷ []) $ opens ! tt TNumbers.the-row {h = h2} b2 o2 (λ vs′. spelt ! TNumbers.the-row (Is TNumbers.the-row) (shows 𝓤 H A TNumbers.the-row) low-numbers (TNumbers′.lowers .val-is) fullShare h2 vs′ b2 o2 $
-        move ! (1 ∷ []) $ drop ! $
-        move ! (22 ∷ 23 ∷ []) $ looks ! tt TSettings.the-row (Is TSettings.the-row) (shows 𝓤 H A TSettings.the-row) low-settings (TSettings′.lowers .val-is) (LL.copy TSettings.the-type TSettings′.the-copy 𝓤 H A W) h3 b3 o3 (λ q′ ws.
+        assigns ! (of-opd ! (load ! (from ! (hop ! (look ! 20 refl) (stop !))) (look-raw ! 4 refl))) (from ! (stop !)) (init ! 12 refl (LL.lawful TMachine.the-type TMachine′.the-laws 𝓤 H A W .typed h1 _ was .0)) $
+        move ! (24 ∷ 25 ∷ []) $ looks ! tt TSettings.the-row (Is TSettings.the-row) (shows 𝓤 H A TSettings.the-row) low-settings (TSettings′.lowers .val-is) (LL.copy TSettings.the-type TSettings′.the-copy 𝓤 H A W) h3 b3 o3 (λ q′ ws.
         spelt ! TSettings.the-row (Is TSettings.the-row) (shows 𝓤 H A TSettings.the-row) low-settings (TSettings′.lowers .val-is) q′ h3 ws b3 o3 $ move ! (1 ∷ []) $ peeks ! TSettings.the-row (Is TSettings.the-row) (shows 𝓤 H A TSettings.the-row) h3 (low-settings h3) (λ given. move ! (1 ∷ 0 ∷ []) $
         -- [the settings: a share of the cell, what they own, what shuts, the borrow; four of the numbers; four of the machine; _6; …; _0; …]
-        assigns ! (of-opd ! (load ! (from ! (hop ! (look ! 18 refl) (stop !))) (look-raw ! 0 refl))) (from ! (stop !)) (init ! 14 refl (LL.lawful TSettings.the-type TSettings′.the-laws 𝓤 H A W .typed h3 _ given .0)) $
-        shuts ! tt TSettings.the-row q′ h3 (low-settings h3) b3 o3 $ use0 W (raw (C-start 𝓤 H A at-mem run .pre to-start)) (goes-start given) $
-        calls-at ! fm (C-start 𝓤 H A at-mem run) known-start to-start (and-then ! (load ! (from ! (stop !)) (look ! 13 refl)) (and-then ! (load ! (from ! (stop !)) (look ! 15 refl)) (no-more !))) (λ v.
-        use1 W (later (some (λ (r : MachineAnswer). (‵ ftrue ⊛ ‵ (TMachineAnswer.the-row .own r (v ∷ []))) ⊛ raw (ensured 𝓤 H A start.ended (start.clauses 𝓤 H A at-mem run) tt (h3, (n4, tt)) tt r)))) (id⊢ 𝓤 _) $ await ! tt $ pick ! (λ r.
+        assigns ! (of-opd ! (load ! (from ! (hop ! (look ! 20 refl) (stop !))) (look-raw ! 0 refl))) (from ! (stop !)) (init ! 14 refl (LL.lawful TSettings.the-type TSettings′.the-laws 𝓤 H A W .typed h3 _ given .0)) $
+        shuts ! tt TSettings.the-row q′ h3 (low-settings h3) b3 o3 $ use0 W (raw (C-start 𝓤 H A at-mem run .pre to-start)) (goes-start was given) $
+        calls-at ! fm (C-start 𝓤 H A at-mem run) known-start to-start (and-then ! (load ! (from ! (stop !)) (look ! 15 refl)) (and-then ! (load ! (from ! (stop !)) (look ! 13 refl)) (and-then ! (load ! (from ! (stop !)) (look ! 17 refl)) (no-more !)))) (λ v.
+        use1 W (later (some (λ (r : MachineAnswer). (‵ ftrue ⊛ ‵ (TMachineAnswer.the-row .own r (v ∷ []))) ⊛ raw (ensured 𝓤 H A start.ended (start.clauses 𝓤 H A at-mem run) tt (h1, (h3, (n4, tt))) tt r)))) (id⊢ 𝓤 _) $ await ! tt $ pick ! (λ r.
         split ! $ move ! (1 ∷ []) $ use1 W (raw (fact 𝓤 (Said r))) (said r) $ heard ! (Said r) (λ e. split ! $ drop ! $
         peeks ! TMachineAnswer.the-row (Is TMachineAnswer.the-row) (shows 𝓤 H A TMachineAnswer.the-row) r (v ∷ []) (λ is-v. let is = subst (Is TMachineAnswer.the-row r) (TMachineAnswer′.lowers .val-is r (v ∷ []) is-v) is-v in
         -- [the result; the settings: token, borrow; four of the numbers; four of the machine; _6; …; _0; …]
-        land ! (from ! (stop !)) (init ! 11 refl (LL.lawful TMachineAnswer.the-type TMachineAnswer′.the-laws 𝓤 H A W .typed r _ is-v .0)) $ rewrite ! 11 (λ (u : Val). ‵ (fat fullShare TMachineAnswer′.mir l₆ 0 u)) (ap only (TMachineAnswer′.lowers .val-is r (v ∷ []) is-v)) refl $ drop ! $
-        assigns ! (of-opd ! (load ! (from ! (fld ! {τ = TMachine′.mir} {d = 48} refl (stop !))) (look-in ! 10 (sub ! 1 {τ = TMachine′.mir} {d = 48} refl (whole !))))) (from ! (hop ! (look ! 20 refl) (stop !))) (store-raw ! 6 refl (LL.lawful TMachine.the-type TMachine′.the-laws 𝓤 H A W .typed (r .machine) _ (is-machine r is) .0)) $
-        assigns ! (of-opd ! (load ! (from ! (fld ! {τ = TNumbers′.mir} {d = 0} refl (stop !))) (look-in ! 10 (sub ! 0 {τ = TNumbers′.mir} {d = 0} refl (whole !))))) (from ! (hop ! (look ! 18 refl) (stop !))) (store-raw ! 2 refl (LL.lawful TNumbers.the-type TNumbers′.the-laws 𝓤 H A W .typed (r .numbers) _ (is-numbers r is) .0)) $
-        assigns ! (of-opd ! (unit-lit !)) (from ! (stop !)) (init ! 22 refl (tt, tt)) $
+        land ! (from ! (stop !)) (init ! 11 refl (LL.lawful TMachineAnswer.the-type TMachineAnswer′.the-laws 𝓤 H A W .typed r _ is-v .0)) $ rewrite ! 11 (λ (u : Val). ‵ (fat fullShare TMachineAnswer′.mir l₇ 0 u)) (ap only (TMachineAnswer′.lowers .val-is r (v ∷ []) is-v)) refl $ drop ! $
+        assigns ! (of-opd ! (load ! (from ! (fld ! {τ = TMachine′.mir} {d = 48} refl (stop !))) (look-in ! 10 (sub ! 1 {τ = TMachine′.mir} {d = 48} refl (whole !))))) (from ! (hop ! (look ! 22 refl) (stop !))) (store-raw ! 6 refl (LL.lawful TMachine.the-type TMachine′.the-laws 𝓤 H A W .typed (r .machine) _ (is-machine r is) .0)) $
+        assigns ! (of-opd ! (load ! (from ! (fld ! {τ = TNumbers′.mir} {d = 0} refl (stop !))) (look-in ! 10 (sub ! 0 {τ = TNumbers′.mir} {d = 0} refl (whole !))))) (from ! (hop ! (look ! 20 refl) (stop !))) (store-raw ! 2 refl (LL.lawful TNumbers.the-type TNumbers′.the-laws 𝓤 H A W .typed (r .numbers) _ (is-numbers r is) .0)) $
+        assigns ! (of-opd ! (unit-lit !)) (from ! (stop !)) (init ! 24 refl (tt, tt)) $
         owned ! TNumbers.the-row (Is TNumbers.the-row) ((LL.makes TNumbers.the-type TNumbers′.the-plain) 𝓤 H A) (r .numbers) _ (is-numbers r is) $ move ! (3 ∷ 0 ∷ 4 ∷ 5 ∷ 6 ∷ []) $ closes ! tt TNumbers.the-row (r .numbers) (low-numbers (r .numbers)) b2 o2 $
         owned ! TMachine.the-row (Is TMachine.the-row) ((LL.makes TMachine.the-type TMachine′.the-plain) 𝓤 H A) (r .machine) _ (is-machine r is) $ move ! (6 ∷ 0 ∷ 7 ∷ 8 ∷ 9 ∷ []) $ closes ! tt TMachine.the-row (r .machine) (low-machine (r .machine)) b1 o1 $
         -- [the machine: obs, borrow, token; the numbers: obs, borrow, token; the settings: token, borrow; _6; …; _0; …]
-        returns ! (look ! 20 refl) $ forget ! 8 refl $ forget ! 10 refl $ forget ! 12 refl $ forget ! 14 refl $ forget ! 16 refl $ forget ! 18 refl $ forget ! 20 refl $
-        move ! (20 ∷ 21 ∷ []) $ free1 ! $ move ! (18 ∷ 19 ∷ []) $ free1 ! $ move ! (16 ∷ 17 ∷ []) $ free1 ! $ move ! (14 ∷ 15 ∷ []) $ free1 ! $ move ! (12 ∷ 13 ∷ []) $ free1 ! $ move ! (10 ∷ 11 ∷ []) $ free1 ! $ move ! (8 ∷ 9 ∷ []) $ free1 ! $ free0 ! $
-        keep ! (0 ∷ 1 ∷ 2 ∷ 3 ∷ 4 ∷ 5 ∷ 6 ∷ []) $ by ! (exits r e))))))))))))))))
+        returns ! (look ! 22 refl) $ forget ! 8 refl $ forget ! 10 refl $ forget ! 12 refl $ forget ! 14 refl $ forget ! 16 refl $ forget ! 18 refl $ forget ! 20 refl $ forget ! 22 refl $
+        move ! (22 ∷ 23 ∷ []) $ free1 ! $ move ! (20 ∷ 21 ∷ []) $ free1 ! $ move ! (18 ∷ 19 ∷ []) $ free1 ! $ move ! (16 ∷ 17 ∷ []) $ free1 ! $ move ! (14 ∷ 15 ∷ []) $ free1 ! $ move ! (12 ∷ 13 ∷ []) $ free1 ! $ move ! (10 ∷ 11 ∷ []) $ free1 ! $ move ! (8 ∷ 9 ∷ []) $ free1 ! $ free0 ! $
+        keep ! (0 ∷ 1 ∷ 2 ∷ 3 ∷ 4 ∷ 5 ∷ 6 ∷ []) $ by ! (exits r e))))))))))))))))))
 
 module _ {M : Type 1} (𝓤 : URA M) (H : Heap 𝓤) (A : Atoms 𝓤) (W : Given 𝓤 H A) (at-mem : Memory → SProp 𝓤) (run : Routine → Fun 𝓤) where
   walks : (C : Calls 𝓤 H) (Λ : Loops 𝓤 H) → FmC 𝓤 H (W .laws) C → Triple 𝓤 (C #server·door·start) (C-start 𝓤 H A at-mem run) → Walks 𝓤 H A f.ended stayed (WpFn 𝓤 H C Λ code.function) (f.clauses 𝓤 H A at-mem run)

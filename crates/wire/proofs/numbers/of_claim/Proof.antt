@@ -1,0 +1,90 @@
+-- `of_claim` meets its contract, case by case. Assumes nothing.
+use mathlib.Core.Path.{sym, ap}
+use borrow.Author.Needs.{needs}
+use Rattle.types.specs.Refusal.{answered}
+use Rattle.consumer.specs.View.{claimOf}
+use Rattle.consumer.specs.declared.calls.ClaimAnswer.{ClaimAnswer}
+use Rattle.wire.specs.declared.numbers.Numbers.{Numbers}
+use Rattle.wire.specs.Numbers.{numbersOf, handOutValues}
+use Rattle.wire.proofs.numbers.of_claim.Statement.{statement}
+use Rattle.wire.proofs.numbers.of_claim.Tie as tie
+
+abbrev told : ClaimAnswer → Numbers
+told a = numbersOf (answered handOutValues (claimOf a))
+
+enum-known-answer : tie.Need-enum-known-answer
+enum-known-answer c = search needs
+
+cast-t7 : tie.Need-cast-t7
+cast-t7 c = search needs
+
+enum-known-answer-2 : tie.Need-enum-known-answer-2
+enum-known-answer-2 c = search needs
+
+cast-t8 : tie.Need-cast-t8
+cast-t8 c = search needs
+
+enum-told : tie.Need-enum-told
+enum-told c = search needs
+
+enum-told-2 : tie.Need-enum-told-2
+enum-told-2 c = search needs
+
+enum-told-3 : tie.Need-enum-told-3
+enum-told-3 c = search needs
+
+enum-told-4 : tie.Need-enum-told-4
+enum-told-4 c = search needs
+
+enum-told-5 : tie.Need-enum-told-5
+enum-told-5 c = search needs
+
+enum-told-6 : tie.Need-enum-told-6
+enum-told-6 c = search needs
+
+returns : tie.Need-returns
+returns c = ap told (sym (c .before .answer .given .1))
+
+returns-2 : tie.Need-returns-2
+returns-2 c = ap told (sym (c .before .answer2 .given .1))
+
+returns-3 : tie.Need-returns-3
+returns-3 c = ap told (sym (c .enum-told .given .1))
+
+returns-4 : tie.Need-returns-4
+returns-4 c = ap told (sym (c .enum-told2 .given .1))
+
+returns-5 : tie.Need-returns-5
+returns-5 c = ap told (sym (c .enum-told3 .given .1))
+
+returns-6 : tie.Need-returns-6
+returns-6 c = ap told (sym (c .enum-told4 .given .1))
+
+returns-7 : tie.Need-returns-7
+returns-7 c = ap told (sym (c .enum-told5 .given .1))
+
+returns-8 : tie.Need-returns-8
+returns-8 c = ap told (sym (c .enum-told6 .given .1))
+
+pub of-claim-spec : {M : Type 1} → statement M
+of-claim-spec =
+    tie.close
+    (tie.spec
+    enum-known-answer
+    cast-t7
+    enum-known-answer-2
+    cast-t8
+    enum-told
+    enum-told-2
+    enum-told-3
+    enum-told-4
+    enum-told-5
+    enum-told-6
+    returns
+    returns-2
+    returns-3
+    returns-4
+    returns-5
+    returns-6
+    returns-7
+    returns-8)

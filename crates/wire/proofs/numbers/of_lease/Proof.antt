@@ -1,0 +1,32 @@
+-- `of_lease` meets its contract. Assumes nothing.
+use mathlib.Core.Path.{sym, ap}
+use borrow.Author.Needs.{needs}
+use Rattle.types.specs.Refusal as refusal
+use Rattle.lease.specs.Lookup.{leaseAt}
+use Rattle.lease.specs.declared.lookup.LeaseAt.{LeaseAt}
+use Rattle.consumer.specs.Questions.{leaseValues}
+use Rattle.wire.specs.declared.numbers.Numbers.{Numbers}
+use Rattle.wire.specs.Numbers.{numbersOf}
+use Rattle.wire.proofs.numbers.of_lease.Statement.{statement}
+use Rattle.wire.proofs.numbers.of_lease.Tie as tie
+
+abbrev told : LeaseAt → Numbers
+told l = numbersOf (refusal.told 0 (leaseValues (leaseAt l)))
+
+enum-known-lease : tie.Need-enum-known-lease
+enum-known-lease c = search needs
+
+cast-t4 : tie.Need-cast-t4
+cast-t4 c = search needs
+
+enum-told : tie.Need-enum-told
+enum-told c = search needs
+
+returns : tie.Need-returns
+returns c = ap told (sym (c .before .before .lease .given .1))
+
+returns-2 : tie.Need-returns-2
+returns-2 c = ap told (sym (c .enum-told .given .1))
+
+pub of-lease-spec : {M : Type 1} → statement M
+of-lease-spec = tie.close (tie.spec enum-known-lease cast-t4 enum-told returns returns-2)

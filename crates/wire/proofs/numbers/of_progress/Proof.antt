@@ -1,0 +1,35 @@
+-- `of_progress` meets its contract, case by case. Assumes nothing.
+use mathlib.Core.Path.{sym, ap}
+use borrow.Author.Needs.{needs}
+use Rattle.types.specs.Refusal.{answered}
+use Rattle.consumer.specs.View.{progressOf}
+use Rattle.consumer.specs.declared.calls.ProgressAnswer.{ProgressAnswer}
+use Rattle.wire.specs.declared.numbers.Numbers.{Numbers}
+use Rattle.wire.specs.Numbers.{numbersOf, oneValue}
+use Rattle.wire.proofs.numbers.of_progress.Statement.{statement}
+use Rattle.wire.proofs.numbers.of_progress.Tie as tie
+
+abbrev told : ProgressAnswer → Numbers
+told a = numbersOf (answered oneValue (progressOf a))
+
+enum-known-answer : tie.Need-enum-known-answer
+enum-known-answer c = search needs
+
+enum-told : tie.Need-enum-told
+enum-told c = search needs
+
+enum-told-2 : tie.Need-enum-told-2
+enum-told-2 c = search needs
+
+returns : tie.Need-returns
+returns c = ap told (sym (c .before .answer .given .1))
+
+returns-2 : tie.Need-returns-2
+returns-2 c = ap told (sym (c .enum-told .given .1))
+
+returns-3 : tie.Need-returns-3
+returns-3 c = ap told (sym (c .enum-told2 .given .1))
+
+pub of-progress-spec : {M : Type 1} → statement M
+of-progress-spec =
+    tie.close (tie.spec enum-known-answer enum-told enum-told-2 returns returns-2 returns-3)

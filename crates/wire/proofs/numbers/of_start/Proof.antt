@@ -1,0 +1,91 @@
+-- `of_start` meets its contract, case by case. Assumes nothing.
+use mathlib.Core.Path.{sym, ap, _∙_}
+use borrow.Author.Needs.{needs}
+use Rattle.types.specs.Refusal.{done, answered}
+use Rattle.types.specs.Table.{unless}
+use Rattle.consumer.specs.Starting.{startFault}
+use Rattle.consumer.specs.declared.starts.StartAnswer.{StartAnswer}
+use Rattle.wire.specs.declared.numbers.Numbers.{Numbers}
+use Rattle.wire.specs.Numbers.{numbersOf, noValues}
+use Rattle.wire.proofs.numbers.of_start.Statement.{statement}
+use Rattle.wire.proofs.numbers.of_start.Tie as tie
+
+abbrev told : StartAnswer → Numbers
+told a = numbersOf (answered noValues (unless (startFault a) (done (tt {0}))))
+
+enum-told : tie.Need-enum-told
+enum-told c = search needs
+
+enum-told-2 : tie.Need-enum-told-2
+enum-told-2 c = search needs
+
+enum-told-3 : tie.Need-enum-told-3
+enum-told-3 c = search needs
+
+enum-told-4 : tie.Need-enum-told-4
+enum-told-4 c = search needs
+
+enum-told-5 : tie.Need-enum-told-5
+enum-told-5 c = search needs
+
+enum-known-answer : tie.Need-enum-known-answer
+enum-known-answer c = search needs
+
+enum-known-answer-2 : tie.Need-enum-known-answer-2
+enum-known-answer-2 c = search needs
+
+of-cursor-requires : tie.Need-of-cursor-requires
+of-cursor-requires c κs = search needs
+
+enum-known-answer-3 : tie.Need-enum-known-answer-3
+enum-known-answer-3 c = search needs
+
+of-attempts-requires : tie.Need-of-attempts-requires
+of-attempts-requires c κs = search needs
+
+returns : tie.Need-returns
+returns c = ap told (sym (c .enum-told .given .1))
+
+returns-2 : tie.Need-returns-2
+returns-2 c = ap told (sym (c .enum-told2 .given .1))
+
+returns-3 : tie.Need-returns-3
+returns-3 c = ap told (sym (c .enum-told3 .given .1))
+
+returns-4 : tie.Need-returns-4
+returns-4 c = ap told (sym (c .enum-told4 .given .1))
+
+returns-5 : tie.Need-returns-5
+returns-5 c = ap told (sym (c .enum-told5 .given .1))
+
+returns-6 : tie.Need-returns-6
+returns-6 c = ap told (sym (c .before .answer .given .1))
+
+returns-7 : tie.Need-returns-7
+returns-7 c = c .of-cursor .ensures ∙ ap told (sym (c .before .before .answer2 .given .1))
+
+returns-8 : tie.Need-returns-8
+returns-8 c = c .of-attempts .ensures ∙ ap told (sym (c .before .before .answer3 .given .1))
+
+pub of-start-spec : {M : Type 1} → statement M
+of-start-spec =
+    tie.close
+    (tie.spec
+    enum-told
+    enum-told-2
+    enum-told-3
+    enum-told-4
+    enum-told-5
+    enum-known-answer
+    enum-known-answer-2
+    of-cursor-requires
+    enum-known-answer-3
+    of-attempts-requires
+    returns
+    returns-2
+    returns-3
+    returns-4
+    returns-5
+    returns-6
+    returns-7
+    returns-8)

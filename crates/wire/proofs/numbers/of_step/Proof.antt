@@ -1,0 +1,36 @@
+-- `of_step` meets its contract, case by case. Assumes nothing.
+use mathlib.Core.Path.{sym, ap}
+use borrow.Author.Needs.{needs}
+use Rattle.types.specs.Refusal.{answered}
+use Rattle.consumer.specs.Writing.{stepOf}
+use Rattle.consumer.specs.declared.checkpoint.StepAnswer.{StepAnswer}
+use Rattle.wire.specs.declared.numbers.Numbers.{Numbers}
+use Rattle.wire.specs.Numbers.{numbersOf, wroteValues}
+use Rattle.wire.proofs.numbers.of_step.Statement.{statement}
+use Rattle.wire.proofs.numbers.of_step.Tie as tie
+
+abbrev told : StepAnswer → Numbers
+told a = numbersOf (answered wroteValues (stepOf a))
+
+enum-known-answer : tie.Need-enum-known-answer
+enum-known-answer c = search needs
+
+enum-known-answer-2 : tie.Need-enum-known-answer-2
+enum-known-answer-2 c = search needs
+
+enum-told : tie.Need-enum-told
+enum-told c = search needs
+
+returns : tie.Need-returns
+returns c = ap told (sym (c .before .answer .given .1))
+
+returns-2 : tie.Need-returns-2
+returns-2 c = ap told (sym (c .before .answer2 .given .1))
+
+returns-3 : tie.Need-returns-3
+returns-3 c = ap told (sym (c .enum-told .given .1))
+
+pub of-step-spec : {M : Type 1} → statement M
+of-step-spec =
+    tie.close
+    (tie.spec enum-known-answer enum-known-answer-2 enum-told returns returns-2 returns-3)

@@ -1,0 +1,107 @@
+-- Calls and answers in numbers, as Rust hands them in and takes them: which call a number is with the numbers behind it, and 01's
+-- number of an answer with its values.
+use Prim.Native.Nat.{ℕ, zero, suc}
+use mathlib.Core.Bool.{Bool}
+use mathlib.Core.List.{List, [], _∷_}
+use mathlib.Core.Option.{Option, none, some}
+use lib.ListN.{length, getD}
+use Rattle.types.specs.Refusal.{Told, told, answered}
+use Rattle.delivery.specs.Policy.{Destination, Deliver, DeadLetter}
+use Rattle.consumer.specs.Calls.{HandOut}
+use Rattle.consumer.specs.Checkpoint.{Wrote}
+use Rattle.consumer.specs.Questions.{Waiting, Committed, IsSettled, LeaseOf, CountOf, InFlight, IsDue, BlocksLeft, bit}
+use Rattle.machine.specs.Calls.{Ask, claim, ack, term, nack, progress, commit, look, Call, ask, begin, step, restart, Event, claimed, acked, termed, nacked, extended, committed, looked, begun, stepped, restarted, failed}
+use Rattle.machine.specs.Door.{Turn}
+use Rattle.machine.specs.Answers.{askOf, callOf}
+use Rattle.wire.specs.declared.numbers.Numbers.{Numbers}
+use Rattle.wire.specs.declared.kinds.Asking.{Asking}
+use Rattle.wire.specs.declared.kinds.Asking.the-variants as asking
+use Rattle.wire.specs.declared.kinds.Calling.{Calling}
+use Rattle.wire.specs.declared.kinds.Calling.the-variants as calling
+
+-- ## calls
+-- the element at a place, if there is one
+abbrev pub at : {A : Type 0} → List A → ℕ → Option A
+at [] n = none
+at (x ∷ l) zero = some x
+at (x ∷ l) (suc n) = at l n
+
+-- the calls on the state: the kind of each is its place here. `room` is the number of places that are lent for a list
+abbrev pub asks : ℕ → ℕ → ℕ → ℕ → ℕ → List Ask
+asks a b c d room =
+    claim a b ∷ ack a b ∷ term a b ∷ nack a b c none ∷ nack a b c (some d) ∷ progress a b c ∷ commit a ∷ look (Waiting a room) ∷
+    look Committed ∷ look (IsSettled a) ∷ look (LeaseOf a) ∷ look (CountOf a) ∷ look InFlight ∷ look IsDue ∷ look BlocksLeft ∷ []
+
+abbrev pub askAt : ℕ → ℕ → ℕ → ℕ → ℕ → ℕ → Option Ask
+askAt kind a b c d room = at (asks a b c d room) kind
+
+-- the calls of a decoder's answer
+abbrev pub askingOf : ℕ → Asking → Option Ask
+askingOf room (asking.Ask q) = some (askOf room q)
+askingOf room asking.None = none
+
+abbrev pub callingOf : ℕ → Calling → Option Call
+callingOf room (calling.Call q) = some (callOf room q)
+callingOf room calling.None = none
+
+-- the calls of the door: those on the state, and behind them these
+abbrev pub asCalls : List Ask → List Call
+asCalls [] = begin ∷ step ∷ restart ∷ []
+asCalls (q ∷ l) = ask q ∷ asCalls l
+
+abbrev pub callAt : ℕ → ℕ → ℕ → ℕ → ℕ → ℕ → Option Call
+callAt kind a b c d room = at (asCalls (asks a b c d room)) kind
+
+-- ## answers
+abbrev pub numbers : ℕ → ℕ → ℕ → ℕ → ℕ → ℕ → Numbers
+numbers number count first second third fourth = record { 0 = number; 1 = count; 2 = first; 3 = second; 4 = third; 5 = fourth }
+
+-- 01's number, how many values there are, and the first four of them, 0 where there are fewer
+abbrev pub numbersOf : Told → Numbers
+numbersOf t = numbers (t .number) (length (t .values)) (getD (t .values) 0 0) (getD (t .values) 1 0) (getD (t .values) 2 0) (getD (t .values) 3 0)
+
+-- a call that can't be made where it stands, or no call
+abbrev pub notNow : Numbers
+notNow = numbersOf (told 32 [])
+
+abbrev pub deadLetter : Destination → ℕ
+deadLetter Deliver = 0
+deadLetter DeadLetter = 1
+
+-- the values of each outcome
+abbrev pub handOutValues : HandOut → List ℕ
+handOutValues h = h .generation ∷ h .deliveries ∷ deadLetter (h .destination) ∷ []
+
+abbrev pub noValues : {A : Type 0} → A → List ℕ
+noValues a = []
+
+abbrev pub oneValue : ℕ → List ℕ
+oneValue n = n ∷ []
+
+abbrev pub bitValue : Bool → List ℕ
+bitValue b = bit b ∷ []
+
+abbrev pub wroteValues : Wrote → List ℕ
+wroteValues w = w .block ∷ bit (w .last) ∷ []
+
+abbrev pub values : List ℕ → List ℕ
+values l = l
+
+-- what is seen of a call, in numbers
+abbrev pub seenNumbers : Event → Numbers
+seenNumbers (claimed o now r) = numbersOf (answered handOutValues r)
+seenNumbers (acked o g r) = numbersOf (answered noValues r)
+seenNumbers (termed o g r) = numbersOf (answered noValues r)
+seenNumbers (nacked o g now d r) = numbersOf (answered oneValue r)
+seenNumbers (extended o g now r) = numbersOf (answered oneValue r)
+seenNumbers (committed bound r) = numbersOf (answered bitValue r)
+seenNumbers (looked q r) = numbersOf (answered values r)
+seenNumbers (begun r) = numbersOf (answered oneValue r)
+seenNumbers (stepped r) = numbersOf (answered wroteValues r)
+seenNumbers (restarted r) = numbersOf (answered noValues r)
+seenNumbers (failed new) = numbersOf (told 0 [])
+
+-- what a call made, `none` where it can't be made or is no call
+abbrev pub numbersIn : Option Turn → Numbers
+numbersIn none = notNow
+numbersIn (some t) = seenNumbers (t .event)

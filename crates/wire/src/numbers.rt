@@ -1,0 +1,287 @@
+// Answers in numbers: for each answer of the door, 01's number with its values.
+ghost use mathlib.Core.Path.{_≡_};
+ghost use Prim.Native.Nat.{ℕ};
+ghost use mathlib.Core.List.{List};
+ghost use lib.ListN.{getD};
+ghost use Rattle.types.specs.Refusal.{done, told, numbered, answered};
+ghost use Rattle.types.specs.Table.{unless};
+ghost use Rattle.cursor.specs.Answers.{rangesError, snapshotError};
+ghost use Rattle.attempt.specs.Codec.{decodeOf};
+ghost use Rattle.consumer.specs.Questions.{bit, leaseValues};
+ghost use Rattle.consumer.specs.View.{claimOf, settleOf, nackOf, progressOf, commitOf};
+ghost use Rattle.consumer.specs.Starting.{refusalIn, startFault};
+ghost use Rattle.consumer.specs.Writing.{stepOf};
+ghost use Rattle.lease.specs.Lookup.{leaseAt};
+ghost use Rattle.machine.specs.Answers.{begunOf, firstPlaces, listOf, replyOf, Arguments, seenOf};
+ghost use Rattle.machine.specs.Calls.{Call};
+ghost use Rattle.machine.specs.View.{turnOf};
+ghost use Rattle.machine.specs.declared.Machine.{Machine};
+ghost use Rattle.wire.specs.Numbers.{numbersOf, values, handOutValues, noValues, oneValue, bitValue, wroteValues, seenNumbers, numbersIn};
+use attempt::Decode;
+use consumer::calls::ClaimAnswer;
+use consumer::calls::CommitAnswer;
+use consumer::calls::NackAnswer;
+use consumer::calls::ProgressAnswer;
+use consumer::calls::SettleAnswer;
+use consumer::checkpoint::BeginAnswer;
+use consumer::checkpoint::StepAnswer;
+use consumer::starts::StartAnswer;
+use cursor::AckCursorError;
+use cursor::SnapshotError;
+use lease::lookup::LeaseAt;
+use machine::calls::AskAnswer;
+use machine::calls::CallAnswer;
+use machine::calls::Reply;
+use types::lent::Listed;
+
+// What a call answers: 01's number, 0 where nothing was refused; how many values there are; and the first four of them.
+#[repr(C)]
+pub struct Numbers(pub u64, pub u64, pub u64, pub u64, pub u64, pub u64);
+
+// A hand-out: its generation, the hand-outs so far, and 1 where it is for the dead letters.
+pub fn of_claim(answer: ClaimAnswer) -> Numbers
+    ensures { λ r. ⌜ r ≡ numbersOf (answered handOutValues (claimOf answer)) ⌝ }
+{
+    match answer {
+        ClaimAnswer::Deliver { token, deliveries } => {
+            Numbers(0, 3, token.generation.0, deliveries as u64, 0, 0)
+        }
+        ClaimAnswer::DeadLetter { token, deliveries } => {
+            Numbers(0, 3, token.generation.0, deliveries as u64, 1, 0)
+        }
+        ClaimAnswer::LastOffset => Numbers(21, 0, 0, 0, 0, 0),
+        ClaimAnswer::Settled => Numbers(22, 0, 0, 0, 0, 0),
+        ClaimAnswer::InFlight => Numbers(23, 0, 0, 0, 0, 0),
+        ClaimAnswer::Exhausted => Numbers(25, 0, 0, 0, 0, 0),
+        ClaimAnswer::CheckpointDue => Numbers(26, 0, 0, 0, 0, 0),
+        ClaimAnswer::Full => Numbers(27, 0, 0, 0, 0, 0),
+    }
+}
+
+// Ack and Term: no values.
+pub fn of_settle(answer: SettleAnswer) -> Numbers
+    ensures { λ r. ⌜ r ≡ numbersOf (answered noValues (settleOf answer)) ⌝ }
+{
+    match answer {
+        SettleAnswer::Settled => Numbers(0, 0, 0, 0, 0, 0),
+        SettleAnswer::Fenced => Numbers(24, 0, 0, 0, 0, 0),
+        SettleAnswer::Shed => Numbers(29, 0, 0, 0, 0, 0),
+    }
+}
+
+// Nack: when the offset can be claimed again.
+pub fn of_nack(answer: NackAnswer) -> Numbers
+    ensures { λ r. ⌜ r ≡ numbersOf (answered oneValue (nackOf answer)) ⌝ }
+{
+    match answer {
+        NackAnswer::Requeued { deadline } => Numbers(0, 1, deadline, 0, 0, 0),
+        NackAnswer::Fenced => Numbers(24, 0, 0, 0, 0, 0),
+        NackAnswer::Exhausted => Numbers(25, 0, 0, 0, 0, 0),
+        NackAnswer::CheckpointDue => Numbers(26, 0, 0, 0, 0, 0),
+    }
+}
+
+// Progress: the new deadline.
+pub fn of_progress(answer: ProgressAnswer) -> Numbers
+    ensures { λ r. ⌜ r ≡ numbersOf (answered oneValue (progressOf answer)) ⌝ }
+{
+    match answer {
+        ProgressAnswer::Extended { deadline } => Numbers(0, 1, deadline, 0, 0, 0),
+        ProgressAnswer::Fenced => Numbers(24, 0, 0, 0, 0, 0),
+        ProgressAnswer::CapReached => Numbers(28, 0, 0, 0, 0, 0),
+    }
+}
+
+// Commit: 1 where it settled something.
+pub fn of_commit(answer: CommitAnswer) -> Numbers
+    ensures { λ r. ⌜ r ≡ numbersOf (answered bitValue (commitOf answer)) ⌝ }
+{
+    match answer {
+        CommitAnswer::Committed => Numbers(0, 1, 1, 0, 0, 0),
+        CommitAnswer::Unchanged => Numbers(0, 1, 0, 0, 0, 0),
+        CommitAnswer::Held => Numbers(30, 0, 0, 0, 0, 0),
+    }
+}
+
+// Begin: how many blocks are to be written.
+pub fn of_begin(answer: BeginAnswer) -> Numbers
+    ensures { λ r. ⌜ r ≡ numbersOf (answered oneValue (begunOf answer)) ⌝ }
+{
+    match answer {
+        BeginAnswer::Begun { writes } => Numbers(0, 1, writes as u64, 0, 0, 0),
+        BeginAnswer::JournalFull => Numbers(31, 0, 0, 0, 0, 0),
+    }
+}
+
+// A step: the block that it wrote, and 1 where it was the last.
+pub fn of_step(answer: StepAnswer) -> Numbers
+    ensures { λ r. ⌜ r ≡ numbersOf (answered wroteValues (stepOf answer)) ⌝ }
+{
+    match answer {
+        StepAnswer::Wrote { block } => Numbers(0, 2, block as u64, 0, 0, 0),
+        StepAnswer::Finished { block } => Numbers(0, 2, block as u64, 1, 0, 0),
+        StepAnswer::BadArea => Numbers(4, 0, 0, 0, 0, 0),
+    }
+}
+
+// The refusals of a cursor's ranges, 10 to 12.
+fn of_ranges(error: AckCursorError) -> Numbers
+    ensures { λ r. ⌜ r ≡ numbersOf (numbered (rangesError error)) ⌝ }
+{
+    match error {
+        AckCursorError::EmptyRange { start, end } => Numbers(10, 2, start, end, 0, 0),
+        AckCursorError::NotSortedDisjointAndAboveCommitted { start, prev_end } => {
+            Numbers(11, 2, start, prev_end, 0, 0)
+        }
+        AckCursorError::TooManyRuns => Numbers(12, 0, 0, 0, 0, 0),
+    }
+}
+
+// The refusals of a cursor snapshot, 6 to 12.
+fn of_cursor(error: SnapshotError) -> Numbers
+    ensures { λ r. ⌜ r ≡ numbersOf (numbered (snapshotError error)) ⌝ }
+{
+    match error {
+        SnapshotError::Truncated => Numbers(6, 0, 0, 0, 0, 0),
+        SnapshotError::BadLength { len } => Numbers(7, 1, len as u64, 0, 0, 0),
+        SnapshotError::UnsupportedVersion(version) => Numbers(8, 1, version as u64, 0, 0, 0),
+        SnapshotError::BadCrc => Numbers(9, 0, 0, 0, 0, 0),
+        SnapshotError::Ranges(error) => of_ranges(error),
+    }
+}
+
+// The refusals of an attempt snapshot, 13 to 19. No start answers pairs.
+fn of_attempts(decoded: Decode) -> Numbers
+    ensures { λ r. ⌜ r ≡ numbersOf (numbered (refusalIn (decodeOf decoded))) ⌝ }
+{
+    match decoded {
+        Decode::Pairs(_) => Numbers(13, 0, 0, 0, 0, 0),
+        Decode::Truncated => Numbers(13, 0, 0, 0, 0, 0),
+        Decode::UnsupportedVersion(version) => Numbers(14, 1, version as u64, 0, 0, 0),
+        Decode::BadLength { len } => Numbers(15, 1, len as u64, 0, 0, 0),
+        Decode::CountMismatch { declared, actual } => Numbers(16, 2, declared as u64, actual, 0, 0),
+        Decode::BadCrc => Numbers(17, 0, 0, 0, 0, 0),
+        Decode::NotSorted {
+            offset,
+            prev_offset,
+        } => Numbers(18, 2, offset, prev_offset, 0, 0),
+        Decode::TooManyPairs => Numbers(19, 0, 0, 0, 0, 0),
+        Decode::OutTooShort => Numbers(20, 0, 0, 0, 0, 0),
+    }
+}
+
+// A start or a restart: no values.
+pub fn of_start(answer: StartAnswer) -> Numbers
+    ensures { λ r. ⌜ r ≡ numbersOf (answered noValues (unless (startFault answer) (done (tt {0})))) ⌝ }
+{
+    match answer {
+        StartAnswer::Started => Numbers(0, 0, 0, 0, 0, 0),
+        StartAnswer::UnlimitedDeliverNotAllowed => Numbers(1, 0, 0, 0, 0, 0),
+        StartAnswer::TooManySteps => Numbers(2, 0, 0, 0, 0, 0),
+        StartAnswer::ZeroThreshold => Numbers(3, 0, 0, 0, 0, 0),
+        StartAnswer::BadArea => Numbers(4, 0, 0, 0, 0, 0),
+        StartAnswer::Damaged { block } => Numbers(5, 1, block as u64, 0, 0, 0),
+        StartAnswer::Cursor(error) => of_cursor(error),
+        StartAnswer::Attempts(decoded) => of_attempts(decoded),
+    }
+}
+
+// The number at a place of the first n of a list, 0 where there is none.
+fn place(list: &[u64], n: usize, i: usize) -> u64
+    ensures { λ r. ⌜ r ≡ getD (firstPlaces n (now (list .entry))) i 0 ⌝ }
+{
+    if i < n {
+        if i < list.len() {
+            return list[i];
+        }
+    }
+    0
+}
+
+// A list that stands in the first places of `out`.
+fn of_list(listed: Listed, out: &[u64]) -> Numbers
+    ensures { λ r. ⌜ r ≡ numbersOf (answered values (listOf listed (now (out .entry)))) ⌝ }
+{
+    let Listed::Filled(n) = listed else {
+        return Numbers(20, 0, 0, 0, 0, 0);
+    };
+    Numbers(
+        0,
+        n as u64,
+        place(out, n, 0),
+        place(out, n, 1),
+        place(out, n, 2),
+        place(out, n, 3),
+    )
+}
+
+// A lease: its generation, the start of its attempt, its deadline and its hand-outs; or nothing.
+fn of_lease(lease: LeaseAt) -> Numbers
+    ensures { λ r. ⌜ r ≡ numbersOf (told 0 (leaseValues (leaseAt lease))) ⌝ }
+{
+    match lease {
+        LeaseAt::Some(lease) => Numbers(
+            0,
+            4,
+            lease.generation.0,
+            lease.attempt_start,
+            lease.deadline,
+            lease.deliveries as u64,
+        ),
+        LeaseAt::None => Numbers(0, 0, 0, 0, 0, 0),
+    }
+}
+
+// 1 where a test holds, else 0.
+fn bit_of(test: bool) -> u64
+    ensures { λ r. ⌜ r ≡ bit test ⌝ }
+{
+    if test {
+        return 1;
+    }
+    0
+}
+
+// A question: what it is answered.
+pub fn of_reply(reply: Reply, out: &[u64]) -> Numbers
+    ensures { λ r. ⌜ r ≡ numbersOf (answered values (replyOf reply (now (out .entry)))) ⌝ }
+{
+    match reply {
+        Reply::Waiting(listed) => of_list(listed, out),
+        Reply::Committed(offset) => Numbers(0, 1, offset.0, 0, 0, 0),
+        Reply::IsSettled(settled) => Numbers(0, 1, bit_of(settled), 0, 0, 0),
+        Reply::LeaseOf(lease) => of_lease(lease),
+        Reply::CountOf(count) => Numbers(0, 1, count as u64, 0, 0, 0),
+        Reply::InFlight(count) => Numbers(0, 1, count as u64, 0, 0, 0),
+        Reply::IsDue(due) => Numbers(0, 2, bit_of(due.ceiling), bit_of(due.threshold), 0, 0),
+        Reply::BlocksLeft(count) => Numbers(0, 1, count as u64, 0, 0, 0),
+    }
+}
+
+// A call on the state.
+pub fn of_ask(answer: AskAnswer, out: &[u64]) -> Numbers
+    ensures { λ r. ⌜ ((g : Arguments) → r ≡ seenNumbers (seenOf g answer (now (out .entry)))) ⌝ }
+{
+    match answer {
+        AskAnswer::Claimed(answer) => of_claim(answer),
+        AskAnswer::Acked(answer) => of_settle(answer),
+        AskAnswer::Termed(answer) => of_settle(answer),
+        AskAnswer::Nacked(answer) => of_nack(answer),
+        AskAnswer::Extended(answer) => of_progress(answer),
+        AskAnswer::Committed(answer) => of_commit(answer),
+        AskAnswer::Looked(reply) => of_reply(reply, out),
+    }
+}
+
+// A call of the door; 32 where it can't be made where it stands.
+pub fn of_call(answer: CallAnswer, out: &[u64]) -> Numbers
+    ensures { λ r. ⌜ ((q : Call) (m : Machine) (a : List ℕ) → r ≡ numbersIn (turnOf q answer m a (now (out .entry)))) ⌝ }
+{
+    match answer {
+        CallAnswer::Asked(answer) => of_ask(answer, out),
+        CallAnswer::Begun(answer) => of_begin(answer),
+        CallAnswer::Stepped(answer) => of_step(answer),
+        CallAnswer::Restarted(answer) => of_start(answer),
+        CallAnswer::NotNow => Numbers(32, 0, 0, 0, 0, 0),
+    }
+}
