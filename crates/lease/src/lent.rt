@@ -1,7 +1,8 @@
 // The lists that a table takes and gives in lent memory, and the arrays that it gives them from.
 ghost use mathlib.Core.Path.{_≡_};
+ghost use mathlib.Core.List.{[], _∷_};
 ghost use Rattle.types.specs.Table.{answer};
-ghost use Rattle.types.specs.Lists.{listed, listedOf, numbersOf, entriesOf, ListsOffsets, ListsCounts};
+ghost use Rattle.types.specs.Lists.{listed, listedOf, numbersOf, entryOf, entriesOf, ListsOffsets, ListsCounts};
 ghost use Rattle.lease.specs.State.{Sound, view};
 ghost use Rattle.lease.specs.Counts.{resumeAttempts, attemptCounts, allAttemptCounts};
 ghost use Rattle.lease.specs.Rest.{expired};
@@ -75,6 +76,15 @@ impl LeaseTable {
         self.resumed(carried)
     }
 
+    // The same for one pair.
+    pub fn resume_pair(self, pair: Pair) -> Resumed
+        requires { ⌜ Sound self ⌝ }
+        ensures { λ r. ⌜ Answers (resumeOf (r .outcome)) self (r .table) (resumeAttempts (view self) (entryOf pair ∷ [])) ⌝ }
+    {
+        let carried = carry_pair(self.carried_so_far(), pair);
+        self.resumed(carried)
+    }
+
     // How often each message in flight was handed out, into a lent list. 20 where it doesn't fit.
     pub fn attempt_counts(self, out: &mut [Pair]) -> Listed
         requires { ⌜ Sound self ⌝ }
@@ -139,7 +149,7 @@ impl LeaseTable {
     }
 
     // How often each message in flight was handed out, in arrays.
-    fn lease_counts(self) -> AttemptCounts
+    pub fn lease_counts(self) -> AttemptCounts
         requires { ⌜ Sound self ⌝ }
         ensures { λ r. ⌜ ListsCounts r (attemptCounts (view self)) ⌝ }
     {
