@@ -9,7 +9,6 @@ use lib.ListN.{length, take, drop, getD}
 use Rattle.types.specs.Limits.{CARRIED}
 use Rattle.types.specs.Keyed.{Entry, entry, entries, lookup, delete, Rising, All}
 use Rattle.types.specs.Zipped.{removed}
-use Rattle.types.specs.Sorted.{below}
 use Rattle.types.specs.Refusal.{refused, done, TooManyPairs}
 use Rattle.types.specs.Table.{Answer, answer}
 use Rattle.types.specs.Lists.{entryOf}
@@ -19,19 +18,12 @@ use Rattle.lease.specs.Counts.{carry}
 use Rattle.lease.specs.declared.Lease.{Lease}
 use Rattle.lease.specs.declared.LeaseTable.{LeaseTable}
 use Rattle.lease.specs.declared.lent.Carried.{Carried}
-use Rattle.lease.specs.declared.columns.Place.{Place}
-use Rattle.lease.specs.declared.columns.Place.the-variants.{Found, Missing}
 use Rattle.lease.specs.declared.columns.Span.{Span}
 use Rattle.lease.specs.declared.columns.Pick.{Pick}
 use Rattle.lease.specs.declared.columns.CarryOutcome.{CarryOutcome}
 use Rattle.lease.specs.declared.columns.CarryOutcome.the-variants.{Kept, Full}
 
 -- ## columns
--- where a key stands among keys, or would stand
-abbrev pub Placed : ℕ → List ℕ → Place → Type 0
-Placed x ks (Found at) = (at < length ks) × (getD ks at 0 ≡ x)
-Placed x ks (Missing at) = (at ≡ below x ks) × (at < length ks → getD ks at 0 ≡ x → ⊥)
-
 -- the places of a key, one or none: its count, 0 where there is none, and the columns without it
 pub record Spans (x : ℕ) (ks vs : List ℕ) (r : Span) : Type 0 where
   pub order : r .from ≤ r .to

@@ -5,15 +5,9 @@ ghost use Prim.Native.Nat.{_+_, _≤_, _<_, max};
 ghost use lib.ListN.{length, take};
 ghost use Rattle.types.specs.Limits.{CARRIED};
 ghost use Rattle.types.specs.Keyed.{entries, Rising};
-ghost use Rattle.types.specs.Sorted.{Ascending, below};
-ghost use Rattle.lease.specs.Helpers.{Placed, Spans, Picked, Carries};
+ghost use Rattle.lease.specs.Helpers.{Spans, Picked, Carries};
 ghost use Rattle.lease.specs.Counts.{carry};
-
-// Where a key stands, or where it would stand.
-pub(crate) enum Place {
-    Found(usize),
-    Missing(usize),
-}
+use tables::Place;
 
 // The places of a key, one or none, and the count there, 0 where there is none.
 pub(crate) struct Span {
@@ -36,42 +30,11 @@ pub(crate) enum CarryOutcome {
     Full,
 }
 
-// How many keys are below x. It halves the range that is left.
-pub(crate) fn position(keys: &[u64], len: usize, x: u64) -> usize
-    requires { ⌜ (len ≤ length (now keys)) × Ascending 0 (take len (now keys)) ⌝ }
-    ensures { λ r. ⌜ r ≡ below x (take len (now (keys .entry))) ⌝ }
-{
-    let mut low: usize = 0;
-    let mut high = len;
-    while low < high {
-        let mid = low + (high - low) / 2;
-        if keys[mid] < x {
-            low = mid + 1;
-        } else {
-            high = mid;
-        }
-    }
-    low
-}
-
-pub(crate) fn find(keys: &[u64], len: usize, x: u64) -> Place
-    requires { ⌜ (len ≤ length (now keys)) × Ascending 0 (take len (now keys)) ⌝ }
-    ensures { λ r. ⌜ Placed x (take len (now (keys .entry))) r ⌝ }
-{
-    let at = position(keys, len, x);
-    if at < len {
-        if keys[at] == x {
-            return Place::Found(at);
-        }
-    }
-    Place::Missing(at)
-}
-
 pub(crate) fn count_of<'a>(keys: &'a [u64], counts: &'a [u32], len: usize, x: u64) -> Span
     requires { ⌜ (len ≤ length (now keys)) × (len ≤ length (now counts)) × Rising 0 (entries (take len (now keys)) (take len (now counts))) ⌝ }
     ensures { λ r. ⌜ Spans x (take len (now (keys .entry))) (take len (now (counts .entry))) r ⌝ }
 {
-    let place = find(keys, len, x);
+    let place = tables::find(keys, len, x);
     match place {
         Place::Found(at) => Span {
             from: at,
@@ -165,7 +128,7 @@ pub(crate) fn carry<'a, 'b>(
     if count == 0 {
         return CarryOutcome::Kept(len);
     }
-    let place = find(keys, len, x);
+    let place = tables::find(keys, len, x);
     match place {
         Place::Found(at) => {
             counts[at] = count;
