@@ -13,6 +13,7 @@ use crate::ResumeOutcome;
 use crate::Resumed;
 use crate::columns;
 use crate::columns::CarryOutcome;
+use tables::counts;
 use types::Offset;
 use types::Pair;
 use types::lent;
@@ -169,42 +170,18 @@ impl LeaseTable {
         }
     }
 
-    // The counts of all messages that were handed out and are not done, in arrays: the two lists of counts, each rising, merged
-    // into one.
+    // The counts of all messages that were handed out and are not done, in arrays.
     pub fn all_counts(self) -> AttemptCounts
         requires { ⌜ Sound self ⌝ }
         ensures { λ r. ⌜ ListsCounts r (allAttemptCounts (view self)) ⌝ }
     {
         let leased = self.lease_counts();
-        let len = leased.len;
-        let n = self.carried_len;
-        let mut offsets = [0u64; 192];
-        let mut attempts = [0u32; 192];
-        let mut i: usize = 0;
-        let mut j: usize = 0;
-        let mut k: usize = 0;
-        while i + j < len + n {
-            let next = columns::pick_next(
-                &leased.offsets,
-                &leased.attempts,
-                len,
-                i,
-                &self.carried_offsets,
-                &self.carried_counts,
-                n,
-                j,
-            );
-            offsets[k] = next.offset;
-            attempts[k] = next.attempt;
-            i += next.left;
-            j += next.right;
-            k += 1;
-        }
-        AttemptCounts {
-            offsets: offsets,
-            attempts: attempts,
-            len: k,
-        }
+        counts::merged(
+            leased,
+            &self.carried_offsets,
+            &self.carried_counts,
+            self.carried_len,
+        )
     }
 
     // The offsets whose leases have run out, in an array.

@@ -5,6 +5,8 @@ ghost use lib.ListN.{take};
 ghost use Rattle.tables.specs.Columns.{putIn, takenOut};
 ghost use Rattle.tables.specs.Search.{Boundary, Placed};
 
+pub mod counts;
+
 // Where a key stands, or where it would stand.
 pub enum Place {
     Found(usize),
