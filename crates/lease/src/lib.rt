@@ -23,7 +23,6 @@ use types::Offset;
 mod columns;
 mod lent;
 pub mod lookup;
-pub mod redeliveries;
 
 // How long a hand-out lasts, in nanoseconds. A hard cap below the visibility shortens every lease to the cap; where one
 // of the two is 0, a lease runs out the moment it is granted.
