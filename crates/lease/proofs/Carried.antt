@@ -24,12 +24,13 @@ use Rattle.types.proofs.Columns.{length-used}
 use Rattle.types.specs.Zipped.{inserted}
 use Rattle.lease.specs.State.{Table, Valid, Sound, view, withCarried}
 use Rattle.lease.specs.Counts.{carry, carryAll, resumeAttempts}
-use Rattle.lease.specs.Helpers.{Placed, Carries, heldIn, carriedIn, within, carryOnAll, Tidy, CarriesPair, resumedWith}
+use Rattle.tables.specs.Search.{Placed}
+use Rattle.lease.specs.Helpers.{Carries, heldIn, carriedIn, within, carryOnAll, Tidy, CarriesPair, resumedWith}
 use Rattle.lease.specs.Answers.{Answers}
 use Rattle.lease.specs.declared.LeaseTable.{LeaseTable}
 use Rattle.lease.specs.declared.lent.Carried.{Carried}
-use Rattle.lease.specs.declared.columns.Place.{Place}
-use Rattle.lease.specs.declared.columns.Place.the-variants.{Found, Missing}
+use Rattle.tables.specs.declared.Place.{Place}
+use Rattle.tables.specs.declared.Place.the-variants.{Found, Missing}
 use Rattle.lease.specs.declared.columns.CarryOutcome.{CarryOutcome}
 use Rattle.lease.specs.declared.columns.CarryOutcome.the-variants.{Kept, Full}
 use Rattle.lease.proofs.Slots.{stands, lacks}

@@ -7,9 +7,10 @@ use mathlib.Core.List.{List, map}
 use lib.ListN.{length, take}
 use lib.Seq.{length-take-le}
 use Rattle.types.specs.Keyed.{entries, dropBelow, Rising}
-use Rattle.types.specs.Sorted.{below}
 use Rattle.types.proofs.Columns.{rising-ascending, drop-below-place, entries-map}
 use Rattle.types.specs.Zipped.{removed}
+use Rattle.tables.specs.Search.{Boundary}
+use Rattle.tables.proofs.Search.{boundary-below}
 use Rattle.lease.specs.State.{Sound, view, withLeases}
 use Rattle.lease.specs.Rest.{releaseBelow, shiftedBy, shiftDeadlines}
 use Rattle.lease.specs.Answers.{Becomes}
@@ -22,12 +23,13 @@ use Rattle.lease.proofs.Valid.{valid-release, valid-shift}
 -- ## released below a bound
 -- two columns without what lies below
 released : {A : Type 0} (b n first : ℕ) (ks : List ℕ) (vs : List A) (ks′ : List ℕ) (vs′ : List A) → n ≤ length ks → n ≤ length vs → Rising 0 (entries (take n ks) (take n vs))
-    → first ≡ below b (take n ks) → take (n - (first - 0)) ks′ ≡ removed 0 first (take n ks) → take (n - (first - 0)) vs′ ≡ removed 0 first (take n vs)
+    → Boundary b (take n ks) first → take (n - (first - 0)) ks′ ≡ removed 0 first (take n ks) → take (n - (first - 0)) vs′ ≡ removed 0 first (take n vs)
     → entries (take (n - first) ks′) (take (n - first) vs′) ≡ dropBelow b (entries (take n ks) (take n vs))
-released b n first ks vs ks′ vs′ h k r e p q =
+released b n first ks vs ks′ vs′ h k r at p q =
     let z : n - first ≡ n - (first - 0) = omega arith in
     let even : length (take n ks) ≡ length (take n vs) = length-take-le n ks h ∙ sym (length-take-le n vs k) in
-    rw (z, p, q, e) (sym (drop-below-place b 0 (take n ks) (take n vs) even (rising-ascending 0 (take n ks) (take n vs) even r)))
+    let rise = rising-ascending 0 (take n ks) (take n vs) even r in
+    rw (z, p, q, boundary-below b first 0 (take n ks) rise at) (sym (drop-below-place b 0 (take n ks) (take n vs) even rise))
 
 -- a table of these columns
 abbrev pub shortened : LeaseTable → List ℕ → List Lease → ℕ → List ℕ → List ℕ → ℕ → LeaseTable
@@ -45,7 +47,7 @@ shortened t ks vs n cks cvs m =
     }
 
 module _ (t : LeaseTable) (full : Full t) (ok : Sound t) (b first carried : ℕ) (ks : List ℕ) (vs : List Lease) (cks cvs : List ℕ) where
-  pub releases : first ≡ below b (take (t .len) (t .offsets)) → carried ≡ below b (take (t .«carried_len») (t .«carried_offsets»))
+  pub releases : Boundary b (take (t .len) (t .offsets)) first → Boundary b (take (t .«carried_len») (t .«carried_offsets»)) carried
       → take (t .len - (first - 0)) ks ≡ removed 0 first (take (t .len) (t .offsets)) → take (t .len - (first - 0)) vs ≡ removed 0 first (take (t .len) (t .leases))
       → take (t .«carried_len» - (carried - 0)) cks ≡ removed 0 carried (take (t .«carried_len») (t .«carried_offsets»))
       → take (t .«carried_len» - (carried - 0)) cvs ≡ removed 0 carried (take (t .«carried_len») (t .«carried_counts»))

@@ -14,7 +14,8 @@ use Rattle.types.specs.Refusal.{Result, refused, done, InFlight, Exhausted, Ful
 use Rattle.types.specs.Keyed.{Entry, put}
 use Rattle.types.specs.Zipped.{inserted, removed}
 use Rattle.lease.specs.State.{Table, Sound, view, leasesOf, carriedOf}
-use Rattle.lease.specs.Operations.{lease, leaseOf, isNone, running, deadlineFrom, nextCount, consumed, afterGrant, Grant, grantOf, grant, granted, claimRows, claim}
+use Rattle.redeliveries.specs.Counter.{afterGrant}
+use Rattle.lease.specs.Operations.{lease, leaseOf, isNone, running, deadlineFrom, nextCount, consumed, Grant, grantOf, grant, granted, claimRows, claim}
 use Rattle.lease.specs.Helpers.{Spans}
 use Rattle.lease.specs.Answers.{Answers}
 use Rattle.lease.specs.declared.Lease.{Lease}

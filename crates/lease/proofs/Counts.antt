@@ -16,7 +16,8 @@ use Rattle.types.specs.Keyed.{Entry, entry, lookup, put, Rising, All}
 use Rattle.types.proofs.Cases.{split}
 use Rattle.types.proofs.Keyed.{lookup-put, lookup-under, lookup-mapValues, lookup-all, rising-put, length-put, all-put, all-mapValues, length-mapValues, rising-mapValues}
 use Rattle.lease.specs.State.{Table, Valid, Counted}
-use Rattle.lease.specs.Operations.{leaseOf, nextCount, afterGrant}
+use Rattle.redeliveries.specs.Counter.{afterGrant}
+use Rattle.lease.specs.Operations.{leaseOf, nextCount}
 use Rattle.lease.specs.Rest.{deliveriesOf}
 use Rattle.lease.specs.Counts.{raise, raiseAll, attemptCounts, allAttemptCounts, carryAll}
 use Rattle.lease.specs.declared.Lease.{Lease}

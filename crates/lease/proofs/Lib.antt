@@ -3,8 +3,8 @@ pub mod Passed
 pub mod Lookups
 pub mod Generations
 pub mod Counts
+pub mod Slots
 pub mod Examples
-mod Slots
 mod Returns
 mod Claims
 mod Tokens

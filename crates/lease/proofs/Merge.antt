@@ -1,26 +1,22 @@
--- Two sorted lists of counts merged in one pass give what raising the one by each entry of the other gives; and what each
--- choice of the next pair shows.
+-- Two sorted lists of counts merged in one pass give what raising the one by each entry of the other gives.
 -- Assumes nothing.
-use Prim.Native.Nat.{ℕ, suc, _+_, _≤_, _<_, max}
+use Prim.Native.Nat.{ℕ, suc, max}
 use native.Mathlib.Omega.{arith}
 use native.Mathlib.Decide.{decLt, ℕ-discrete}
-use native.Mathlib.Numerals.{add-one}
 use mathlib.Core.Path.{_≡_, refl, sym, ap, _∙_}
-use mathlib.Core.List.{List, [], _∷_, _++_, append-nil}
-use mathlib.Core.Option.{none, some}
-use lib.ListN.{length, take, drop, set, length-set, drop-of-length-le, replicate, length-replicate}
-use lib.Seq.{length-take-le, take-suc-set, append-snoc}
+use mathlib.Core.List.{List, [], _∷_}
+use mathlib.Core.Option.{none}
+use lib.ListN.{take}
+use lib.Seq.{take-all}
 use borrow.Author.Tests.{lt-ltb, le-ltb, eq-eqb, ne-eqb}
-use Rattle.types.specs.Keyed.{Entry, entry, entries, lookup, Rising}
+use Rattle.types.specs.Keyed.{Entry, entry, lookup, Rising}
 use Rattle.types.proofs.Keyed.{rising-weaken, lookup-under, rising-mapValues}
-use Rattle.types.proofs.Loops.{rest-more}
-use Rattle.types.proofs.Columns.{entries-snoc}
-use Rattle.lease.specs.State.{Sound, view, leasesOf, carriedOf}
+use Rattle.tables.specs.Merge.{mergeEntry, merge}
+use Rattle.lease.specs.State.{Table, Valid, Sound, view, carriedOf}
 use Rattle.lease.specs.Counts.{raise, raiseAll, attemptCounts, allAttemptCounts}
-use Rattle.lease.specs.Helpers.{mergeEntry, merge, Picked}
 use Rattle.lease.specs.declared.Lease.{Lease}
 use Rattle.lease.specs.declared.LeaseTable.{LeaseTable}
-use Rattle.lease.specs.declared.columns.Pick.{Pick}
+use Rattle.lease.proofs.Counts.{all-counts-few}
 
 -- ## the merged list
 -- an entry below all of a list stays in front
@@ -53,90 +49,13 @@ pub merge-raise : (lo low : ℕ) (k l : List (Entry ℕ)) → Rising lo k → Ri
 merge-raise lo low [] l r s = refl
 merge-raise lo low (e ∷ k) l r s = merge-entry low e k l (r .1) s (λ m n h. merge-raise (suc (e .key)) n k m (r .1) h)
 
--- ## the next pair
-module _ (k l : List (Entry ℕ)) (i j : ℕ) where
-  same-right : drop (j + 0) l ≡ drop j l
-  same-right = let e : j + 0 ≡ j = omega arith in ap (λ (n : ℕ). drop n l) e
-
-  same-left : drop (i + 0) k ≡ drop i k
-  same-left = let e : i + 0 ≡ i = omega arith in ap (λ (n : ℕ). drop n k) e
-
-  module _ (x n : ℕ) (here : drop i k ≡ entry x n ∷ drop (i + 1) k) (inside : i < length k) where
-    pub picked-last-left : drop j l ≡ [] → j ≤ length l → Picked k l i j (record { offset = x; attempt = n; left = 1; right = 0 })
-    picked-last-left e h =
-        record { left = omega arith; right = omega arith; some = omega arith; is = rw (same-right, here, e) }
-
-    module _ (y m : ℕ) (there : drop j l ≡ entry y m ∷ drop (j + 1) l) (within : j < length l) where
-      pub picked-left : x < y → Picked k l i j (record { offset = x; attempt = n; left = 1; right = 0 })
-      picked-left h =
-          record { left = omega arith; right = omega arith; some = omega arith; is = rw (same-right, here, there) (rw (lt-ltb x y h)) }
-
-      pub picked-right : y < x → Picked k l i j (record { offset = y; attempt = m; left = 0; right = 1 })
-      picked-right h =
-          record { left = omega arith; right = omega arith; some = omega arith; is = rw (same-left, here, there) (rw (le-ltb x y (omega arith), ne-eqb x y (λ q. omega arith))) }
-
-      pub picked-both : x ≡ y → (c : ℕ) → c ≡ max m n → Picked k l i j (record { offset = x; attempt = c; left = 1; right = 1 })
-      picked-both q c e =
-          record { left = omega arith; right = omega arith; some = omega arith; is = rw (here, there) (rw (le-ltb x y (omega arith), eq-eqb x y q, e)) }
-
-  pub picked-last-right : (y m : ℕ) → drop j l ≡ entry y m ∷ drop (j + 1) l → j < length l → drop i k ≡ [] → i ≤ length k
-      → Picked k l i j (record { offset = y; attempt = m; left = 0; right = 1 })
-  picked-last-right y m there within e h =
-      record { left = omega arith; right = omega arith; some = omega arith; is = rw (same-left, e, there) }
-
--- ## the loop
--- what is filled, and what is left of the two lists merged, make the whole
-pub record Merging (k l : List (Entry ℕ)) (ks vs : List ℕ) (i j n : ℕ) : Type 0 where
-  pub left : i ≤ length k
-  pub right : j ≤ length l
-  pub few : n ≤ i + j
-  pub full : length ks ≡ 192
-  pub full-counts : length vs ≡ 192
-  pub is : entries (take n ks) (take n vs) ++ merge (drop i k) (drop j l) ≡ merge k l
-  pub rest : drop n ks ≡ drop n (replicate 192 0)
-  pub rest-counts : drop n vs ≡ drop n (replicate 192 0)
-
-pub merging : (k l : List (Entry ℕ)) → Merging k l (replicate 192 0) (replicate 192 0) 0 0 0
-merging k l =
-    record {
-      left = omega arith;
-      right = omega arith;
-      few = omega arith;
-      full = length-replicate {A = ℕ} 192 0;
-      full-counts = length-replicate {A = ℕ} 192 0;
-      is = refl;
-      rest = refl;
-      rest-counts = refl;
-    }
-
-module _ {k l : List (Entry ℕ)} {ks vs : List ℕ} {i j n : ℕ} (inv : Merging k l ks vs i j n) where
-  pub merging-more : i + j < length k + length l → length k + length l ≤ 192 → (r : Pick) → Picked k l i j r
-      → Merging k l (set ks n (r .offset)) (set vs n (r .attempt)) (i + r .left) (j + r .right) (n + 1)
-  merging-more h w r p =
-      let a : n < length ks = omega (arith, inv .few, inv .full) in
-      let b : n < length vs = omega (arith, inv .few, inv .full-counts) in
-      let even : length (take n ks) ≡ length (take n vs) = length-take-le n ks (omega arith) ∙ sym (length-take-le n vs (omega arith)) in
-      record {
-        left = p .left;
-        right = p .right;
-        few = omega (arith, inv .few, p .some);
-        full = length-set ks n (r .offset) ∙ inv .full;
-        full-counts = length-set vs n (r .attempt) ∙ inv .full-counts;
-        is =
-            rw (add-one n, take-suc-set ks n (r .offset) a, take-suc-set vs n (r .attempt) b, entries-snoc (r .offset) (r .attempt) (take n ks) (take n vs) even, append-snoc)
-            (rw (p .is) at (inv .is));
-        rest = rest-more n ks (replicate 192 0) (r .offset) (inv .rest);
-        rest-counts = rest-more n vs (replicate 192 0) (r .attempt) (inv .rest-counts);
-      }
-
-  pub merged : length k + length l ≤ i + j → entries (take n ks) (take n vs) ≡ merge k l
-  merged h =
-      let e : drop i k ≡ [] = drop-of-length-le k {i = i} (omega (arith, inv .right)) in
-      let f : drop j l ≡ [] = drop-of-length-le l {i = j} (omega (arith, inv .left)) in
-      sym (append-nil (entries (take n ks) (take n vs))) ∙ rw (e, f) at (inv .is)
-
+-- ## the list of a table
 -- the leases' counts merged with the carried ones
-pub all-counted : (t : LeaseTable) (ok : Sound t) (k : List (Entry ℕ)) → k ≡ attemptCounts (view t) → merge k (carriedOf t) ≡ allAttemptCounts (view t)
+all-merged : (t : Table) → Valid t → merge (attemptCounts t) (t .carried) ≡ allAttemptCounts t
 unfolding allAttemptCounts
+all-merged t v = merge-raise 0 0 (attemptCounts t) (t .carried) (rising-mapValues (λ (l : Lease). l .deliveries) 0 (t .leases) (v .rising)) (v .carried-rising)
+
+-- they are 192 at most
+pub all-counted : (t : LeaseTable) (ok : Sound t) (k : List (Entry ℕ)) → k ≡ attemptCounts (view t) → take 192 (merge k (carriedOf t)) ≡ allAttemptCounts (view t)
 all-counted t ok k e =
-    rw e (merge-raise 0 0 (attemptCounts (view t)) (carriedOf t) (rising-mapValues (λ (l : Lease). l .deliveries) 0 (leasesOf t) (ok .valid .rising)) (ok .valid .carried-rising))
+    rw (e, all-merged (view t) (ok .valid)) (take-all 192 (allAttemptCounts (view t)) (omega (arith, all-counts-few (view t), ok .valid .few, ok .valid .carried-few)))

@@ -11,17 +11,18 @@ use lib.ListN.{length, take, getD, set, length-map, take-append-drop}
 use lib.Seq.{length-take-le, getD-take, take-set-lt}
 use Rattle.types.specs.Keyed.{entries, lookup, put, delete, Rising}
 use Rattle.types.specs.Sorted.{Ascending, below}
-use Rattle.types.proofs.Sorted.{below-le}
 use Rattle.types.proofs.Keyed.{delete-absent}
-use Rattle.types.proofs.Columns.{length-entries, rising-ascending, lookup-found, put-found, delete-found, lookup-missing, put-missing}
+use Rattle.types.proofs.Columns.{length-used, rising-ascending, lookup-found, put-found, delete-found, lookup-missing, put-missing}
 use Rattle.types.specs.Zipped.{inserted, removed}
-use Rattle.lease.specs.State.{Sound, leasesOf}
+use Rattle.tables.specs.Search.{Placed}
+use Rattle.tables.specs.declared.Place.{Place}
+use Rattle.tables.specs.declared.Place.the-variants.{Found, Missing}
+use Rattle.tables.proofs.Search.{boundary-below}
+use Rattle.lease.specs.State.{Sound, leasesOf, carriedOf}
 use Rattle.lease.specs.Operations.{lease}
-use Rattle.lease.specs.Helpers.{Placed, Spans, rebuilt}
+use Rattle.lease.specs.Helpers.{Spans, rebuilt}
 use Rattle.lease.specs.declared.Lease.{Lease}
 use Rattle.lease.specs.declared.LeaseTable.{LeaseTable}
-use Rattle.lease.specs.declared.columns.Place.{Place}
-use Rattle.lease.specs.declared.columns.Place.the-variants.{Found, Missing}
 
 -- what an index past the end reads
 abbrev pub nil : Lease
@@ -41,17 +42,6 @@ pub record Full (t : LeaseTable) : Type 0 where
   pub leases : length (t .leases) ≡ 64
   pub carried-offsets : length (t .«carried_offsets») ≡ 128
   pub carried-counts : length (t .«carried_counts») ≡ 128
-
--- ## what a search says of the first `len` keys
-module _ (x at len : ℕ) (keys : List ℕ) (fits : len ≤ length keys) where
-  pub placed-found : at < len → getD keys at 0 ≡ x → Placed x (take len keys) (Found at)
-  placed-found h e = (rw (length-take-le len keys fits) h, getD-take len keys at 0 h ∙ e)
-
-  pub placed-missing : at ≡ below x (take len keys) → (at < len → getD keys at 0 ≡ x → ⊥) → Placed x (take len keys) (Missing at)
-  placed-missing p n = (
-    p,
-    λ h e. let k : at < len = rw (length-take-le len keys fits) at h in n k (sym (getD-take len keys at 0 k) ∙ e),
-  )
 
 -- ## two columns of which the first n places are in use
 -- x stands at a place: the value there is its, a store there puts another one, and without the place x is gone
@@ -86,18 +76,16 @@ module _ {A : Type 0} (d : A) (n : ℕ) (ks : List ℕ) (vs : List A) (fits : n 
 
   pub lacks : (x at : ℕ) → Placed x (take n ks) (Missing at) → Lacks n ks vs x at
   lacks x at p =
-      let e : lookup x (entries (take n ks) (take n vs)) ≡ none = lookup-missing x 0 (take n ks) (take n vs) even keys-ascend (rw (p .0) at (p .1)) in
+      let b : at ≡ below x (take n ks) = boundary-below x at 0 (take n ks) keys-ascend (p .0) in
+      let e : lookup x (entries (take n ks) (take n vs)) ≡ none = lookup-missing x 0 (take n ks) (take n vs) even keys-ascend (rw b at (p .1)) in
       record {
-        inside = omega (arith, below-le x (take n ks), length-take-le n ks fits, p .0);
+        inside = rw (length-take-le n ks fits) at (p .0 .inside);
         is = e;
-        put = λ v. rw (p .0) (sym (put-missing x v (take n ks) (take n vs) even e));
+        put = λ v. rw b (sym (put-missing x v (take n ks) (take n vs) even e));
       }
 
 -- the span of a key that stands at a place, and of one that stands nowhere
 module _ (n : ℕ) (ks vs : List ℕ) (fits : n ≤ length ks) (fits′ : n ≤ length vs) (rise : Rising 0 (entries (take n ks) (take n vs))) where
-  pub ascends : Ascending 0 (take n ks)
-  ascends = keys-ascend 0 n ks vs fits fits′ rise
-
   pub found-inside : (x : ℕ) {at : ℕ} {r : Place} → Placed x (take n ks) r → r ≡ Found at → at < n
   found-inside x {at} p e = stands 0 n ks vs fits fits′ rise x at (subst (Placed x (take n ks)) e p) .inside
 
@@ -133,32 +121,58 @@ Leased t x at = Stands nil (t .len) (t .offsets) (t .leases) x at
 abbrev pub Free : LeaseTable → ℕ → ℕ → Type 0
 Free t x at = Lacks (t .len) (t .offsets) (t .leases) x at
 
+-- the same of its carried count
+abbrev pub Carried : LeaseTable → ℕ → ℕ → Type 0
+Carried t x at = Stands 0 (t .«carried_len») (t .«carried_offsets») (t .«carried_counts») x at
+
+abbrev pub Uncarried : LeaseTable → ℕ → ℕ → Type 0
+Uncarried t x at = Lacks (t .«carried_len») (t .«carried_offsets») (t .«carried_counts») x at
+
 module _ (t : LeaseTable) (full : Full t) (ok : Sound t) where
+  fits : t .len ≤ length (t .offsets)
+  fits = omega (arith, full .offsets, ok .len)
+
+  fits′ : t .len ≤ length (t .leases)
+  fits′ = omega (arith, full .leases, ok .len)
+
+  carried-fits : t .«carried_len» ≤ length (t .«carried_offsets»)
+  carried-fits = omega (arith, full .carried-offsets, ok .carried-len)
+
+  carried-fits′ : t .«carried_len» ≤ length (t .«carried_counts»)
+  carried-fits′ = omega (arith, full .carried-counts, ok .carried-len)
+
   pub ascending : Ascending 0 (take (t .len) (t .offsets))
-  ascending = keys-ascend nil (t .len) (t .offsets) (t .leases) (omega (arith, full .offsets, ok .len)) (omega (arith, full .leases, ok .len)) (ok .valid .rising)
+  ascending = keys-ascend nil (t .len) (t .offsets) (t .leases) fits fits′ (ok .valid .rising)
 
   pub carried-ascending : Ascending 0 (take (t .«carried_len») (t .«carried_offsets»))
-  carried-ascending = keys-ascend 0 (t .«carried_len») (t .«carried_offsets») (t .«carried_counts») (omega (arith, full .carried-offsets, ok .carried-len)) (omega (arith, full .carried-counts, ok .carried-len)) (ok .valid .carried-rising)
-
-  -- what the answer of a search says
-  pub leased : {x at : ℕ} {r : Place} → Placed x (take (t .len) (t .offsets)) r → r ≡ Found at → Leased t x at
-  leased {x} {at} p e =
-      stands nil (t .len) (t .offsets) (t .leases) (omega (arith, full .offsets, ok .len)) (omega (arith, full .leases, ok .len)) (ok .valid .rising) x at
-      (subst (Placed x (take (t .len) (t .offsets))) e p)
-
-  pub free : {x at : ℕ} {r : Place} → Placed x (take (t .len) (t .offsets)) r → r ≡ Missing at → Free t x at
-  free {x} {at} p e =
-      lacks nil (t .len) (t .offsets) (t .leases) (omega (arith, full .offsets, ok .len)) (omega (arith, full .leases, ok .len)) (ok .valid .rising) x at
-      (subst (Placed x (take (t .len) (t .offsets))) e p)
+  carried-ascending = keys-ascend 0 (t .«carried_len») (t .«carried_offsets») (t .«carried_counts») carried-fits carried-fits′ (ok .valid .carried-rising)
 
   pub in-flight : length (leasesOf t) ≡ t .len
-  in-flight =
-      length-entries (take (t .len) (t .offsets)) (take (t .len) (t .leases))
-      (even nil (t .len) (t .offsets) (t .leases) (omega (arith, full .offsets, ok .len)) (omega (arith, full .leases, ok .len)) (ok .valid .rising))
-      ∙ length-take-le (t .len) (t .offsets) (omega (arith, full .offsets, ok .len))
+  in-flight = length-used nil (t .len) (t .offsets) (t .leases) fits fits′
 
-  -- the key at the place that was found
-  pub found-at : {x at : ℕ} {r : Place} → Placed x (take (t .len) (t .offsets)) r → r ≡ Found at → getD (t .offsets) at 0 ≡ x
-  found-at {x} {at} p e =
-      let q = subst (Placed x (take (t .len) (t .offsets))) e p in
-      sym (getD-take (t .len) (t .offsets) at 0 (leased p e .inside)) ∙ q .1
+  pub carried-length : length (carriedOf t) ≡ t .«carried_len»
+  carried-length = length-used 0 (t .«carried_len») (t .«carried_offsets») (t .«carried_counts») carried-fits carried-fits′
+
+  -- what the answer of a search among the offsets says
+  module _ {x at : ℕ} {r : Place} (p : Placed x (take (t .len) (t .offsets)) r) where
+    pub leased : r ≡ Found at → Leased t x at
+    leased e = stands nil (t .len) (t .offsets) (t .leases) fits fits′ (ok .valid .rising) x at (subst (Placed x (take (t .len) (t .offsets))) e p)
+
+    pub free : r ≡ Missing at → Free t x at
+    free e = lacks nil (t .len) (t .offsets) (t .leases) fits fits′ (ok .valid .rising) x at (subst (Placed x (take (t .len) (t .offsets))) e p)
+
+    -- the key at the place that was found
+    pub found-at : r ≡ Found at → getD (t .offsets) at 0 ≡ x
+    found-at e = sym (getD-take (t .len) (t .offsets) at 0 (leased e .inside)) ∙ subst (Placed x (take (t .len) (t .offsets))) e p .1
+
+  -- and among the offsets of the carried counts
+  module _ {x at : ℕ} {r : Place} (p : Placed x (take (t .«carried_len») (t .«carried_offsets»)) r) where
+    pub carried : r ≡ Found at → Carried t x at
+    carried e =
+        stands 0 (t .«carried_len») (t .«carried_offsets») (t .«carried_counts») carried-fits carried-fits′ (ok .valid .carried-rising) x at
+        (subst (Placed x (take (t .«carried_len») (t .«carried_offsets»))) e p)
+
+    pub uncarried : r ≡ Missing at → Uncarried t x at
+    uncarried e =
+        lacks 0 (t .«carried_len») (t .«carried_offsets») (t .«carried_counts») carried-fits carried-fits′ (ok .valid .carried-rising) x at
+        (subst (Placed x (take (t .«carried_len») (t .«carried_offsets»))) e p)

@@ -9,7 +9,6 @@ use lib.ListN.{length, take, drop, getD}
 use Rattle.types.specs.Limits.{CARRIED}
 use Rattle.types.specs.Keyed.{Entry, entry, entries, lookup, delete, Rising, All}
 use Rattle.types.specs.Zipped.{removed}
-use Rattle.types.specs.Sorted.{below}
 use Rattle.types.specs.Refusal.{refused, done, TooManyPairs}
 use Rattle.types.specs.Table.{Answer, answer}
 use Rattle.types.specs.Lists.{entryOf}
@@ -19,44 +18,17 @@ use Rattle.lease.specs.Counts.{carry}
 use Rattle.lease.specs.declared.Lease.{Lease}
 use Rattle.lease.specs.declared.LeaseTable.{LeaseTable}
 use Rattle.lease.specs.declared.lent.Carried.{Carried}
-use Rattle.lease.specs.declared.columns.Place.{Place}
-use Rattle.lease.specs.declared.columns.Place.the-variants.{Found, Missing}
 use Rattle.lease.specs.declared.columns.Span.{Span}
-use Rattle.lease.specs.declared.columns.Pick.{Pick}
 use Rattle.lease.specs.declared.columns.CarryOutcome.{CarryOutcome}
 use Rattle.lease.specs.declared.columns.CarryOutcome.the-variants.{Kept, Full}
 
 -- ## columns
--- where a key stands among keys, or would stand
-abbrev pub Placed : ℕ → List ℕ → Place → Type 0
-Placed x ks (Found at) = (at < length ks) × (getD ks at 0 ≡ x)
-Placed x ks (Missing at) = (at ≡ below x ks) × (at < length ks → getD ks at 0 ≡ x → ⊥)
-
 -- the places of a key, one or none: its count, 0 where there is none, and the columns without it
 pub record Spans (x : ℕ) (ks vs : List ℕ) (r : Span) : Type 0 where
   pub order : r .from ≤ r .to
   pub inside : r .to ≤ length ks
   pub count : r .count ≡ Option·getD (lookup x (entries ks vs)) 0
   pub gone : entries (removed (r .from) (r .to) ks) (removed (r .from) (r .to) vs) ≡ delete x (entries ks vs)
-
--- ## two sorted lists of counts in one, the larger count where a key stands in both
--- an entry before the rest of its own list, merged with another list
-abbrev pub mergeEntry : Entry ℕ → (List (Entry ℕ) → List (Entry ℕ)) → List (Entry ℕ) → List (Entry ℕ)
-mergeEntry e rest [] = e ∷ rest []
-mergeEntry e rest (c ∷ l) =
-    cond (ltb (e .key) (c .key)) (e ∷ rest (c ∷ l))
-    (cond (eqb (e .key) (c .key)) (entry (e .key) (max (c .value) (e .value)) ∷ rest l) (c ∷ mergeEntry e rest l))
-
-abbrev pub merge : List (Entry ℕ) → List (Entry ℕ) → List (Entry ℕ)
-merge [] l = l
-merge (e ∷ k) l = mergeEntry e (merge k) l
-
--- the first of what is left of the two lists, from places i and j on, and how many entries of each it takes
-pub record Picked (k l : List (Entry ℕ)) (i j : ℕ) (r : Pick) : Type 0 where
-  pub left : i + r .left ≤ length k
-  pub right : j + r .right ≤ length l
-  pub some : 1 ≤ r .left + r .right
-  pub is : merge (drop i k) (drop j l) ≡ entry (r .offset) (r .attempt) ∷ merge (drop (i + r .left) k) (drop (j + r .right) l)
 
 -- ## a count carried
 -- the columns afterwards hold the list with the pair in it, or it would have more than 128 entries

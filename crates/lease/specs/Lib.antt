@@ -6,4 +6,3 @@ pub mod Rest
 pub mod Answers
 pub mod Helpers
 pub mod Lookup
-pub mod Redeliveries

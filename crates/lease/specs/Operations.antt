@@ -10,6 +10,7 @@ use Rattle.types.specs.Limits.{MAX, LEASES, sat32, sat64}
 use Rattle.types.specs.Refusal.{done, InFlight, Fenced, Exhausted, Full, CapReached}
 use Rattle.types.specs.Table.{Row, _⇒_, Answer, answer, guarded}
 use Rattle.types.specs.Keyed.{Entry, lookup, put, update, delete}
+pub use Rattle.redeliveries.specs.Counter.{afterGrant}
 use Rattle.lease.specs.State.{Table, withLeases}
 use Rattle.lease.specs.declared.LeaseConfig.{LeaseConfig}
 use Rattle.lease.specs.declared.Lease.{Lease}
@@ -60,13 +61,6 @@ nextCount t o = sat32 (handedOut (leaseOf t o) (lookup o (t .carried))) 1
 abbrev pub consumed : Option Lease → ℕ → List (Entry ℕ) → List (Entry ℕ)
 consumed (some l) o c = c
 consumed none o c = delete o c
-
--- the redelivery counter: a grant whose count is 2 or more raises it by 1, a flush clears it
-abbrev pub afterGrant : ℕ → ℕ → ℕ
-afterGrant n count = cond (leb 2 count) (sat32 n 1) n
-
-abbrev pub afterFlush : ℕ → ℕ
-afterFlush n = 0
 
 -- the offset leased anew under the next generation, the attempt beginning now
 abbrev pub grant : Table → ℕ → ℕ → Table

@@ -9,8 +9,9 @@ use Rattle.types.specs.Limits.{sat64}
 use Rattle.types.specs.Refusal.{done}
 use Rattle.types.specs.Table.{Answer, answer}
 use Rattle.types.specs.Keyed.{Entry, update, dropBelow, mapValues}
+use Rattle.redeliveries.specs.Counter.{afterFlush}
 use Rattle.lease.specs.State.{Table, withLeases}
-use Rattle.lease.specs.Operations.{lease, leaseOf, isNone, running, owns, dueAt, afterFlush}
+use Rattle.lease.specs.Operations.{lease, leaseOf, isNone, running, owns, dueAt}
 use Rattle.lease.specs.declared.Lease.{Lease}
 
 -- ## changes

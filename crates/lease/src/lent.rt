@@ -1,7 +1,8 @@
 // The lists that a table takes and gives in lent memory, and the arrays that it gives them from.
 ghost use mathlib.Core.Path.{_≡_};
+ghost use mathlib.Core.List.{[], _∷_};
 ghost use Rattle.types.specs.Table.{answer};
-ghost use Rattle.types.specs.Lists.{listed, listedOf, numbersOf, entriesOf, ListsOffsets, ListsCounts};
+ghost use Rattle.types.specs.Lists.{listed, listedOf, numbersOf, entryOf, entriesOf, ListsOffsets, ListsCounts};
 ghost use Rattle.lease.specs.State.{Sound, view};
 ghost use Rattle.lease.specs.Counts.{resumeAttempts, attemptCounts, allAttemptCounts};
 ghost use Rattle.lease.specs.Rest.{expired};
@@ -12,6 +13,7 @@ use crate::ResumeOutcome;
 use crate::Resumed;
 use crate::columns;
 use crate::columns::CarryOutcome;
+use tables::counts;
 use types::Offset;
 use types::Pair;
 use types::lent;
@@ -72,6 +74,15 @@ impl LeaseTable {
             carried = carry_pair(carried, pairs[i]);
             i += 1;
         }
+        self.resumed(carried)
+    }
+
+    // The same for one pair.
+    pub fn resume_pair(self, pair: Pair) -> Resumed
+        requires { ⌜ Sound self ⌝ }
+        ensures { λ r. ⌜ Answers (resumeOf (r .outcome)) self (r .table) (resumeAttempts (view self) (entryOf pair ∷ [])) ⌝ }
+    {
+        let carried = carry_pair(self.carried_so_far(), pair);
         self.resumed(carried)
     }
 
@@ -139,7 +150,7 @@ impl LeaseTable {
     }
 
     // How often each message in flight was handed out, in arrays.
-    fn lease_counts(self) -> AttemptCounts
+    pub fn lease_counts(self) -> AttemptCounts
         requires { ⌜ Sound self ⌝ }
         ensures { λ r. ⌜ ListsCounts r (attemptCounts (view self)) ⌝ }
     {
@@ -159,42 +170,18 @@ impl LeaseTable {
         }
     }
 
-    // The counts of all messages that were handed out and are not done, in arrays: the two lists of counts, each rising, merged
-    // into one.
+    // The counts of all messages that were handed out and are not done, in arrays.
     pub fn all_counts(self) -> AttemptCounts
         requires { ⌜ Sound self ⌝ }
         ensures { λ r. ⌜ ListsCounts r (allAttemptCounts (view self)) ⌝ }
     {
         let leased = self.lease_counts();
-        let len = leased.len;
-        let n = self.carried_len;
-        let mut offsets = [0u64; 192];
-        let mut attempts = [0u32; 192];
-        let mut i: usize = 0;
-        let mut j: usize = 0;
-        let mut k: usize = 0;
-        while i + j < len + n {
-            let next = columns::pick_next(
-                &leased.offsets,
-                &leased.attempts,
-                len,
-                i,
-                &self.carried_offsets,
-                &self.carried_counts,
-                n,
-                j,
-            );
-            offsets[k] = next.offset;
-            attempts[k] = next.attempt;
-            i += next.left;
-            j += next.right;
-            k += 1;
-        }
-        AttemptCounts {
-            offsets: offsets,
-            attempts: attempts,
-            len: k,
-        }
+        counts::merged(
+            leased,
+            &self.carried_offsets,
+            &self.carried_counts,
+            self.carried_len,
+        )
     }
 
     // The offsets whose leases have run out, in an array.

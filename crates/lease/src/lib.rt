@@ -7,22 +7,22 @@ ghost use Prim.Native.Nat.{_≤_, _<_};
 ghost use lib.ListN.{take, getD};
 ghost use Rattle.types.specs.Limits.{MAX, LEASES, sat64, sat32};
 ghost use Rattle.types.specs.Refusal.{done};
+ghost use Rattle.tables.specs.Search.{Placed};
+ghost use Rattle.tables.specs.declared.Place.the-variants.{Missing};
 ghost use Rattle.lease.specs.Config.{nanos, fromMillis, defaultConfig};
 ghost use Rattle.lease.specs.State.{Sound, view, startingAt};
 ghost use Rattle.lease.specs.Operations.{lease, grantOf, claim, ack, extend, nack, capFrom, deadlineFrom};
 ghost use Rattle.lease.specs.Rest.{attemptsFlushed, releaseBelow, resealFromTo, deferRedelivery, shiftedBy, shiftDeadlines, inFlight, isClaimable, deliveries, holdsActive, pendingRedeliveryAttempt};
 ghost use Rattle.lease.specs.Answers.{claimOf, ackOf, extendOf, nackOf, attemptsOf, Answers, Tries, Becomes};
-ghost use Rattle.lease.specs.Helpers.{Placed, Shorter};
-ghost use Rattle.lease.specs.declared.columns.Place.the-variants.{Missing};
-use columns::Place;
+ghost use Rattle.lease.specs.Helpers.{Shorter};
 use lookup::LeaseAt;
+use tables::Place;
 use types::Generation;
 use types::Offset;
 
 mod columns;
 mod lent;
 pub mod lookup;
-pub mod redeliveries;
 
 // How long a hand-out lasts, in nanoseconds. A hard cap below the visibility shortens every lease to the cap; where one
 // of the two is 0, a lease runs out the moment it is granted.
@@ -272,11 +272,11 @@ impl LeaseTable {
         ensures { λ r. ⌜ Becomes r (releaseBelow (view self) («up_to» .0)) ⌝ }
     {
         let n = self.carried_len;
-        let carried = columns::position(&self.carried_offsets, n, up_to.0);
+        let carried = tables::position(&self.carried_offsets, n, up_to.0);
         tables::remove_128(&mut self.carried_offsets, n, 0, carried);
         tables::remove_counts_128(&mut self.carried_counts, n, 0, carried);
         self.carried_len = n - carried;
-        let first = columns::position(&self.offsets, self.len, up_to.0);
+        let first = tables::position(&self.offsets, self.len, up_to.0);
         self.without_leases(0, first)
     }
 
@@ -307,7 +307,7 @@ impl LeaseTable {
         ensures { λ r. ⌜ Answers (claimOf (r .outcome)) self (r .table) (claim (view self) (offset .0) now) ⌝ }
     {
         let len = self.len;
-        let place = columns::find(&self.offsets, len, offset.0);
+        let place = tables::find(&self.offsets, len, offset.0);
         let at = match place {
             Place::Found(at) => {
                 return self.claim_again(at, offset, now);
@@ -408,7 +408,7 @@ impl LeaseTable {
         requires { ⌜ Sound self ⌝ }
         ensures { λ r. ⌜ Tries (r .changed) self (r .table) (resealFromTo (view self) (offset .0) (from .0) (generation .0)) ⌝ }
     {
-        let place = columns::find(&self.offsets, self.len, offset.0);
+        let place = tables::find(&self.offsets, self.len, offset.0);
         let Place::Found(at) = place else {
             return Changed {
                 changed: false,
@@ -446,7 +446,7 @@ impl LeaseTable {
         ensures { λ r. ⌜ Answers (ackOf (r .outcome)) self (r .table) (ack (view self) (token .offset .0) (token .generation .0)) ⌝ }
     {
         let len = self.len;
-        let place = columns::find(&self.offsets, len, token.offset.0);
+        let place = tables::find(&self.offsets, len, token.offset.0);
         let Place::Found(at) = place else {
             return Acked {
                 outcome: AckOutcome::Fenced,
@@ -480,7 +480,7 @@ impl LeaseTable {
         requires { ⌜ Sound self ⌝ }
         ensures { λ r. ⌜ Answers (extendOf (r .outcome)) self (r .table) (extend (view self) (token .offset .0) (token .generation .0) now) ⌝ }
     {
-        let place = columns::find(&self.offsets, self.len, token.offset.0);
+        let place = tables::find(&self.offsets, self.len, token.offset.0);
         let Place::Found(at) = place else {
             return Extended {
                 outcome: ExtendOutcome::Fenced,
@@ -545,7 +545,7 @@ impl LeaseTable {
         requires { ⌜ Sound self ⌝ }
         ensures { λ r. ⌜ Answers (nackOf (r .outcome)) self (r .table) (nack (view self) (token .offset .0) (token .generation .0) now «delay_nanos») ⌝ }
     {
-        let place = columns::find(&self.offsets, self.len, token.offset.0);
+        let place = tables::find(&self.offsets, self.len, token.offset.0);
         let Place::Found(at) = place else {
             return Nacked {
                 outcome: NackOutcome::Fenced,
@@ -600,7 +600,7 @@ impl LeaseTable {
         requires { ⌜ Sound self ⌝ }
         ensures { λ r. ⌜ Tries (r .changed) self (r .table) (deferRedelivery (view self) (offset .0) now «delay_nanos») ⌝ }
     {
-        let place = columns::find(&self.offsets, self.len, offset.0);
+        let place = tables::find(&self.offsets, self.len, offset.0);
         let Place::Found(at) = place else {
             return Changed {
                 changed: false,

@@ -9,8 +9,7 @@ ghost use Rattle.lease.specs.Lookup.{leaseAt};
 use crate::Attempts;
 use crate::Lease;
 use crate::LeaseTable;
-use crate::columns;
-use crate::columns::Place;
+use tables::Place;
 use types::Offset;
 
 // The lease of an offset, where it has one.
@@ -25,7 +24,7 @@ impl LeaseTable {
         requires { ⌜ Sound self ⌝ }
         ensures { λ r. ⌜ leaseAt r ≡ leaseOf (view self) (offset .0) ⌝ }
     {
-        let place = columns::find(&self.offsets, self.len, offset.0);
+        let place = tables::find(&self.offsets, self.len, offset.0);
         let Place::Found(at) = place else {
             return LeaseAt::None;
         };
@@ -37,7 +36,7 @@ impl LeaseTable {
         requires { ⌜ Sound self ⌝ }
         ensures { λ r. ⌜ attemptsOf r ≡ lookup (offset .0) (view self .carried) ⌝ }
     {
-        let place = columns::find(&self.carried_offsets, self.carried_len, offset.0);
+        let place = tables::find(&self.carried_offsets, self.carried_len, offset.0);
         let Place::Found(at) = place else {
             return Attempts::None;
         };

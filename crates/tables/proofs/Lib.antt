@@ -1,2 +1,4 @@
 pub mod Columns
+pub mod Search
+pub mod Merge
 mod Turns

@@ -1,6 +1,54 @@
 // Columns of sorted tables: arrays of numbers of which the first `len` places are in use.
 ghost use mathlib.Core.Path.{_≡_};
+ghost use Prim.Native.Nat.{min};
+ghost use lib.ListN.{take};
 ghost use Rattle.tables.specs.Columns.{putIn, takenOut};
+ghost use Rattle.tables.specs.Search.{Boundary, Placed};
+
+pub mod counts;
+
+// Where a key stands, or where it would stand.
+pub enum Place {
+    Found(usize),
+    Missing(usize),
+}
+
+// A place with no key below x at it, and one below x before it: in a sorted column, how many keys are below x. It halves the
+// range that is left.
+pub fn position(keys: &[u64], len: usize, x: u64) -> usize
+    ensures { λ r. ⌜ Boundary x (take len (now (keys .entry))) r ⌝ }
+{
+    let mut low: usize = 0;
+    let mut high = smaller(len, keys.len());
+    while low < high {
+        let mid = low + (high - low) / 2;
+        if keys[mid] < x {
+            low = mid + 1;
+        } else {
+            high = mid;
+        }
+    }
+    low
+}
+
+// Whether x stands at that place.
+pub fn find(keys: &[u64], len: usize, x: u64) -> Place
+    ensures { λ r. ⌜ Placed x (take len (now (keys .entry))) r ⌝ }
+{
+    let at = position(keys, len, x);
+    if at < smaller(len, keys.len()) {
+        if keys[at] == x {
+            return Place::Found(at);
+        }
+    }
+    Place::Missing(at)
+}
+
+fn smaller(a: usize, b: usize) -> usize
+    ensures { λ r. ⌜ r ≡ min a b ⌝ }
+{
+    if a < b { a } else { b }
+}
 
 // Puts x in at a place, what stood from there on one place further. Where there is no such place, or no room, the column
 // stays as it is.

@@ -12,7 +12,7 @@ use Rattle.tables.proofs.Columns.{taken-out-front}
 use Rattle.lease.specs.State.{view}
 use Rattle.lease.specs.Helpers.{rebuilt}
 use Rattle.lease.specs.declared.LeaseTable.{LeaseTable}
-use Rattle.lease.proofs.Slots.{nil, length-mapped, Full, Leased, holding, ascending, leased, free}
+use Rattle.lease.proofs.Slots.{nil, length-mapped, Full, Leased, holding, leased, free}
 use Rattle.lease.proofs.Tokens.{not-leased, other-generation, owned, shows-removed, ack-fenced, acked}
 use Rattle.lease.proofs.LeaseTable.ack.Statement.{statement}
 use Rattle.lease.proofs.LeaseTable.ack.Tie as tie
@@ -34,10 +34,7 @@ here : (c : tie.After-place Inv-loop μ-loop) → Leased (start c .args .t1) (st
 here c = let s = start c in leased (s .args .t1) (full s) (s .pre) (c .before .before .find .ensures) (c .place .given .1)
 
 find-requires : tie.Need-find-requires Inv-loop μ-loop
-find-requires c κs =
-    let s = c .before .before .before in
-    let f = full s in
-    (omega (arith, f .offsets, s .pre .len), ascending (s .args .t1) f (s .pre))
+find-requires c κs = search needs
 
 enum-known-place : tie.Need-enum-known-place Inv-loop μ-loop
 enum-known-place c = search needs

@@ -1,8 +1,8 @@
 -- `LeaseTable::carried` meets its contract.
 -- Assumes nothing.
+use mathlib.Core.Path.{sym}
 use borrow.Author.Needs.{needs}
-use Rattle.lease.proofs.Slots.{length-mapped, Full}
-use Rattle.lease.proofs.Searches.{carried-length}
+use Rattle.lease.proofs.Slots.{length-mapped, Full, carried-length}
 use Rattle.lease.proofs.LeaseTable.carried.Statement.{statement}
 use Rattle.lease.proofs.LeaseTable.carried.Tie as tie
 
@@ -10,7 +10,7 @@ full : (c : tie.Start) → Full (c .args .self)
 full c = record { offsets = search needs; leases = search (needs, length-mapped); carried-offsets = search needs; carried-counts = search needs }
 
 returns : tie.Need-returns
-returns c = carried-length (c .args .self) (full c) (c .pre)
+returns c = sym (carried-length (c .args .self) (full c) (c .pre))
 
 pub carried-spec : {M : Type 1} → statement M
 carried-spec = tie.close (tie.spec returns)

@@ -4,8 +4,8 @@ use native.Mathlib.Omega.{arith}
 use mathlib.Core.Path.{subst}
 use lib.ListN.{take}
 use borrow.Author.Needs.{needs}
-use Rattle.lease.specs.Helpers.{Placed}
-use Rattle.lease.proofs.Slots.{length-mapped, Full, Free, ascending, leased, free, found-at, in-flight}
+use Rattle.tables.specs.Search.{Placed}
+use Rattle.lease.proofs.Slots.{length-mapped, Full, Free, leased, free, found-at, in-flight}
 use Rattle.lease.proofs.Claims.{claim-exhausted, claim-full}
 use Rattle.lease.proofs.LeaseTable.claim.Statement.{statement}
 use Rattle.lease.proofs.LeaseTable.claim.Tie as tie
@@ -21,10 +21,7 @@ here : (c : tie.After-place2) → Free (start c .args .t1) (start c .args .offse
 here c = let s = start c in free (s .args .t1) (full s) (s .pre) (c .before .before .find .ensures) (c .place2 .given .1)
 
 find-requires : tie.Need-find-requires
-find-requires c κs =
-    let s = c .before .before .before in
-    let f = full s in
-    (omega (arith, f .offsets, s .pre .len), ascending (s .args .t1) f (s .pre))
+find-requires c κs = search needs
 
 enum-known-place : tie.Need-enum-known-place
 enum-known-place c = search needs

@@ -6,7 +6,8 @@ use mathlib.Core.Path.{refl}
 use borrow.Author.Needs.{needs}
 use borrow.Author.Tests.{lt-ltb, le-ltb}
 use Rattle.types.specs.Limits.{MAX}
-use Rattle.lease.proofs.Slots.{length-mapped, Full, Leased, placed-found, leased}
+use Rattle.tables.proofs.Search.{placed-found}
+use Rattle.lease.proofs.Slots.{length-mapped, Full, Leased, leased}
 use Rattle.lease.proofs.Claims.{claim-in-flight, claim-exhausted, claimed, count-again, granted-again}
 use Rattle.lease.proofs.LeaseTable.claim_again.Statement.{statement}
 use Rattle.lease.proofs.LeaseTable.claim_again.Tie as tie
@@ -17,7 +18,7 @@ full c = record { offsets = search needs; leases = search (needs, length-mapped)
 here : (c : tie.Start) → Leased (c .args .t1) (c .args .offset .0) (c .args .at)
 here c =
     let f = full c in
-    leased (c .args .t1) f (c .pre .0) (placed-found (c .args .offset .0) (c .args .at) (c .args .t1 .len) (c .args .t1 .offsets) (omega (arith, f .offsets, c .pre .0 .len)) (c .pre .1) (c .pre .2)) refl
+    leased (c .args .t1) f (c .pre .0) (placed-found (c .args .offset .0) (c .args .at) (c .args .t1 .len) (c .args .t1 .offsets) (omega (arith, f .offsets, c .pre .0 .len, c .pre .1)) (c .pre .2)) refl
 
 fits : (c : tie.Start) → c .args .offset .0 ≤ MAX
 fits c = omega arith

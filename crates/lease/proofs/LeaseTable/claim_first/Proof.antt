@@ -10,7 +10,7 @@ use borrow.Author.Needs.{needs}
 use Rattle.types.specs.Limits.{MAX, LEASES, CARRIED}
 use Rattle.types.proofs.Loops.{Opening, opening, opening-more, opened}
 use Rattle.tables.proofs.Columns.{put-in-front, taken-out-front}
-use Rattle.lease.specs.Operations.{afterGrant}
+use Rattle.redeliveries.specs.Counter.{afterGrant}
 use Rattle.lease.specs.declared.LeaseTable.{LeaseTable}
 use Rattle.lease.proofs.Slots.{nil, length-mapped, Full, Free, holding, free, in-flight}
 use Rattle.lease.proofs.Claims.{claimed, room-first, finished, count-first, granted-first}

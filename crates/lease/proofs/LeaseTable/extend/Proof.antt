@@ -4,7 +4,7 @@ use native.Mathlib.Omega.{arith}
 use borrow.Author.Needs.{needs}
 use Rattle.lease.specs.State.{view}
 use Rattle.lease.specs.Operations.{dueAt}
-use Rattle.lease.proofs.Slots.{length-mapped, Full, Leased, ascending, leased, free}
+use Rattle.lease.proofs.Slots.{length-mapped, Full, Leased, leased, free}
 use Rattle.lease.proofs.Tokens.{not-leased, other-generation, shows-stored, extend-fenced, extend-capped, extend-done}
 use Rattle.lease.proofs.LeaseTable.extend.Statement.{statement}
 use Rattle.lease.proofs.LeaseTable.extend.Tie as tie
@@ -20,10 +20,7 @@ here : (c : tie.After-place) → Leased (start c .args .t1) (start c .args .toke
 here c = let s = start c in leased (s .args .t1) (full s) (s .pre) (c .before .before .find .ensures) (c .place .given .1)
 
 find-requires : tie.Need-find-requires
-find-requires c κs =
-    let s = c .before .before .before in
-    let f = full s in
-    (omega (arith, f .offsets, s .pre .len), ascending (s .args .t1) f (s .pre))
+find-requires c κs = search needs
 
 enum-known-place : tie.Need-enum-known-place
 enum-known-place c = search needs

@@ -2,12 +2,10 @@
 -- Assumes nothing.
 use Prim.Native.Nat.{_≤_}
 use native.Mathlib.Omega.{arith}
-use lib.ListN.{take}
 use lib.Seq.{length-take-le}
 use borrow.Author.Needs.{needs}
-use Rattle.types.proofs.Sorted.{below-le}
 use Rattle.tables.proofs.Columns.{taken-out-front}
-use Rattle.lease.proofs.Slots.{length-mapped, Full, ascending, carried-ascending}
+use Rattle.lease.proofs.Slots.{length-mapped, Full}
 use Rattle.lease.proofs.Changes.{releases}
 use Rattle.lease.proofs.LeaseTable.release_below.Statement.{statement}
 use Rattle.lease.proofs.LeaseTable.release_below.Tie as tie
@@ -23,7 +21,7 @@ carried-within : (c : tie.After-position) → c .position .result ≤ start c .a
 carried-within c =
     let s = start c in
     let t = s .args .t1 in
-    omega (arith, c .position .ensures, below-le (s .args .up-to .0) (take (t .«carried_len») (t .«carried_offsets»)), length-take-le (t .«carried_len») (t .«carried_offsets») (omega (arith, full s .carried-offsets, s .pre .carried-len)))
+    omega (arith, c .position .ensures .inside, length-take-le (t .«carried_len») (t .«carried_offsets») (omega (arith, full s .carried-offsets, s .pre .carried-len)))
 
 abbrev second : tie.After-position2 → tie.After-position
 second c = c .before .before .before .before .before .before .before .before
@@ -32,13 +30,10 @@ within : (c : tie.After-position2) → c .position2 .result ≤ start (second c)
 within c =
     let s = start (second c) in
     let t = s .args .t1 in
-    omega (arith, c .position2 .ensures, below-le (s .args .up-to .0) (take (t .len) (t .offsets)), length-take-le (t .len) (t .offsets) (omega (arith, full s .offsets, s .pre .len)))
+    omega (arith, c .position2 .ensures .inside, length-take-le (t .len) (t .offsets) (omega (arith, full s .offsets, s .pre .len)))
 
 position-requires : tie.Need-position-requires
-position-requires c κs =
-    let s = c .before .before .before in
-    let f = full s in
-    (omega (arith, f .carried-offsets, s .pre .carried-len), carried-ascending (s .args .t1) f (s .pre))
+position-requires c κs = search needs
 
 remove-128-requires : tie.Need-remove-128-requires
 remove-128-requires c κs = search needs
@@ -50,10 +45,7 @@ sub-self : tie.Need-sub-self
 sub-self c = carried-within (c .before .before .before .before)
 
 position-requires-2 : tie.Need-position-requires-2
-position-requires-2 c κs =
-    let s = c .before .before .before .before .before .before .before .before .before .before .before in
-    let f = full s in
-    (omega (arith, f .offsets, s .pre .len), ascending (s .args .t1) f (s .pre))
+position-requires-2 c κs = search needs
 
 without-leases-requires : tie.Need-without-leases-requires
 without-leases-requires c κs = (omega arith, within c, start (second c) .pre .len)

@@ -4,7 +4,7 @@ use native.Mathlib.Omega.{arith}
 use borrow.Author.Needs.{needs}
 use Rattle.lease.specs.State.{view}
 use Rattle.lease.specs.Rest.{resealedAs}
-use Rattle.lease.proofs.Slots.{length-mapped, Full, Leased, ascending, leased, free}
+use Rattle.lease.proofs.Slots.{length-mapped, Full, Leased, leased, free}
 use Rattle.lease.proofs.Tokens.{not-leased, other-generation, owned, shows-stored}
 use Rattle.lease.proofs.Questions.{not-resealed, resealed}
 use Rattle.lease.proofs.LeaseTable.reseal_from_to.Statement.{statement}
@@ -21,10 +21,7 @@ here : (c : tie.After-place) → Leased (start c .args .t1) (start c .args .offs
 here c = let s = start c in leased (s .args .t1) (full s) (s .pre) (c .before .before .find .ensures) (c .place .given .1)
 
 find-requires : tie.Need-find-requires
-find-requires c κs =
-    let s = c .before .before .before in
-    let f = full s in
-    (omega (arith, f .offsets, s .pre .len), ascending (s .args .t1) f (s .pre))
+find-requires c κs = search needs
 
 enum-known-place : tie.Need-enum-known-place
 enum-known-place c = search needs

@@ -4,7 +4,7 @@ use Prim.Native.Nat.{_≤_, _<_}
 use native.Mathlib.Omega.{arith}
 use borrow.Author.Needs.{needs}
 use Rattle.tables.proofs.Columns.{put-in-front}
-use Rattle.lease.proofs.Slots.{ascends, found-inside, missing-inside}
+use Rattle.lease.proofs.Slots.{found-inside, missing-inside}
 use Rattle.lease.proofs.Carried.{carries-nothing, carries-anew, carries-full, carries-more}
 use Rattle.lease.proofs.columns.carry.Statement.{statement}
 use Rattle.lease.proofs.columns.carry.Tie as tie
@@ -32,9 +32,7 @@ returns c =
     carries-nothing (s .args .len) (s .args .keys .now) (s .args .counts .now) (s .pre .0) (s .pre .1) (s .pre .2) (s .pre .3) (s .args .x) (s .args .count) (c .if1 .taken)
 
 find-requires : tie.Need-find-requires
-find-requires c κs =
-    let s = start (c .before) in
-    (omega (arith, s .pre), ascends (s .args .len) (s .args .keys .now) (s .args .counts .now) (omega (arith, s .pre)) (omega (arith, s .pre)) (s .pre .3))
+find-requires c κs = search needs
 
 enum-known-place : tie.Need-enum-known-place
 enum-known-place c = search needs

@@ -3,7 +3,7 @@
 use Prim.Native.Nat.{_<_}
 use native.Mathlib.Omega.{arith}
 use borrow.Author.Needs.{needs}
-use Rattle.lease.proofs.Slots.{ascends, spans-found, spans-missing, found-inside}
+use Rattle.lease.proofs.Slots.{spans-found, spans-missing, found-inside}
 use Rattle.lease.proofs.columns.count_of.Statement.{statement}
 use Rattle.lease.proofs.columns.count_of.Tie as tie
 
@@ -16,7 +16,7 @@ inside c =
     found-inside (s .args .len) (s .args .keys .now) (s .args .counts .now) (s .pre .0) (s .pre .1) (s .pre .2) (s .args .x) (c .before .before .find .ensures) (c .place .given .1)
 
 find-requires : tie.Need-find-requires
-find-requires c κs = let s = c .before .before in (s .pre .0, ascends (s .args .len) (s .args .keys .now) (s .args .counts .now) (s .pre .0) (s .pre .1) (s .pre .2))
+find-requires c κs = search needs
 
 enum-known-place : tie.Need-enum-known-place
 enum-known-place c = search needs

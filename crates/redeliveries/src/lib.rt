@@ -2,9 +2,7 @@
 // small state of its own, lent to the functions that change it; the two with plain parameters serve whoever keeps the number
 // elsewhere.
 ghost use mathlib.Core.Path.{_≡_};
-ghost use Rattle.lease.specs.Operations.{afterGrant, afterFlush};
-ghost use Rattle.lease.specs.Redeliveries.{counter};
-use crate::saturating_next;
+ghost use Rattle.redeliveries.specs.Counter.{afterGrant, afterFlush, counter};
 
 #[repr(C)]
 pub struct Redeliveries {
@@ -51,8 +49,11 @@ pub fn after_flush(since_flush: u32) -> u32
 fn raised(since_flush: u32, deliveries: u32) -> u32
     ensures { λ r. ⌜ r ≡ afterGrant «since_flush» deliveries ⌝ }
 {
-    if 2 <= deliveries {
-        return saturating_next(since_flush);
+    if deliveries < 2 {
+        return since_flush;
     }
-    since_flush
+    if since_flush == 4294967295 {
+        return since_flush;
+    }
+    since_flush + 1
 }

@@ -38,19 +38,18 @@ use denote.Triple.Spec.{Meets, tripleOf}
 use denote.Triple.Table.{entered, cited}
 use denote.Triple.Walked.{says, Stays, stay-ref, stay-dropped, walkOf, AllGo, goes-dropped, goes-ref, Walks, ends-at, walked, walk-meets}
 use denote.Exit.{yes}
-use Rattle.lease.specs.declared.redeliveries.Redeliveries.{Redeliveries}
-use Rattle.lease.specs.Operations.{afterGrant}
-use Rattle.lease.specs.Redeliveries.{counter}
-use Rattle.lease.proofs.redeliveries.Redeliveries as T
-use Rattle.lease.proofs.redeliveries.Redeliveries.Laws as T′
-use Rattle.lease.proofs.redeliveries.raised as raised
-use Rattle.lease.proofs.redeliveries.raised.Symbol as raised-def
-use Rattle.lease.proofs.redeliveries.raised.Symbol.{name as #raised}
-use Rattle.lease.proofs.redeliveries.raised.Met as raised-thm
-use Rattle.lease.proofs.redeliveries.note_grant.Key.{name as #note-grant}
-use Rattle.lease.proofs.redeliveries.note_grant as f
-use Rattle.lease.proofs.redeliveries.note_grant.Statement as stated
-use Rattle.lease.proofs.redeliveries.note_grant.Code as code
+use Rattle.redeliveries.specs.declared.Redeliveries.{Redeliveries}
+use Rattle.redeliveries.specs.Counter.{afterGrant, counter}
+use Rattle.redeliveries.proofs.Redeliveries as T
+use Rattle.redeliveries.proofs.Redeliveries.Laws as T′
+use Rattle.redeliveries.proofs.raised as raised
+use Rattle.redeliveries.proofs.raised.Symbol as raised-def
+use Rattle.redeliveries.proofs.raised.Symbol.{name as #raised}
+use Rattle.redeliveries.proofs.raised.Met as raised-thm
+use Rattle.redeliveries.proofs.note_grant.Key.{name as #note-grant}
+use Rattle.redeliveries.proofs.note_grant as f
+use Rattle.redeliveries.proofs.note_grant.Statement as stated
+use Rattle.redeliveries.proofs.note_grant.Code as code
 
 abbrev Arg : Type 0
 Arg = RefT Redeliveries × (ℕ × Unit {0})
@@ -147,4 +146,4 @@ note-grant-spec 𝓤 H 𝓜 𝓖 𝓡 =
     entered 𝓤 H (tripleOf 𝓤 H (𝓖 .A) f.signature (f.spec 𝓤 H (𝓖 .A) (𝓜 .mem) (𝓡 .run)))
     (tables 𝓤 H 𝓜 𝓡 code.env .C) (tables 𝓤 H 𝓜 𝓡 code.env .Λ) #note-grant code.function (code.unfolded 𝓤 H 𝓜 𝓡)
     (meets 𝓤 H (𝓖 .A) (givenOf 𝓤 H 𝓜 𝓖) (𝓜 .mem) (𝓡 .run) (tablesOf 𝓤 H 𝓜 (tables 𝓤 H 𝓜 𝓡 code.env))
-    (cited 𝓤 H (Raised 𝓤 H (𝓖 .A) (𝓜 .mem) (𝓡 .run)) 𝓜 𝓡 code.env #raised raised-def.routine code.calls-lease·redeliveries·raised (raised-thm.met 𝓤 H 𝓜 𝓖 𝓡)))
+    (cited 𝓤 H (Raised 𝓤 H (𝓖 .A) (𝓜 .mem) (𝓡 .run)) 𝓜 𝓡 code.env #raised raised-def.routine code.calls-redeliveries·raised (raised-thm.met 𝓤 H 𝓜 𝓖 𝓡)))

@@ -33,14 +33,14 @@ use denote.Triple.Entry.{onEntry}
 use denote.Triple.Spec.{Meets, tripleOf}
 use denote.Triple.Table.{entered}
 use denote.Triple.Walked.{says, Stays, stay-ref, walkOf, AllGo, goes-ref, Walks, ends-at, walked, walk-meets}
-use Rattle.lease.specs.declared.redeliveries.Redeliveries.{Redeliveries}
-use Rattle.lease.specs.Redeliveries.{counter}
-use Rattle.lease.proofs.redeliveries.Redeliveries as T
-use Rattle.lease.proofs.redeliveries.Redeliveries.Laws as T′
-use Rattle.lease.proofs.redeliveries.note_flushed.Key.{name as #note-flushed}
-use Rattle.lease.proofs.redeliveries.note_flushed as f
-use Rattle.lease.proofs.redeliveries.note_flushed.Statement as stated
-use Rattle.lease.proofs.redeliveries.note_flushed.Code as code
+use Rattle.redeliveries.specs.declared.Redeliveries.{Redeliveries}
+use Rattle.redeliveries.specs.Counter.{counter}
+use Rattle.redeliveries.proofs.Redeliveries as T
+use Rattle.redeliveries.proofs.Redeliveries.Laws as T′
+use Rattle.redeliveries.proofs.note_flushed.Key.{name as #note-flushed}
+use Rattle.redeliveries.proofs.note_flushed as f
+use Rattle.redeliveries.proofs.note_flushed.Statement as stated
+use Rattle.redeliveries.proofs.note_flushed.Code as code
 
 abbrev Arg : Type 0
 Arg = RefT Redeliveries × Unit {0}

@@ -1,0 +1,141 @@
+// Two sorted lists of attempt counts in one.
+ghost use mathlib.Core.Path.{_≡_};
+ghost use Prim.Native.Nat.{max};
+ghost use lib.ListN.{take, drop};
+ghost use Rattle.types.specs.Keyed.{entries};
+ghost use Rattle.types.specs.Lists.{entryOf, countsIn, ListsCounts};
+ghost use Rattle.tables.specs.Merge.{merge, first, headOf, lower, picked};
+use types::Pair;
+use types::lent::AttemptCounts;
+
+// What stands at a place of two columns, if they go so far.
+pub(crate) enum Head {
+    Some(Pair),
+    None,
+}
+
+// The first pair of two lists, and how many of each it takes; of both empty, zeros.
+pub(crate) struct Pick {
+    pub offset: u64,
+    pub attempt: u32,
+    pub left: usize,
+    pub right: usize,
+}
+
+// Merges counts with those in the first `len` places of two columns, the larger count where an offset stands in both: the first
+// 192 of them.
+pub fn merged<'a>(
+    counts: AttemptCounts,
+    others: &'a [u64],
+    other_counts: &'a [u32],
+    len: usize,
+) -> AttemptCounts
+    ensures { λ r. ⌜ ListsCounts r (take 192 (merge (countsIn counts) (entries (take len (now (others .entry))) (take len (now («other_counts» .entry)))))) ⌝ }
+{
+    let mut offsets = [0u64; 192];
+    let mut attempts = [0u32; 192];
+    let mut i: usize = 0;
+    let mut j: usize = 0;
+    let mut k: usize = 0;
+    let mut end: usize = 192;
+    while k < end {
+        let left = pair_at(&counts.offsets, &counts.attempts, counts.len, i);
+        let right = pair_at(others, other_counts, len, j);
+        let next = next_of(left, right);
+        if next.left + next.right == 0 {
+            end = k;
+        } else {
+            offsets[k] = next.offset;
+            attempts[k] = next.attempt;
+            i += next.left;
+            j += next.right;
+            k += 1;
+        }
+    }
+    AttemptCounts {
+        offsets: offsets,
+        attempts: attempts,
+        len: k,
+    }
+}
+
+fn pair_at<'a>(keys: &'a [u64], counts: &'a [u32], len: usize, i: usize) -> Head
+    ensures { λ r. ⌜ headOf r ≡ first (drop i (entries (take len (now (keys .entry))) (take len (now (counts .entry))))) ⌝ }
+{
+    if len <= i {
+        return Head::None;
+    }
+    if keys.len() <= i {
+        return Head::None;
+    }
+    if counts.len() <= i {
+        return Head::None;
+    }
+    Head::Some(Pair {
+        offset: keys[i],
+        attempt: counts[i],
+    })
+}
+
+fn next_of(left: Head, right: Head) -> Pick
+    ensures { λ r. ⌜ r ≡ picked (headOf left) (headOf right) ⌝ }
+{
+    match left {
+        Head::Some(a) => match right {
+            Head::Some(b) => pick_lower(a, b),
+            Head::None => Pick {
+                offset: a.offset,
+                attempt: a.attempt,
+                left: 1,
+                right: 0,
+            },
+        },
+        Head::None => match right {
+            Head::Some(b) => Pick {
+                offset: b.offset,
+                attempt: b.attempt,
+                left: 0,
+                right: 1,
+            },
+            Head::None => Pick {
+                offset: 0,
+                attempt: 0,
+                left: 0,
+                right: 0,
+            },
+        },
+    }
+}
+
+fn pick_lower(a: Pair, b: Pair) -> Pick
+    ensures { λ r. ⌜ r ≡ lower (entryOf a) (entryOf b) ⌝ }
+{
+    if a.offset < b.offset {
+        return Pick {
+            offset: a.offset,
+            attempt: a.attempt,
+            left: 1,
+            right: 0,
+        };
+    }
+    if b.offset < a.offset {
+        return Pick {
+            offset: b.offset,
+            attempt: b.attempt,
+            left: 0,
+            right: 1,
+        };
+    }
+    Pick {
+        offset: a.offset,
+        attempt: larger(b.attempt, a.attempt),
+        left: 1,
+        right: 1,
+    }
+}
+
+fn larger(a: u32, b: u32) -> u32
+    ensures { λ r. ⌜ r ≡ max a b ⌝ }
+{
+    if a < b { b } else { a }
+}
