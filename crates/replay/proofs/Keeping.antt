@@ -3,8 +3,9 @@ use Prim.Native.Nat.{ℕ}
 use mathlib.Core.Path.{_≡_}
 use Rattle.text.specs.Lines.{Within}
 use Rattle.text.specs.declared.lines.Input.{Input}
-use Rattle.replay.specs.Session.{Ready, Going}
-use Rattle.replay.specs.declared.session.Session.{Session}
+use Rattle.session.specs.Session.{Ready}
+use Rattle.session.specs.declared.Session.{Session}
+use Rattle.replay.specs.Running.{Going}
 use Rattle.replay.specs.declared.State.{State}
 
 pub going : {buf area : ℕ} {r : State} {i : Input} {s : Session} → (r .input ≡ i) × (r .session ≡ s) → Within buf i → Ready area s → Going buf area r

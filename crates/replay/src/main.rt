@@ -2,17 +2,13 @@
 // an answer line for each; the crate `script` has the lines, README.md how to use it.
 ghost use mathlib.Core.Path.{_≡_};
 ghost use lib.ListN.{length};
-ghost use Rattle.replay.specs.Session.{Going};
+ghost use Rattle.replay.specs.Running.{Going};
 use libc::STDIN_FILENO;
 use session::Session;
 use text::lines;
 use text::lines::Found;
 use text::lines::Input;
 use text::output;
-
-mod blocks;
-mod print;
-mod session;
 
 // The input, how many bytes of answers wait, and what is being run; or the input has ended.
 struct State {
@@ -54,7 +50,7 @@ fn turn<'a>(buf: &'a mut [u8], out: &'a mut [u8], area: &'a mut [u8], state: Sta
     let found = taken.found;
     match found {
         Found::Line { from, to } => {
-            let done = session::answer(&buf[from..to], session, area, out, at);
+            let done = commands::answer(&buf[from..to], session, area, out, at);
             let after = done.session;
             next(input, done.at, after, false)
         }

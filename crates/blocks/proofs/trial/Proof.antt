@@ -1,0 +1,49 @@
+-- `trial` is safe and ends. Assumes nothing.
+use native.Mathlib.Omega.{arith}
+use mathlib.Core.Path.{sym}
+use lib.ListN.{length}
+use lib.Seq.{length-take-le}
+use borrow.Author.Needs.{needs}
+use Rattle.blocks.proofs.trial.Statement.{statement}
+use Rattle.blocks.proofs.trial.Tie as tie
+
+returns : tie.Need-returns
+returns c = search needs
+
+copy-requires : tie.Need-copy-requires
+copy-requires c κs = search needs
+
+slice-relend-prefix-call : tie.Need-slice-relend-prefix-call
+slice-relend-prefix-call c = search needs
+
+slice-aggregate-call : tie.Need-slice-aggregate-call
+slice-aggregate-call c = sym (length-take-le (length (c .before .before .before .before .before .before .before .before .args .area .now)) (c .before .before .before .copy .last .1 .0) (omega arith))
+
+slice-aggregate-call-2 : tie.Need-slice-aggregate-call-2
+slice-aggregate-call-2 c = search needs
+
+call-requires : tie.Need-call-requires
+call-requires c κs = search needs
+
+written-requires : tie.Need-written-requires
+written-requires c κs = search needs
+
+same-length : tie.Need-same-length
+same-length c = search needs
+
+returns-2 : tie.Need-returns-2
+returns-2 c = search needs
+
+pub trial-spec : {M : Type 1} → statement M
+trial-spec =
+    tie.close
+    (tie.spec
+    returns
+    copy-requires
+    slice-relend-prefix-call
+    slice-aggregate-call
+    slice-aggregate-call-2
+    call-requires
+    written-requires
+    same-length
+    returns-2)
