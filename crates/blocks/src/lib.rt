@@ -3,6 +3,7 @@ ghost use mathlib.Core.Path.{_≡_};
 ghost use lib.ListN.{length};
 ghost use Rattle.machine.specs.View.{Sound};
 ghost use Rattle.session.specs.Session.{Ready};
+ghost use Rattle.blocks.specs.Cuts.{writtenBy, kindOf};
 use consumer::checkpoint::StepAnswer;
 use machine::Machine;
 use machine::calls::Call;
@@ -12,18 +13,6 @@ use script::Cut;
 use session::Done;
 use session::Session;
 use session::says;
-
-// Copies what both have room for.
-fn copy(from: &[u8], to: &mut [u8]) {
-    let mut i: usize = 0;
-    while i < from.len() {
-        if to.len() <= i {
-            return;
-        }
-        to[i] = from[i];
-        i += 1;
-    }
-}
 
 // The place of a byte of the journal; the largest number where it has no such byte.
 fn place_of(session: Session, block: u64, byte: u64) -> usize {
@@ -104,7 +93,9 @@ pub fn state(session: Session, out: &mut [u8], at: usize) -> Done
 }
 
 // The block that a step wrote, or 128, which no journal has.
-fn written(answer: CallAnswer) -> usize {
+fn written(answer: CallAnswer) -> usize
+    ensures { λ r. ⌜ r ≡ writtenBy answer ⌝ }
+{
     let CallAnswer::Stepped(step) = answer else {
         return 128;
     };
@@ -115,7 +106,9 @@ fn written(answer: CallAnswer) -> usize {
     }
 }
 
-fn kind_of(cut: Cut) -> Kind {
+fn kind_of(cut: Cut) -> Kind
+    ensures { λ r. ⌜ r ≡ kindOf cut ⌝ }
+{
     match cut {
         Cut::Old => Kind::Old,
         Cut::New => Kind::New,
@@ -130,10 +123,11 @@ fn torn_block(written: &[u8], block: usize) -> [u8; 512] {
         return torn;
     }
     let from = block * 512;
-    if written.len() < from {
+    let to = from + 512;
+    if written.len() < to {
         return torn;
     }
-    copy(&written[from..], &mut torn);
+    raw::write_bytes(&mut torn, 0, &written[from..to]);
     torn[511] = std::num::wrapping_add_u8(torn[511], 1);
     torn
 }
@@ -146,7 +140,7 @@ fn trial(machine: Machine, area: &[u8], copied: &mut [u8]) -> usize
     if copied.len() < n {
         return 128;
     }
-    copy(area, copied);
+    raw::write_bytes(copied, 0, area);
     let mut list = [0u64; 1];
     let done = machine::call(machine, Call::Step, &mut copied[..n], &mut list);
     let answer = done.answer;

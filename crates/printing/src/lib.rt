@@ -1,4 +1,10 @@
 // The answer lines.
+ghost use Rattle.consumer.specs.View.{claimOf, settleOf, nackOf, progressOf, commitOf};
+ghost use Rattle.consumer.specs.Writing.{stepOf};
+ghost use Rattle.machine.specs.Answers.{begunOf};
+ghost use Rattle.text.specs.Output.{ascii, Says};
+ghost use Rattle.shown.specs.Shown.{numberLine};
+ghost use Rattle.printing.specs.Lines.{lineOf, tokenLine, handOutLine, settledLine, movedLine, waitingLine, replyLine, askLine, wroteLine, restartLine, callLine, blockLine};
 use consumer::calls::ClaimAnswer;
 use consumer::calls::CommitAnswer;
 use consumer::calls::NackAnswer;
@@ -18,13 +24,17 @@ use text::output::put;
 use text::output::put_hex;
 use types::lent::Listed;
 
-fn handed_out(out: &mut [u8], at: usize, text: &[u8], token: LeaseToken, deliveries: u32) -> usize {
+fn handed_out(out: &mut [u8], at: usize, text: &[u8], token: LeaseToken, deliveries: u32) -> usize
+    ensures { λ r. ⌜ Says (tokenLine (now (text .entry)) (token .offset .0) (token .generation .0) deliveries) at (now (out .entry)) r (now (out .exit)) ⌝ }
+{
     let offset = with(out, at, text, token.offset.0);
     let generation = with(out, offset, b" ", token.generation.0);
     numbered(out, generation, b" ", deliveries as u64)
 }
 
-fn claimed(out: &mut [u8], at: usize, answer: ClaimAnswer) -> usize {
+fn claimed(out: &mut [u8], at: usize, answer: ClaimAnswer) -> usize
+    ensures { λ r. ⌜ Says (lineOf handOutLine (claimOf answer)) at (now (out .entry)) r (now (out .exit)) ⌝ }
+{
     match answer {
         ClaimAnswer::Deliver { token, deliveries } => {
             handed_out(out, at, b"deliver ", token, deliveries)
@@ -36,28 +46,36 @@ fn claimed(out: &mut [u8], at: usize, answer: ClaimAnswer) -> usize {
     }
 }
 
-fn settled(out: &mut [u8], at: usize, answer: SettleAnswer) -> usize {
+fn settled(out: &mut [u8], at: usize, answer: SettleAnswer) -> usize
+    ensures { λ r. ⌜ Says (lineOf settledLine (settleOf answer)) at (now (out .entry)) r (now (out .exit)) ⌝ }
+{
     let SettleAnswer::Settled = answer else {
         return refused(out, at, answers::of_settle(answer));
     };
     put(out, at, b"settled\n")
 }
 
-fn nacked(out: &mut [u8], at: usize, answer: NackAnswer) -> usize {
+fn nacked(out: &mut [u8], at: usize, answer: NackAnswer) -> usize
+    ensures { λ r. ⌜ Says (lineOf (numberLine (ascii "requeued ")) (nackOf answer)) at (now (out .entry)) r (now (out .exit)) ⌝ }
+{
     let NackAnswer::Requeued { deadline } = answer else {
         return refused(out, at, answers::of_nack(answer));
     };
     numbered(out, at, b"requeued ", deadline)
 }
 
-fn extended(out: &mut [u8], at: usize, answer: ProgressAnswer) -> usize {
+fn extended(out: &mut [u8], at: usize, answer: ProgressAnswer) -> usize
+    ensures { λ r. ⌜ Says (lineOf (numberLine (ascii "extended ")) (progressOf answer)) at (now (out .entry)) r (now (out .exit)) ⌝ }
+{
     let ProgressAnswer::Extended { deadline } = answer else {
         return refused(out, at, answers::of_progress(answer));
     };
     numbered(out, at, b"extended ", deadline)
 }
 
-fn committed(out: &mut [u8], at: usize, answer: CommitAnswer) -> usize {
+fn committed(out: &mut [u8], at: usize, answer: CommitAnswer) -> usize
+    ensures { λ r. ⌜ Says (lineOf movedLine (commitOf answer)) at (now (out .entry)) r (now (out .exit)) ⌝ }
+{
     match answer {
         CommitAnswer::Committed => put(out, at, b"committed\n"),
         CommitAnswer::Unchanged => put(out, at, b"unchanged\n"),
@@ -65,31 +83,37 @@ fn committed(out: &mut [u8], at: usize, answer: CommitAnswer) -> usize {
     }
 }
 
-// The first n offsets of a list.
-fn waiting(out: &mut [u8], at: usize, list: &[u64], n: usize) -> usize {
+// A list of offsets.
+fn waiting(out: &mut [u8], at: usize, list: &[u64]) -> usize
+    ensures { λ r. ⌜ Says (waitingLine (now (list .entry))) at (now (out .entry)) r (now (out .exit)) ⌝ }
+{
     let mut next = put(out, at, b"waiting");
     let mut i: usize = 0;
-    while i < n {
-        if list.len() <= i {
-            break;
-        }
+    while i < list.len() {
         next = with(out, next, b" ", list[i]);
         i += 1;
     }
     put(out, next, b"\n")
 }
 
-fn looked(out: &mut [u8], at: usize, reply: Reply, list: &[u64]) -> usize {
+fn looked(out: &mut [u8], at: usize, reply: Reply, list: &[u64]) -> usize
+    ensures { λ r. ⌜ Says (replyLine reply (now (list .entry))) at (now (out .entry)) r (now (out .exit)) ⌝ }
+{
     let Reply::Waiting(listed) = reply else {
         return put(out, at, b"not now\n");
     };
     let Listed::Filled(n) = listed else {
-        return put(out, at, b"refused 20\n");
+        return numbered(out, at, b"refused ", 20);
     };
-    waiting(out, at, list, n)
+    if list.len() < n {
+        return waiting(out, at, list);
+    }
+    waiting(out, at, &list[..n])
 }
 
-fn asked(out: &mut [u8], at: usize, answer: AskAnswer, list: &[u64]) -> usize {
+fn asked(out: &mut [u8], at: usize, answer: AskAnswer, list: &[u64]) -> usize
+    ensures { λ r. ⌜ Says (askLine answer (now (list .entry))) at (now (out .entry)) r (now (out .exit)) ⌝ }
+{
     match answer {
         AskAnswer::Claimed(claim) => claimed(out, at, claim),
         AskAnswer::Acked(settle) => settled(out, at, settle),
@@ -101,14 +125,18 @@ fn asked(out: &mut [u8], at: usize, answer: AskAnswer, list: &[u64]) -> usize {
     }
 }
 
-fn begun(out: &mut [u8], at: usize, answer: BeginAnswer) -> usize {
+fn begun(out: &mut [u8], at: usize, answer: BeginAnswer) -> usize
+    ensures { λ r. ⌜ Says (lineOf (numberLine (ascii "begun ")) (begunOf answer)) at (now (out .entry)) r (now (out .exit)) ⌝ }
+{
     let BeginAnswer::Begun { writes } = answer else {
         return refused(out, at, answers::of_begin(answer));
     };
     numbered(out, at, b"begun ", writes as u64)
 }
 
-fn stepped(out: &mut [u8], at: usize, answer: StepAnswer) -> usize {
+fn stepped(out: &mut [u8], at: usize, answer: StepAnswer) -> usize
+    ensures { λ r. ⌜ Says (lineOf wroteLine (stepOf answer)) at (now (out .entry)) r (now (out .exit)) ⌝ }
+{
     match answer {
         StepAnswer::Wrote { block } => numbered(out, at, b"wrote ", block as u64),
         StepAnswer::Finished { block } => numbered(out, at, b"done ", block as u64),
@@ -116,7 +144,9 @@ fn stepped(out: &mut [u8], at: usize, answer: StepAnswer) -> usize {
     }
 }
 
-fn restarted(out: &mut [u8], at: usize, answer: StartAnswer) -> usize {
+fn restarted(out: &mut [u8], at: usize, answer: StartAnswer) -> usize
+    ensures { λ r. ⌜ Says (restartLine answer) at (now (out .entry)) r (now (out .exit)) ⌝ }
+{
     let StartAnswer::Started = answer else {
         return refused(out, at, answers::of_start(answer));
     };
@@ -124,7 +154,9 @@ fn restarted(out: &mut [u8], at: usize, answer: StartAnswer) -> usize {
 }
 
 // The answer to a call; `list` has the waiting list.
-pub fn answer(out: &mut [u8], at: usize, answer: CallAnswer, list: &[u64]) -> usize {
+pub fn answer(out: &mut [u8], at: usize, answer: CallAnswer, list: &[u64]) -> usize
+    ensures { λ r. ⌜ Says (callLine answer (now (list .entry))) at (now (out .entry)) r (now (out .exit)) ⌝ }
+{
     match answer {
         CallAnswer::Asked(ask) => asked(out, at, ask, list),
         CallAnswer::Begun(begin) => begun(out, at, begin),
@@ -135,7 +167,9 @@ pub fn answer(out: &mut [u8], at: usize, answer: CallAnswer, list: &[u64]) -> us
 }
 
 // The hexadecimal digits of a block.
-pub fn block(out: &mut [u8], at: usize, bytes: &[u8]) -> usize {
+pub fn block(out: &mut [u8], at: usize, bytes: &[u8]) -> usize
+    ensures { λ r. ⌜ Says (blockLine (now (bytes .entry))) at (now (out .entry)) r (now (out .exit)) ⌝ }
+{
     let mut next = put(out, at, b"block ");
     let mut i: usize = 0;
     while i < bytes.len() {

@@ -1,7 +1,7 @@
 // What is being run by a script: a machine with its journal in a lent area, its start, and its calls, each with its answer line.
 ghost use mathlib.Core.Path.{_≡_};
 ghost use Prim.Native.Nat.{ℕ, _≤_};
-ghost use lib.ListN.{length};
+ghost use lib.ListN.{length, replicate};
 ghost use Rattle.session.specs.Session.{Ready};
 use consumer::Settings;
 use consumer::starts::StartAnswer;
@@ -75,7 +75,9 @@ pub fn says(session: Session, out: &mut [u8], at: usize, text: &[u8]) -> Done
 }
 
 // Fills with zeros.
-fn clear(bytes: &mut [u8]) {
+fn clear(bytes: &mut [u8])
+    ensures { λ _. ⌜ now (bytes .exit) ≡ replicate (length (now (bytes .entry))) 0 ⌝ }
+{
     let mut i: usize = 0;
     while i < bytes.len() {
         bytes[i] = 0;

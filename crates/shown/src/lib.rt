@@ -1,4 +1,12 @@
 // What the programs print alike: refusals, and the state of a consumer.
+ghost use mathlib.Core.Path.{_≡_};
+ghost use mathlib.Core.List.{[], _∷_};
+ghost use Rattle.types.specs.Keyed.{entry};
+ghost use Rattle.lease.specs.State.{leasesOf, carriedOf};
+ghost use Rattle.consumer.specs.View.{view};
+ghost use Rattle.answers.specs.Told.{toldOf};
+ghost use Rattle.text.specs.Output.{Says};
+ghost use Rattle.shown.specs.Shown.{textNumber, numberLine, valueWhere, refusalLine, mark, noneWhere, rangesText, aheadOf, leaseText, leasesText, carriedText, numbersText, stateLine};
 use answers::Told;
 use consumer::Consumer;
 use cursor::AckCursor;
@@ -8,27 +16,35 @@ use text::output::put;
 use text::output::put_number;
 
 // A text and a number behind it.
-pub fn with(out: &mut [u8], at: usize, text: &[u8], n: u64) -> usize {
+pub fn with(out: &mut [u8], at: usize, text: &[u8], n: u64) -> usize
+    ensures { λ r. ⌜ Says (textNumber (now (text .entry)) n) at (now (out .entry)) r (now (out .exit)) ⌝ }
+{
     let next = put(out, at, text);
     put_number(out, next, n)
 }
 
 // A line of a text and a number.
-pub fn numbered(out: &mut [u8], at: usize, text: &[u8], n: u64) -> usize {
+pub fn numbered(out: &mut [u8], at: usize, text: &[u8], n: u64) -> usize
+    ensures { λ r. ⌜ Says (numberLine (now (text .entry)) n) at (now (out .entry)) r (now (out .exit)) ⌝ }
+{
     let next = with(out, at, text, n);
     put(out, next, b"\n")
 }
 
 // A value behind a space, where it is there.
-pub fn value(out: &mut [u8], at: usize, there: bool, n: u64) -> usize {
-    if !there {
-        return at;
+pub fn value(out: &mut [u8], at: usize, there: bool, n: u64) -> usize
+    ensures { λ r. ⌜ Says (valueWhere there n) at (now (out .entry)) r (now (out .exit)) ⌝ }
+{
+    if there {
+        return with(out, at, b" ", n);
     }
-    with(out, at, b" ", n)
+    at
 }
 
 // A refusal: 01's number and values.
-pub fn refused(out: &mut [u8], at: usize, told: Told) -> usize {
+pub fn refused(out: &mut [u8], at: usize, told: Told) -> usize
+    ensures { λ r. ⌜ Says (refusalLine (toldOf told)) at (now (out .entry)) r (now (out .exit)) ⌝ }
+{
     let number = with(out, at, b"refused ", told.number);
     let first = value(out, number, 0 < told.count, told.first);
     let second = value(out, first, 1 < told.count, told.second);
@@ -36,14 +52,18 @@ pub fn refused(out: &mut [u8], at: usize, told: Told) -> usize {
 }
 
 // What stands in front of entry i of a list, and what an empty list is.
-fn before(out: &mut [u8], at: usize, i: usize) -> usize {
+fn before(out: &mut [u8], at: usize, i: usize) -> usize
+    ensures { λ r. ⌜ Says (mark i ∷ []) at (now (out .entry)) r (now (out .exit)) ⌝ }
+{
     if i == 0 {
         return put(out, at, b" ");
     }
     put(out, at, b",")
 }
 
-fn or_none(out: &mut [u8], at: usize, n: usize) -> usize {
+fn or_none(out: &mut [u8], at: usize, n: usize) -> usize
+    ensures { λ r. ⌜ Says (noneWhere n) at (now (out .entry)) r (now (out .exit)) ⌝ }
+{
     if n == 0 {
         return put(out, at, b" none");
     }
@@ -51,7 +71,9 @@ fn or_none(out: &mut [u8], at: usize, n: usize) -> usize {
 }
 
 // The ranges ahead of committed.
-pub fn ranges(out: &mut [u8], at: usize, cursor: AckCursor) -> usize {
+pub fn ranges(out: &mut [u8], at: usize, cursor: AckCursor) -> usize
+    ensures { λ r. ⌜ Says (rangesText (aheadOf cursor)) at (now (out .entry)) r (now (out .exit)) ⌝ }
+{
     let mut next = put(out, at, b" ranges");
     next = or_none(out, next, cursor.runs);
     let mut i: usize = 0;
@@ -67,7 +89,9 @@ pub fn ranges(out: &mut [u8], at: usize, cursor: AckCursor) -> usize {
     next
 }
 
-fn lease(out: &mut [u8], at: usize, offset: u64, lease: Lease) -> usize {
+fn lease(out: &mut [u8], at: usize, offset: u64, lease: Lease) -> usize
+    ensures { λ r. ⌜ Says (leaseText (entry offset lease)) at (now (out .entry)) r (now (out .exit)) ⌝ }
+{
     let mut next = put_number(out, at, offset);
     next = with(out, next, b":", lease.generation.0);
     next = with(out, next, b":", lease.attempt_start);
@@ -75,7 +99,9 @@ fn lease(out: &mut [u8], at: usize, offset: u64, lease: Lease) -> usize {
     with(out, next, b":", lease.deliveries as u64)
 }
 
-fn leases(out: &mut [u8], at: usize, table: LeaseTable) -> usize {
+fn leases(out: &mut [u8], at: usize, table: LeaseTable) -> usize
+    ensures { λ r. ⌜ Says (leasesText (leasesOf table)) at (now (out .entry)) r (now (out .exit)) ⌝ }
+{
     let mut next = put(out, at, b" leases");
     next = or_none(out, next, table.len);
     let mut i: usize = 0;
@@ -91,11 +117,15 @@ fn leases(out: &mut [u8], at: usize, table: LeaseTable) -> usize {
 }
 
 // A u32 as a u64.
-fn wide(x: u32) -> u64 {
+fn wide(x: u32) -> u64
+    ensures { λ r. ⌜ r ≡ x ⌝ }
+{
     x as u64
 }
 
-fn carried(out: &mut [u8], at: usize, table: LeaseTable) -> usize {
+fn carried(out: &mut [u8], at: usize, table: LeaseTable) -> usize
+    ensures { λ r. ⌜ Says (carriedText (carriedOf table)) at (now (out .entry)) r (now (out .exit)) ⌝ }
+{
     let mut next = put(out, at, b" carried");
     next = or_none(out, next, table.carried_len);
     let mut i: usize = 0;
@@ -112,7 +142,9 @@ fn carried(out: &mut [u8], at: usize, table: LeaseTable) -> usize {
 }
 
 // Generations, the redelivery counter, and where the next group goes.
-fn numbers(out: &mut [u8], at: usize, consumer: Consumer) -> usize {
+fn numbers(out: &mut [u8], at: usize, consumer: Consumer) -> usize
+    ensures { λ r. ⌜ Says (numbersText (view consumer)) at (now (out .entry)) r (now (out .exit)) ⌝ }
+{
     let mut next = with(out, at, b" next ", consumer.table.next_generation.0);
     next = with(out, next, b" ceiling ", consumer.ceiling.0);
     next = with(
@@ -126,7 +158,9 @@ fn numbers(out: &mut [u8], at: usize, consumer: Consumer) -> usize {
 }
 
 // The whole state.
-pub fn state(out: &mut [u8], at: usize, consumer: Consumer) -> usize {
+pub fn state(out: &mut [u8], at: usize, consumer: Consumer) -> usize
+    ensures { λ r. ⌜ Says (stateLine (view consumer)) at (now (out .entry)) r (now (out .exit)) ⌝ }
+{
     let cursor = consumer.cursor;
     let table = consumer.table;
     let mut next = with(out, at, b"state committed ", cursor.committed);

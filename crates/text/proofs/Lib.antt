@@ -1,3 +1,4 @@
 pub mod Parsing
 mod Taking
-mod Putting
+pub mod Putting
+mod Digits

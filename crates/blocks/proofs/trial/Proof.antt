@@ -10,14 +10,14 @@ use Rattle.blocks.proofs.trial.Tie as tie
 returns : tie.Need-returns
 returns c = search needs
 
-copy-requires : tie.Need-copy-requires
-copy-requires c κs = search needs
+write-bytes-requires : tie.Need-write-bytes-requires
+write-bytes-requires c κs = search needs
 
 slice-relend-prefix-call : tie.Need-slice-relend-prefix-call
 slice-relend-prefix-call c = search needs
 
 slice-aggregate-call : tie.Need-slice-aggregate-call
-slice-aggregate-call c = sym (length-take-le (length (c .before .before .before .before .before .before .before .before .args .area .now)) (c .before .before .before .copy .last .1 .0) (omega arith))
+slice-aggregate-call c = sym (length-take-le (length (c .before .before .before .before .before .before .before .before .args .area .now)) (c .before .before .before .write-bytes .last .0) (omega arith))
 
 slice-aggregate-call-2 : tie.Need-slice-aggregate-call-2
 slice-aggregate-call-2 c = search needs
@@ -39,7 +39,7 @@ trial-spec =
     tie.close
     (tie.spec
     returns
-    copy-requires
+    write-bytes-requires
     slice-relend-prefix-call
     slice-aggregate-call
     slice-aggregate-call-2

@@ -1,14 +1,17 @@
--- `block` is safe and ends. Assumes nothing.
-use Prim.Native.Nat.{_-_}
+-- `block` meets its contract. The loop's invariant: the elements from i on are left to put. Assumes nothing.
+use Prim.Native.Nat.{_-_, _≤_}
 use native.Mathlib.Omega.{arith}
 use mathlib.Core.Path.{_≡_, refl}
-use lib.ListN.{length}
+use lib.ListN.{length, drop-of-length-le}
+use Rattle.text.proofs.Parsing.{drop-next}
+use Rattle.text.proofs.Putting.{says-then, Left, left-all, left-next, left-none}
+use Rattle.printing.specs.Lines.{byteText}
 use borrow.Author.Needs.{needs}
 use Rattle.printing.proofs.block.Statement.{statement}
 use Rattle.printing.proofs.block.Tie as tie
 
 abbrev Inv-loop : tie.InvT-loop
-Inv-loop out₀ at bytes next₀ i₀ t7 out next i = length out ≡ length out₀
+Inv-loop out₀ at bytes next₀ i₀ t7 out next i = (i ≤ length bytes) × (length out ≡ length out₀) × Left byteText bytes next₀ out₀ i next out
 
 abbrev μ-loop : tie.MeasureT-loop
 μ-loop out₀ at bytes next₀ i₀ t7 out next i = length bytes - i
@@ -20,7 +23,7 @@ put-requires : tie.Need-put-requires Inv-loop μ-loop
 put-requires c κs = search needs
 
 loop-holds : tie.Need-loop-holds Inv-loop μ-loop
-loop-holds c = refl
+loop-holds c = (omega arith, refl, left-all _ _)
 
 shared-slice-read-put-hex : tie.Need-shared-slice-read-put-hex Inv-loop μ-loop
 shared-slice-read-put-hex c = omega arith
@@ -35,7 +38,10 @@ loop-less : tie.Need-loop-less Inv-loop μ-loop
 loop-less c = omega arith
 
 loop-again : tie.Need-loop-again Inv-loop μ-loop
-loop-again c = search needs
+loop-again c =
+    let l = c .before .before .before .before .before .before .loop in
+    let list = c .before .before .before .before .before .before .before .before .before .before .before .before .before .before .args .bytes .now in
+    (omega arith, search needs, left-next byteText list (l .i) _ (drop-next list (l .i) (omega arith)) (l .inv .2) (c .before .before .put-hex .ensures))
 
 slice-aggregate-put-2 : tie.Need-slice-aggregate-put-2 Inv-loop μ-loop
 slice-aggregate-put-2 c = search needs
@@ -47,7 +53,11 @@ same-length : tie.Need-same-length Inv-loop μ-loop
 same-length c = search needs
 
 returns : tie.Need-returns Inv-loop μ-loop
-returns c = search needs
+returns c =
+    let l = c .before .before .before .before .before .before .loop in
+    let list = c .before .before .before .before .before .before .before .before .before .before .before .before .before .before .args .bytes .now in
+    says-then (c .before .before .before .before .before .before .before .before .before .put .ensures)
+    (says-then (left-none byteText list (l .i) (drop-of-length-le list {i = l .i} (omega arith)) (l .inv .2)) (c .before .before .put2 .ensures))
 
 pub block-spec : {M : Type 1} → statement M
 block-spec =

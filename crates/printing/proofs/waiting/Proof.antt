@@ -1,17 +1,20 @@
--- `waiting` is safe and ends. Assumes nothing.
-use Prim.Native.Nat.{_-_}
+-- `waiting` meets its contract. The loop's invariant: the elements from i on are left to put. Assumes nothing.
+use Prim.Native.Nat.{_-_, _≤_}
 use native.Mathlib.Omega.{arith}
 use mathlib.Core.Path.{_≡_, refl}
-use lib.ListN.{length}
+use lib.ListN.{length, drop-of-length-le}
+use Rattle.text.proofs.Parsing.{drop-next}
+use Rattle.text.proofs.Putting.{says-then, Left, left-all, left-next, left-none}
+use Rattle.printing.specs.Lines.{offsetText}
 use borrow.Author.Needs.{needs}
 use Rattle.printing.proofs.waiting.Statement.{statement}
 use Rattle.printing.proofs.waiting.Tie as tie
 
 abbrev Inv-loop : tie.InvT-loop
-Inv-loop out₀ at list n next₀ i₀ t8 t9 out next i = length out ≡ length out₀
+Inv-loop out₀ at list next₀ i₀ t7 t8 out next i = (i ≤ length list) × (length out ≡ length out₀) × Left offsetText list next₀ out₀ i next out
 
 abbrev μ-loop : tie.MeasureT-loop
-μ-loop out₀ at list n next₀ i₀ t8 t9 out next i = n - i
+μ-loop out₀ at list next₀ i₀ t7 t8 out next i = length list - i
 
 slice-aggregate-put : tie.Need-slice-aggregate-put Inv-loop μ-loop
 slice-aggregate-put c = search needs
@@ -20,7 +23,7 @@ put-requires : tie.Need-put-requires Inv-loop μ-loop
 put-requires c κs = search needs
 
 loop-holds : tie.Need-loop-holds Inv-loop μ-loop
-loop-holds c = refl
+loop-holds c = (omega arith, refl, left-all _ _)
 
 slice-aggregate-with : tie.Need-slice-aggregate-with Inv-loop μ-loop
 slice-aggregate-with c = search needs
@@ -41,7 +44,10 @@ loop-less : tie.Need-loop-less Inv-loop μ-loop
 loop-less c = omega arith
 
 loop-again : tie.Need-loop-again Inv-loop μ-loop
-loop-again c = search needs
+loop-again c =
+    let l = c .before .before .before .before .before .before .before .loop in
+    let list = c .before .before .before .before .before .before .before .before .before .before .before .before .before .before .before .args .list .now in
+    (omega arith, search needs, left-next offsetText list (l .i) _ (drop-next list (l .i) (omega arith)) (l .inv .2) (c .before .before .with .ensures))
 
 slice-aggregate-put-2 : tie.Need-slice-aggregate-put-2 Inv-loop μ-loop
 slice-aggregate-put-2 c = search needs
@@ -53,7 +59,11 @@ same-length : tie.Need-same-length Inv-loop μ-loop
 same-length c = search needs
 
 returns : tie.Need-returns Inv-loop μ-loop
-returns c = search needs
+returns c =
+    let l = c .before .before .before .before .before .before .loop in
+    let list = c .before .before .before .before .before .before .before .before .before .before .before .before .before .before .args .list .now in
+    says-then (c .before .before .before .before .before .before .before .before .before .put .ensures)
+    (says-then (left-none offsetText list (l .i) (drop-of-length-le list {i = l .i} (omega arith)) (l .inv .2)) (c .before .before .put2 .ensures))
 
 pub waiting-spec : {M : Type 1} → statement M
 waiting-spec =

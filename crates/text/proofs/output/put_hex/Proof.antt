@@ -1,8 +1,6 @@
 -- `put_hex` meets its contract. Assumes nothing.
-use Prim.Native.Nat.{ℕ}
-use mathlib.Core.Path.{ap, _∙_}
-use mathlib.Core.List.{List}
-use Rattle.text.specs.Output.{put}
+use native.Mathlib.Omega.{arith}
+use Rattle.text.proofs.Digits.{hexadecimal-is}
 use borrow.Author.Needs.{needs}
 use Rattle.text.proofs.output.put_hex.Statement.{statement}
 use Rattle.text.proofs.output.put_hex.Tie as tie
@@ -27,7 +25,7 @@ returns c =
     let a = c .before .before .before .before .before .before .before .before .args in
     let d = c .before .before .before .before .before .hex in
     let p = c .before .before .put in
-    record { k = d .result; fewest = d .ensures .1 .0; is = p .ensures .is ∙ ap (λ (bs : List ℕ). put (a .at) bs (a .out .now)) (d .ensures .1 .1) }
+    rw (← hexadecimal-is (d .result) (a .byte) (d .ensures .1 .0) (omega arith), ← d .ensures .1 .1) (p .ensures)
 
 pub put-hex-spec : {M : Type 1} → statement M
 put-hex-spec =

@@ -1,8 +1,5 @@
 -- `put_number` meets its contract. Assumes nothing.
-use Prim.Native.Nat.{ℕ}
-use mathlib.Core.Path.{ap, _∙_}
-use mathlib.Core.List.{List}
-use Rattle.text.specs.Output.{put}
+use Rattle.text.proofs.Digits.{decimal-is}
 use borrow.Author.Needs.{needs}
 use Rattle.text.proofs.output.put_number.Statement.{statement}
 use Rattle.text.proofs.output.put_number.Tie as tie
@@ -27,7 +24,7 @@ returns c =
     let a = c .before .before .before .before .before .before .before .before .args in
     let d = c .before .before .before .before .before .decimal in
     let p = c .before .before .put in
-    record { k = d .result; fewest = d .ensures .1 .0; is = p .ensures .is ∙ ap (λ (bs : List ℕ). put (a .at) bs (a .out .now)) (d .ensures .1 .1) }
+    rw (← decimal-is (d .result) (a .n) (d .ensures .1 .0), ← d .ensures .1 .1) (p .ensures)
 
 pub put-number-spec : {M : Type 1} → statement M
 put-number-spec =

@@ -1,0 +1,46 @@
+-- `restarted` meets its contract. Assumes nothing.
+use Rattle.printing.proofs.Refusals.{start-refused}
+use borrow.Author.Needs.{needs}
+use Rattle.printing.proofs.restarted.Statement.{statement}
+use Rattle.printing.proofs.restarted.Tie as tie
+
+enum-told : tie.Need-enum-told
+enum-told c = search needs
+
+of-start-requires : tie.Need-of-start-requires
+of-start-requires c κs = search needs
+
+refused-requires : tie.Need-refused-requires
+refused-requires c κs = search needs
+
+same-length : tie.Need-same-length
+same-length c = search needs
+
+returns : tie.Need-returns
+returns c = rw (← start-refused (c .before .before .before .before .before .before .before .args .answer) (c .before .before .before .before .before .match .keys2), ← c .before .before .before .of-start .ensures) (c .before .before .refused .ensures)
+
+slice-aggregate-put : tie.Need-slice-aggregate-put
+slice-aggregate-put c = search needs
+
+put-requires : tie.Need-put-requires
+put-requires c κs = search needs
+
+same-length-2 : tie.Need-same-length-2
+same-length-2 c = search needs
+
+returns-2 : tie.Need-returns-2
+returns-2 c = rw (c .before .before .before .before .before .enum-told .given .1) (c .before .before .put .ensures)
+
+pub restarted-spec : {M : Type 1} → statement M
+restarted-spec =
+    tie.close
+    (tie.spec
+    enum-told
+    of-start-requires
+    refused-requires
+    same-length
+    returns
+    slice-aggregate-put
+    put-requires
+    same-length-2
+    returns-2)

@@ -1,0 +1,88 @@
+-- Lists that stand in two columns of which the first n places are in use, as a loop goes over them, and the pieces that are put for
+-- marks, empty lists and values. Assumes nothing.
+use Prim.Native.Nat.{ℕ, zero, suc, _+_, _≤_, _<_, min}
+use native.Mathlib.Numerals.{add-one}
+use native.Mathlib.Omega.{arith}
+use mathlib.Core.Path.{_≡_, refl, sym, ap, _∙_}
+use mathlib.Core.List.{List, [], _∷_, _++_, map}
+use lib.ListN.{length, take, drop, getD, length-map, length-take, drop-of-length-le}
+use lib.Dec.{ltb}
+use borrow.Author.Tests.{lt-ltb}
+use Rattle.types.specs.Zipped.{zipped}
+use Rattle.types.specs.Keyed.{Entry, entry, entries}
+use Rattle.lease.specs.Operations.{lease}
+use Rattle.lease.specs.declared.Lease.{Lease}
+use Rattle.text.specs.Output.{ascii}
+use Rattle.answers.specs.Told.{toldOf}
+use Rattle.answers.specs.declared.Told.{Told}
+use Rattle.shown.specs.Shown.{valuesText, valueWhere, mark, noneWhere}
+
+module _ {A B C : Type 0} (f : A → B → C) where
+  few : (xs : List A) (ys : List B) → length (zipped f xs ys) ≤ length xs
+  few [] ys = omega arith
+  few (x ∷ xs) [] = omega arith
+  few (x ∷ xs) (y ∷ ys) = omega (arith, few xs ys)
+
+  place : (a : A) (b : B) (i n : ℕ) (xs : List A) (ys : List B) → i < n → i < length xs → i < length ys
+      → drop i (zipped f (take n xs) (take n ys)) ≡ f (getD xs i a) (getD ys i b) ∷ drop (suc i) (zipped f (take n xs) (take n ys))
+  place a b i zero xs ys h p q = absurd (omega arith)
+  place a b i (suc n) [] ys h p q = absurd (omega arith)
+  place a b i (suc n) (x ∷ xs) [] h p q = absurd (omega arith)
+  place a b zero (suc n) (x ∷ xs) (y ∷ ys) h p q = refl
+  place a b (suc i) (suc n) (x ∷ xs) (y ∷ ys) h p q = place a b i n xs ys (omega arith) (omega arith) (omega arith)
+
+  pub zipped-next : (a : A) (b : B) (i n : ℕ) (xs : List A) (ys : List B) → i < n → i < length xs → i < length ys
+      → drop i (zipped f (take n xs) (take n ys)) ≡ f (getD xs i a) (getD ys i b) ∷ drop (i + 1) (zipped f (take n xs) (take n ys))
+  zipped-next a b i n xs ys h p q = rw add-one (place a b i n xs ys h p q)
+
+  pub zipped-end : (i n : ℕ) (xs : List A) (ys : List B) → min n (length xs) ≤ i → drop i (zipped f (take n xs) (take n ys)) ≡ []
+  zipped-end i n xs ys h =
+      drop-of-length-le (zipped f (take n xs) (take n ys)) {i = i} (omega (arith, few (take n xs) (take n ys), length-take n xs))
+
+  pub zipped-nothing : (n : ℕ) (xs : List A) (ys : List B) → 0 < length xs → 0 < length ys → noneWhere (length (zipped f (take n xs) (take n ys))) ≡ noneWhere n
+  zipped-nothing zero xs ys h k = refl
+  zipped-nothing (suc n) [] ys h k = absurd (omega arith)
+  zipped-nothing (suc n) (x ∷ xs) [] h k = absurd (omega arith)
+  zipped-nothing (suc n) (x ∷ xs) (y ∷ ys) h k = refl
+
+entries-zipped : {A : Type 0} (ks : List ℕ) (vs : List A) → entries ks vs ≡ zipped entry ks vs
+entries-zipped [] vs = refl
+entries-zipped (k ∷ ks) [] = refl
+entries-zipped (k ∷ ks) (v ∷ vs) = ap (λ (l : List (Entry _)). entry k v ∷ l) (entries-zipped ks vs)
+
+module _ {A : Type 0} (n : ℕ) (ks : List ℕ) (vs : List A) where
+  pub entries-next : (d : A) (i : ℕ) → i < n → i < length ks → i < length vs
+      → drop i (entries (take n ks) (take n vs)) ≡ entry (getD ks i 0) (getD vs i d) ∷ drop (i + 1) (entries (take n ks) (take n vs))
+  entries-next d i h p q = rw (entries-zipped (take n ks) (take n vs)) (zipped-next entry 0 d i n ks vs h p q)
+
+  pub entries-end : (i : ℕ) → min n (length ks) ≤ i → drop i (entries (take n ks) (take n vs)) ≡ []
+  entries-end i h = rw (entries-zipped (take n ks) (take n vs)) (zipped-end entry i n ks vs h)
+
+  pub entries-nothing : 0 < length ks → 0 < length vs → noneWhere (length (entries (take n ks) (take n vs))) ≡ noneWhere n
+  entries-nothing h k = rw (entries-zipped (take n ks) (take n vs)) (zipped-nothing entry n ks vs h k)
+
+-- what an index past the end of the leases reads, and that an array of structs has its length
+abbrev pub noLease : Lease
+noLease = lease 0 0 0 0
+
+pub length-mapped : {A B : Type 0} (f : A → B) (l : List A) (n : ℕ) → length (map f l) ≡ n → length l ≡ n
+length-mapped f l n e = sym (length-map l f) ∙ e
+
+-- ## marks, empty lists, values
+pub mark-later : (i : ℕ) → 0 < i → mark i ≡ ascii ","
+mark-later zero h = absurd (omega arith)
+mark-later (suc i) h = refl
+
+pub some-there : (n : ℕ) → 0 < n → noneWhere n ≡ []
+some-there zero h = absurd (omega arith)
+some-there (suc n) h = refl
+
+values-of : (n a b : ℕ) → valuesText (take n (a ∷ b ∷ [])) ≡ valueWhere (ltb 0 n) a ++ valueWhere (ltb 1 n) b
+values-of zero a b = refl
+values-of (suc zero) a b = refl
+values-of (suc (suc zero)) a b = refl
+values-of (suc (suc (suc n))) a b = rw (lt-ltb 0 (suc (suc (suc n))) (omega arith), lt-ltb 1 (suc (suc (suc n))) (omega arith))
+
+-- the values of a refusal: none, one or two
+pub values-told : (t : Told) → valuesText (toldOf t .values) ≡ valueWhere (ltb 0 (t .count)) (t .first) ++ valueWhere (ltb 1 (t .count)) (t .second)
+values-told t = values-of (t .count) (t .first) (t .second)

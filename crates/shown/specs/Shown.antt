@@ -1,0 +1,89 @@
+-- What the programs print of a refusal and of a consumer's state: pieces of text, one behind the other.
+use Prim.Native.Nat.{ℕ, zero, suc}
+use mathlib.Core.Bool.{Bool, cond}
+use mathlib.Core.List.{List, [], _∷_, _++_}
+use lib.ListN.{length}
+use Rattle.types.specs.Keyed.{Entry}
+use Rattle.types.specs.Refusal.{Told}
+use Rattle.text.specs.Output.{ascii, decimal, each}
+use Rattle.cursor.specs.View as cursor
+use Rattle.cursor.specs.declared.AckCursor.{AckCursor}
+use Rattle.cursor.specs.declared.Range.{Range}
+use Rattle.lease.specs.declared.Lease.{Lease}
+use Rattle.consumer.specs.State.{State}
+
+-- ## numbers behind texts
+abbrev pub textNumber : List ℕ → ℕ → List (List ℕ)
+textNumber text n = text ∷ decimal n ∷ []
+
+abbrev pub numberLine : List ℕ → ℕ → List (List ℕ)
+numberLine text n = text ∷ decimal n ∷ ascii "\n" ∷ []
+
+-- a value behind a space, where it is there
+abbrev pub valueWhere : Bool → ℕ → List (List ℕ)
+valueWhere there n = cond there (ascii " " ∷ decimal n ∷ []) []
+
+-- ## refusals
+abbrev pub valuesText : List ℕ → List (List ℕ)
+valuesText [] = []
+valuesText (v ∷ vs) = ascii " " ∷ decimal v ∷ valuesText vs
+
+-- 01's number and values
+abbrev pub refusalLine : Told → List (List ℕ)
+refusalLine t = ascii "refused " ∷ decimal (t .number) ∷ (valuesText (t .values) ++ (ascii "\n" ∷ []))
+
+-- ## lists
+-- what stands in front of entry i
+abbrev pub mark : ℕ → List ℕ
+mark zero = ascii " "
+mark (suc i) = ascii ","
+
+-- what stands for a list of n entries that has none
+abbrev pub noneWhere : ℕ → List (List ℕ)
+noneWhere zero = ascii " none" ∷ []
+noneWhere (suc n) = []
+
+-- each entry behind its mark
+abbrev pub marked : {A : Type 0} → (A → List (List ℕ)) → ℕ → A → List (List ℕ)
+marked entry i x = mark i ∷ entry x
+
+abbrev pub listText : {A : Type 0} → List ℕ → (A → List (List ℕ)) → List A → List (List ℕ)
+listText name entry l = name ∷ (noneWhere (length l) ++ each (marked entry) 0 l)
+
+abbrev pub rangeText : Range → List (List ℕ)
+rangeText r = decimal (r .start) ∷ ascii "-" ∷ decimal (r .end) ∷ []
+
+-- offset, generation, attempt start, deadline, deliveries
+abbrev pub leaseText : Entry Lease → List (List ℕ)
+leaseText e =
+    decimal (e .key) ∷ ascii ":" ∷ decimal (e .value .generation .0) ∷ ascii ":" ∷ decimal (e .value .«attempt_start»)
+    ∷ ascii ":" ∷ decimal (e .value .deadline) ∷ ascii ":" ∷ decimal (e .value .deliveries) ∷ []
+
+-- offset, count
+abbrev pub countText : Entry ℕ → List (List ℕ)
+countText e = decimal (e .key) ∷ ascii ":" ∷ decimal (e .value) ∷ []
+
+abbrev pub rangesText : List Range → List (List ℕ)
+rangesText l = listText (ascii " ranges") rangeText l
+
+abbrev pub leasesText : List (Entry Lease) → List (List ℕ)
+leasesText l = listText (ascii " leases") leaseText l
+
+abbrev pub carriedText : List (Entry ℕ) → List (List ℕ)
+carriedText l = listText (ascii " carried") countText l
+
+-- ## the state
+abbrev pub aheadOf : AckCursor → List Range
+aheadOf c = cursor.view c .ahead
+
+-- generations, the redelivery counter, and where the next group goes
+abbrev pub numbersText : State → List (List ℕ)
+numbersText s =
+    ascii " next " ∷ decimal (s .table .nextGeneration) ∷ ascii " ceiling " ∷ decimal (s .ceiling)
+    ∷ ascii " counter " ∷ decimal (s .table .redeliveries) ∷ ascii " group " ∷ decimal (s .seat .number)
+    ∷ ascii " block " ∷ decimal (s .seat .block) ∷ ascii "\n" ∷ []
+
+abbrev pub stateLine : State → List (List ℕ)
+stateLine s =
+    ascii "state committed " ∷ decimal (s .cursor .committed)
+    ∷ (rangesText (s .cursor .ahead) ++ (leasesText (s .table .leases) ++ (carriedText (s .table .carried) ++ numbersText s)))
