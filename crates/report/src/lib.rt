@@ -2,5 +2,4 @@
 // function answers the place behind what it has put there.
 pub mod blocks;
 pub mod journals;
-pub mod refusals;
 pub mod snapshots;
