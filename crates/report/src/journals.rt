@@ -100,7 +100,7 @@ fn refused(out: &mut [u8], at: usize, told: Told) -> usize {
 // A journal of any length.
 pub fn journal(out: &mut [u8], at: usize, area: &[u8]) -> usize {
     let mut next = heading(out, at, area.len());
-    next = crate::blocks::listed(out, next, area);
+    next = listing::listed(out, next, area);
     next = walk(out, next, area);
     restart(out, next, area)
 }
@@ -108,6 +108,6 @@ pub fn journal(out: &mut [u8], at: usize, area: &[u8]) -> usize {
 // The first blocks of a file that is longer than any journal: a restart on it is 4.
 pub fn oversized(out: &mut [u8], at: usize, area: &[u8]) -> usize {
     let mut next = put(out, at, b"longer than any journal; its first blocks:\n");
-    next = crate::blocks::listed(out, next, area);
+    next = listing::listed(out, next, area);
     refused(out, next, answers::of_start(StartAnswer::BadArea))
 }

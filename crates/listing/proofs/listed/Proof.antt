@@ -5,8 +5,8 @@ use mathlib.Core.Path.{_≡_, refl}
 use lib.ListN.{length}
 use Rattle.faults.specs.Places.{placeAt}
 use borrow.Author.Needs.{needs}
-use Rattle.report.proofs.blocks.listed.Statement.{statement}
-use Rattle.report.proofs.blocks.listed.Tie as tie
+use Rattle.listing.proofs.listed.Statement.{statement}
+use Rattle.listing.proofs.listed.Tie as tie
 
 abbrev Inv-loop : tie.InvT-loop
 Inv-loop out₀ at area n next₀ place₀ i₀ out next place i = (length out ≡ length out₀) × (n ≡ length area / 512) × (place ≡ placeAt area (length area / 512) i)

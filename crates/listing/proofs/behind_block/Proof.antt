@@ -2,8 +2,8 @@
 use borrow.Author.Needs.{needs}
 use mathlib.Core.Path.{_∙_}
 use Rattle.faults.proofs.Sequence.{place-next}
-use Rattle.report.proofs.blocks.behind_block.Statement.{statement}
-use Rattle.report.proofs.blocks.behind_block.Tie as tie
+use Rattle.listing.proofs.behind_block.Statement.{statement}
+use Rattle.listing.proofs.behind_block.Tie as tie
 
 mul-from : tie.Need-mul-from
 mul-from c = search needs
