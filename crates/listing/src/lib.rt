@@ -117,7 +117,7 @@ fn at_header(out: &mut [u8], at: usize, block: &[u8], number: u64, verdict: Verd
     between(
         out,
         next,
-        b"; the walk ends here, where the header of group ",
+        b"; the groups end here, where the header of group ",
         number,
         b" would stand",
     )
@@ -140,13 +140,13 @@ fn at_body(
     with(out, said, b" of group ", number)
 }
 
-// Behind the end of the walk, which was at the header of group `number`. A restart reads nothing there.
+// Behind the groups, where the header of group `number` was expected last. A restart reads nothing there.
 fn behind(out: &mut [u8], at: usize, block: &[u8], number: u64, seen: Seen) -> usize {
     match seen {
         Seen::Empty => put(out, at, b"empty"),
         Seen::Header => {
             let next = header(out, at, block);
-            put(out, next, b"; behind the walk's end")
+            put(out, next, b"; behind the groups")
         }
         Seen::Body => {
             let next = body(out, at, block);
@@ -154,14 +154,14 @@ fn behind(out: &mut [u8], at: usize, block: &[u8], number: u64, seen: Seen) -> u
                 return put(
                     out,
                     next,
-                    b"; behind the walk's end, its group has no sound header",
+                    b"; behind the groups, the header of its own is missing",
                 );
             }
-            put(out, next, b"; behind the walk's end")
+            put(out, next, b"; behind the groups")
         }
         Seen::Unsound(fault) => {
             let next = unsound(out, at, block, fault);
-            put(out, next, b"; behind the walk's end")
+            put(out, next, b"; behind the groups")
         }
     }
 }
