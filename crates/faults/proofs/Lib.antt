@@ -1,2 +1,4 @@
 pub mod Verdicts
+pub mod Sequence
+pub mod Ends
 mod Rows

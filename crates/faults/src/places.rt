@@ -1,5 +1,5 @@
 // What is expected at each block, from block 0 on: the header of group 1, behind a sound header its bodies, behind these the
-// header of the next group. Behind a block that is no sound header where one is expected, nothing is: the walk ends there.
+// header of the next group. Behind a block that is no sound header where one is expected, nothing is: the groups end there.
 ghost use mathlib.Core.Path.{_≡_};
 ghost use lib.ListN.{length};
 ghost use Rattle.journal.specs.Blocks.{usedIn};
@@ -11,7 +11,7 @@ use crate::by_itself;
 use crate::header_verdict;
 
 // The header of group `number`; body `index`, from 1, of the `bodies` of a group whose snapshots have `total` bytes; or nothing,
-// where the walk ended at the header of group `number`.
+// where the groups ended at the header of group `number`.
 pub enum Place {
     Header {
         number: u64,

@@ -1,5 +1,7 @@
 // Prints what a file has, for people: a journal's area, a cursor snapshot or an attempt snapshot, as the first argument says. The
 // file is opened for reading and never changed. What can't be read is said on standard error.
+ghost use lib.ListN.{length};
+ghost use Rattle.inspect.specs.Files.{Lies};
 use libc::STDERR_FILENO;
 use report::journals;
 use report::snapshots;
@@ -42,7 +44,9 @@ fn kind_of(word: &[u8]) -> Kind {
 }
 
 // Whether there is a byte more.
-fn behind(fd: i32, len: usize) -> Loaded {
+fn behind(fd: i32, len: usize) -> Loaded
+    ensures { λ r. ⌜ Lies len r ⌝ }
+{
     let mut one = [0u8; 1];
     let got = libc::read(fd, &mut one);
     if got < 0 {
@@ -54,15 +58,27 @@ fn behind(fd: i32, len: usize) -> Loaded {
     Loaded::TooLarge
 }
 
+// Reads once, and answers how many bytes came.
+fn read_some(fd: i32, buf: &mut [u8]) -> Loaded
+    ensures { λ r. ⌜ Lies (length (now (buf .entry))) r ⌝ }
+{
+    let got = libc::read(fd, buf);
+    if got < 0 {
+        return Loaded::Failed;
+    }
+    Loaded::Bytes(io::count(got, buf))
+}
+
 // Reads a file up to its end, as far as the buffer goes.
-fn load(fd: i32, buf: &mut [u8]) -> Loaded {
+fn load(fd: i32, buf: &mut [u8]) -> Loaded
+    ensures { λ r. ⌜ Lies (length (now (buf .exit))) r ⌝ }
+{
     let mut len: usize = 0;
     while len < buf.len() {
-        let got = libc::read(fd, &mut buf[len..]);
-        if got < 0 {
+        let some = read_some(fd, &mut buf[len..]);
+        let Loaded::Bytes(more) = some else {
             return Loaded::Failed;
-        }
-        let more = io::count(got, &buf[len..]);
+        };
         if more == 0 {
             return Loaded::Bytes(len);
         }

@@ -26,14 +26,20 @@ fn settings() -> Settings {
     }
 }
 
+// Bytes that are no whole block, where there are any.
+fn leftover(out: &mut [u8], at: usize, n: usize) -> usize {
+    if n == 0 {
+        return at;
+    }
+    with(out, at, b", bytes behind them ", n as u64)
+}
+
 // How long the area is.
 fn heading(out: &mut [u8], at: usize, len: usize) -> usize {
-    let mut next = with(out, at, b"journal of ", len as u64);
-    next = with(out, next, b" bytes, whole blocks ", (len / 512) as u64);
-    if len % 512 != 0 {
-        next = with(out, next, b", bytes behind them ", (len % 512) as u64);
-    }
-    put(out, next, b"\n")
+    let bytes = with(out, at, b"journal of ", len as u64);
+    let whole = with(out, bytes, b" bytes, whole blocks ", (len / 512) as u64);
+    let rest = leftover(out, whole, len % 512);
+    put(out, rest, b"\n")
 }
 
 // Where the walk ends.
@@ -88,13 +94,13 @@ fn restart(out: &mut [u8], at: usize, area: &[u8]) -> usize {
 }
 
 fn refused(out: &mut [u8], at: usize, told: Told) -> usize {
-    crate::refusals::refused(out, at, b"a restart is refused: ", told)
+    refusals::refused(out, at, b"a restart is refused: ", told)
 }
 
 // A journal of any length.
 pub fn journal(out: &mut [u8], at: usize, area: &[u8]) -> usize {
     let mut next = heading(out, at, area.len());
-    next = crate::blocks::listed(out, next, area);
+    next = listing::listed(out, next, area);
     next = walk(out, next, area);
     restart(out, next, area)
 }
@@ -102,6 +108,6 @@ pub fn journal(out: &mut [u8], at: usize, area: &[u8]) -> usize {
 // The first blocks of a file that is longer than any journal: a restart on it is 4.
 pub fn oversized(out: &mut [u8], at: usize, area: &[u8]) -> usize {
     let mut next = put(out, at, b"longer than any journal; its first blocks:\n");
-    next = crate::blocks::listed(out, next, area);
+    next = listing::listed(out, next, area);
     refused(out, next, answers::of_start(StartAnswer::BadArea))
 }

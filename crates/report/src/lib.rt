@@ -1,6 +1,4 @@
 // What `inspect` prints of a journal and of snapshots, for people. Lines are gathered in a lent buffer, as `text` has it; every
 // function answers the place behind what it has put there.
-pub mod blocks;
 pub mod journals;
-pub mod refusals;
 pub mod snapshots;

@@ -30,7 +30,7 @@ pub fn cursor(out: &mut [u8], at: usize, bytes: &[u8]) -> usize {
     let decoded = AckCursor::decode_snapshot(bytes);
     let outcome = decoded.outcome;
     if let Snapshot::Refused(error) = outcome {
-        return crate::refusals::refused(out, next, b"refused: ", answers::of_cursor(error));
+        return refusals::refused(out, next, b"refused: ", answers::of_cursor(error));
     }
     let found = decoded.cursor;
     next = numbered(out, next, b"committed ", found.committed);
@@ -66,7 +66,7 @@ pub fn attempts(out: &mut [u8], at: usize, bytes: &[u8]) -> usize {
     let decoded = attempt::decode_pairs(bytes);
     let outcome = decoded.outcome;
     let Decode::Pairs(count) = outcome else {
-        return crate::refusals::refused(out, next, b"refused: ", answers::of_attempts(outcome));
+        return refusals::refused(out, next, b"refused: ", answers::of_attempts(outcome));
     };
     let list = decoded.pairs;
     next = numbered(out, next, b"pairs ", count as u64);

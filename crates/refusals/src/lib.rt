@@ -1,4 +1,4 @@
-// Refusals by number, name and values.
+// Refusals for people: by document 01's number, name and values.
 use answers::Told;
 use shown::with;
 use text::output::put;
@@ -93,7 +93,8 @@ fn two<'a>(
 fn values(out: &mut [u8], at: usize, told: Told) -> usize {
     let first = told.first;
     let second = told.second;
-    match told.number {
+    let number = told.number;
+    match number {
         5 => with(out, at, b": block ", first),
         7 => with(out, at, b": length ", first),
         8 => with(out, at, b": version ", first),

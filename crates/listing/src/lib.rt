@@ -1,4 +1,9 @@
 // A line for each block of a journal: what it is, and where it isn't what is expected there, why.
+ghost use mathlib.Core.Path.{_≡_};
+ghost use Prim.Native.Nat.{_+_, _*_, _≤_};
+ghost use lib.ListN.{length};
+ghost use Rattle.journal.specs.Area.{blocks};
+ghost use Rattle.faults.specs.Places.{placeAt};
 use faults::Fault;
 use faults::Seen;
 use faults::Verdict;
@@ -32,10 +37,15 @@ fn body(out: &mut [u8], at: usize, block: &[u8]) -> usize {
     put(out, next, b" bytes used")
 }
 
+// A byte as a u64.
+fn wide(x: u8) -> u64 {
+    x as u64
+}
+
 // A byte, or 0 where there is none.
 fn byte(block: &[u8], i: usize) -> u64 {
     if i < block.len() {
-        return block[i] as u64;
+        return wide(block[i]);
     }
     0
 }
@@ -107,7 +117,7 @@ fn at_header(out: &mut [u8], at: usize, block: &[u8], number: u64, verdict: Verd
     between(
         out,
         next,
-        b"; the walk ends here, where the header of group ",
+        b"; the groups end here, where the header of group ",
         number,
         b" would stand",
     )
@@ -130,13 +140,13 @@ fn at_body(
     with(out, said, b" of group ", number)
 }
 
-// Behind the end of the walk, which was at the header of group `number`. A restart reads nothing there.
+// Behind the groups, where the header of group `number` was expected last. A restart reads nothing there.
 fn behind(out: &mut [u8], at: usize, block: &[u8], number: u64, seen: Seen) -> usize {
     match seen {
         Seen::Empty => put(out, at, b"empty"),
         Seen::Header => {
             let next = header(out, at, block);
-            put(out, next, b"; behind the walk's end")
+            put(out, next, b"; behind the groups")
         }
         Seen::Body => {
             let next = body(out, at, block);
@@ -144,14 +154,14 @@ fn behind(out: &mut [u8], at: usize, block: &[u8], number: u64, seen: Seen) -> u
                 return put(
                     out,
                     next,
-                    b"; behind the walk's end, its group has no sound header",
+                    b"; behind the groups, the header of its own is missing",
                 );
             }
-            put(out, next, b"; behind the walk's end")
+            put(out, next, b"; behind the groups")
         }
         Seen::Unsound(fault) => {
             let next = unsound(out, at, block, fault);
-            put(out, next, b"; behind the walk's end")
+            put(out, next, b"; behind the groups")
         }
     }
 }
@@ -184,11 +194,28 @@ fn index_of(place: Place) -> usize {
     }
 }
 
-// A line for block i of n.
-fn line(out: &mut [u8], at: usize, block: &[u8], n: usize, i: usize, place: Place) -> usize {
+// A line for block i of an area, where `place` is what is expected there.
+fn line(out: &mut [u8], at: usize, area: &[u8], i: usize, place: Place) -> usize
+    requires { ⌜ (512 * i + 512 ≤ length (now area)) × (place ≡ placeAt (now area) (blocks (now area)) i) ⌝ }
+{
+    let n = area.len() / 512;
+    let from = 512 * i;
+    let to = from + 512;
+    let block = &area[from..to];
     let next = between(out, at, b"block ", i as u64, b": ");
     let said = judged(out, next, block, place, places::judge(place, block, n, i));
     put(out, said, b"\n")
+}
+
+// What is expected behind block i.
+fn behind_block(area: &[u8], i: usize, place: Place) -> Place
+    requires { ⌜ (512 * i + 512 ≤ length (now area)) × (place ≡ placeAt (now area) (blocks (now area)) i) ⌝ }
+    ensures { λ r. ⌜ r ≡ placeAt (now (area .entry)) (blocks (now (area .entry))) (i + 1) ⌝ }
+{
+    let n = area.len() / 512;
+    let from = 512 * i;
+    let to = from + 512;
+    places::after(place, &area[from..to], n, i)
 }
 
 // A line for each whole block of an area.
@@ -198,10 +225,8 @@ pub fn listed(out: &mut [u8], at: usize, area: &[u8]) -> usize {
     let mut place = places::first();
     let mut i: usize = 0;
     while i < n {
-        let from = 512 * i;
-        let to = from + 512;
-        next = line(out, next, &area[from..to], n, i, place);
-        place = places::after(place, &area[from..to], n, i);
+        next = line(out, next, area, i, place);
+        place = behind_block(area, i, place);
         i += 1;
     }
     next
