@@ -5,9 +5,9 @@ use Prim.Native.Nat.{ℕ, _+_, _≤_, _<_}
 use native.Mathlib.Omega.{arith}
 use native.Mathlib.Numerals.{add-one}
 use mathlib.Core.Path.{_≡_, sym, ap, subst, _∙_}
-use mathlib.Core.List.{List, map}
+use mathlib.Core.List.{List}
 use mathlib.Core.Option.{none, some, Option·getD}
-use lib.ListN.{length, take, getD, set, length-map, take-append-drop}
+use lib.ListN.{length, take, getD, set, take-append-drop}
 use lib.Seq.{length-take-le, getD-take, take-set-lt}
 use Rattle.types.specs.Keyed.{entries, lookup, put, delete, Rising}
 use Rattle.types.specs.Sorted.{Ascending, below}
@@ -28,10 +28,6 @@ use Rattle.lease.specs.declared.LeaseTable.{LeaseTable}
 -- what an index past the end reads
 abbrev pub nil : Lease
 nil = lease 0 0 0 0
-
--- an array of structs has its length
-pub length-mapped : {A B : Type 0} (f : A → B) (l : List A) (n : ℕ) → length (map f l) ≡ n → length l ≡ n
-length-mapped f l n e = sym (length-map l f) ∙ e
 
 -- a table with other values in its leases
 abbrev pub holding : LeaseTable → List Lease → LeaseTable

@@ -1,13 +1,13 @@
 -- What the private helpers answer. No public contract cites this file.
-use Prim.Native.Nat.{ℕ, _+_, _-_, _≤_, _<_, max}
+use Prim.Native.Nat.{ℕ, _-_, _≤_}
 use mathlib.Core.Path.{_≡_}
 use mathlib.Core.Bool.{cond}
-use mathlib.Core.List.{List, [], _∷_, _++_}
-use mathlib.Core.Option.{Option, none, some, Option·getD}
-use lib.Dec.{ltb, eqb}
-use lib.ListN.{length, take, drop, getD}
+use mathlib.Core.List.{List, [], _∷_}
+use mathlib.Core.Option.{Option, none, some}
+use lib.Dec.{ltb}
+use lib.ListN.{length, take}
 use Rattle.types.specs.Limits.{CARRIED}
-use Rattle.types.specs.Keyed.{Entry, entry, entries, lookup, delete, Rising, All}
+use Rattle.types.specs.Keyed.{Entry, entries, Rising, All}
 use Rattle.types.specs.Zipped.{removed}
 use Rattle.types.specs.Refusal.{refused, done, TooManyPairs}
 use Rattle.types.specs.Table.{Answer, answer}

@@ -8,10 +8,11 @@ use lib.ListN.{set}
 use borrow.Author.Needs.{needs}
 use Rattle.types.specs.Limits.{MAX, LEASES, CARRIED}
 use Rattle.types.proofs.Loops.{Opening, opening, opening-more, opened}
+use Rattle.types.proofs.Scan.{length-mapped}
 use Rattle.tables.proofs.Columns.{put-in-front, taken-out-front}
 use Rattle.redeliveries.specs.Counter.{afterGrant}
 use Rattle.lease.specs.declared.LeaseTable.{LeaseTable}
-use Rattle.lease.proofs.Slots.{nil, length-mapped, Full, Free, Spanned, holding, free, in-flight, carried-span}
+use Rattle.lease.proofs.Slots.{nil, Full, Free, Spanned, holding, free, in-flight, carried-span}
 use Rattle.lease.proofs.Claims.{claimed, room-first, finished, count-first, granted-first}
 use Rattle.lease.proofs.LeaseTable.claim_first.Statement.{statement}
 use Rattle.lease.proofs.LeaseTable.claim_first.Tie as tie
