@@ -6,7 +6,7 @@ use mathlib.Core.Path.{_≡_, sym, ap, subst, _∙_}
 use mathlib.Core.Bool.{true, false, _&&_}
 use mathlib.Core.List.{List}
 use mathlib.Core.Option.{none}
-use lib.Dec.{leb, eqb}
+use lib.Dec.{leb}
 use lib.ListN.{length, take, getD, set}
 use borrow.Author.Tests.{le-leb, lt-leb, eq-eqb, ne-eqb}
 use Rattle.types.specs.Limits.{MAX, LEASES, sat32}
@@ -16,12 +16,11 @@ use Rattle.types.specs.Zipped.{inserted, removed}
 use Rattle.lease.specs.State.{Table, Sound, view, leasesOf, carriedOf}
 use Rattle.redeliveries.specs.Counter.{afterGrant}
 use Rattle.lease.specs.Operations.{lease, leaseOf, isNone, running, deadlineFrom, nextCount, consumed, Grant, grantOf, grant, granted, claimRows, claim}
-use Rattle.lease.specs.Helpers.{Spans}
 use Rattle.lease.specs.Answers.{Answers}
 use Rattle.lease.specs.declared.Lease.{Lease}
 use Rattle.lease.specs.declared.LeaseTable.{LeaseTable}
-use Rattle.lease.specs.declared.columns.Span.{Span}
-use Rattle.lease.proofs.Slots.{nil, Leased, Free, in-flight}
+use Rattle.tables.specs.declared.counts.Span.{Span}
+use Rattle.lease.proofs.Slots.{nil, Leased, Free, Spanned}
 use Rattle.lease.proofs.Returns.{Shows, refuses, takes-effect}
 use Rattle.lease.proofs.Valid.{valid-grant}
 
@@ -85,7 +84,7 @@ finished t vs n g r =
 pub count-again : (t : LeaseTable) (o at d : ℕ) → Leased t o at → d ≡ sat32 (getD (t .leases) at nil .deliveries) 1 → nextCount (view t) o ≡ d
 count-again t o at d here e = rw (here .is) (sym e)
 
-pub count-first : (t : LeaseTable) (o at d : ℕ) → Free t o at → (c : Span) → Spans o (take (t .«carried_len») (t .«carried_offsets»)) (take (t .«carried_len») (t .«carried_counts»)) c
+pub count-first : (t : LeaseTable) (o at d : ℕ) → Free t o at → (c : Span) → Spanned (t .«carried_len») (t .«carried_offsets») (t .«carried_counts») o c
     → d ≡ sat32 (c .count) 1 → nextCount (view t) o ≡ d
 count-first t o at d here c prior e = rw (here .is, ← prior .count) (sym e)
 
@@ -115,7 +114,7 @@ module _ (t : LeaseTable) (ok : Sound t) (o at now : ℕ) where
           is = made-grant (view t) o now d _ (carriedOf t) r (count-again t o at d here e) (here .put new ∙ ap (λ (l : Lease). put o l (leasesOf t)) is-new) (rw (here .is)) is-r;
         }
 
-    pub granted-first : Free t o at → t .len < LEASES → (c : Span) → Spans o (take (t .«carried_len») (t .«carried_offsets»)) (take (t .«carried_len») (t .«carried_counts»)) c
+    pub granted-first : Free t o at → t .len < LEASES → (c : Span) → Spanned (t .«carried_len») (t .«carried_offsets») (t .«carried_counts») o c
         → d ≡ sat32 (c .count) 1 → (ks : List ℕ) (vs : List Lease) (cks cvs : List ℕ)
         → take (t .len + 1) ks ≡ inserted at o (take (t .len) (t .offsets)) → take (t .len + 1) vs ≡ inserted at new (take (t .len) (t .leases))
         → take (t .«carried_len» - (c .to - c .from)) cks ≡ removed (c .from) (c .to) (take (t .«carried_len») (t .«carried_offsets»))

@@ -1,14 +1,15 @@
 -- What the lists of a table's counts and offsets show.
 -- Assumes nothing.
-use Prim.Native.Nat.{ℕ, suc, zero, _+_, _≤_, _<_}
+use Prim.Native.Nat.{ℕ, _+_, _≤_, _<_}
 use native.Mathlib.Omega.{arith}
 use native.Mathlib.Numerals.{add-one}
-use mathlib.Core.Path.{_≡_, refl, sym, ap, _∙_}
+use mathlib.Core.Path.{_≡_, refl, sym, _∙_}
 use mathlib.Core.List.{List, [], _∷_, _++_, map, append-nil}
 use lib.ListN.{length, take, drop, getD, set, length-set, replicate, length-replicate}
 use lib.Seq.{take-suc-set, append-snoc}
 use borrow.Author.Tests.{le-leb, lt-leb}
 use Rattle.types.specs.Keyed.{entry, entries}
+use Rattle.types.proofs.Scan.{map-take}
 use Rattle.types.proofs.Loops.{rest-more}
 use Rattle.types.proofs.Columns.{drop-used, drop-unused, entries-map}
 use Rattle.lease.specs.State.{Sound, view, leasesOf}
@@ -22,15 +23,10 @@ use Rattle.lease.proofs.Slots.{nil, Full}
 abbrev pub counts : LeaseTable → List ℕ
 counts t = map (λ (l : Lease). l .deliveries) (t .leases)
 
-take-map : {A B : Type 0} (f : A → B) (n : ℕ) (l : List A) → take n (map f l) ≡ map f (take n l)
-take-map f zero l = refl
-take-map f (suc n) [] = refl
-take-map {B} f (suc n) (x ∷ l) = ap (λ (t : List B). f x ∷ t) (take-map f n l)
-
 pub counts-listed : (t : LeaseTable) (ks ns : List ℕ) (i : ℕ) → i ≡ t .len → take i ks ≡ take i (t .offsets) → take i ns ≡ take i (counts t)
     → entries (take (t .len) ks) (take (t .len) ns) ≡ attemptCounts (view t)
 counts-listed t ks ns i e p q =
-    rw (← e) (rw (p, q, take-map (λ (l : Lease). l .deliveries) i (t .leases)) (entries-map (λ (l : Lease). l .deliveries) (take i (t .offsets)) (take i (t .leases))))
+    rw (← e) (rw (p, q, ← map-take (λ (l : Lease). l .deliveries) i (t .leases)) (entries-map (λ (l : Lease). l .deliveries) (take i (t .offsets)) (take i (t .leases))))
 
 -- ## the offsets of due leases
 -- those before i are listed

@@ -6,7 +6,7 @@ use mathlib.Core.Bool.{cond}
 use mathlib.Core.List.{List}
 use mathlib.Core.Option.{Option, none, some, Option·map}
 use lib.Dec.{ltb, eqb}
-use Rattle.types.specs.Keyed.{Entry, lookup, put, update, delete}
+use Rattle.types.specs.Keyed.{Entry, lookup, update, delete}
 use Rattle.types.proofs.Cases.{split}
 use Rattle.types.proofs.Keyed.{lookup-put, lookup-delete, lookup-dropBelow, lookup-update, lookup-mapValues}
 use Rattle.lease.specs.State.{Table, withLeases}

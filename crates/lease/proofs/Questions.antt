@@ -13,7 +13,7 @@ use Rattle.types.specs.Table.{answer}
 use Rattle.types.specs.Keyed.{update}
 use Rattle.types.proofs.Cases.{split}
 use Rattle.lease.specs.State.{Table, Sound, view, leasesOf, withLeases}
-use Rattle.lease.specs.Operations.{leaseOf, owns, running, dueAt}
+use Rattle.lease.specs.Operations.{leaseOf, owns, dueAt}
 use Rattle.lease.specs.Rest.{resealedAs, resealFromTo, overdue, deferRedelivery, isClaimable, deliveries, pendingRedeliveryAttempt}
 use Rattle.lease.specs.Answers.{Tries}
 use Rattle.lease.specs.Lookup.{leaseAt}

@@ -5,32 +5,29 @@ use Prim.Native.Nat.{ℕ, _+_, _≤_, _<_}
 use native.Mathlib.Omega.{arith}
 use native.Mathlib.Numerals.{add-one}
 use mathlib.Core.Path.{_≡_, sym, ap, subst, _∙_}
-use mathlib.Core.List.{List, map}
-use mathlib.Core.Option.{none, some}
-use lib.ListN.{length, take, getD, set, length-map, take-append-drop}
+use mathlib.Core.List.{List}
+use mathlib.Core.Option.{none, some, Option·getD}
+use lib.ListN.{length, take, getD, set, take-append-drop}
 use lib.Seq.{length-take-le, getD-take, take-set-lt}
 use Rattle.types.specs.Keyed.{entries, lookup, put, delete, Rising}
 use Rattle.types.specs.Sorted.{Ascending, below}
 use Rattle.types.proofs.Keyed.{delete-absent}
 use Rattle.types.proofs.Columns.{length-used, rising-ascending, lookup-found, put-found, delete-found, lookup-missing, put-missing}
 use Rattle.types.specs.Zipped.{inserted, removed}
-use Rattle.tables.specs.Search.{Placed}
+use Rattle.tables.specs.Search.{Placed, spanOf, Spans}
 use Rattle.tables.specs.declared.Place.{Place}
 use Rattle.tables.specs.declared.Place.the-variants.{Found, Missing}
+use Rattle.tables.specs.declared.counts.Span.{Span}
 use Rattle.tables.proofs.Search.{boundary-below}
 use Rattle.lease.specs.State.{Sound, leasesOf, carriedOf}
 use Rattle.lease.specs.Operations.{lease}
-use Rattle.lease.specs.Helpers.{Spans, rebuilt}
+use Rattle.lease.specs.Helpers.{rebuilt}
 use Rattle.lease.specs.declared.Lease.{Lease}
 use Rattle.lease.specs.declared.LeaseTable.{LeaseTable}
 
 -- what an index past the end reads
 abbrev pub nil : Lease
 nil = lease 0 0 0 0
-
--- an array of structs has its length
-pub length-mapped : {A B : Type 0} (f : A → B) (l : List A) (n : ℕ) → length (map f l) ≡ n → length l ≡ n
-length-mapped f l n e = sym (length-map l f) ∙ e
 
 -- a table with other values in its leases
 abbrev pub holding : LeaseTable → List Lease → LeaseTable
@@ -84,34 +81,29 @@ module _ {A : Type 0} (d : A) (n : ℕ) (ks : List ℕ) (vs : List A) (fits : n 
         put = λ v. rw b (sym (put-missing x v (take n ks) (take n vs) even e));
       }
 
--- the span of a key that stands at a place, and of one that stands nowhere
+-- the places of a key, one or none: its count, 0 where there is none, and the columns without it
+pub record Spanned (n : ℕ) (ks vs : List ℕ) (x : ℕ) (r : Span) : Type 0 where
+  pub order : r .from ≤ r .to
+  pub inside : r .to ≤ n
+  pub count : r .count ≡ Option·getD (lookup x (entries (take n ks) (take n vs))) 0
+  pub gone : entries (removed (r .from) (r .to) (take n ks)) (removed (r .from) (r .to) (take n vs)) ≡ delete x (entries (take n ks) (take n vs))
+
 module _ (n : ℕ) (ks vs : List ℕ) (fits : n ≤ length ks) (fits′ : n ≤ length vs) (rise : Rising 0 (entries (take n ks) (take n vs))) where
-  pub found-inside : (x : ℕ) {at : ℕ} {r : Place} → Placed x (take n ks) r → r ≡ Found at → at < n
-  found-inside x {at} p e = stands 0 n ks vs fits fits′ rise x at (subst (Placed x (take n ks)) e p) .inside
+  span-of : (x : ℕ) (p : Place) → Placed x (take n ks) p → Spanned n ks vs x (spanOf vs p)
+  span-of x (Found at) p =
+      let h = stands 0 n ks vs fits fits′ rise x at p in
+      record { order = omega arith; inside = omega (arith, h .inside); count = rw (h .is); gone = h .gone }
+  span-of x (Missing at) p =
+      let h = lacks 0 n ks vs fits fits′ rise x at p in
+      record {
+        order = omega arith;
+        inside = h .inside;
+        count = rw (h .is);
+        gone = rw (take-append-drop at (take n ks), take-append-drop at (take n vs)) (sym (delete-absent x (entries (take n ks) (take n vs)) (h .is)));
+      }
 
-  pub missing-inside : (x : ℕ) {at : ℕ} {r : Place} → Placed x (take n ks) r → r ≡ Missing at → at ≤ n
-  missing-inside x {at} p e = lacks 0 n ks vs fits fits′ rise x at (subst (Placed x (take n ks)) e p) .inside
-
-  module _ {x at : ℕ} {r : Place} (p : Placed x (take n ks) r) where
-    pub spans-found : r ≡ Found at → Spans x (take n ks) (take n vs) (record { from = at; to = at + 1; count = getD vs at 0 })
-    spans-found e =
-        let h = stands 0 n ks vs fits fits′ rise x at (subst (Placed x (take n ks)) e p) in
-        record {
-          order = omega arith;
-          inside = rw (length-take-le n ks fits) (omega (arith, h .inside));
-          count = rw (h .is);
-          gone = h .gone;
-        }
-
-    pub spans-missing : r ≡ Missing at → Spans x (take n ks) (take n vs) (record { from = at; to = at; count = 0 })
-    spans-missing e =
-        let h = lacks 0 n ks vs fits fits′ rise x at (subst (Placed x (take n ks)) e p) in
-        record {
-          order = omega arith;
-          inside = rw (length-take-le n ks fits) (h .inside);
-          count = rw (h .is);
-          gone = rw (take-append-drop at (take n ks), take-append-drop at (take n vs)) (sym (delete-absent x (entries (take n ks) (take n vs)) (h .is)));
-        }
+  spanned : {x : ℕ} {r : Span} → Spans x (take n ks) vs r → Spanned n ks vs x r
+  spanned {x} s = rw (s .is) (span-of x (s .place) (s .placed))
 
 -- ## a table
 -- the lease of an offset stands at a place; it has none, and one belongs there
@@ -176,3 +168,6 @@ module _ (t : LeaseTable) (full : Full t) (ok : Sound t) where
     uncarried e =
         lacks 0 (t .«carried_len») (t .«carried_offsets») (t .«carried_counts») carried-fits carried-fits′ (ok .valid .carried-rising) x at
         (subst (Placed x (take (t .«carried_len») (t .«carried_offsets»))) e p)
+
+  pub carried-span : {x : ℕ} {r : Span} → Spans x (take (t .«carried_len») (t .«carried_offsets»)) (t .«carried_counts») r → Spanned (t .«carried_len») (t .«carried_offsets») (t .«carried_counts») x r
+  carried-span = spanned (t .«carried_len») (t .«carried_offsets») (t .«carried_counts») carried-fits carried-fits′ (ok .valid .carried-rising)

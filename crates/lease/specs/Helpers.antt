@@ -1,13 +1,13 @@
 -- What the private helpers answer. No public contract cites this file.
-use Prim.Native.Nat.{ℕ, _+_, _-_, _≤_, _<_, max}
+use Prim.Native.Nat.{ℕ, _-_, _≤_}
 use mathlib.Core.Path.{_≡_}
 use mathlib.Core.Bool.{cond}
-use mathlib.Core.List.{List, [], _∷_, _++_}
-use mathlib.Core.Option.{Option, none, some, Option·getD}
-use lib.Dec.{ltb, eqb}
-use lib.ListN.{length, take, drop, getD}
+use mathlib.Core.List.{List, [], _∷_}
+use mathlib.Core.Option.{Option, none, some}
+use lib.Dec.{ltb}
+use lib.ListN.{length, take}
 use Rattle.types.specs.Limits.{CARRIED}
-use Rattle.types.specs.Keyed.{Entry, entry, entries, lookup, delete, Rising, All}
+use Rattle.types.specs.Keyed.{Entry, entries, Rising, All}
 use Rattle.types.specs.Zipped.{removed}
 use Rattle.types.specs.Refusal.{refused, done, TooManyPairs}
 use Rattle.types.specs.Table.{Answer, answer}
@@ -18,23 +18,6 @@ use Rattle.lease.specs.Counts.{carry}
 use Rattle.lease.specs.declared.Lease.{Lease}
 use Rattle.lease.specs.declared.LeaseTable.{LeaseTable}
 use Rattle.lease.specs.declared.lent.Carried.{Carried}
-use Rattle.lease.specs.declared.columns.Span.{Span}
-use Rattle.lease.specs.declared.columns.CarryOutcome.{CarryOutcome}
-use Rattle.lease.specs.declared.columns.CarryOutcome.the-variants.{Kept, Full}
-
--- ## columns
--- the places of a key, one or none: its count, 0 where there is none, and the columns without it
-pub record Spans (x : ℕ) (ks vs : List ℕ) (r : Span) : Type 0 where
-  pub order : r .from ≤ r .to
-  pub inside : r .to ≤ length ks
-  pub count : r .count ≡ Option·getD (lookup x (entries ks vs)) 0
-  pub gone : entries (removed (r .from) (r .to) ks) (removed (r .from) (r .to) vs) ≡ delete x (entries ks vs)
-
--- ## a count carried
--- the columns afterwards hold the list with the pair in it, or it would have more than 128 entries
-abbrev pub Carries : List (Entry ℕ) → CarryOutcome → List ℕ → List ℕ → Type 0
-Carries right (Kept n) ks vs = (n ≤ CARRIED) × (entries (take n ks) (take n vs) ≡ right)
-Carries right Full ks vs = CARRIED < length right
 
 -- ## leases taken out
 -- a table with other leases in it, in columns of which the first n places are in use

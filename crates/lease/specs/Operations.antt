@@ -1,7 +1,7 @@
 -- Claims, acks, extensions and nacks of leases (01, "Modules", lease; lease.rs): each a refusal table in 01's order and
 -- an effect.
 use Prim.Native.Nat.{ℕ, _+_, min}
-use mathlib.Core.Bool.{Bool, true, false, cond, not, _&&_}
+use mathlib.Core.Bool.{Bool, true, false, not, _&&_}
 use mathlib.Core.List.{List, [], _∷_}
 use mathlib.Core.Option.{Option, none, some, Option·getD}
 use lib.Dec.{ltb, leb, eqb}

@@ -11,8 +11,7 @@ ghost use Rattle.lease.specs.Helpers.{carriedIn, Tidy, CarriesPair, Carr
 use crate::LeaseTable;
 use crate::ResumeOutcome;
 use crate::Resumed;
-use crate::columns;
-use crate::columns::CarryOutcome;
+use tables::Place;
 use tables::counts;
 use types::Offset;
 use types::Pair;
@@ -30,34 +29,34 @@ pub(crate) struct Carried {
     pub full: bool,
 }
 
-// Carries one pair more.
-fn carry_pair(carried: Carried, pair: Pair) -> Carried
+// Carries one pair more: its count takes the place of the one that its offset has. A count of 0 says nothing.
+fn carry_pair(mut carried: Carried, pair: Pair) -> Carried
     requires { ⌜ Tidy carried ⌝ }
     ensures { λ r. ⌜ CarriesPair pair carried r ⌝ }
 {
     if carried.full {
         return carried;
     }
-    let mut offsets = carried.offsets;
-    let mut counts = carried.counts;
-    let outcome = columns::carry(
-        &mut offsets,
-        &mut counts,
-        carried.len,
-        pair.offset,
-        pair.attempt,
-    );
-    let CarryOutcome::Kept(len) = outcome else {
-        let mut stopped = carried;
-        stopped.full = true;
-        return stopped;
-    };
-    Carried {
-        offsets: offsets,
-        counts: counts,
-        len: len,
-        full: false,
+    if pair.attempt == 0 {
+        return carried;
     }
+    let len = carried.len;
+    let place = tables::find(&carried.offsets, len, pair.offset);
+    let at = match place {
+        Place::Found(at) => {
+            carried.counts[at] = pair.attempt;
+            return carried;
+        }
+        Place::Missing(at) => at,
+    };
+    if len == 128 {
+        carried.full = true;
+        return carried;
+    }
+    tables::insert_128(&mut carried.offsets, len, at, pair.offset);
+    tables::insert_count_128(&mut carried.counts, len, at, pair.attempt);
+    carried.len = len + 1;
+    carried
 }
 
 impl LeaseTable {

@@ -17,10 +17,10 @@ ghost use Rattle.lease.specs.Answers.{claimOf, ackOf, extendOf, nackOf, 
 ghost use Rattle.lease.specs.Helpers.{Shorter};
 use lookup::LeaseAt;
 use tables::Place;
+use tables::counts;
 use types::Generation;
 use types::Offset;
 
-mod columns;
 mod lent;
 pub mod lookup;
 
@@ -338,7 +338,7 @@ impl LeaseTable {
         let len = self.len;
         let generation = self.next_generation;
         let n = self.carried_len;
-        let prior = columns::count_of(&self.carried_offsets, &self.carried_counts, n, offset.0);
+        let prior = counts::count_of(&self.carried_offsets, &self.carried_counts, n, offset.0);
         tables::remove_128(&mut self.carried_offsets, n, prior.from, prior.to);
         tables::remove_counts_128(&mut self.carried_counts, n, prior.from, prior.to);
         self.carried_len = n - (prior.to - prior.from);

@@ -1,21 +1,21 @@
 -- Two lists of counts merged place by place: what the next pair leaves, and the invariant of the loop.
 -- Assumes nothing.
-use Prim.Native.Nat.{ℕ, suc, _+_, _≤_, _<_, max, min}
+use Prim.Native.Nat.{ℕ, _+_, _≤_, _<_, min}
 use native.Mathlib.Omega.{arith}
 use native.Mathlib.Numerals.{add-one}
 use mathlib.Core.Path.{_≡_, refl, sym, ap, _∙_}
 use mathlib.Core.List.{List, [], _∷_, _++_, append-nil}
 use mathlib.Core.Option.{Option, none, some}
-use lib.Dec.{ltb, eqb}
+use lib.Dec.{ltb}
 use lib.ListN.{length, take, drop, getD, set, length-set, length-take, replicate, length-replicate}
 use lib.Seq.{length-take-le, take-suc-set, take-append-seam, take-all, append-snoc, drop-drop, getD-take}
-use borrow.Author.Tests.{ltb-true, ltb-false, lt-ltb, le-ltb, eq-eqb, ne-eqb}
+use borrow.Author.Tests.{ltb-true, ltb-false, eq-eqb, ne-eqb}
 use Rattle.types.specs.Keyed.{Entry, entry, entries}
 use Rattle.types.specs.Lists.{ListsCounts}
 use Rattle.types.proofs.Cases.{split}
 use Rattle.types.proofs.Loops.{rest-more}
 use Rattle.types.proofs.Columns.{length-entries, entries-snoc, drop-entry, drop-entries-past}
-use Rattle.tables.specs.Merge.{mergeEntry, merge, first, lower, picked}
+use Rattle.tables.specs.Merge.{merge, first, picked}
 use Rattle.tables.specs.declared.counts.Pick.{Pick}
 
 -- ## the next pair

@@ -2,7 +2,7 @@
 -- Assumes nothing.
 use Prim.Native.Nat.{ℕ, _-_, _+_, _≤_, _<_, min}
 use native.Mathlib.Omega.{arith}
-use mathlib.Core.Path.{_≡_, sym, _∙_}
+use mathlib.Core.Path.{_≡_, sym, _∙_, subst}
 use mathlib.Core.List.{List}
 use lib.Dec.{ltb}
 use lib.ListN.{length, take, getD, length-take}
@@ -12,6 +12,7 @@ use Rattle.types.specs.Sorted.{Ascending, below}
 use Rattle.types.proofs.Cases.{split}
 use Rattle.types.proofs.Sorted.{below-le, before-place, not-before-place}
 use Rattle.tables.specs.Search.{Boundary, Placed}
+use Rattle.tables.specs.declared.Place.{Place}
 use Rattle.tables.specs.declared.Place.the-variants.{Found, Missing}
 
 -- ## among numbers that rise
@@ -82,3 +83,11 @@ module _ (x at len : ℕ) (keys : List ℕ) where
     b,
     λ h e. let k : at < min len (length keys) = simp length-take at h in n k (sym (getD-take len keys at 0 (omega (arith, k))) ∙ e),
   )
+
+-- the place that was found is in use
+pub found-used : (x len : ℕ) (keys : List ℕ) {at : ℕ} {r : Place} → Placed x (take len keys) r → r ≡ Found at → at < min len (length keys)
+found-used x len keys p e = simp length-take at (subst (Placed x (take len keys)) e p .0)
+
+-- the place where it is missing is an end of what is in use, or within
+pub missing-inside : (x len : ℕ) (keys : List ℕ) {at : ℕ} {r : Place} → Placed x (take len keys) r → r ≡ Missing at → at ≤ min len (length keys)
+missing-inside x len keys p e = simp length-take at (subst (Placed x (take len keys)) e p .0 .inside)

@@ -3,10 +3,8 @@
 use Prim.Native.Nat.{ℕ, _+_, _-_, _≤_, _<_}
 use native.Mathlib.Omega.{arith}
 use mathlib.Core.Path.{_≡_, refl, sym, ap, _∙_}
-use mathlib.Core.Bool.{_&&_}
-use mathlib.Core.List.{List, _++_}
-use lib.Dec.{leb}
-use lib.ListN.{length, take, drop, getD, set, take-append-drop}
+use mathlib.Core.List.{List}
+use lib.ListN.{length, drop, getD, set, take-append-drop}
 use lib.Seq.{drop-set-lt, drop-drop}
 use borrow.Author.Tests.{le-leb, lt-leb, le-ltb}
 use Rattle.types.proofs.Loops.{Opening, opening, opening-more, opened, Closing, closing, closing-more, closed}

@@ -1,12 +1,21 @@
-// Two sorted lists of attempt counts in one.
+// Attempt counts in columns: the count of an offset, and two sorted lists of them in one.
 ghost use mathlib.Core.Path.{_≡_};
 ghost use Prim.Native.Nat.{max};
-ghost use lib.ListN.{take, drop};
+ghost use lib.ListN.{take, drop, getD};
 ghost use Rattle.types.specs.Keyed.{entries};
 ghost use Rattle.types.specs.Lists.{entryOf, countsIn, ListsCounts};
+ghost use Rattle.tables.specs.Search.{Spans};
 ghost use Rattle.tables.specs.Merge.{merge, first, headOf, lower, picked};
+use crate::Place;
 use types::Pair;
 use types::lent::AttemptCounts;
+
+// The places of a key, one or none, and the count there, 0 where there is none.
+pub struct Span {
+    pub from: usize,
+    pub to: usize,
+    pub count: u32,
+}
 
 // What stands at a place of two columns, if they go so far.
 pub(crate) enum Head {
@@ -20,6 +29,30 @@ pub(crate) struct Pick {
     pub attempt: u32,
     pub left: usize,
     pub right: usize,
+}
+
+// Where a key stands among the first `len` places of two columns, and its count.
+pub fn count_of<'a>(keys: &'a [u64], counts: &'a [u32], len: usize, x: u64) -> Span
+    ensures { λ r. ⌜ Spans x (take len (now (keys .entry))) (now (counts .entry)) r ⌝ }
+{
+    match crate::find(keys, len, x) {
+        Place::Found(at) => Span {
+            from: at,
+            to: at + 1,
+            count: count_at(counts, at),
+        },
+        Place::Missing(at) => Span {
+            from: at,
+            to: at,
+            count: 0,
+        },
+    }
+}
+
+fn count_at(counts: &[u32], at: usize) -> u32
+    ensures { λ r. ⌜ r ≡ getD (now (counts .entry)) at 0 ⌝ }
+{
+    if at < counts.len() { counts[at] } else { 0 }
 }
 
 // Merges counts with those in the first `len` places of two columns, the larger count where an offset stands in both: the first

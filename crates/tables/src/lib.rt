@@ -52,7 +52,7 @@ fn smaller(a: usize, b: usize) -> usize
 
 // Puts x in at a place, what stood from there on one place further. Where there is no such place, or no room, the column
 // stays as it is.
-pub fn insert(column: &mut [u64], len: usize, at: usize, x: u64)
+fn insert(column: &mut [u64], len: usize, at: usize, x: u64)
     ensures { λ _. ⌜ now (column .exit) ≡ putIn len at x (now (column .entry)) ⌝ }
 {
     if len < at {
@@ -73,7 +73,7 @@ pub fn insert(column: &mut [u64], len: usize, at: usize, x: u64)
 }
 
 // The same in a column of counts.
-pub fn insert_count(column: &mut [u32], len: usize, at: usize, x: u32)
+fn insert_count(column: &mut [u32], len: usize, at: usize, x: u32)
     ensures { λ _. ⌜ now (column .exit) ≡ putIn len at x (now (column .entry)) ⌝ }
 {
     if len < at {
@@ -93,11 +93,23 @@ pub fn insert_count(column: &mut [u32], len: usize, at: usize, x: u32)
     column[i] = held;
 }
 
-// The same in an array that lies in a table.
+// The same in arrays that lie in a table.
 pub fn insert_64(column: &mut [u64; 64], len: usize, at: usize, x: u64)
     ensures { λ _. ⌜ now (column .exit) ≡ putIn len at x (now (column .entry)) ⌝ }
 {
     insert(column, len, at, x);
+}
+
+pub fn insert_128(column: &mut [u64; 128], len: usize, at: usize, x: u64)
+    ensures { λ _. ⌜ now (column .exit) ≡ putIn len at x (now (column .entry)) ⌝ }
+{
+    insert(column, len, at, x);
+}
+
+pub fn insert_count_128(column: &mut [u32; 128], len: usize, at: usize, x: u32)
+    ensures { λ _. ⌜ now (column .exit) ≡ putIn len at x (now (column .entry)) ⌝ }
+{
+    insert_count(column, len, at, x);
 }
 
 // Takes the places from `from` up to `to` out; the places that fall free keep what they held. Where those are no places in

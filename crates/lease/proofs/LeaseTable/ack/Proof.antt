@@ -8,11 +8,12 @@ use lib.ListN.{set, getD}
 use borrow.Author.Needs.{needs}
 use Rattle.types.specs.Limits.{LEASES}
 use Rattle.types.proofs.Loops.{Closing, closing, closing-more, closed}
+use Rattle.types.proofs.Scan.{length-mapped}
 use Rattle.tables.proofs.Columns.{taken-out-front}
 use Rattle.lease.specs.State.{view}
 use Rattle.lease.specs.Helpers.{rebuilt}
 use Rattle.lease.specs.declared.LeaseTable.{LeaseTable}
-use Rattle.lease.proofs.Slots.{nil, length-mapped, Full, Leased, holding, leased, free}
+use Rattle.lease.proofs.Slots.{nil, Full, Leased, holding, leased, free}
 use Rattle.lease.proofs.Tokens.{not-leased, other-generation, owned, shows-removed, ack-fenced, acked}
 use Rattle.lease.proofs.LeaseTable.ack.Statement.{statement}
 use Rattle.lease.proofs.LeaseTable.ack.Tie as tie

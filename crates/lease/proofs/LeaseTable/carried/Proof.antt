@@ -2,7 +2,8 @@
 -- Assumes nothing.
 use mathlib.Core.Path.{sym}
 use borrow.Author.Needs.{needs}
-use Rattle.lease.proofs.Slots.{length-mapped, Full, carried-length}
+use Rattle.types.proofs.Scan.{length-mapped}
+use Rattle.lease.proofs.Slots.{Full, carried-length}
 use Rattle.lease.proofs.LeaseTable.carried.Statement.{statement}
 use Rattle.lease.proofs.LeaseTable.carried.Tie as tie
 

@@ -3,7 +3,8 @@
 use native.Mathlib.Omega.{arith}
 use mathlib.Core.Path.{sym}
 use borrow.Author.Needs.{needs}
-use Rattle.lease.proofs.Slots.{length-mapped, Full, Carried, carried, uncarried}
+use Rattle.types.proofs.Scan.{length-mapped}
+use Rattle.lease.proofs.Slots.{Full, Carried, carried, uncarried}
 use Rattle.lease.proofs.LeaseTable.carried_count.Statement.{statement}
 use Rattle.lease.proofs.LeaseTable.carried_count.Tie as tie
 

@@ -4,8 +4,9 @@ use native.Mathlib.Omega.{arith}
 use mathlib.Core.Path.{subst}
 use lib.ListN.{take}
 use borrow.Author.Needs.{needs}
+use Rattle.types.proofs.Scan.{length-mapped}
 use Rattle.tables.specs.Search.{Placed}
-use Rattle.lease.proofs.Slots.{length-mapped, Full, Free, leased, free, found-at, in-flight}
+use Rattle.lease.proofs.Slots.{Full, Free, leased, free, found-at, in-flight}
 use Rattle.lease.proofs.Claims.{claim-exhausted, claim-full}
 use Rattle.lease.proofs.LeaseTable.claim.Statement.{statement}
 use Rattle.lease.proofs.LeaseTable.claim.Tie as tie

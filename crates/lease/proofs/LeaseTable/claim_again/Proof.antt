@@ -6,8 +6,9 @@ use mathlib.Core.Path.{refl}
 use borrow.Author.Needs.{needs}
 use borrow.Author.Tests.{lt-ltb, le-ltb}
 use Rattle.types.specs.Limits.{MAX}
+use Rattle.types.proofs.Scan.{length-mapped}
 use Rattle.tables.proofs.Search.{placed-found}
-use Rattle.lease.proofs.Slots.{length-mapped, Full, Leased, leased}
+use Rattle.lease.proofs.Slots.{Full, Leased, leased}
 use Rattle.lease.proofs.Claims.{claim-in-flight, claim-exhausted, claimed, count-again, granted-again}
 use Rattle.lease.proofs.LeaseTable.claim_again.Statement.{statement}
 use Rattle.lease.proofs.LeaseTable.claim_again.Tie as tie

@@ -5,14 +5,14 @@ use Prim.Native.Nat.{_+_, _-_, _≤_, _<_}
 use native.Mathlib.Omega.{arith}
 use mathlib.Core.Path.{_≡_, refl, ap, _∙_}
 use lib.ListN.{set}
-use lib.Seq.{length-take-le}
 use borrow.Author.Needs.{needs}
 use Rattle.types.specs.Limits.{MAX, LEASES, CARRIED}
 use Rattle.types.proofs.Loops.{Opening, opening, opening-more, opened}
+use Rattle.types.proofs.Scan.{length-mapped}
 use Rattle.tables.proofs.Columns.{put-in-front, taken-out-front}
 use Rattle.redeliveries.specs.Counter.{afterGrant}
 use Rattle.lease.specs.declared.LeaseTable.{LeaseTable}
-use Rattle.lease.proofs.Slots.{nil, length-mapped, Full, Free, holding, free, in-flight}
+use Rattle.lease.proofs.Slots.{nil, Full, Free, Spanned, holding, free, in-flight, carried-span}
 use Rattle.lease.proofs.Claims.{claimed, room-first, finished, count-first, granted-first}
 use Rattle.lease.proofs.LeaseTable.claim_first.Statement.{statement}
 use Rattle.lease.proofs.LeaseTable.claim_first.Tie as tie
@@ -39,17 +39,17 @@ start c = c .before .before .before .before .before .before .before
 abbrev counted : tie.After-lease Inv-loop μ-loop → tie.After-count-of Inv-loop μ-loop
 counted c = c .before .before .before .before .before .before .before .before .before .before
 
+prior : (c : tie.After-count-of Inv-loop μ-loop) → Spanned (start c .args .t1 .«carried_len») (start c .args .t1 .«carried_offsets») (start c .args .t1 .«carried_counts») (start c .args .offset .0) (c .count-of .result)
+prior c = let s = start c in carried-span (s .args .t1) (full s) (s .pre .0) (c .count-of .ensures)
+
 span : (c : tie.After-count-of Inv-loop μ-loop) → (c .count-of .result .from ≤ c .count-of .result .to) × (c .count-of .result .to ≤ start c .args .t1 .«carried_len») × (start c .args .t1 .«carried_len» ≤ CARRIED)
 span c =
     let s = start c in
-    let n = length-take-le (s .args .t1 .«carried_len») (s .args .t1 .«carried_offsets») (omega (arith, full s .carried-offsets, s .pre .0 .carried-len)) in
-    (c .count-of .ensures .order, omega (arith, c .count-of .ensures .inside), s .pre .0 .carried-len)
+    let p = prior c in
+    (p .order, p .inside, s .pre .0 .carried-len)
 
 count-of-requires : tie.Need-count-of-requires Inv-loop μ-loop
-count-of-requires c κs =
-    let s = c .before .before .before .before .before .before in
-    let f = full s in
-    (omega (arith, f .carried-offsets, s .pre .0 .carried-len), omega (arith, f .carried-counts, s .pre .0 .carried-len), s .pre .0 .valid .carried-rising)
+count-of-requires c κs = search needs
 
 remove-128-requires : tie.Need-remove-128-requires Inv-loop μ-loop
 remove-128-requires c κs = search needs
@@ -135,9 +135,9 @@ returns c =
     let h = here s in
     claimed t (s .pre .0) (s .args .offset .0) (s .args .now) (rw (h .is)) (λ e. absurd (omega (arith, s .pre .2)))
     (room-first t (s .args .offset .0) (s .args .at) h (in-flight t (full s) (s .pre .0)) (s .pre .3)) (fits s) (n .saturating-next .result)
-    (count-first t (s .args .offset .0) (s .args .at) (n .saturating-next .result) h (o .count-of .result) (o .count-of .ensures) (n .saturating-next .ensures)) _ (c .granted .ensures)
+    (count-first t (s .args .offset .0) (s .args .at) (n .saturating-next .result) h (o .count-of .result) (prior o) (n .saturating-next .ensures)) _ (c .granted .ensures)
     (granted-first t (s .pre .0) (s .args .offset .0) (s .args .at) (s .args .now) (n .saturating-next .result) (b .lease .result) (b .lease .ensures) (a .after-grant .result) (a .after-grant .ensures ∙ ap (λ (u : LeaseTable). afterGrant (u .«redeliveries_since_flush») (n .saturating-next .result)) (l .inv .1))
-    h (s .pre .3) (o .count-of .result) (o .count-of .ensures) (n .saturating-next .ensures)
+    h (s .pre .3) (o .count-of .result) (prior o) (n .saturating-next .ensures)
     (b .before .before .insert-64 .last .0) (set (l .self .leases) (l .i) (l .held)) (m .before .before .remove-128 .last .0) (m .remove-counts-128 .last .0)
     (put-in-front (t .len) (s .args .at) (s .args .offset .0) (t .offsets) (h .inside) (omega (arith, full s .offsets, s .pre .3)) (b .before .before .insert-64 .ensures))
     (opened nil (l .inv .0) (a .before .before .before .loop-test .left))

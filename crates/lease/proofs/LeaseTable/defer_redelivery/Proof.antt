@@ -2,9 +2,10 @@
 -- Assumes nothing.
 use native.Mathlib.Omega.{arith}
 use borrow.Author.Needs.{needs}
+use Rattle.types.proofs.Scan.{length-mapped}
 use Rattle.lease.specs.State.{view}
 use Rattle.lease.specs.Operations.{dueAt}
-use Rattle.lease.proofs.Slots.{length-mapped, Full, Leased, leased, free}
+use Rattle.lease.proofs.Slots.{Full, Leased, leased, free}
 use Rattle.lease.proofs.Tokens.{shows-stored}
 use Rattle.lease.proofs.Questions.{none-overdue, still-running, run-out, not-deferred, deferred}
 use Rattle.lease.proofs.LeaseTable.defer_redelivery.Statement.{statement}

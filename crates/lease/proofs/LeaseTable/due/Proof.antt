@@ -4,7 +4,8 @@ use Prim.Native.Nat.{_-_, _≤_}
 use native.Mathlib.Omega.{arith}
 use borrow.Author.Needs.{needs}
 use Rattle.types.specs.Limits.{LEASES}
-use Rattle.lease.proofs.Slots.{length-mapped, Full}
+use Rattle.types.proofs.Scan.{length-mapped}
+use Rattle.lease.proofs.Slots.{Full}
 use Rattle.lease.proofs.Lists.{Listing, listing, listing-due, listing-running, due-listed}
 use Rattle.lease.proofs.LeaseTable.due.Statement.{statement}
 use Rattle.lease.proofs.LeaseTable.due.Tie as tie

@@ -2,9 +2,10 @@
 -- Assumes nothing.
 use native.Mathlib.Omega.{arith}
 use borrow.Author.Needs.{needs}
+use Rattle.types.proofs.Scan.{length-mapped}
 use Rattle.lease.specs.State.{view}
 use Rattle.lease.specs.Operations.{dueAt}
-use Rattle.lease.proofs.Slots.{length-mapped, Full, Leased, leased, free}
+use Rattle.lease.proofs.Slots.{Full, Leased, leased, free}
 use Rattle.lease.proofs.Tokens.{not-leased, other-generation, shows-stored, extend-fenced, extend-capped, extend-done}
 use Rattle.lease.proofs.LeaseTable.extend.Statement.{statement}
 use Rattle.lease.proofs.LeaseTable.extend.Tie as tie

@@ -1,7 +1,8 @@
 -- `LeaseTable::holds_below` meets its contract: the first lease tells.
 -- Assumes nothing.
 use borrow.Author.Needs.{needs}
-use Rattle.lease.proofs.Slots.{length-mapped, Full}
+use Rattle.types.proofs.Scan.{length-mapped}
+use Rattle.lease.proofs.Slots.{Full}
 use Rattle.lease.proofs.Searches.{first-lease-tells}
 use Rattle.lease.proofs.LeaseTable.holds_below.Statement.{statement}
 use Rattle.lease.proofs.LeaseTable.holds_below.Tie as tie

@@ -2,7 +2,8 @@
 -- Assumes nothing.
 use mathlib.Core.Path.{sym}
 use borrow.Author.Needs.{needs}
-use Rattle.lease.proofs.Slots.{length-mapped, Full, in-flight}
+use Rattle.types.proofs.Scan.{length-mapped}
+use Rattle.lease.proofs.Slots.{Full, in-flight}
 use Rattle.lease.proofs.LeaseTable.in_flight.Statement.{statement}
 use Rattle.lease.proofs.LeaseTable.in_flight.Tie as tie
 

@@ -8,8 +8,9 @@ use lib.ListN.{length, take, drop, replicate, length-set, length-map, List·getD
 use borrow.Author.Needs.{needs}
 use Rattle.types.specs.Limits.{LEASES}
 use Rattle.types.proofs.Loops.{filled-more, rest-more}
+use Rattle.types.proofs.Scan.{length-mapped}
 use Rattle.lease.specs.declared.Lease.{Lease}
-use Rattle.lease.proofs.Slots.{nil, length-mapped, Full}
+use Rattle.lease.proofs.Slots.{nil, Full}
 use Rattle.lease.proofs.Lists.{counts, counts-listed}
 use Rattle.lease.proofs.LeaseTable.lease_counts.Statement.{statement}
 use Rattle.lease.proofs.LeaseTable.lease_counts.Tie as tie

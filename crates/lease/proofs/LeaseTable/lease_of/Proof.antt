@@ -3,7 +3,8 @@
 use native.Mathlib.Omega.{arith}
 use mathlib.Core.Path.{sym}
 use borrow.Author.Needs.{needs}
-use Rattle.lease.proofs.Slots.{length-mapped, Full, Leased, leased, free}
+use Rattle.types.proofs.Scan.{length-mapped}
+use Rattle.lease.proofs.Slots.{Full, Leased, leased, free}
 use Rattle.lease.proofs.LeaseTable.lease_of.Statement.{statement}
 use Rattle.lease.proofs.LeaseTable.lease_of.Tie as tie
 

@@ -2,8 +2,9 @@
 -- Assumes nothing.
 use native.Mathlib.Omega.{arith}
 use borrow.Author.Needs.{needs}
+use Rattle.types.proofs.Scan.{length-mapped}
 use Rattle.lease.specs.State.{view}
-use Rattle.lease.proofs.Slots.{length-mapped, Full, Leased, leased, free}
+use Rattle.lease.proofs.Slots.{Full, Leased, leased, free}
 use Rattle.lease.proofs.Tokens.{not-leased, other-generation, owned, shows-requeued, nack-fenced, nack-exhausted, nacked}
 use Rattle.lease.proofs.LeaseTable.nack.Statement.{statement}
 use Rattle.lease.proofs.LeaseTable.nack.Tie as tie

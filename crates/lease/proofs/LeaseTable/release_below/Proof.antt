@@ -4,8 +4,9 @@ use Prim.Native.Nat.{_≤_}
 use native.Mathlib.Omega.{arith}
 use lib.Seq.{length-take-le}
 use borrow.Author.Needs.{needs}
+use Rattle.types.proofs.Scan.{length-mapped}
 use Rattle.tables.proofs.Columns.{taken-out-front}
-use Rattle.lease.proofs.Slots.{length-mapped, Full}
+use Rattle.lease.proofs.Slots.{Full}
 use Rattle.lease.proofs.Changes.{releases}
 use Rattle.lease.proofs.LeaseTable.release_below.Statement.{statement}
 use Rattle.lease.proofs.LeaseTable.release_below.Tie as tie

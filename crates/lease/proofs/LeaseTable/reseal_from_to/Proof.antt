@@ -2,9 +2,10 @@
 -- Assumes nothing.
 use native.Mathlib.Omega.{arith}
 use borrow.Author.Needs.{needs}
+use Rattle.types.proofs.Scan.{length-mapped}
 use Rattle.lease.specs.State.{view}
 use Rattle.lease.specs.Rest.{resealedAs}
-use Rattle.lease.proofs.Slots.{length-mapped, Full, Leased, leased, free}
+use Rattle.lease.proofs.Slots.{Full, Leased, leased, free}
 use Rattle.lease.proofs.Tokens.{not-leased, other-generation, owned, shows-stored}
 use Rattle.lease.proofs.Questions.{not-resealed, resealed}
 use Rattle.lease.proofs.LeaseTable.reseal_from_to.Statement.{statement}

@@ -8,9 +8,10 @@ use lib.ListN.{length, set}
 use borrow.Author.Needs.{needs}
 use Rattle.types.specs.Limits.{LEASES}
 use Rattle.types.proofs.Loops.{Mapping, mapping, mapping-more, mapped}
+use Rattle.types.proofs.Scan.{length-mapped}
 use Rattle.lease.specs.Rest.{shiftedBy}
 use Rattle.lease.specs.declared.LeaseTable.{LeaseTable}
-use Rattle.lease.proofs.Slots.{nil, length-mapped, holding}
+use Rattle.lease.proofs.Slots.{nil, holding}
 use Rattle.lease.proofs.Changes.{shifts}
 use Rattle.lease.proofs.LeaseTable.shift_deadlines.Statement.{statement}
 use Rattle.lease.proofs.LeaseTable.shift_deadlines.Tie as tie

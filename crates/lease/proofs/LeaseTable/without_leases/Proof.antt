@@ -8,10 +8,11 @@ use lib.ListN.{length, set, getD}
 use borrow.Author.Needs.{needs}
 use Rattle.types.specs.Limits.{LEASES}
 use Rattle.types.proofs.Loops.{Closing, closing, closing-more, closed}
+use Rattle.types.proofs.Scan.{length-mapped}
 use Rattle.tables.proofs.Columns.{taken-out-front}
 use Rattle.lease.specs.Helpers.{rebuilt, Shorter}
 use Rattle.lease.specs.declared.LeaseTable.{LeaseTable}
-use Rattle.lease.proofs.Slots.{nil, length-mapped, holding}
+use Rattle.lease.proofs.Slots.{nil, holding}
 use Rattle.lease.proofs.LeaseTable.without_leases.Statement.{statement}
 use Rattle.lease.proofs.LeaseTable.without_leases.Tie as tie
 
