@@ -406,7 +406,7 @@ mod tests {
         assert_eq!(guarded.machine.writing.attempt_len, 9 + 12);
         // While a record is out, the consumer can't be called.
         guarded.call(Ask::Claim as u64, [6, 50, 0, 0], &mut [], &mut out);
-        assert_eq!(guarded.numbers, told(32, 0, [0; 4]));
+        assert_eq!(guarded.numbers, told(255, 0, [0; 4]));
         guarded.call(STEP, [0; 4], &mut area, &mut []);
         guarded.call(STEP, [0; 4], &mut area, &mut []);
         guarded.call(RESTART, [0; 4], &mut area, &mut []);
@@ -426,7 +426,7 @@ mod tests {
         guarded.start(&Settings::default(), 512 * 20);
         for kind in [STEP, 18, u64::MAX] {
             guarded.call(kind, [0; 4], &mut [0; 512], &mut []);
-            assert_eq!(guarded.numbers, told(32, 0, [0; 4]));
+            assert_eq!(guarded.numbers, told(255, 0, [0; 4]));
         }
     }
 

@@ -592,7 +592,7 @@ impl AckCursor {
     pub fn new() -> AckCursor
         ensures { λ r. ⌜ Fresh 0 r ⌝ }
     {
-        AckCursor::resume(Offset(0))
+        AckCursor::resume(Offset::ZERO)
     }
 
     // A cursor at a committed offset with nothing acked ahead of it.

@@ -39,7 +39,7 @@ pub fn ask(
     let asking = kinds::ask_of(kind, a, b, c, d);
     let Asking::Ask(ask) = asking else {
         return ConsumerAnswer {
-            numbers: Numbers(32, 0, 0, 0, 0, 0),
+            numbers: Numbers(255, 0, 0, 0, 0, 0),
             consumer: consumer,
         };
     };
@@ -69,7 +69,7 @@ pub fn call(
     let calling = kinds::call_of(kind, a, b, c, d);
     let Calling::Call(call) = calling else {
         return MachineAnswer {
-            numbers: Numbers(32, 0, 0, 0, 0, 0),
+            numbers: Numbers(255, 0, 0, 0, 0, 0),
             machine: machine,
         };
     };
