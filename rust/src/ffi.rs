@@ -135,7 +135,7 @@ extern "C" {
         out_len: usize,
     );
     fn ninotskev_ask(
-        consumer: *mut Consumer,
+        machine: *mut Machine,
         numbers: *mut Numbers,
         kind: u64,
         a: u64,
@@ -220,11 +220,10 @@ impl Machine {
     // A call on the consumer. Whoever calls has a consumer, and no record is out.
     fn on_consumer(&mut self, ask: Ask, [a, b, c, d]: [u64; 4], out: &mut [u64]) -> Numbers {
         let mut numbers = Numbers::default();
-        let consumer = &mut self.writing.consumer;
-        // SAFETY: as for `call`. The consumer of a machine that isn't writing meets the invariant, and what the call leaves does.
+        // SAFETY: as for `call`.
         unsafe {
             ninotskev_ask(
-                consumer,
+                self,
                 &mut numbers,
                 ask as u64,
                 a,
@@ -406,7 +405,7 @@ mod tests {
         assert_eq!(guarded.machine.writing.attempt_len, 9 + 12);
         // While a record is out, the consumer can't be called.
         guarded.call(Ask::Claim as u64, [6, 50, 0, 0], &mut [], &mut out);
-        assert_eq!(guarded.numbers, told(32, 0, [0; 4]));
+        assert_eq!(guarded.numbers, told(255, 0, [0; 4]));
         guarded.call(STEP, [0; 4], &mut area, &mut []);
         guarded.call(STEP, [0; 4], &mut area, &mut []);
         guarded.call(RESTART, [0; 4], &mut area, &mut []);
@@ -426,8 +425,23 @@ mod tests {
         guarded.start(&Settings::default(), 512 * 20);
         for kind in [STEP, 18, u64::MAX] {
             guarded.call(kind, [0; 4], &mut [0; 512], &mut []);
-            assert_eq!(guarded.numbers, told(32, 0, [0; 4]));
+            assert_eq!(guarded.numbers, told(255, 0, [0; 4]));
         }
+    }
+
+    #[test]
+    fn a_consumer_is_not_asked_while_a_record_is_out() {
+        let mut guarded = Guarded::new();
+        guarded.start(&Settings::default(), 512 * 20);
+        guarded.call(BEGIN, [0; 4], &mut [], &mut []);
+        let mut list = [7; 2];
+        for ask in [Ask::Claim, Ask::Commit, Ask::Waiting, Ask::Committed] {
+            let numbers = guarded.machine.on_consumer(ask, [5, 0, 0, 0], &mut list);
+            guarded.untouched();
+            assert_eq!(numbers, told(255, 0, [0; 4]));
+        }
+        assert_eq!(list, [7; 2]);
+        assert_eq!(guarded.machine.phase, 1);
     }
 
     #[test]

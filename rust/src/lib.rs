@@ -7,7 +7,8 @@
 //! # One state, used once
 //!
 //! The proof that no message is handed out too often, and that no token from before a restart is ever taken, has one premise
-//! about the caller: each call gets what the one before left, and nobody else writes the journal. Here the types say so.
+//! about the caller: each call gets what the one before left, and nobody else writes the journal. Here the types say so. What they
+//! can't say is that each restart is handed the settings of the start: those are the server's to keep.
 //!
 //! ```
 //! use ironbus_delivery_state::{Consumer, HandOut, NewJournal, Offset, Refusal, Settings};

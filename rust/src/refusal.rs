@@ -283,7 +283,7 @@ mod tests {
                 .starts_with(&format!("refused ({number}): ")));
         }
         assert_eq!(Refusal::of_number(0, 0, 0), None);
-        assert_eq!(Refusal::of_number(32, 0, 0), None);
+        assert_eq!(Refusal::of_number(255, 0, 0), None);
         assert_eq!(
             Refusal::of_number(16, 7, 9),
             Some(Refusal::CountMismatch {

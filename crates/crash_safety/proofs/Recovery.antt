@@ -1,6 +1,6 @@
 -- Recovery: a restart reads the journal and nothing else, so that it is the same wherever the journal is; and no block write of a
 -- checkpoint but the whole header changes what it reads. Assumes nothing.
-use Prim.Native.Nat.{ℕ, suc, _≤_}
+use Prim.Native.Nat.{ℕ, suc, _+_, _≤_, _<_}
 use native.Mathlib.Omega.{arith}
 use mathlib.Core.Path.{_≡_, refl, sym, ap, _∙_}
 use mathlib.Core.Bool.{true, false}
@@ -8,13 +8,13 @@ use mathlib.Core.List.{List, [], _∷_, _++_}
 use mathlib.Core.Option.{some}
 use lib.Dec.{eqb}
 use lib.ListN.{length}
-use borrow.Author.Tests.{eq-eqb, le-leb}
+use borrow.Author.Tests.{eq-eqb, lt-leb, le-leb}
 use Rattle.types.specs.Refusal.{Result, refused, done}
 use Rattle.types.specs.Table.{Passed}
 use Rattle.journal.specs.Area.{writeAt}
 use Rattle.consumer.specs.State.{Settings, State}
 use Rattle.consumer.specs.Checkpoint as checkpoint
-use Rattle.consumer.specs.Checkpoint.{bodies, headerOf, flushed, Writing, nextPlace}
+use Rattle.consumer.specs.Checkpoint.{bodies, headerOf, bodyOf, flushed, Writing, nextPlace}
 use Rattle.consumer.specs.Restart as restarts
 use Rattle.consumer.specs.Restart.{startTable}
 use Rattle.machine.specs.Calls.{step, restart, restarted, failed}
@@ -26,7 +26,7 @@ use Rattle.crash_safety.proofs.Law.{Ledger}
 use Rattle.crash_safety.proofs.Runs.{run-made, ends-made, run-none, ends-none}
 use Rattle.crash_safety.proofs.Invariant.{Saved, restored, Journal, Stands, Inv}
 use Rattle.crash_safety.proofs.Journals.{restart-finds, stored}
-use Rattle.crash_safety.proofs.Writes.{torn-journal}
+use Rattle.crash_safety.proofs.Writes.{body-journal, torn-journal}
 use Rattle.crash_safety.proofs.Checkpoints.{Begun, has-begun, begun-more, last-step, full-journal}
 use Rattle.crash_safety.proofs.Reached.{reached}
 
@@ -126,6 +126,16 @@ module _ (c : Settings) (n : ℕ) (accepted : Passed (startTable c n)) (v : Save
       cut-unfinished k h (torn y) (record { event = failed false; phase = off; area = writeAt (b .area) (nextPlace w) y }) (rw (same-length k h (torn y), t))
       (torn-journal c n v l (b .area) w (b .midway .journal) now (b .midway .written) y t)
 
+  -- a body wholly written
+  cut-body : (k : ℕ) → k < bodies s → ends c start (begun k ++ thenCut new) .phase ≡ ends c start (call restart ∷ []) .phase
+  unfolding next
+  cut-body k more =
+      let h : k ≤ bodies s = omega arith in
+      let b = so-far k h new in
+      let longer : List ℕ = writeAt (b .area) (s .seat .block + suc k) (bodyOf s (suc k)) in
+      cut-unfinished k h new (record { event = failed false; phase = off; area = longer }) (rw (same-length k h new, lt-leb (bodies s) k more))
+      (body-journal c n v l (b .area) (checkpoint.writing s k) (b .midway .journal) now (b .midway .written) more)
+
   -- the header wholly written, by a cut or by the last step
   cut-new : ends c start (begun (bodies s) ++ thenCut new) .phase ≡ ends c start (begun (suc (bodies s)) ++ call restart ∷ []) .phase
   unfolding next
@@ -150,6 +160,7 @@ writes-count c n accepted l p a left e room =
     rw e (λ inv. record {
       left-old = cut-old c n accepted (inv .saved) l left (inv .callable) room a (inv .journal);
       left-torn = cut-torn c n accepted (inv .saved) l left (inv .callable) room a (inv .journal);
+      body-new = cut-body c n accepted (inv .saved) l left (inv .callable) room a (inv .journal);
       left-new = cut-new c n accepted (inv .saved) l left (inv .callable) room a (inv .journal);
     })
 

@@ -1,8 +1,8 @@
--- Recovery. A restart depends on the settings and the journal alone, changes no byte, and made twice answers the same twice. Every
--- block write of a checkpoint counts: with the power failing in any of its steps, and the block not wholly written, a restart
--- gives the consumer that a restart would have given in place of the checkpoint; with the header wholly written it gives the one
--- that a restart gives after the finished checkpoint. And whatever list came before, a step can be cut in each of its ways.
-use Prim.Native.Nat.{ℕ, suc, _+_, _≤_}
+-- Recovery. A restart depends on the settings and the journal alone, changes no byte, and made twice answers the same twice. A
+-- checkpoint counts by its header: with the power failing in any of its steps, unless that leaves the header wholly written, a
+-- restart gives the consumer that a restart would have given in place of the checkpoint; with the header wholly written it gives
+-- the one that a restart gives after the finished checkpoint. And whatever list came before, a step can be cut in each of its ways.
+use Prim.Native.Nat.{ℕ, suc, _+_, _≤_, _<_}
 use mathlib.Core.Path.{_≡_}
 use mathlib.Core.Bool.{true}
 use mathlib.Core.List.{List, [], _∷_, _++_}
@@ -45,6 +45,7 @@ pub record WritesCount (c : Settings) (w : World) (s : State) : Type 0 where
   pub left-old : (k : ℕ) → k ≤ bodies s → ends c w (begun k ++ thenCut old) .phase ≡ ends c w (call restart ∷ []) .phase
   pub left-torn : (k : ℕ) (b : List ℕ) → k ≤ bodies s → isTorn b ≡ true
       → ends c w (begun k ++ thenCut (torn b)) .phase ≡ ends c w (call restart ∷ []) .phase
+  pub body-new : (k : ℕ) → k < bodies s → ends c w (begun k ++ thenCut new) .phase ≡ ends c w (call restart ∷ []) .phase
   pub left-new : ends c w (begun (bodies s) ++ thenCut new) .phase ≡ ends c w (begun (suc (bodies s)) ++ call restart ∷ []) .phase
 
 -- after every list that leaves a state with room for one more group

@@ -21,8 +21,6 @@ use Rattle.cursor.specs.declared.Resume.{Resume}
 use Rattle.cursor.specs.declared.Resume.the-variants as resumes
 use Rattle.cursor.specs.declared.Resumed.{Resumed}
 use Rattle.cursor.specs.declared.Range.{Range}
-use Rattle.cursor.specs.declared.Listed.{Listed}
-use Rattle.cursor.specs.declared.Listed.the-variants as lists
 use Rattle.cursor.specs.declared.Decode.{Decode}
 use Rattle.cursor.specs.declared.Decode.the-variants as decodes
 use Rattle.cursor.specs.declared.Decoded.{Decoded}
@@ -83,7 +81,3 @@ pub record DecodedIs (bytes : List ℕ) (r : Decoded) : Type 0 where
   pub is : decodeOf (r .outcome) (view (r .cursor)) ≡ decodeCursor bytes
   pub sound : Sound (r .cursor)
   pub kept : Kept (decodeOf (r .outcome) (view (r .cursor))) (empty 0) (r .cursor)
-
-abbrev pub listedOf : Listed → Result ℕ
-listedOf (lists.Ranges n) = done n
-listedOf lists.OutTooShort = refused refusal.OutTooShort

@@ -10,7 +10,7 @@ ghost use lib.Dec.{ltb, eqb};
 ghost use lib.ListN.{length, take, getD, set};
 ghost use Rattle.types.specs.Identifiers.{offset};
 ghost use Rattle.types.specs.Refusal.{done};
-ghost use Rattle.types.specs.Lists.{listed, roomFor, counted};
+ghost use Rattle.types.specs.Lists.{listed, roomFor, listedOf};
 ghost use Rattle.types.specs.Table.{answer, first};
 ghost use Rattle.raw.specs.Bytes.{overwrite, write, outcomeOf};
 ghost use Rattle.types.specs.Zipped.{zipped, inserted, removed};
@@ -19,12 +19,14 @@ ghost use Rattle.cursor.specs.Ranges.{range, offsets};
 ghost use Rattle.cursor.specs.Snapshot.{rangesBytes, bodyBytes, encodeCursor, readRanges, decodeTable};
 ghost use Rattle.cursor.specs.Cursor.{settled, ackBounded, commitUpTo, rangeTable, resumeTable};
 ghost use Rattle.cursor.specs.View.{ackCursor, view, Sound, Whole, Fresh};
-ghost use Rattle.cursor.specs.Answers.{ackOf, Updated, resumeFault, ResumedIs, listedOf, decodeFault, DecodedIs};
+ghost use Rattle.cursor.specs.Answers.{ackOf, Updated, resumeFault, ResumedIs, decodeFault, DecodedIs};
 ghost use Rattle.cursor.specs.Taking.{Taken};
 ghost use Rattle.cursor.specs.declared.Range.{Range};
 ghost use Rattle.cursor.specs.Place.{Spotted, rangeAt, joinedAt};
 use raw::Write;
 use types::Offset;
+use types::lent;
+use types::lent::Listed;
 
 const SNAPSHOT_VERSION: u8 = 1;
 
@@ -101,12 +103,6 @@ pub enum Resume {
 pub struct Resumed {
     pub outcome: Resume,
     pub cursor: AckCursor,
-}
-
-// How many ranges a lent list was filled with, or refusal 20.
-pub enum Listed {
-    Ranges(usize),
-    OutTooShort,
 }
 
 // Whether bytes are a snapshot.
@@ -484,16 +480,6 @@ fn finish(all: Resuming) -> Resumed
     }
 }
 
-// How many places of the list are filled.
-fn count_of(listed: Listed) -> usize
-    ensures { λ r. ⌜ r ≡ counted (listedOf listed) ⌝ }
-{
-    match listed {
-        Listed::Ranges(n) => n,
-        Listed::OutTooShort => 0,
-    }
-}
-
 // Whether the n ranges of a snapshot may stand ahead of committed: all of them are tested before their number is.
 fn check_ranges(input: &[u8], committed: u64, n: usize) -> Resume
     requires { ⌜ 9 + 16 * n ≤ length (now input) ⌝ }
@@ -606,7 +592,7 @@ impl AckCursor {
     pub fn new() -> AckCursor
         ensures { λ r. ⌜ Fresh 0 r ⌝ }
     {
-        AckCursor::resume(Offset(0))
+        AckCursor::resume(Offset::ZERO)
     }
 
     // A cursor at a committed offset with nothing acked ahead of it.
@@ -670,7 +656,7 @@ impl AckCursor {
         if len < self.runs {
             return Listed::OutTooShort;
         }
-        Listed::Ranges(self.runs)
+        Listed::Filled(self.runs)
     }
 
     // Lists the ranges ahead from the first place on and answers their number; later places stay. Refused, with the list
@@ -680,7 +666,7 @@ impl AckCursor {
         ensures { λ r. ⌜ answer (listedOf r) (now (out .exit)) ≡ listed (view self .ahead) (now (out .entry)) ⌝ }
     {
         let outcome = self.room_for(out.len());
-        let n = count_of(outcome);
+        let n = lent::count_of(outcome);
         let mut i: usize = 0;
         while i < n {
             out[i] = self.range_at(i);

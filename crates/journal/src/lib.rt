@@ -122,7 +122,7 @@ fn open_block(block: &mut [u8], kind: u8, second: u8, third: u16, number: u32)
 }
 
 // Fills a block with the header of a group. A part of another length than 512 bytes is refused as 4.
-pub fn write_header(block: &mut [u8], header: Header) -> Filled
+fn write_header(block: &mut [u8], header: Header) -> Filled
     ensures { λ r. ⌜ answer (filledOf r) (now (block .exit)) ≡ fill (headerOf header) (now (block .entry)) ⌝ }
 {
     if block.len() != 512 {
@@ -150,7 +150,7 @@ fn put_body(block: &mut [u8], number: u32, index: u8, chunk: &[u8])
 // Fills a block with body `index`, counted from 1, of a payload: 500 of its bytes, or what is left of them behind those
 // of the bodies before. Index 0, which no body has, takes the bytes of body 1. A part of another length than 512 bytes
 // is refused as 4.
-pub fn write_body(block: &mut [u8], number: u32, index: u8, payload: &[u8]) -> Filled
+fn write_body(block: &mut [u8], number: u32, index: u8, payload: &[u8]) -> Filled
     ensures { λ r. ⌜ answer (filledOf r) (now (block .exit)) ≡ fill (bodyBlock number index (chunkOf index (now (payload .entry)))) (now (block .entry)) ⌝ }
 {
     if block.len() != 512 {

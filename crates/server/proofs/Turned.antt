@@ -1,24 +1,26 @@
 -- What the machine's contracts say, in numbers: the answer of a call, who can be called next and the lent memory are what the
 -- door makes. Assumes nothing.
-use Prim.Native.Nat.{ℕ}
+use Prim.Native.Nat.{ℕ, zero, suc}
 use mathlib.Core.Path.{_≡_, refl, ap, subst, _∙_}
+use mathlib.Core.Bool.{Bool, true, false}
 use mathlib.Core.List.{List, []}
 use mathlib.Core.Option.{Option, none, some}
 use lib.ListN.{length}
-use Rattle.types.specs.Refusal.{Refusal, refused, done}
+use Rattle.types.specs.Refusal.{Refusal, Result, refused, done}
 use Rattle.types.specs.Refusal as refusal
 use Rattle.types.specs.Table.{Kept, unless}
 use Rattle.consumer.specs.State.{State}
 use Rattle.consumer.specs.Restart as restarts
-use Rattle.consumer.specs.View.{view}
+use Rattle.consumer.specs.View.{view, Unmoved}
 use Rattle.consumer.specs.View as consumer
 use Rattle.consumer.specs.Starting.{settingsOf, startFault}
 use Rattle.consumer.specs.declared.Consumer.{Consumer}
 use Rattle.consumer.specs.declared.Settings.{Settings}
 use Rattle.consumer.specs.declared.starts.StartAnswer.the-variants as starts
 use Rattle.consumer.proofs.Restarting.{Other, other-faulty}
-use Rattle.machine.specs.Calls.{Ask, Call}
-use Rattle.machine.specs.Door.{Phase, idle, Turn, asked, door}
+use Rattle.consumer.specs.declared.checkpoint.Writing.{Writing}
+use Rattle.machine.specs.Calls.{Ask, Call, Event, claimed, acked, termed, nacked, extended, committed, looked, begun, stepped, restarted, failed}
+use Rattle.machine.specs.Door.{Phase, idle, Turn, onState, asked, door}
 use Rattle.machine.specs.Answers.{Arguments, argumentsOf, seenOf, AskKept, outAfter}
 use Rattle.machine.specs.View.{phaseOf, Sound, AskedIs, CalledIs, StartedIs, turnOf, CallKept, held}
 use Rattle.machine.specs.declared.Machine.{Machine}
@@ -31,7 +33,7 @@ use Rattle.machine.specs.declared.calls.CallAnswer.{CallAnswer}
 use Rattle.machine.specs.declared.calls.CallAnswer.the-variants as calls
 use Rattle.wire.specs.Numbers.{askAt, callAt, numbersOf, notNow, noValues, seenNumbers, numbersIn}
 use Rattle.wire.proofs.Starts.{start-numbers}
-use Rattle.server.specs.Door.{onAsk, onCall, phaseIn, areaIn, answered, answeredBy, KeptBy, KeptIn, AskIs, CallIs, StartIs}
+use Rattle.server.specs.Door.{onAsk, onCall, phaseIn, areaIn, answered, answeredBy, KeptBy, KeptIn, askTurn, AnswersAsk, Declined, SoundIf, AskedOn, holding, AskIs, CallIs, StartIs}
 use Rattle.wire.specs.declared.numbers.Numbers.{Numbers}
 
 -- ## parts
@@ -57,7 +59,7 @@ parts p a out t d e same-n same-p same-a same-out = cc
 
 -- ## a call on a state
 module _ (x : Consumer) (kind a b c d : ℕ) (out : List ℕ) where
-  pub ask-none : consumer.Sound x → none ≡ askAt kind a b c d (length out) → AskIs x kind a b c d out notNow x out
+  pub ask-none : consumer.Sound x → none ≡ askAt kind a b c d (length out) → AnswersAsk x kind a b c d out notNow x out
   ask-none sound e =
       record {
         is = λ area. ap (λ (o : Option Ask). answeredBy (idle (view x)) area out (onAsk o (asked (view x) area))) e;
@@ -66,7 +68,7 @@ module _ (x : Consumer) (kind a b c d : ℕ) (out : List ℕ) where
       }
 
   pub ask-some : (q : Ask) (r : Asked) (out′ : List ℕ) (n : Numbers) → some q ≡ askAt kind a b c d (length out) → AskedIs x q out r out′
-      → n ≡ seenNumbers (seenOf (argumentsOf q) (r .answer) out′) → AskIs x kind a b c d out n (r .consumer) out′
+      → n ≡ seenNumbers (seenOf (argumentsOf q) (r .answer) out′) → AnswersAsk x kind a b c d out n (r .consumer) out′
   ask-some q r out′ n e h m =
       record {
         is =
@@ -78,6 +80,65 @@ module _ (x : Consumer) (kind a b c d : ℕ) (out : List ℕ) where
             subst (λ (o : Option Ask). KeptIn (onAsk o (asked (view x) [])) x (r .consumer)) e
             (subst (λ (t : Option Turn). KeptIn t x (r .consumer)) (h .is []) (ask-kept x (r .consumer) (argumentsOf q) (r .answer) out′ (h .kept)));
       }
+
+-- what keeps a thing keeps what it stands in
+module _ {S T : Type 0} (f : S → T) (x y : S) where
+  kept-in : {A : Type 0} (o : Result A) → Kept o x y → Kept o (f x) (f y)
+  kept-in (refused r) k = ap f k
+  kept-in (done a) k = tt
+
+  unmoved-in : (o : Result Bool) → Unmoved o x y → Unmoved o (f x) (f y)
+  unmoved-in (refused r) k = ap f k
+  unmoved-in (done true) k = tt
+  unmoved-in (done false) k = ap f k
+
+  kept-by : (e : Event) → KeptBy e x y → KeptBy e (f x) (f y)
+  kept-by (claimed o now r) k = kept-in r k
+  kept-by (acked o g r) k = kept-in r k
+  kept-by (termed o g r) k = kept-in r k
+  kept-by (nacked o g now d r) k = kept-in r k
+  kept-by (extended o g now r) k = kept-in r k
+  kept-by (committed bound r) k = unmoved-in r k
+  kept-by (looked q r) k = ap f k
+  kept-by (begun r) k = kept-in r k
+  kept-by (stepped r) k = kept-in r k
+  kept-by (restarted r) k = kept-in r k
+  kept-by (failed new) k = tt
+
+  kept-turn : (t : Option Turn) → KeptIn t x y → KeptIn t (f x) (f y)
+  kept-turn none k = ap f k
+  kept-turn (some t) k = kept-by (t .event) k
+
+-- on a machine, by its phase
+module _ (s : Settings) (w : Writing) (kind a b c d : ℕ) (out : List ℕ) (n : Numbers) (x : Consumer) (out′ : List ℕ) where
+  abbrev at : ℕ → Machine
+  at k = record { settings = s; phase = k; writing = w }
+
+  -- nobody can be called
+  module _ (k : ℕ) (e : (area : List ℕ) (o : Option Ask) → onAsk o (λ q. onState (phaseOf (at k)) (λ u. asked u area q)) ≡ none) (ok : Sound (at k)) where
+    declined : Declined (w .consumer) out n x out′ → AskIs (at k) kind a b c d out n (holding (at k) x) out′
+    declined h =
+        rw (h .0, h .1, h .2)
+        (record {
+          is = λ area. rw (e area (askAt kind a b c d (length out)));
+          sound = ok;
+          settings = refl;
+          kept = rw (e [] (askAt kind a b c d (length out))) refl;
+        })
+
+  none-asked : (o : Option Ask) → onAsk o (λ q. none) ≡ none
+  none-asked none = refl
+  none-asked (some q) = refl
+
+  pub asked-on : (k : ℕ) → Sound (at k) → AskedOn k (w .consumer) kind a b c d out n x out′ → AskIs (at k) kind a b c d out n (holding (at k) x) out′
+  asked-on zero ok h =
+      record { is = h .is; sound = h .sound; settings = refl; kept = kept-turn (holding (at 0)) (w .consumer) x (askTurn (w .consumer) kind a b c d out []) (h .kept) }
+  asked-on (suc zero) ok h = declined 1 (λ area o. none-asked o) ok h
+  asked-on (suc (suc k)) ok h = declined (suc (suc k)) (λ area o. none-asked o) ok h
+
+pub sound-if : (s : Settings) (w : Writing) (k : ℕ) → Sound (record { settings = s; phase = k; writing = w }) → SoundIf k (w .consumer)
+sound-if s w zero ok = ok
+sound-if s w (suc k) ok = tt
 
 -- ## a call of the door
 module _ (m : Machine) (area : List ℕ) (q : Call) (m′ : Machine) (area′ out′ : List ℕ) where

@@ -1,5 +1,5 @@
 -- What the functions that Rust calls make of a state and of lent memory: what the door makes, in numbers.
-use Prim.Native.Nat.{ℕ}
+use Prim.Native.Nat.{ℕ, zero, suc}
 use mathlib.Core.Path.{_≡_}
 use mathlib.Core.List.{List, []}
 use mathlib.Core.Option.{Option, none, some}
@@ -15,11 +15,11 @@ use Rattle.consumer.specs.Starting.{settingsOf}
 use Rattle.consumer.specs.declared.Consumer.{Consumer}
 use Rattle.consumer.specs.declared.Settings.{Settings}
 use Rattle.machine.specs.Calls.{Ask, Call, Event, claimed, acked, termed, nacked, extended, committed, looked, begun, stepped, restarted, failed}
-use Rattle.machine.specs.Door.{Phase, idle, Turn, asked, door}
+use Rattle.machine.specs.Door.{Phase, idle, Turn, onState, asked, door}
 use Rattle.machine.specs.Answers.{outAfter}
 use Rattle.machine.specs.View.{phaseOf, Sound, held}
 use Rattle.machine.specs.declared.Machine.{Machine}
-use Rattle.wire.specs.Numbers.{askAt, callAt, numbersOf, noValues, numbersIn}
+use Rattle.wire.specs.Numbers.{askAt, callAt, numbersOf, notNow, noValues, numbersIn}
 use Rattle.wire.specs.declared.numbers.Numbers.{Numbers}
 
 -- ## what a call made, `none` where it can't be made or is no call
@@ -70,14 +70,53 @@ abbrev pub KeptIn : {T : Type 0} → Option Turn → T → T → Type 0
 KeptIn none before after = after ≡ before
 KeptIn (some t) before after = KeptBy (t .event) before after
 
--- ## a call on a state alone, with whatever area
+-- ## a call on the state, with whatever area
 abbrev pub askTurn : Consumer → ℕ → ℕ → ℕ → ℕ → ℕ → List ℕ → List ℕ → Option Turn
 askTurn s kind a b c d out area = onAsk (askAt kind a b c d (length out)) (asked (view s) area)
 
-pub record AskIs (before : Consumer) (kind a b c d : ℕ) (out : List ℕ) (n : Numbers) (after : Consumer) (out′ : List ℕ) : Type 0 where
+pub record AnswersAsk (before : Consumer) (kind a b c d : ℕ) (out : List ℕ) (n : Numbers) (after : Consumer) (out′ : List ℕ) : Type 0 where
   pub is : (area : List ℕ) → answered n (idle (view after)) area out′ ≡ answeredBy (idle (view before)) area out (askTurn before kind a b c d out area)
   pub sound : consumer.Sound after
   pub kept : KeptIn (askTurn before kind a b c d out []) before after
+
+-- nothing happened
+abbrev pub Declined : Consumer → List ℕ → Numbers → Consumer → List ℕ → Type 0
+Declined before out n after out′ = (n ≡ notNow) × (after ≡ before) × (out′ ≡ out)
+
+-- by the number of the phase: only where the consumer can be called
+abbrev pub SoundIf : ℕ → Consumer → Type 0
+SoundIf zero s = consumer.Sound s
+SoundIf (suc n) s = Unit {0}
+
+abbrev pub AskedOn : ℕ → Consumer → ℕ → ℕ → ℕ → ℕ → ℕ → List ℕ → Numbers → Consumer → List ℕ → Type 0
+AskedOn zero before kind a b c d out n after out′ = AnswersAsk before kind a b c d out n after out′
+AskedOn (suc k) before kind a b c d out n after out′ = Declined before out n after out′
+
+-- the machine with another consumer in its place
+abbrev pub holding : Machine → Consumer → Machine
+holding m s =
+    record {
+      settings = m .settings;
+      phase = m .phase;
+      writing = record {
+        consumer = s;
+        written = m .writing .written;
+        payload = m .writing .payload;
+        «cursor_len» = m .writing .«cursor_len»;
+        «attempt_len» = m .writing .«attempt_len»;
+      };
+    }
+
+-- what the door makes of it
+abbrev pub askTurnOf : Machine → ℕ → ℕ → ℕ → ℕ → ℕ → List ℕ → List ℕ → Option Turn
+askTurnOf m kind a b c d out area =
+    onAsk (askAt kind a b c d (length out)) (λ q. onState (phaseOf m) (λ s. asked s area q))
+
+pub record AskIs (before : Machine) (kind a b c d : ℕ) (out : List ℕ) (n : Numbers) (after : Machine) (out′ : List ℕ) : Type 0 where
+  pub is : (area : List ℕ) → answered n (phaseOf after) area out′ ≡ answeredBy (phaseOf before) area out (askTurnOf before kind a b c d out area)
+  pub sound : Sound after
+  pub settings : after .settings ≡ before .settings
+  pub kept : KeptIn (askTurnOf before kind a b c d out []) before after
 
 -- ## a call of the door
 abbrev pub callTurn : Machine → ℕ → ℕ → ℕ → ℕ → ℕ → List ℕ → List ℕ → Option Turn

@@ -2,7 +2,7 @@
 // one in each time, so that each call gets what the one before left.
 ghost use Rattle.consumer.specs.View as consumers;
 ghost use Rattle.machine.specs.View.{Sound, OffIs};
-ghost use Rattle.server.specs.Door.{AskIs, CallIs, StartIs};
+ghost use Rattle.server.specs.Door.{SoundIf, AnswersAsk, AskedOn, AskIs, CallIs, StartIs};
 use consumer::Consumer;
 use consumer::Settings;
 use consumer::starts::StartAnswer;
@@ -23,8 +23,30 @@ pub struct MachineAnswer {
     pub machine: Machine,
 }
 
-// A call on a state alone.
+// A call on the state, where it can be called: that is phase 0.
 pub fn ask(
+    phase: u64,
+    consumer: Consumer,
+    kind: u64,
+    a: u64,
+    b: u64,
+    c: u64,
+    d: u64,
+    out: &mut [u64],
+) -> ConsumerAnswer
+    requires { ⌜ SoundIf phase consumer ⌝ }
+    ensures { λ r. ⌜ AskedOn phase consumer kind a b c d (now (out .entry)) (r .numbers) (r .consumer) (now (out .exit)) ⌝ }
+{
+    if phase != 0 {
+        return ConsumerAnswer {
+            numbers: Numbers(255, 0, 0, 0, 0, 0),
+            consumer: consumer,
+        };
+    }
+    ask_idle(consumer, kind, a, b, c, d, out)
+}
+
+fn ask_idle(
     consumer: Consumer,
     kind: u64,
     a: u64,
@@ -34,12 +56,12 @@ pub fn ask(
     out: &mut [u64],
 ) -> ConsumerAnswer
     requires { ⌜ consumers.Sound consumer ⌝ }
-    ensures { λ r. ⌜ AskIs consumer kind a b c d (now (out .entry)) (r .numbers) (r .consumer) (now (out .exit)) ⌝ }
+    ensures { λ r. ⌜ AnswersAsk consumer kind a b c d (now (out .entry)) (r .numbers) (r .consumer) (now (out .exit)) ⌝ }
 {
     let asking = kinds::ask_of(kind, a, b, c, d);
     let Asking::Ask(ask) = asking else {
         return ConsumerAnswer {
-            numbers: Numbers(32, 0, 0, 0, 0, 0),
+            numbers: Numbers(255, 0, 0, 0, 0, 0),
             consumer: consumer,
         };
     };
@@ -69,7 +91,7 @@ pub fn call(
     let calling = kinds::call_of(kind, a, b, c, d);
     let Calling::Call(call) = calling else {
         return MachineAnswer {
-            numbers: Numbers(32, 0, 0, 0, 0, 0),
+            numbers: Numbers(255, 0, 0, 0, 0, 0),
             machine: machine,
         };
     };
@@ -151,10 +173,10 @@ pub extern "C" fn ninotskev_call(
     *numbers = called.numbers;
 }
 
-// `ask` on the consumer in its place: that of a machine whose consumer can be called.
+// `ask` on the machine in its place: of its state the consumer alone is copied.
 #[no_mangle]
 pub extern "C" fn ninotskev_ask(
-    consumer: &mut Consumer,
+    machine: &mut Machine,
     numbers: &mut Numbers,
     kind: u64,
     a: u64,
@@ -163,11 +185,12 @@ pub extern "C" fn ninotskev_ask(
     d: u64,
     out: &mut [u64],
 )
-    requires { ⌜ consumers.Sound (now consumer) ⌝ }
-    ensures { λ _. ⌜ AskIs (now (consumer .entry)) kind a b c d (now (out .entry)) (now (numbers .exit)) (now (consumer .exit)) (now (out .exit)) ⌝ }
+    requires { ⌜ Sound (now machine) ⌝ }
+    ensures { λ _. ⌜ AskIs (now (machine .entry)) kind a b c d (now (out .entry)) (now (numbers .exit)) (now (machine .exit)) (now (out .exit)) ⌝ }
 {
-    let before = *consumer;
-    let asked = ask(before, kind, a, b, c, d, out);
-    *consumer = asked.consumer;
+    let phase = machine.phase;
+    let before = machine.writing.consumer;
+    let asked = ask(phase, before, kind, a, b, c, d, out);
+    machine.writing.consumer = asked.consumer;
     *numbers = asked.numbers;
 }

@@ -48,7 +48,7 @@ fn room_for(len: usize, places: usize, room: usize) -> Listed
 }
 
 // How many places an answer fills.
-fn count_of(outcome: Listed) -> usize
+pub fn count_of(outcome: Listed) -> usize
     ensures { λ r. ⌜ r ≡ counted (listedOf outcome) ⌝ }
 {
     match outcome {

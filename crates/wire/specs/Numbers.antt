@@ -62,7 +62,7 @@ numbersOf t = numbers (t .number) (length (t .values)) (getD (t .values) 0 0) (g
 
 -- a call that can't be made where it stands, or no call
 abbrev pub notNow : Numbers
-notNow = numbersOf (told 32 [])
+notNow = numbersOf (told 255 [])
 
 abbrev pub deadLetter : Destination → ℕ
 deadLetter Deliver = 0

@@ -273,7 +273,7 @@ pub fn of_ask(answer: AskAnswer, out: &[u64]) -> Numbers
     }
 }
 
-// A call of the door; 32 where it can't be made where it stands.
+// A call of the door; 255 where it can't be made where it stands.
 pub fn of_call(answer: CallAnswer, out: &[u64]) -> Numbers
     ensures { λ r. ⌜ ((q : Call) (m : Machine) (a : List ℕ) → r ≡ numbersIn (turnOf q answer m a (now (out .entry)))) ⌝ }
 {
@@ -282,6 +282,6 @@ pub fn of_call(answer: CallAnswer, out: &[u64]) -> Numbers
         CallAnswer::Begun(answer) => of_begin(answer),
         CallAnswer::Stepped(answer) => of_step(answer),
         CallAnswer::Restarted(answer) => of_start(answer),
-        CallAnswer::NotNow => Numbers(32, 0, 0, 0, 0, 0),
+        CallAnswer::NotNow => Numbers(255, 0, 0, 0, 0, 0),
     }
 }

@@ -50,30 +50,29 @@ use denote.Triple.Table.{entered, cited}
 use denote.Triple.Walked.{says, needs, Stays, stay-dropped, stay-slice, walkOf, AllGo, goes-dropped, goes-slice, Walks, ends-at, walked, walk-meets}
 use denote.Exit.{yes}
 use Rattle.types.specs.Table.{answer}
-use Rattle.types.specs.Lists.{listed, roomFor, counted}
+use Rattle.types.specs.Lists.{listed, roomFor, counted, listedOf}
 use Rattle.cursor.specs.Ranges.{range}
 use Rattle.cursor.specs.View.{view, Sound}
-use Rattle.cursor.specs.Answers.{listedOf}
 use Rattle.cursor.specs.Place.{rangeAt}
 use Rattle.cursor.specs.declared.Range.{Range}
 use Rattle.cursor.specs.declared.AckCursor.{AckCursor}
-use Rattle.cursor.specs.declared.Listed.{Listed}
+use Rattle.types.specs.declared.lent.Listed.{Listed}
 use Rattle.cursor.proofs.Range as T
 use Rattle.cursor.proofs.Range.Laws as T′
 use Rattle.cursor.proofs.AckCursor as G
 use Rattle.cursor.proofs.AckCursor.Laws as G′
-use Rattle.cursor.proofs.Listed as E
-use Rattle.cursor.proofs.Listed.Laws as E′
+use Rattle.types.proofs.lent.Listed as E
+use Rattle.types.proofs.lent.Listed.Laws as E′
 use Rattle.types.proofs.Listing.{Written, counted-fits, none-written, one-more, all-written}
 use Rattle.types.proofs.Walk.{tests}
 use Rattle.cursor.proofs.AckCursor.room_for as room-for
 use Rattle.cursor.proofs.AckCursor.room_for.Symbol as room-for-def
 use Rattle.cursor.proofs.AckCursor.room_for.Symbol.{name as #room-for}
 use Rattle.cursor.proofs.AckCursor.room_for.Met as room-for-thm
-use Rattle.cursor.proofs.count_of as count-of
-use Rattle.cursor.proofs.count_of.Symbol as count-of-def
-use Rattle.cursor.proofs.count_of.Symbol.{name as #count-of}
-use Rattle.cursor.proofs.count_of.Met as count-of-thm
+use Rattle.types.proofs.lent.count_of as count-of
+use Rattle.types.proofs.lent.count_of.Symbol as count-of-def
+use Rattle.types.proofs.lent.count_of.Symbol.{name as #count-of}
+use Rattle.types.proofs.lent.count_of.Met as count-of-thm
 use Rattle.cursor.proofs.AckCursor.range_at as range-at
 use Rattle.cursor.proofs.AckCursor.range_at.Symbol as range-at-def
 use Rattle.cursor.proofs.AckCursor.range_at.Symbol.{name as #range-at}
@@ -334,5 +333,5 @@ ahead-ranges-spec 𝓤 H 𝓜 𝓖 𝓡 =
     (tables 𝓤 H 𝓜 𝓡 code.env .C) (tables 𝓤 H 𝓜 𝓡 code.env .Λ) #ahead-ranges code.function (code.unfolded 𝓤 H 𝓜 𝓡)
     (meets 𝓤 H (𝓖 .A) (givenOf 𝓤 H 𝓜 𝓖) (𝓜 .mem) (𝓡 .run) (tablesOf 𝓤 H 𝓜 (tables 𝓤 H 𝓜 𝓡 code.env))
     (cited 𝓤 H (Fits 𝓤 H (𝓖 .A) (𝓜 .mem) (𝓡 .run)) 𝓜 𝓡 code.env #room-for room-for-def.routine code.calls-cursor·AckCursor·room-for (room-for-thm.met 𝓤 H 𝓜 𝓖 𝓡))
-    (cited 𝓤 H (Count 𝓤 H (𝓖 .A) (𝓜 .mem) (𝓡 .run)) 𝓜 𝓡 code.env #count-of count-of-def.routine code.calls-cursor·count-of (count-of-thm.met 𝓤 H 𝓜 𝓖 𝓡))
+    (cited 𝓤 H (Count 𝓤 H (𝓖 .A) (𝓜 .mem) (𝓡 .run)) 𝓜 𝓡 code.env #count-of count-of-def.routine code.calls-types·lent·count-of (count-of-thm.met 𝓤 H 𝓜 𝓖 𝓡))
     (cited 𝓤 H (Get 𝓤 H (𝓖 .A) (𝓜 .mem) (𝓡 .run)) 𝓜 𝓡 code.env #range-at range-at-def.routine code.calls-cursor·AckCursor·range-at (range-at-thm.met 𝓤 H 𝓜 𝓖 𝓡)))

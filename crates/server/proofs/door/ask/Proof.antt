@@ -1,55 +1,57 @@
--- `ask` meets its contract: a number that is no call, or what the consumer answers. Assumes nothing.
-use mathlib.Core.Path.{sym, ap, _∙_}
-use lib.ListN.{length}
+-- `ask` meets its contract: only an idle machine's consumer is called. Assumes nothing.
+use Prim.Native.Nat.{ℕ, zero, suc}
+use native.Mathlib.Omega.{arith}
+use mathlib.Core.Path.{_≡_, refl}
+use mathlib.Core.List.{List}
 use borrow.Author.Needs.{needs}
-use Rattle.wire.specs.Numbers.{askingOf}
-use Rattle.server.proofs.Turned.{ask-none, ask-some}
+use Rattle.consumer.specs.View.{Sound}
+use Rattle.consumer.specs.declared.Consumer.{Consumer}
+use Rattle.wire.specs.Numbers.{notNow}
+use Rattle.wire.specs.declared.numbers.Numbers.{Numbers}
+use Rattle.server.specs.Door.{SoundIf, AnswersAsk, AskedOn}
 use Rattle.server.proofs.door.ask.Statement.{statement}
 use Rattle.server.proofs.door.ask.Tie as tie
 
-ask-of-requires : tie.Need-ask-of-requires
-ask-of-requires c κs = search needs
+not-idle : (k : ℕ) (x : Consumer) (kind a b c d : ℕ) (out : List ℕ) → (k ≡ 0 → ⊥) → AskedOn k x kind a b c d out notNow x out
+not-idle zero x kind a b c d out h = absurd (h refl)
+not-idle (suc k) x kind a b c d out h = (refl, refl, refl)
 
-enum-known-asking : tie.Need-enum-known-asking
-enum-known-asking c = search needs
+idle-sound : (k : ℕ) (x : Consumer) → k ≡ 0 → SoundIf k x → Sound x
+idle-sound zero x e ok = ok
+idle-sound (suc k) x e ok = absurd (omega arith)
 
-enum-told : tie.Need-enum-told
-enum-told c = search needs
+idle-asked : (k : ℕ) (x : Consumer) (kind a b c d : ℕ) (out : List ℕ) (n : Numbers) (y : Consumer) (out′ : List ℕ) → k ≡ 0
+    → AnswersAsk x kind a b c d out n y out′ → AskedOn k x kind a b c d out n y out′
+idle-asked zero x kind a b c d out n y out′ e h = h
+idle-asked (suc k) x kind a b c d out n y out′ e h = absurd (omega arith)
+
+elsewhere : (c : tie.Then1) → c .before .before .args .phase ≡ 0 → ⊥
+elsewhere c e = omega arith
+
+here : (c : tie.Else1) → c .before .before .args .phase ≡ 0
+here c = omega arith
 
 returns : tie.Need-returns
 returns c =
-    let k = c .before .before in
-    let x = k .before .before .args in
-    ask-none (x .consumer) (x .kind) (x .a) (x .b) (x .c) (x .d) (x .out .now) (k .before .before .pre)
-    (ap (askingOf (length (x .out .now))) (sym (c .enum-told .given .1)) ∙ k .ask-of .ensures (length (x .out .now)))
+    let x = c .before .before .args in
+    not-idle (x .phase) (x .consumer) (x .kind) (x .a) (x .b) (x .c) (x .d) (x .out .now) (elsewhere c)
 
-ask-requires : tie.Need-ask-requires
-ask-requires c κs = search needs
-
-of-ask-requires : tie.Need-of-ask-requires
-of-ask-requires c κs = search needs
+ask-idle-requires : tie.Need-ask-idle-requires
+ask-idle-requires c κs =
+    let e = c .before in
+    let s = e .before .before in
+    idle-sound (s .args .phase) (s .args .consumer) (here e) (s .pre)
 
 same-length : tie.Need-same-length
 same-length c = search needs
 
 returns-2 : tie.Need-returns-2
 returns-2 c =
-    let d = c .before .before .before .before .before in
-    let k = d .before .before .before .before .before in
-    let x = k .before .before .args in
-    ask-some (x .consumer) (x .kind) (x .a) (x .b) (x .c) (x .d) (x .out .now) _ (d .ask .result) _ (c .of-ask .result)
-    (ap (askingOf (length (x .out .now))) (sym (d .before .before .before .asking .given .1)) ∙ k .ask-of .ensures (length (x .out .now)))
-    (d .ask .ensures) (c .of-ask .ensures _)
+    let k = c .before .before in
+    let e = k .before .before in
+    let x = e .before .before .args in
+    idle-asked (x .phase) (x .consumer) (x .kind) (x .a) (x .b) (x .c) (x .d) (x .out .now) (k .ask-idle .result .numbers) (k .ask-idle .result .consumer) _
+    (here e) (k .ask-idle .ensures)
 
 pub ask-spec : {M : Type 1} → statement M
-ask-spec =
-    tie.close
-    (tie.spec
-    ask-of-requires
-    enum-known-asking
-    enum-told
-    returns
-    ask-requires
-    of-ask-requires
-    same-length
-    returns-2)
+ask-spec = tie.close (tie.spec returns ask-idle-requires same-length returns-2)
