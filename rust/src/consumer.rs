@@ -97,10 +97,7 @@ impl<S> Consumer<S> {
     /// # Errors
     /// Refusals 21, 22, 23, 25, 26 and 27. After 26 comes a [checkpoint](Consumer::begin).
     pub fn claim(&mut self, offset: Offset, now: u64) -> Result<HandOut, Refusal> {
-        let [generation, deliveries, dead, _] = self
-            .machine
-            .ask(Ask::Claim, [offset.get(), now, 0, 0])?
-            .values;
+        let [generation, deliveries, dead, _] = self.machine.claim(offset.get(), now)?.values;
         let token = LeaseToken {
             offset,
             generation: Generation::new(generation),
@@ -123,7 +120,9 @@ impl<S> Consumer<S> {
     /// # Errors
     /// Refusals 24 and 29.
     pub fn ack(&mut self, token: LeaseToken) -> Result<(), Refusal> {
-        self.under(Ask::Ack, token, 0, 0).map(drop)
+        self.machine
+            .ack(token.offset.get(), token.generation.get())
+            .map(drop)
     }
 
     /// Given up for good: settled as by an ack.

@@ -145,6 +145,8 @@ extern "C" {
         out: *mut u64,
         out_len: usize,
     );
+    fn ninotskev_claim(machine: *mut Machine, numbers: *mut Numbers, offset: u64, clock: u64);
+    fn ninotskev_ack(machine: *mut Machine, numbers: *mut Numbers, offset: u64, generation: u64);
 }
 
 /// The block that a step wrote, and whether it was the last.
@@ -240,6 +242,22 @@ impl Machine {
     /// A call on the consumer that answers numbers.
     pub(crate) fn ask(&mut self, ask: Ask, numbers: [u64; 4]) -> Result<Numbers, Refusal> {
         self.on_consumer(ask, numbers, &mut []).read()
+    }
+
+    /// A claim: as [`Ask::Claim`], with less of the state copied.
+    pub(crate) fn claim(&mut self, offset: u64, now: u64) -> Result<Numbers, Refusal> {
+        let mut numbers = Numbers::default();
+        // SAFETY: as for `call`.
+        unsafe { ninotskev_claim(self, &mut numbers, offset, now) };
+        numbers.read()
+    }
+
+    /// An ack: as [`Ask::Ack`], with less of the state copied.
+    pub(crate) fn ack(&mut self, offset: u64, generation: u64) -> Result<Numbers, Refusal> {
+        let mut numbers = Numbers::default();
+        // SAFETY: as for `call`.
+        unsafe { ninotskev_ack(self, &mut numbers, offset, generation) };
+        numbers.read()
     }
 
     /// The waiting list at a clock, into a list: how many there are, or 20.
@@ -420,6 +438,47 @@ mod tests {
     }
 
     #[test]
+    fn a_claim_and_an_ack_by_themselves_are_the_door_s() {
+        let mut whole = Guarded::new();
+        let mut part = Guarded::new();
+        let mut area = [0; 512 * 20];
+        for guarded in [&mut whole, &mut part] {
+            guarded.start(&Settings::default(), area.len());
+            guarded.call(BEGIN, [0; 4], &mut [], &mut []);
+            guarded.call(STEP, [0; 4], &mut area, &mut []);
+            guarded.call(STEP, [0; 4], &mut area, &mut []);
+        }
+        for (ask, a, b) in [
+            (Ask::Claim, 5, 50),
+            (Ask::Claim, 5, 51),
+            (Ask::Claim, 3, 52),
+            (Ask::Ack, 5, 1),
+            (Ask::Ack, 5, 0),
+            (Ask::Ack, 5, 0),
+            (Ask::Claim, 5, 53),
+            (Ask::Claim, u64::MAX, 53),
+            (Ask::Ack, 3, 1),
+        ] {
+            whole.call(ask as u64, [a, b, 0, 0], &mut [], &mut []);
+            // SAFETY: as for `Machine::call`.
+            unsafe {
+                match ask {
+                    Ask::Claim => ninotskev_claim(&mut part.machine, &mut part.numbers, a, b),
+                    _ => ninotskev_ack(&mut part.machine, &mut part.numbers, a, b),
+                }
+            }
+            part.untouched();
+            assert_eq!(part.numbers, whole.numbers);
+            for question in [Ask::Committed, Ask::InFlight, Ask::LeaseOf, Ask::IsSettled] {
+                let asked = |guarded: &mut Guarded| {
+                    guarded.machine.on_consumer(question, [a, 0, 0, 0], &mut [])
+                };
+                assert_eq!(asked(&mut part), asked(&mut whole));
+            }
+        }
+    }
+
+    #[test]
     fn a_number_that_is_no_call_is_refused() {
         let mut guarded = Guarded::new();
         guarded.start(&Settings::default(), 512 * 20);
@@ -441,6 +500,14 @@ mod tests {
             assert_eq!(numbers, told(255, 0, [0; 4]));
         }
         assert_eq!(list, [7; 2]);
+        let mut numbers = Numbers::default();
+        // SAFETY: as for `Machine::call`.
+        unsafe { ninotskev_claim(&mut guarded.machine, &mut numbers, 5, 0) };
+        assert_eq!(numbers, told(255, 0, [0; 4]));
+        // SAFETY: as for `Machine::call`.
+        unsafe { ninotskev_ack(&mut guarded.machine, &mut numbers, 5, 0) };
+        assert_eq!(numbers, told(255, 0, [0; 4]));
+        guarded.untouched();
         assert_eq!(guarded.machine.phase, 1);
     }
 

@@ -91,6 +91,19 @@ pub struct Committed {
     pub consumer: Consumer,
 }
 
+// What a claim answers, and the table that it leaves: it changes nothing else.
+pub struct Granted {
+    pub answer: ClaimAnswer,
+    pub table: LeaseTable,
+}
+
+// What Ack and Term answer, and the cursor and the table that they leave: they change nothing else.
+pub struct Removed {
+    pub answer: SettleAnswer,
+    pub cursor: AckCursor,
+    pub table: LeaseTable,
+}
+
 // Whether a claim is open, or what it is refused with.
 enum ClaimTest {
     Open,
@@ -204,30 +217,46 @@ impl Consumer {
     }
 
     // Grants a claim that nothing stands against.
-    fn grant(self, offset: Offset, now: u64) -> Claimed
+    fn hand_out(self, offset: Offset, now: u64) -> Granted
         requires { ⌜ Sound self × Passed (claimTable (view self) (offset .0) now) ⌝ }
-        ensures { λ r. ⌜ Answers (claimOf (r .answer)) self (r .consumer) (claim (view self) (offset .0) now) ⌝ }
+        ensures { λ r. ⌜ Answers (claimOf (r .answer)) self (holding self (r .table)) (claim (view self) (offset .0) now) ⌝ }
     {
         let claimed = self.table.claim(offset, now);
         let outcome = claimed.outcome;
+        let table = claimed.table;
         match outcome {
-            Claim::Granted { token, deliveries } => Claimed {
+            Claim::Granted { token, deliveries } => Granted {
                 answer: handed_out(self.delivery, token, deliveries),
-                consumer: self.with_table(claimed.table),
+                table,
             },
             // The table refuses nothing that the test lets through.
-            Claim::InFlight => Claimed {
+            Claim::InFlight => Granted {
                 answer: ClaimAnswer::InFlight,
-                consumer: self,
+                table,
             },
-            Claim::Exhausted => Claimed {
+            Claim::Exhausted => Granted {
                 answer: ClaimAnswer::Exhausted,
-                consumer: self,
+                table,
             },
-            Claim::Full => Claimed {
+            Claim::Full => Granted {
                 answer: ClaimAnswer::Full,
-                consumer: self,
+                table,
             },
+        }
+    }
+
+    // Claims an offset, for whoever keeps the rest of the state where it is.
+    pub fn grant(self, offset: Offset, now: u64) -> Granted
+        requires { ⌜ Sound self ⌝ }
+        ensures { λ r. ⌜ Answers (claimOf (r .answer)) self (holding self (r .table)) (claim (view self) (offset .0) now) ⌝ }
+    {
+        let test = self.claim_test(offset, now);
+        match test {
+            ClaimTest::Open => self.hand_out(offset, now),
+            ClaimTest::Refused(answer) => {
+                let table = self.table;
+                Granted { answer, table }
+            }
         }
     }
 
@@ -236,13 +265,45 @@ impl Consumer {
         requires { ⌜ Sound self ⌝ }
         ensures { λ r. ⌜ Answers (claimOf (r .answer)) self (r .consumer) (claim (view self) (offset .0) now) ⌝ }
     {
-        let test = self.claim_test(offset, now);
-        match test {
-            ClaimTest::Open => self.grant(offset, now),
-            ClaimTest::Refused(answer) => Claimed {
-                answer,
-                consumer: self,
-            },
+        let granted = self.grant(offset, now);
+        let answer = granted.answer;
+        Claimed {
+            answer,
+            consumer: self.with_table(granted.table),
+        }
+    }
+
+    // Settles the offset of a token, for whoever keeps the rest of the state where it is.
+    pub fn settle(self, token: LeaseToken) -> Removed
+        requires { ⌜ Sound self ⌝ }
+        ensures { λ r. ⌜ Answers (settleOf (r .answer)) self (holdingBoth self (r .cursor) (r .table)) (ack (view self) (token .offset .0) (token .generation .0)) ⌝ }
+    {
+        let cursor = self.cursor;
+        let table = self.table;
+        let removed = table.ack(token);
+        let outcome = removed.outcome;
+        let AckOutcome::Acked = outcome else {
+            return Removed {
+                answer: SettleAnswer::Fenced,
+                cursor,
+                table,
+            };
+        };
+        let recorded = cursor.ack(token.offset);
+        let noted = recorded.outcome;
+        if is_shed(noted) {
+            return Removed {
+                answer: SettleAnswer::Shed,
+                cursor,
+                table,
+            };
+        }
+        let moved = recorded.cursor;
+        let rest = removed.table;
+        Removed {
+            answer: SettleAnswer::Settled,
+            cursor: moved,
+            table: rest,
         }
     }
 
@@ -251,25 +312,11 @@ impl Consumer {
         requires { ⌜ Sound self ⌝ }
         ensures { λ r. ⌜ Answers (settleOf (r .answer)) self (r .consumer) (ack (view self) (token .offset .0) (token .generation .0)) ⌝ }
     {
-        let removed = self.table.ack(token);
-        let outcome = removed.outcome;
-        let AckOutcome::Acked = outcome else {
-            return Settled {
-                answer: SettleAnswer::Fenced,
-                consumer: self,
-            };
-        };
-        let recorded = self.cursor.ack(token.offset);
-        let noted = recorded.outcome;
-        if is_shed(noted) {
-            return Settled {
-                answer: SettleAnswer::Shed,
-                consumer: self,
-            };
-        }
+        let removed = self.settle(token);
+        let answer = removed.answer;
         Settled {
-            answer: SettleAnswer::Settled,
-            consumer: self.with_both(recorded.cursor, removed.table),
+            answer,
+            consumer: self.with_both(removed.cursor, removed.table),
         }
     }
 

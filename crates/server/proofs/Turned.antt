@@ -1,6 +1,7 @@
 -- What the machine's contracts say, in numbers: the answer of a call, who can be called next and the lent memory are what the
 -- door makes. Assumes nothing.
 use Prim.Native.Nat.{ℕ, zero, suc}
+use native.Mathlib.Omega.{arith}
 use mathlib.Core.Path.{_≡_, refl, ap, subst, _∙_}
 use mathlib.Core.Bool.{Bool, true, false}
 use mathlib.Core.List.{List, []}
@@ -19,7 +20,14 @@ use Rattle.consumer.specs.declared.Settings.{Settings}
 use Rattle.consumer.specs.declared.starts.StartAnswer.the-variants as starts
 use Rattle.consumer.proofs.Restarting.{Other, other-faulty}
 use Rattle.consumer.specs.declared.checkpoint.Writing.{Writing}
-use Rattle.machine.specs.Calls.{Ask, Call, Event, claimed, acked, termed, nacked, extended, committed, looked, begun, stepped, restarted, failed}
+use Rattle.cursor.specs.declared.AckCursor.{AckCursor}
+use Rattle.lease.specs.declared.LeaseTable.{LeaseTable}
+use Rattle.consumer.specs.Calls as calls
+use Rattle.consumer.specs.View.{claimOf, settleOf}
+use Rattle.consumer.specs.declared.calls.ClaimAnswer.{ClaimAnswer}
+use Rattle.consumer.specs.declared.calls.SettleAnswer.{SettleAnswer}
+use Rattle.machine.specs.Door as door
+use Rattle.machine.specs.Calls.{Ask, claim, ack, Call, Event, claimed, acked, termed, nacked, extended, committed, looked, begun, stepped, restarted, failed}
 use Rattle.machine.specs.Door.{Phase, idle, Turn, onState, asked, door}
 use Rattle.machine.specs.Answers.{Arguments, argumentsOf, seenOf, AskKept, outAfter}
 use Rattle.machine.specs.View.{phaseOf, Sound, AskedIs, CalledIs, StartedIs, turnOf, CallKept, held}
@@ -30,8 +38,8 @@ use Rattle.machine.specs.declared.calls.Asked.{Asked}
 use Rattle.machine.specs.declared.calls.AskAnswer.{AskAnswer}
 use Rattle.machine.specs.declared.calls.AskAnswer.the-variants as asks
 use Rattle.machine.specs.declared.calls.CallAnswer.{CallAnswer}
-use Rattle.machine.specs.declared.calls.CallAnswer.the-variants as calls
-use Rattle.wire.specs.Numbers.{askAt, callAt, numbersOf, notNow, noValues, seenNumbers, numbersIn}
+use Rattle.machine.specs.declared.calls.CallAnswer.the-variants as callAnswers
+use Rattle.wire.specs.Numbers.{askAt, callAt, numbersOf, notNow, noValues, handOutValues, seenNumbers, numbersIn}
 use Rattle.wire.proofs.Starts.{start-numbers}
 use Rattle.server.specs.Door.{onAsk, onCall, phaseIn, areaIn, answered, answeredBy, KeptBy, KeptIn, askTurn, AnswersAsk, Declined, SoundIf, AskedOn, holding, AskIs, CallIs, StartIs}
 use Rattle.wire.specs.declared.numbers.Numbers.{Numbers}
@@ -80,6 +88,21 @@ module _ (x : Consumer) (kind a b c d : ℕ) (out : List ℕ) where
             subst (λ (o : Option Ask). KeptIn (onAsk o (asked (view x) [])) x (r .consumer)) e
             (subst (λ (t : Option Turn). KeptIn t x (r .consumer)) (h .is []) (ask-kept x (r .consumer) (argumentsOf q) (r .answer) out′ (h .kept)));
       }
+
+-- a claim and an ack by themselves
+module _ (x : Consumer) (o g : ℕ) (out : List ℕ) (n : Numbers) where
+  pub claim-told : (a : ClaimAnswer) (t : LeaseTable) → consumer.Answers (claimOf a) x (consumer.holding x t) (calls.claim (view x) o g)
+      → n ≡ numbersOf (refusal.answered handOutValues (claimOf a)) → AnswersAsk x 0 o g 0 0 out n (consumer.holding x t) out
+  claim-told a t h m =
+      ask-some x 0 o g 0 0 out (claim o g) (record { answer = asks.Claimed a; consumer = consumer.holding x t }) out n refl
+      (record { is = λ area. ap (door.answered area (claimed o g)) (h .is); sound = h .sound; kept = h .kept; lists = λ area. refl }) m
+
+  pub ack-told : (a : SettleAnswer) (c : AckCursor) (t : LeaseTable)
+      → consumer.Answers (settleOf a) x (consumer.holdingBoth x c t) (calls.ack (view x) o g)
+      → n ≡ numbersOf (refusal.answered noValues (settleOf a)) → AnswersAsk x 1 o g 0 0 out n (consumer.holdingBoth x c t) out
+  ack-told a c t h m =
+      ask-some x 1 o g 0 0 out (ack o g) (record { answer = asks.Acked a; consumer = consumer.holdingBoth x c t }) out n refl
+      (record { is = λ area. ap (door.answered area (acked o g)) (h .is); sound = h .sound; kept = h .kept; lists = λ area. refl }) m
 
 -- what keeps a thing keeps what it stands in
 module _ {S T : Type 0} (f : S → T) (x y : S) where
@@ -136,6 +159,20 @@ module _ (s : Settings) (w : Writing) (kind a b c d : ℕ) (out : List ℕ) (n :
   asked-on (suc zero) ok h = declined 1 (λ area o. none-asked o) ok h
   asked-on (suc (suc k)) ok h = declined (suc (suc k)) (λ area o. none-asked o) ok h
 
+-- by the number of a phase
+pub not-idle : (k : ℕ) (x : Consumer) (kind a b c d : ℕ) (out : List ℕ) → (k ≡ 0 → ⊥) → AskedOn k x kind a b c d out notNow x out
+not-idle zero x kind a b c d out h = absurd (h refl)
+not-idle (suc k) x kind a b c d out h = (refl, refl, refl)
+
+pub idle-sound : (k : ℕ) (x : Consumer) → k ≡ 0 → SoundIf k x → consumer.Sound x
+idle-sound zero x e ok = ok
+idle-sound (suc k) x e ok = absurd (omega arith)
+
+pub idle-asked : (k : ℕ) (x : Consumer) (kind a b c d : ℕ) (out : List ℕ) (n : Numbers) (y : Consumer) (out′ : List ℕ) → k ≡ 0
+    → AnswersAsk x kind a b c d out n y out′ → AskedOn k x kind a b c d out n y out′
+idle-asked zero x kind a b c d out n y out′ e h = h
+idle-asked (suc k) x kind a b c d out n y out′ e h = absurd (omega arith)
+
 pub sound-if : (s : Settings) (w : Writing) (k : ℕ) → Sound (record { settings = s; phase = k; writing = w }) → SoundIf k (w .consumer)
 sound-if s w zero ok = ok
 sound-if s w (suc k) ok = tt
@@ -143,25 +180,25 @@ sound-if s w (suc k) ok = tt
 -- ## a call of the door
 module _ (m : Machine) (area : List ℕ) (q : Call) (m′ : Machine) (area′ out′ : List ℕ) where
   call-phase : (a : CallAnswer) → CallKept a (held m area) (held m′ area′) → phaseOf m′ ≡ phaseIn (phaseOf m) (turnOf q a m′ area′ out′)
-  call-phase (calls.Asked a) k = refl
-  call-phase (calls.Begun a) k = refl
-  call-phase (calls.Stepped a) k = refl
-  call-phase (calls.Restarted a) k = refl
-  call-phase calls.NotNow k = ap (λ h. phaseOf (h .machine)) k
+  call-phase (callAnswers.Asked a) k = refl
+  call-phase (callAnswers.Begun a) k = refl
+  call-phase (callAnswers.Stepped a) k = refl
+  call-phase (callAnswers.Restarted a) k = refl
+  call-phase callAnswers.NotNow k = ap (λ h. phaseOf (h .machine)) k
 
   call-area : (a : CallAnswer) → CallKept a (held m area) (held m′ area′) → area′ ≡ areaIn area (turnOf q a m′ area′ out′)
-  call-area (calls.Asked a) k = refl
-  call-area (calls.Begun a) k = refl
-  call-area (calls.Stepped a) k = refl
-  call-area (calls.Restarted a) k = refl
-  call-area calls.NotNow k = ap (λ h. h .area) k
+  call-area (callAnswers.Asked a) k = refl
+  call-area (callAnswers.Begun a) k = refl
+  call-area (callAnswers.Stepped a) k = refl
+  call-area (callAnswers.Restarted a) k = refl
+  call-area callAnswers.NotNow k = ap (λ h. h .area) k
 
   call-kept : (a : CallAnswer) → CallKept a (held m area) (held m′ area′) → KeptIn (turnOf q a m′ area′ out′) (held m area) (held m′ area′)
-  call-kept (calls.Asked a) k = ask-kept (held m area) (held m′ area′) _ a out′ k
-  call-kept (calls.Begun a) k = k
-  call-kept (calls.Stepped a) k = k
-  call-kept (calls.Restarted a) k = start-kept (held m area) (held m′ area′) (startFault a) _ k
-  call-kept calls.NotNow k = k
+  call-kept (callAnswers.Asked a) k = ask-kept (held m area) (held m′ area′) _ a out′ k
+  call-kept (callAnswers.Begun a) k = k
+  call-kept (callAnswers.Stepped a) k = k
+  call-kept (callAnswers.Restarted a) k = start-kept (held m area) (held m′ area′) (startFault a) _ k
+  call-kept callAnswers.NotNow k = k
 
 module _ (m : Machine) (kind a b c d : ℕ) (area out : List ℕ) where
   pub call-none : Sound m → none ≡ callAt kind a b c d (length out) → CallIs m kind a b c d area out notNow m area out

@@ -1,12 +1,19 @@
 // The door, for Rust: the state behind `&mut`, calls and answers in numbers. Whoever calls keeps one machine and hands the same
 // one in each time, so that each call gets what the one before left.
+ghost use mathlib.Core.List.{List};
+ghost use Prim.Native.Nat.{ℕ};
 ghost use Rattle.consumer.specs.View as consumers;
 ghost use Rattle.machine.specs.View.{Sound, OffIs};
 ghost use Rattle.server.specs.Door.{SoundIf, AnswersAsk, AskedOn, AskIs, CallIs, StartIs};
 use consumer::Consumer;
 use consumer::Settings;
 use consumer::starts::StartAnswer;
+use cursor::AckCursor;
+use lease::LeaseTable;
+use lease::LeaseToken;
 use machine::Machine;
+use types::Generation;
+use types::Offset;
 use wire::kinds;
 use wire::kinds::Asking;
 use wire::kinds::Calling;
@@ -21,6 +28,19 @@ pub struct ConsumerAnswer {
 pub struct MachineAnswer {
     pub numbers: Numbers,
     pub machine: Machine,
+}
+
+// What a claim answers, and the table that it leaves.
+pub struct ClaimAnswered {
+    pub numbers: Numbers,
+    pub table: LeaseTable,
+}
+
+// What an ack answers, and the cursor and the table that it leaves.
+pub struct AckAnswered {
+    pub numbers: Numbers,
+    pub cursor: AckCursor,
+    pub table: LeaseTable,
 }
 
 // A call on the state, where it can be called: that is phase 0.
@@ -71,6 +91,70 @@ fn ask_idle(
     ConsumerAnswer {
         numbers: numbers::of_ask(answer, out),
         consumer: after,
+    }
+}
+
+// A claim, where it can be made: call 0.
+pub fn claim(phase: u64, consumer: Consumer, offset: u64, clock: u64) -> ClaimAnswered
+    requires { ⌜ SoundIf phase consumer ⌝ }
+    ensures { λ r. ⌜ ((out : List ℕ) → AskedOn phase consumer 0 offset clock 0 0 out (r .numbers) (consumers.holding consumer (r .table)) out) ⌝ }
+{
+    if phase != 0 {
+        let table = consumer.table;
+        return ClaimAnswered {
+            numbers: Numbers(255, 0, 0, 0, 0, 0),
+            table: table,
+        };
+    }
+    claim_idle(consumer, offset, clock)
+}
+
+fn claim_idle(consumer: Consumer, offset: u64, clock: u64) -> ClaimAnswered
+    requires { ⌜ consumers.Sound consumer ⌝ }
+    ensures { λ r. ⌜ ((out : List ℕ) → AnswersAsk consumer 0 offset clock 0 0 out (r .numbers) (consumers.holding consumer (r .table)) out) ⌝ }
+{
+    let granted = consumer.grant(Offset(offset), clock);
+    let answer = granted.answer;
+    let table = granted.table;
+    ClaimAnswered {
+        numbers: numbers::of_claim(answer),
+        table: table,
+    }
+}
+
+// An ack, where it can be made: call 1.
+pub fn ack(phase: u64, consumer: Consumer, offset: u64, generation: u64) -> AckAnswered
+    requires { ⌜ SoundIf phase consumer ⌝ }
+    ensures { λ r. ⌜ ((out : List ℕ) → AskedOn phase consumer 1 offset generation 0 0 out (r .numbers) (consumers.holdingBoth consumer (r .cursor) (r .table)) out) ⌝ }
+{
+    if phase != 0 {
+        let cursor = consumer.cursor;
+        let table = consumer.table;
+        return AckAnswered {
+            numbers: Numbers(255, 0, 0, 0, 0, 0),
+            cursor: cursor,
+            table: table,
+        };
+    }
+    ack_idle(consumer, offset, generation)
+}
+
+fn ack_idle(consumer: Consumer, offset: u64, generation: u64) -> AckAnswered
+    requires { ⌜ consumers.Sound consumer ⌝ }
+    ensures { λ r. ⌜ ((out : List ℕ) → AnswersAsk consumer 1 offset generation 0 0 out (r .numbers) (consumers.holdingBoth consumer (r .cursor) (r .table)) out) ⌝ }
+{
+    let token = LeaseToken {
+        offset: Offset(offset),
+        generation: Generation(generation),
+    };
+    let removed = consumer.settle(token);
+    let answer = removed.answer;
+    let cursor = removed.cursor;
+    let table = removed.table;
+    AckAnswered {
+        numbers: numbers::of_settle(answer),
+        cursor: cursor,
+        table: table,
     }
 }
 
@@ -193,4 +277,41 @@ pub extern "C" fn ninotskev_ask(
     let asked = ask(phase, before, kind, a, b, c, d, out);
     machine.writing.consumer = asked.consumer;
     *numbers = asked.numbers;
+}
+
+// `claim` on the machine in its place: of its state the table alone is stored back.
+#[no_mangle]
+pub extern "C" fn ninotskev_claim(
+    machine: &mut Machine,
+    numbers: &mut Numbers,
+    offset: u64,
+    clock: u64,
+)
+    requires { ⌜ Sound (now machine) ⌝ }
+    ensures { λ _. ⌜ ((out : List ℕ) → AskIs (now (machine .entry)) 0 offset clock 0 0 out (now (numbers .exit)) (now (machine .exit)) out) ⌝ }
+{
+    let phase = machine.phase;
+    let before = machine.writing.consumer;
+    let claimed = claim(phase, before, offset, clock);
+    machine.writing.consumer.table = claimed.table;
+    *numbers = claimed.numbers;
+}
+
+// `ack` on the machine in its place: of its state the cursor and the table are stored back.
+#[no_mangle]
+pub extern "C" fn ninotskev_ack(
+    machine: &mut Machine,
+    numbers: &mut Numbers,
+    offset: u64,
+    generation: u64,
+)
+    requires { ⌜ Sound (now machine) ⌝ }
+    ensures { λ _. ⌜ ((out : List ℕ) → AskIs (now (machine .entry)) 1 offset generation 0 0 out (now (numbers .exit)) (now (machine .exit)) out) ⌝ }
+{
+    let phase = machine.phase;
+    let before = machine.writing.consumer;
+    let acked = ack(phase, before, offset, generation);
+    machine.writing.consumer.cursor = acked.cursor;
+    machine.writing.consumer.table = acked.table;
+    *numbers = acked.numbers;
 }

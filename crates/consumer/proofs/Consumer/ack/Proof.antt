@@ -1,68 +1,24 @@
--- `Consumer::ack` meets its contract: it refuses what the table or the cursor refuses, in this order. Assumes nothing.
-use mathlib.Core.Path.{sym, ap, _∙_}
+-- `Consumer::ack` meets its contract: the cursor and the table that it leaves go into their places. Assumes nothing.
+use mathlib.Core.Path.{sym, subst}
 use borrow.Author.Needs.{needs}
-use Rattle.cursor.specs.Answers as cursor
-use Rattle.lease.specs.Answers.{ackOf}
-use Rattle.consumer.proofs.CallsToken.{ack-fenced, ack-shed, ack-settled}
+use Rattle.consumer.specs.Calls.{ack}
+use Rattle.consumer.specs.View.{view, Answers, settleOf}
+use Rattle.consumer.specs.declared.Consumer.{Consumer}
 use Rattle.consumer.proofs.Consumer.ack.Statement.{statement}
 use Rattle.consumer.proofs.Consumer.ack.Tie as tie
 
-ack-requires : tie.Need-ack-requires
-ack-requires c κs = search needs
-
-enum-told : tie.Need-enum-told
-enum-told c = search needs
-
-enum-told-2 : tie.Need-enum-told-2
-enum-told-2 c = search needs
-
-returns : tie.Need-returns
-returns c =
-    let t = c .before .before in
-    let s = t .before in
-    ack-fenced (s .args .self) (s .pre) (s .args .token .offset .0) (s .args .token .generation .0) (ackOf (t .ack .result .outcome))
-    (t .ack .result .table) (t .ack .ensures) (ap ackOf (c .enum-told2 .given .1))
-
-ack-requires-2 : tie.Need-ack-requires-2
-ack-requires-2 c κs = search needs
-
-is-shed-requires : tie.Need-is-shed-requires
-is-shed-requires c κs = search needs
-
-returns-2 : tie.Need-returns-2
-returns-2 c =
-    let n = c .before .before in
-    let a = n .before in
-    let t = a .before .before in
-    let s = t .before in
-    ack-shed (s .args .self) (s .pre) (s .args .token .offset .0) (s .args .token .generation .0) (ackOf (t .ack .result .outcome))
-    (t .ack .result .table) (t .ack .ensures) (ap ackOf (a .enum-told .given .1)) (cursor.ackOf (n .ack2 .result .outcome)) (n .ack2 .result .cursor)
-    (n .ack2 .ensures) (sym (c .before .is-shed .ensures) ∙ c .if1 .taken)
+settle-requires : tie.Need-settle-requires
+settle-requires c κs = search needs
 
 with-both-requires : tie.Need-with-both-requires
 with-both-requires c κs = search needs
 
-returns-3 : tie.Need-returns-3
-returns-3 c =
-    let k = c .before in
-    let n = k .before .before in
-    let a = n .before in
-    let t = a .before .before in
-    let s = t .before in
-    ack-settled (s .args .self) (s .pre) (s .args .token .offset .0) (s .args .token .generation .0) (ackOf (t .ack .result .outcome))
-    (t .ack .result .table) (t .ack .ensures) (ap ackOf (a .enum-told .given .1)) (cursor.ackOf (n .ack2 .result .outcome)) (n .ack2 .result .cursor)
-    (n .ack2 .ensures) (sym (k .before .is-shed .ensures) ∙ k .if1 .left) (c .with-both .result) (c .with-both .ensures)
+returns : tie.Need-returns
+returns c =
+    let g = c .before in
+    let x = g .before .args in
+    subst (λ (s : Consumer). Answers (settleOf (g .settle .result .answer)) (x .self) s (ack (view (x .self)) (x .token .offset .0) (x .token .generation .0)))
+    (sym (c .with-both .ensures)) (g .settle .ensures)
 
 pub ack-spec : {M : Type 1} → statement M
-ack-spec =
-    tie.close
-    (tie.spec
-    ack-requires
-    enum-told
-    enum-told-2
-    returns
-    ack-requires-2
-    is-shed-requires
-    returns-2
-    with-both-requires
-    returns-3)
+ack-spec = tie.close (tie.spec settle-requires with-both-requires returns)

@@ -1,39 +1,24 @@
--- `Consumer::claim` meets its contract: the test refuses, or the grant behind it takes effect. Assumes nothing.
-use mathlib.Core.Path.{sym, ap, _∙_}
+-- `Consumer::claim` meets its contract: the table that the claim leaves goes into its place. Assumes nothing.
+use mathlib.Core.Path.{sym, subst}
 use borrow.Author.Needs.{needs}
-use Rattle.consumer.specs.Calls.{claimTable}
-use Rattle.consumer.specs.View.{view, testOf}
-use Rattle.consumer.proofs.CallsClaim.{open-passed, claim-refused}
+use Rattle.consumer.specs.Calls.{claim}
+use Rattle.consumer.specs.View.{view, Answers, claimOf}
+use Rattle.consumer.specs.declared.Consumer.{Consumer}
 use Rattle.consumer.proofs.Consumer.claim.Statement.{statement}
 use Rattle.consumer.proofs.Consumer.claim.Tie as tie
 
-claim-test-requires : tie.Need-claim-test-requires
-claim-test-requires c κs = search needs
-
-enum-told : tie.Need-enum-told
-enum-told c = search needs
-
 grant-requires : tie.Need-grant-requires
-grant-requires c κs =
-    let t = c .before .before in
-    let s = t .before in
-    (s .pre, open-passed (claimTable (view (s .args .self)) (s .args .offset .0) (s .args .now)) (sym (ap testOf (c .enum-told .given .1)) ∙ t .claim-test .ensures))
+grant-requires c κs = search needs
 
-enum-known-test : tie.Need-enum-known-test
-enum-known-test c = search needs
+with-table-requires : tie.Need-with-table-requires
+with-table-requires c κs = search needs
 
 returns : tie.Need-returns
-returns c = search needs
-
-returns-2 : tie.Need-returns-2
-returns-2 c =
-    let k = c .before in
-    let t = k .before .before in
-    let s = t .before in
-    claim-refused (s .args .self) (s .pre) (s .args .offset .0) (s .args .now) (k .test .given .0 .0)
-    (sym (ap testOf (k .test .given .1)) ∙ t .claim-test .ensures)
+returns c =
+    let g = c .before in
+    let x = g .before .args in
+    subst (λ (s : Consumer). Answers (claimOf (g .grant .result .answer)) (x .self) s (claim (view (x .self)) (x .offset .0) (x .now)))
+    (sym (c .with-table .ensures)) (g .grant .ensures)
 
 pub claim-spec : {M : Type 1} → statement M
-claim-spec =
-    tie.close
-    (tie.spec claim-test-requires enum-told grant-requires enum-known-test returns returns-2)
+claim-spec = tie.close (tie.spec grant-requires with-table-requires returns)

@@ -1,29 +1,10 @@
 -- `ask` meets its contract: only an idle machine's consumer is called. Assumes nothing.
-use Prim.Native.Nat.{ℕ, zero, suc}
 use native.Mathlib.Omega.{arith}
-use mathlib.Core.Path.{_≡_, refl}
-use mathlib.Core.List.{List}
+use mathlib.Core.Path.{_≡_}
 use borrow.Author.Needs.{needs}
-use Rattle.consumer.specs.View.{Sound}
-use Rattle.consumer.specs.declared.Consumer.{Consumer}
-use Rattle.wire.specs.Numbers.{notNow}
-use Rattle.wire.specs.declared.numbers.Numbers.{Numbers}
-use Rattle.server.specs.Door.{SoundIf, AnswersAsk, AskedOn}
+use Rattle.server.proofs.Turned.{not-idle, idle-sound, idle-asked}
 use Rattle.server.proofs.door.ask.Statement.{statement}
 use Rattle.server.proofs.door.ask.Tie as tie
-
-not-idle : (k : ℕ) (x : Consumer) (kind a b c d : ℕ) (out : List ℕ) → (k ≡ 0 → ⊥) → AskedOn k x kind a b c d out notNow x out
-not-idle zero x kind a b c d out h = absurd (h refl)
-not-idle (suc k) x kind a b c d out h = (refl, refl, refl)
-
-idle-sound : (k : ℕ) (x : Consumer) → k ≡ 0 → SoundIf k x → Sound x
-idle-sound zero x e ok = ok
-idle-sound (suc k) x e ok = absurd (omega arith)
-
-idle-asked : (k : ℕ) (x : Consumer) (kind a b c d : ℕ) (out : List ℕ) (n : Numbers) (y : Consumer) (out′ : List ℕ) → k ≡ 0
-    → AnswersAsk x kind a b c d out n y out′ → AskedOn k x kind a b c d out n y out′
-idle-asked zero x kind a b c d out n y out′ e h = h
-idle-asked (suc k) x kind a b c d out n y out′ e h = absurd (omega arith)
 
 elsewhere : (c : tie.Then1) → c .before .before .args .phase ≡ 0 → ⊥
 elsewhere c e = omega arith
