@@ -1,0 +1,29 @@
+-- `digest_of` keeps what is ready. Assumes nothing.
+use borrow.Author.Needs.{needs}
+use Rattle.modules.proofs.digest_of.Statement.{statement}
+use Rattle.modules.proofs.digest_of.Tie as tie
+
+slice-aggregate-digest-of : tie.Need-slice-aggregate-digest-of
+slice-aggregate-digest-of c = ?
+
+slice-aggregate-digest-of-2 : tie.Need-slice-aggregate-digest-of-2
+slice-aggregate-digest-of-2 c = ?
+
+slice-aggregate-digest-of-3 : tie.Need-slice-aggregate-digest-of-3
+slice-aggregate-digest-of-3 c = ?
+
+digest-of-requires : tie.Need-digest-of-requires
+digest-of-requires c κs = search needs
+
+returns : tie.Need-returns
+returns c = search needs
+
+pub digest-of-spec : {M : Type 1} → statement M
+digest-of-spec =
+    tie.close
+    (tie.spec
+    slice-aggregate-digest-of
+    slice-aggregate-digest-of-2
+    slice-aggregate-digest-of-3
+    digest-of-requires
+    returns)
