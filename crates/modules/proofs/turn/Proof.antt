@@ -1,4 +1,5 @@
 -- `turn` keeps what is ready. Assumes nothing.
+use Rattle.modules.proofs.Keeping.{going}
 use borrow.Author.Needs.{needs}
 use Rattle.modules.proofs.turn.Statement.{statement}
 use Rattle.modules.proofs.turn.Tie as tie
@@ -10,13 +11,13 @@ enum-known-found : tie.Need-enum-known-found
 enum-known-found c = search needs
 
 sub-answer-line : tie.Need-sub-answer-line
-sub-answer-line c = ?
+sub-answer-line c = (rw (c .before .found .given .1) at (c .before .before .before .before .take-line .ensures .lies)) .0
 
 part-answer-line-start : tie.Need-part-answer-line-start
-part-answer-line-start c = ?
+part-answer-line-start c = (rw (c .before .before .found .given .1) at (c .before .before .before .before .before .take-line .ensures .lies)) .0
 
 part-answer-line-end : tie.Need-part-answer-line-end
-part-answer-line-end c = ?
+part-answer-line-end c = (rw (c .before .before .found .given .1) at (c .before .before .before .before .before .take-line .ensures .lies)) .1
 
 answer-line-requires : tie.Need-answer-line-requires
 answer-line-requires c κs = search needs

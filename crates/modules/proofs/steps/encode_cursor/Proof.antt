@@ -1,4 +1,7 @@
 -- `encode_cursor` keeps what is ready. Assumes nothing.
+use native.Mathlib.Omega.{arith}
+use mathlib.Core.Path.{sym}
+use lib.Seq.{length-take-le}
 use borrow.Author.Needs.{needs}
 use Rattle.modules.proofs.steps.encode_cursor.Statement.{statement}
 use Rattle.modules.proofs.steps.encode_cursor.Tie as tie
@@ -7,7 +10,7 @@ slice-relend-prefix-encode-snapshot : tie.Need-slice-relend-prefix-encode-snapsh
 slice-relend-prefix-encode-snapshot c = search needs
 
 slice-aggregate-encode-snapshot : tie.Need-slice-aggregate-encode-snapshot
-slice-aggregate-encode-snapshot c = ?
+slice-aggregate-encode-snapshot c = let s = c .before .before .before in sym (length-take-le (s .args .state .len) (s .args .bytes .now) (omega (arith, s .pre .0 .len, s .pre .1)))
 
 encode-snapshot-requires : tie.Need-encode-snapshot-requires
 encode-snapshot-requires c κs = search needs
