@@ -1,8 +1,5 @@
--- What holds of the state, of the lent memory and of the input before and after every line.
+-- What holds of the state and of the input before and after every line.
 use Prim.Native.Nat.{ℕ, _≤_}
-use mathlib.Core.Path.{_≡_}
-use mathlib.Core.List.{List}
-use lib.ListN.{length}
 use Rattle.text.specs.Lines.{Within}
 use Rattle.cursor.specs.View as cursors
 use Rattle.lease.specs.State as tables
@@ -17,12 +14,6 @@ pub record Ready (s : State) : Type 0 where
   pub config : configs.Sound (s .config)
   pub entries : s .entries ≤ 256
   pub len : s .len ≤ 4096
-
--- the lent columns and bytes have their lengths
-pub record Lent (a b bytes : List ℕ) : Type 0 where
-  pub a-length : length a ≡ 256
-  pub b-length : length b ≡ 256
-  pub bytes-length : length bytes ≡ 4096
 
 -- the input lies within a buffer of this length, and what is worked on is ready
 pub record Going (buf : ℕ) (r : Running) : Type 0 where
