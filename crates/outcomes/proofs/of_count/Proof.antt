@@ -1,0 +1,30 @@
+-- `of_count` meets its contract. Assumes nothing.
+use borrow.Author.Needs.{needs}
+use Rattle.outcomes.proofs.of_count.Statement.{statement}
+use Rattle.outcomes.proofs.of_count.Tie as tie
+
+enum-known-count : tie.Need-enum-known-count
+enum-known-count c = search needs
+
+cast-some : tie.Need-cast-some
+cast-some c = search needs
+
+some-requires : tie.Need-some-requires
+some-requires c κs = search needs
+
+enum-told : tie.Need-enum-told
+enum-told c = search needs
+
+value-requires : tie.Need-value-requires
+value-requires c κs = search needs
+
+returns : tie.Need-returns
+returns c = rw (c .before .before .count .given .1, c .some .ensures)
+
+returns-2 : tie.Need-returns-2
+returns-2 c = rw (c .before .enum-told .given .1, c .value .ensures)
+
+pub of-count-spec : {M : Type 1} → statement M
+of-count-spec =
+    tie.close
+    (tie.spec enum-known-count cast-some some-requires enum-told value-requires returns returns-2)
