@@ -89,6 +89,10 @@ pub(crate) struct Numbers {
 
 /// The calls on a consumer, by their numbers in `crates/wire/specs/Numbers.antt`.
 #[derive(Clone, Copy, Debug, PartialEq, Eq)]
+#[cfg_attr(
+    not(test),
+    expect(dead_code, reason = "claim and ack have functions of their own")
+)]
 #[repr(u64)]
 pub(crate) enum Ask {
     Claim = 0,
