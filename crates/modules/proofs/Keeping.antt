@@ -3,8 +3,9 @@ use Prim.Native.Nat.{ℕ}
 use mathlib.Core.Path.{_≡_}
 use Rattle.text.specs.Lines.{Within}
 use Rattle.text.specs.declared.lines.Input.{Input}
-use Rattle.modules.specs.State.{Ready, Going}
-use Rattle.modules.specs.declared.state.State.{State}
+use Rattle.steps.specs.State.{Ready}
+use Rattle.steps.specs.declared.state.State.{State}
+use Rattle.modules.specs.Going.{Going}
 use Rattle.modules.specs.declared.Running.{Running}
 
 pub going : {buf : ℕ} {r : Running} {i : Input} {s : State} → (r .input ≡ i) × (r .state ≡ s) → Within buf i → Ready s → Going buf r

@@ -2,20 +2,19 @@
 // with a line of numbers, the last of them the digest of the state; docs/ORACLE.md has the lines.
 ghost use mathlib.Core.Path.{_≡_};
 ghost use lib.ListN.{length};
-ghost use Rattle.modules.specs.State.{Ready, Going};
+ghost use Rattle.steps.specs.State.{Ready};
+ghost use Rattle.modules.specs.Going.{Going};
 use libc::STDIN_FILENO;
 use operations::Line;
 use operations::Module;
 use outcomes::Answer;
-use state::Done;
-use state::State;
+use steps::state;
+use steps::state::Done;
+use steps::state::State;
 use text::lines;
 use text::lines::Found;
 use text::lines::Input;
 use text::output;
-
-mod state;
-mod steps;
 
 // The input, how many bytes of answers wait, and what the operations work on; or the input has ended.
 struct Running {

@@ -4,7 +4,7 @@ use native.Mathlib.Omega.{arith}
 use mathlib.Core.Path.{_≡_, refl}
 use lib.ListN.{length}
 use borrow.Author.Needs.{needs}
-use Rattle.modules.specs.State.{Going}
+use Rattle.modules.specs.Going.{Going}
 use Rattle.modules.proofs.Keeping.{going}
 use Rattle.modules.proofs.run.Statement.{statement}
 use Rattle.modules.proofs.run.Tie as tie

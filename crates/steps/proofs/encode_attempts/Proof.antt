@@ -3,8 +3,8 @@ use native.Mathlib.Omega.{arith}
 use mathlib.Core.Path.{sym}
 use lib.Seq.{length-take-le}
 use borrow.Author.Needs.{needs}
-use Rattle.modules.proofs.steps.encode_attempts.Statement.{statement}
-use Rattle.modules.proofs.steps.encode_attempts.Tie as tie
+use Rattle.steps.proofs.encode_attempts.Statement.{statement}
+use Rattle.steps.proofs.encode_attempts.Tie as tie
 
 slice-reshare-prefix-encode : tie.Need-slice-reshare-prefix-encode
 slice-reshare-prefix-encode c = search needs

@@ -3,8 +3,8 @@ use native.Mathlib.Omega.{arith}
 use mathlib.Core.Path.{sym}
 use lib.Seq.{length-take-le}
 use borrow.Author.Needs.{needs}
-use Rattle.modules.proofs.steps.encode_cursor.Statement.{statement}
-use Rattle.modules.proofs.steps.encode_cursor.Tie as tie
+use Rattle.steps.proofs.encode_cursor.Statement.{statement}
+use Rattle.steps.proofs.encode_cursor.Tie as tie
 
 slice-relend-prefix-encode-snapshot : tie.Need-slice-relend-prefix-encode-snapshot
 slice-relend-prefix-encode-snapshot c = search needs

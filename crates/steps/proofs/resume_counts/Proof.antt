@@ -3,8 +3,8 @@ use native.Mathlib.Omega.{arith}
 use mathlib.Core.Path.{sym}
 use lib.Seq.{length-take-le}
 use borrow.Author.Needs.{needs}
-use Rattle.modules.proofs.steps.resume_counts.Statement.{statement}
-use Rattle.modules.proofs.steps.resume_counts.Tie as tie
+use Rattle.steps.proofs.resume_counts.Statement.{statement}
+use Rattle.steps.proofs.resume_counts.Tie as tie
 
 slice-reshare-prefix-resume : tie.Need-slice-reshare-prefix-resume
 slice-reshare-prefix-resume c = search needs

@@ -2,11 +2,12 @@
 ghost use mathlib.Core.Path.{_≡_};
 ghost use Prim.Native.Nat.{_≤_};
 ghost use lib.ListN.{length};
-ghost use Rattle.modules.specs.State.{Ready};
-use crate::state;
-use crate::state::Done;
-use crate::state::State;
+ghost use Rattle.steps.specs.State.{Ready};
+use state::Done;
+use state::State;
 use types::Offset;
+
+pub mod state;
 
 // list
 pub fn list<'a>(place: usize, v: [u64; 4], state: State, a: &'a mut [u64], b: &'a mut [u64]) -> Done

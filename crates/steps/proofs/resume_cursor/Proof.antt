@@ -3,8 +3,8 @@ use native.Mathlib.Omega.{arith}
 use mathlib.Core.Path.{sym}
 use lib.Seq.{length-take-le}
 use borrow.Author.Needs.{needs}
-use Rattle.modules.proofs.steps.resume_cursor.Statement.{statement}
-use Rattle.modules.proofs.steps.resume_cursor.Tie as tie
+use Rattle.steps.proofs.resume_cursor.Statement.{statement}
+use Rattle.steps.proofs.resume_cursor.Tie as tie
 
 slice-reshare-prefix-with : tie.Need-slice-reshare-prefix-with
 slice-reshare-prefix-with c = search needs

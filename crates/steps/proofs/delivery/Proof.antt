@@ -3,8 +3,8 @@ use native.Mathlib.Omega.{arith}
 use mathlib.Core.Path.{sym}
 use lib.Seq.{length-take-le}
 use borrow.Author.Needs.{needs}
-use Rattle.modules.proofs.steps.delivery.Statement.{statement}
-use Rattle.modules.proofs.steps.delivery.Tie as tie
+use Rattle.steps.proofs.delivery.Statement.{statement}
+use Rattle.steps.proofs.delivery.Tie as tie
 
 slice-aggregate-run : tie.Need-slice-aggregate-run
 slice-aggregate-run c = let s = c .before .before in sym (length-take-le (s .args .state .entries) (s .args .a .now) (omega (arith, s .pre .0 .entries, s .pre .1)))

@@ -4,7 +4,7 @@ ghost use Prim.Native.Nat.{_≤_};
 ghost use Rattle.cursor.specs.View as cursors;
 ghost use Rattle.lease.specs.State as tables;
 ghost use Rattle.delivery.specs.Config as configs;
-ghost use Rattle.modules.specs.State.{Ready};
+ghost use Rattle.steps.specs.State.{Ready};
 use cursor::AckCursor;
 use delivery::DeliveryConfig;
 use lease::LeaseConfig;
