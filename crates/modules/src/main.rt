@@ -59,17 +59,6 @@ fn step<'a>(
     }
 }
 
-fn digest_of<'a>(state: State, a: &'a [u64], b: &'a [u64], bytes: &'a [u8]) -> u32
-    requires { ⌜ Ready state × (length (now a) ≡ 256) × (length (now b) ≡ 256) × (length (now bytes) ≡ 4096) ⌝ }
-{
-    let n = state.entries;
-    let len = state.len;
-    let cursor = state.cursor;
-    let table = state.table;
-    let config = state.config;
-    digest::digest_of(cursor, table, config, &a[..n], &b[..n], &bytes[..len])
-}
-
 fn put_answer(out: &mut [u8], at: usize, answer: Answer, digest: u32) -> usize {
     if answer.count == 0 {
         return output::put(out, at, b"bad\n");
@@ -105,7 +94,7 @@ fn answer<'a>(
     let done = step(module, place, v, state, a, b, bytes);
     let after = done.state;
     let answer = done.answer;
-    let digest = digest_of(after, a, b, bytes);
+    let digest = steps::digest_of(after, a, b, bytes);
     Turned {
         state: after,
         at: put_answer(out, at, answer, digest),

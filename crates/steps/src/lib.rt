@@ -262,3 +262,15 @@ pub fn delivery(place: usize, v: [u64; 4], state: State, a: &[u64]) -> Done
     let config = done.config;
     state::with_config(state, config, answer)
 }
+
+// The digest of the state, of the list's entries and of the bytes.
+pub fn digest_of<'a>(state: State, a: &'a [u64], b: &'a [u64], bytes: &'a [u8]) -> u32
+    requires { ⌜ Ready state × (length (now a) ≡ 256) × (length (now b) ≡ 256) × (length (now bytes) ≡ 4096) ⌝ }
+{
+    let n = state.entries;
+    let len = state.len;
+    let cursor = state.cursor;
+    let table = state.table;
+    let config = state.config;
+    digest::digest_of(cursor, table, config, &a[..n], &b[..n], &bytes[..len])
+}

@@ -3,8 +3,8 @@ use native.Mathlib.Omega.{arith}
 use mathlib.Core.Path.{sym}
 use lib.Seq.{length-take-le}
 use borrow.Author.Needs.{needs}
-use Rattle.modules.proofs.digest_of.Statement.{statement}
-use Rattle.modules.proofs.digest_of.Tie as tie
+use Rattle.steps.proofs.digest_of.Statement.{statement}
+use Rattle.steps.proofs.digest_of.Tie as tie
 
 slice-aggregate-digest-of : tie.Need-slice-aggregate-digest-of
 slice-aggregate-digest-of c = let s = c .before .before .before .before .before .before .before in sym (length-take-le (s .args .state .entries) (s .args .a .now) (omega (arith, s .pre .0 .entries, s .pre .1)))
