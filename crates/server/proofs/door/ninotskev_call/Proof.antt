@@ -47,15 +47,15 @@ use Rattle.machine.proofs.Machine.Laws as TMachine′
 use Rattle.wire.specs.declared.numbers.Numbers.{Numbers}
 use Rattle.wire.proofs.numbers.Numbers as TNumbers
 use Rattle.wire.proofs.numbers.Numbers.Laws as TNumbers′
-use Rattle.server.specs.declared.door.MachineAnswer.{MachineAnswer}
-use Rattle.server.proofs.door.MachineAnswer as TMachineAnswer
-use Rattle.server.proofs.door.MachineAnswer.Laws as TMachineAnswer′
+use Rattle.turns.specs.declared.MachineAnswer.{MachineAnswer}
+use Rattle.turns.proofs.MachineAnswer as TMachineAnswer
+use Rattle.turns.proofs.MachineAnswer.Laws as TMachineAnswer′
 use Rattle.machine.specs.View.{Sound}
-use Rattle.server.specs.Door.{CallIs}
-use Rattle.server.proofs.door.call as call
-use Rattle.server.proofs.door.call.Symbol as call-def
-use Rattle.server.proofs.door.call.Symbol.{name as #server·door·call}
-use Rattle.server.proofs.door.call.Met as call-thm
+use Rattle.turns.specs.Door.{CallIs}
+use Rattle.turns.proofs.call as call
+use Rattle.turns.proofs.call.Symbol as call-def
+use Rattle.turns.proofs.call.Symbol.{name as #turns·call}
+use Rattle.turns.proofs.call.Met as call-thm
 use Rattle.server.proofs.door.ninotskev_call.Key.{name as #self}
 use Rattle.server.proofs.door.ninotskev_call as f
 use Rattle.server.proofs.door.ninotskev_call.Statement as stated
@@ -162,7 +162,7 @@ module _ {M : Type 1} (𝓤 : URA M) (H : Heap 𝓤) (A : Atoms 𝓤) (W : Given
       owned ! u64 (Is u64) (uint-makes 𝓤 H A W w64) n3 _ (refl, n3-fits) $ fjoin ! $
       owned ! TMachine.the-row (Is TMachine.the-row) ((LL.makes TMachine.the-type TMachine′.the-plain) 𝓤 H A) h1 _ is $ fjoin ! $ done !
 
-  module _ (C : Calls 𝓤 H) (Λ : Loops 𝓤 H) (fm : FmC 𝓤 H (W .laws) C) (known-call : Triple 𝓤 (C #server·door·call) (C-call 𝓤 H A at-mem run)) where
+  module _ (C : Calls 𝓤 H) (Λ : Loops 𝓤 H) (fm : FmC 𝓤 H (W .laws) C) (known-call : Triple 𝓤 (C #turns·call) (C-call 𝓤 H A at-mem run)) where
     walk : ent 𝓤 (onEntry 𝓤 H A f.signature (κ0, (κ1, (κ2, (κ3, tt)))) (q0, (q1, (q2, (q3, tt)))) x vals) (WpFn 𝓤 H C Λ code.function (vptr b1 o1 ∷ vptr b2 o2 ∷ vint w64 n3 ∷ vint w64 n4 ∷ vint w64 n5 ∷ vint w64 n6 ∷ vint w64 n7 ∷ sliceVal (b8, o8) (length xs8) ∷ sliceVal (b9, o9) (length xs9) ∷ []) Post)
     walk =
         qed W ((‵ (flft κ0 q0) ⊛ ‵ (flft κ1 q1) ⊛ ‵ (flft κ2 q2) ⊛ ‵ (flft κ3 q3) ⊛ ‵ ftrue) ∷ ‵ (owns (MutRef (named 0) κ0 TMachine.the-row ∷ MutRef (named 1) κ1 TNumbers.the-row ∷ u64 ∷ u64 ∷ u64 ∷ u64 ∷ u64 ∷ MutSlice (named 2) κ2 u8 ∷ MutSlice (named 3) κ3 u64 ∷ []) x vals) ∷ []) ∵
@@ -202,14 +202,14 @@ module _ {M : Type 1} (𝓤 : URA M) (H : Heap 𝓤) (A : Atoms 𝓤) (W : Given
         keep ! (0 ∷ 1 ∷ 2 ∷ 3 ∷ 4 ∷ 5 ∷ 6 ∷ 9 ∷ 7 ∷ []) $ by ! (exits r (ws .1 .1 .1 .1 .1 .1 .0) (ws .1 .1 .1 .1 .1 .1 .1 .0) len-area len-out e)))))))))))))))))))))))))))
 
 module _ {M : Type 1} (𝓤 : URA M) (H : Heap 𝓤) (A : Atoms 𝓤) (W : Given 𝓤 H A) (at-mem : Memory → SProp 𝓤) (run : Routine → Fun 𝓤) where
-  walks : (C : Calls 𝓤 H) (Λ : Loops 𝓤 H) → FmC 𝓤 H (W .laws) C → Triple 𝓤 (C #server·door·call) (C-call 𝓤 H A at-mem run) → Walks 𝓤 H A f.ended stayed (WpFn 𝓤 H C Λ code.function) (f.clauses 𝓤 H A at-mem run)
+  walks : (C : Calls 𝓤 H) (Λ : Loops 𝓤 H) → FmC 𝓤 H (W .laws) C → Triple 𝓤 (C #turns·call) (C-call 𝓤 H A at-mem run) → Walks 𝓤 H A f.ended stayed (WpFn 𝓤 H C Λ code.function) (f.clauses 𝓤 H A at-mem run)
   walks C Λ fm known-call = walked 𝓤 H A f.ended stayed (f.clauses 𝓤 H A at-mem run) (WpFn 𝓤 H C Λ code.function) (λ κs. (ptr-vals, (ptr-vals, (uint-vals w64, (uint-vals w64, (uint-vals w64, (uint-vals w64, (uint-vals w64, (slice-vals, (slice-vals, tt)))))))))) (λ κs. (mut-tells (named 0) (κs .0) TMachine.the-row, (mut-tells (named 1) (κs .1 .0) TNumbers.the-row, (uint-tells w64, (uint-tells w64, (uint-tells w64, (uint-tells w64, (uint-tells w64, (mut-slice-tells (named 2) (κs .1 .1 .0) u8, (mut-slice-tells (named 3) (κs .1 .1 .1 .0) u64, tt))))))))))
       (λ κs qs bounds a _ are. needs 𝓤 (Sound (a .0 .now)) _ (λ req. walk 𝓤 H A W at-mem run (κs .0) (κs .1 .0) (κs .1 .1 .0) (κs .1 .1 .1 .0) (qs .0) (qs .1 .0) (qs .1 .1 .0) (qs .1 .1 .1 .0) (a .0 .ptr .0) (a .0 .ptr .1) (a .0 .name) (a .0 .now) (a .1 .0 .ptr .0) (a .1 .0 .ptr .1) (a .1 .0 .name) (a .1 .0 .now) (a .1 .1 .0) (a .1 .1 .1 .0) (a .1 .1 .1 .1 .0) (a .1 .1 .1 .1 .1 .0) (a .1 .1 .1 .1 .1 .1 .0) (a .1 .1 .1 .1 .1 .1 .1 .0 .ptr .0) (a .1 .1 .1 .1 .1 .1 .1 .0 .ptr .1) (a .1 .1 .1 .1 .1 .1 .1 .0 .name) (a .1 .1 .1 .1 .1 .1 .1 .0 .now) (a .1 .1 .1 .1 .1 .1 .1 .1 .0 .ptr .0) (a .1 .1 .1 .1 .1 .1 .1 .1 .0 .ptr .1) (a .1 .1 .1 .1 .1 .1 .1 .1 .0 .name) (a .1 .1 .1 .1 .1 .1 .1 .1 .0 .now) (are .1 .1 .0 .1) (are .1 .1 .1 .0 .1) (are .1 .1 .1 .1 .0 .1) (are .1 .1 .1 .1 .1 .0 .1) (are .1 .1 .1 .1 .1 .1 .0 .1) (are .1 .1 .1 .1 .1 .1 .1 .0 .0 .1) (are .1 .1 .1 .1 .1 .1 .1 .1 .0 .0 .1) req C Λ fm known-call))
 
   goes : AllGo 𝓤 H A W 4 (f.signature .params) (f.ended .kept) stayed
   goes = (goes-ref 𝓤 H A W 4 0 tt (plain (λ _. TMachine.the-row)), (goes-ref 𝓤 H A W 4 1 tt (plain (λ _. TNumbers.the-row)), (goes-dropped 𝓤 H A W 4 (plain (λ _. u64)) yes (λ κs x f. refl), (goes-dropped 𝓤 H A W 4 (plain (λ _. u64)) yes (λ κs x f. refl), (goes-dropped 𝓤 H A W 4 (plain (λ _. u64)) yes (λ κs x f. refl), (goes-dropped 𝓤 H A W 4 (plain (λ _. u64)) yes (λ κs x f. refl), (goes-dropped 𝓤 H A W 4 (plain (λ _. u64)) yes (λ κs x f. refl), (goes-gave-slice 𝓤 H A W 4 2 tt (plain (λ _. u8)), (goes-gave-slice 𝓤 H A W 4 3 tt (plain (λ _. u64)), tt)))))))))
 
-meets : {M : Type 1} (𝓤 : URA M) (H : Heap 𝓤) (A : Atoms 𝓤) → Given 𝓤 H A → (at-mem : Memory → SProp 𝓤) (run : Routine → Fun 𝓤) (𝓣 : Tables 𝓤 H) → Triple 𝓤 (𝓣 .C #server·door·call) (C-call 𝓤 H A at-mem run)
+meets : {M : Type 1} (𝓤 : URA M) (H : Heap 𝓤) (A : Atoms 𝓤) → Given 𝓤 H A → (at-mem : Memory → SProp 𝓤) (run : Routine → Fun 𝓤) (𝓣 : Tables 𝓤 H) → Triple 𝓤 (𝓣 .C #turns·call) (C-call 𝓤 H A at-mem run)
     → Meets 𝓤 H A f.signature (WpFn 𝓤 H (𝓣 .C) (𝓣 .Λ) code.function) (f.spec 𝓤 H A at-mem run)
 meets 𝓤 H A W at-mem run 𝓣 known-call = walk-meets 𝓤 H A f.ended stayed W (goes 𝓤 H A W at-mem run) (f.clauses 𝓤 H A at-mem run) (WpFn 𝓤 H (𝓣 .C) (𝓣 .Λ) code.function) (WpFn-mono 𝓤 H (W .laws) 𝓣 code.function)
     (walks 𝓤 H A W at-mem run (𝓣 .C) (𝓣 .Λ) (fmOf 𝓤 H (W .laws) 𝓣) known-call)
@@ -220,4 +220,4 @@ ninotskev-call-spec 𝓤 H 𝓜 𝓖 𝓡 =
     entered 𝓤 H (tripleOf 𝓤 H (𝓖 .A) f.signature (f.spec 𝓤 H (𝓖 .A) (𝓜 .mem) (𝓡 .run)))
     (tables 𝓤 H 𝓜 𝓡 code.env .C) (tables 𝓤 H 𝓜 𝓡 code.env .Λ) #self code.function (code.unfolded 𝓤 H 𝓜 𝓡)
     (meets 𝓤 H (𝓖 .A) (givenOf 𝓤 H 𝓜 𝓖) (𝓜 .mem) (𝓡 .run) (tablesOf 𝓤 H 𝓜 (tables 𝓤 H 𝓜 𝓡 code.env))
-    (cited 𝓤 H (C-call 𝓤 H (𝓖 .A) (𝓜 .mem) (𝓡 .run)) 𝓜 𝓡 code.env #server·door·call call-def.routine code.calls-server·door·call (call-thm.met 𝓤 H 𝓜 𝓖 𝓡)))
+    (cited 𝓤 H (C-call 𝓤 H (𝓖 .A) (𝓜 .mem) (𝓡 .run)) 𝓜 𝓡 code.env #turns·call call-def.routine code.calls-turns·call (call-thm.met 𝓤 H 𝓜 𝓖 𝓡)))

@@ -54,15 +54,15 @@ use Rattle.machine.proofs.Machine.Laws as TMachine′
 use Rattle.wire.specs.declared.numbers.Numbers.{Numbers}
 use Rattle.wire.proofs.numbers.Numbers as TNumbers
 use Rattle.wire.proofs.numbers.Numbers.Laws as TNumbers′
-use Rattle.server.specs.declared.door.ClaimAnswered.{ClaimAnswered}
-use Rattle.server.proofs.door.ClaimAnswered as TR
-use Rattle.server.proofs.door.ClaimAnswered.Laws as TR′
-use Rattle.server.specs.Door.{AskedOn, holding}
-use Rattle.server.proofs.Turned.{asked-on, sound-if}
-use Rattle.server.proofs.door.claim as claim
-use Rattle.server.proofs.door.claim.Symbol as claim-def
-use Rattle.server.proofs.door.claim.Symbol.{name as #server·door·claim}
-use Rattle.server.proofs.door.claim.Met as claim-thm
+use Rattle.turns.specs.declared.ClaimAnswered.{ClaimAnswered}
+use Rattle.turns.proofs.ClaimAnswered as TR
+use Rattle.turns.proofs.ClaimAnswered.Laws as TR′
+use Rattle.turns.specs.Door.{AskedOn, holding}
+use Rattle.turns.proofs.Turned.{asked-on, sound-if}
+use Rattle.turns.proofs.claim as claim
+use Rattle.turns.proofs.claim.Symbol as claim-def
+use Rattle.turns.proofs.claim.Symbol.{name as #turns·claim}
+use Rattle.turns.proofs.claim.Met as claim-thm
 use Rattle.server.proofs.door.ninotskev_claim.Key.{name as #self}
 use Rattle.server.proofs.door.ninotskev_claim as f
 use Rattle.server.proofs.door.ninotskev_claim.Statement as stated
@@ -187,7 +187,7 @@ module _ {M : Type 1} (𝓤 : URA M) (H : Heap 𝓤) (A : Atoms 𝓤) (W : Given
       owned ! TConsumer.the-row (Is TConsumer.the-row) ((LL.makes TConsumer.the-type TConsumer′.the-plain) 𝓤 H A) held _ (is-held was) $ fjoin ! $
       owned ! u64 (Is u64) (uint-makes 𝓤 H A W w64) (h1 .phase) _ (refl, phase-fits was) $ fjoin ! $ done !
 
-  module _ (C : Calls 𝓤 H) (Λ : Loops 𝓤 H) (fm : FmC 𝓤 H (W .laws) C) (known-claim : Triple 𝓤 (C #server·door·claim) (C-claim 𝓤 H A at-mem run)) where
+  module _ (C : Calls 𝓤 H) (Λ : Loops 𝓤 H) (fm : FmC 𝓤 H (W .laws) C) (known-claim : Triple 𝓤 (C #turns·claim) (C-claim 𝓤 H A at-mem run)) where
     walk : ent 𝓤 (onEntry 𝓤 H A f.signature (κ0, (κ1, tt)) (q0, (q1, tt)) x vals) (WpFn 𝓤 H C Λ code.function (vptr b1 o1 ∷ vptr b2 o2 ∷ vint w64 n3 ∷ vint w64 n4 ∷ []) Post)
     walk =
         qed W ((‵ (flft κ0 q0) ⊛ ‵ (flft κ1 q1) ⊛ ‵ ftrue) ∷ ‵ (owns (MutRef (named 0) κ0 TMachine.the-row ∷ MutRef (named 1) κ1 TNumbers.the-row ∷ u64 ∷ u64 ∷ []) x vals) ∷ []) ∵
@@ -224,14 +224,14 @@ module _ {M : Type 1} (𝓤 : URA M) (H : Heap 𝓤) (A : Atoms 𝓤) (W : Given
         keep ! (0 ∷ 1 ∷ 2 ∷ 3 ∷ 4 ∷ 5 ∷ []) $ by ! (exits r e))))))))))))))))
 
 module _ {M : Type 1} (𝓤 : URA M) (H : Heap 𝓤) (A : Atoms 𝓤) (W : Given 𝓤 H A) (at-mem : Memory → SProp 𝓤) (run : Routine → Fun 𝓤) where
-  walks : (C : Calls 𝓤 H) (Λ : Loops 𝓤 H) → FmC 𝓤 H (W .laws) C → Triple 𝓤 (C #server·door·claim) (C-claim 𝓤 H A at-mem run) → Walks 𝓤 H A f.ended stayed (WpFn 𝓤 H C Λ code.function) (f.clauses 𝓤 H A at-mem run)
+  walks : (C : Calls 𝓤 H) (Λ : Loops 𝓤 H) → FmC 𝓤 H (W .laws) C → Triple 𝓤 (C #turns·claim) (C-claim 𝓤 H A at-mem run) → Walks 𝓤 H A f.ended stayed (WpFn 𝓤 H C Λ code.function) (f.clauses 𝓤 H A at-mem run)
   walks C Λ fm known-claim = walked 𝓤 H A f.ended stayed (f.clauses 𝓤 H A at-mem run) (WpFn 𝓤 H C Λ code.function) (λ κs. (ptr-vals, (ptr-vals, (uint-vals w64, (uint-vals w64, tt))))) (λ κs. (mut-tells (named 0) (κs .0) TMachine.the-row, (mut-tells (named 1) (κs .1 .0) TNumbers.the-row, (uint-tells w64, (uint-tells w64, tt)))))
       (λ κs qs bounds a _ are. needs 𝓤 (Sound (a .0 .now)) _ (λ req. walk 𝓤 H A W at-mem run (κs .0) (κs .1 .0) (qs .0) (qs .1 .0) (a .0 .ptr .0) (a .0 .ptr .1) (a .0 .name) (a .0 .now) (a .1 .0 .ptr .0) (a .1 .0 .ptr .1) (a .1 .0 .name) (a .1 .0 .now) (a .1 .1 .0) (a .1 .1 .1 .0) (are .1 .1 .0 .1) (are .1 .1 .1 .0 .1) req C Λ fm known-claim))
 
   goes : AllGo 𝓤 H A W 2 (f.signature .params) (f.ended .kept) stayed
   goes = (goes-ref 𝓤 H A W 2 0 tt (plain (λ _. TMachine.the-row)), (goes-ref 𝓤 H A W 2 1 tt (plain (λ _. TNumbers.the-row)), (goes-dropped 𝓤 H A W 2 (plain (λ _. u64)) yes (λ κs x f. refl), (goes-dropped 𝓤 H A W 2 (plain (λ _. u64)) yes (λ κs x f. refl), tt))))
 
-meets : {M : Type 1} (𝓤 : URA M) (H : Heap 𝓤) (A : Atoms 𝓤) → Given 𝓤 H A → (at-mem : Memory → SProp 𝓤) (run : Routine → Fun 𝓤) (𝓣 : Tables 𝓤 H) → Triple 𝓤 (𝓣 .C #server·door·claim) (C-claim 𝓤 H A at-mem run)
+meets : {M : Type 1} (𝓤 : URA M) (H : Heap 𝓤) (A : Atoms 𝓤) → Given 𝓤 H A → (at-mem : Memory → SProp 𝓤) (run : Routine → Fun 𝓤) (𝓣 : Tables 𝓤 H) → Triple 𝓤 (𝓣 .C #turns·claim) (C-claim 𝓤 H A at-mem run)
     → Meets 𝓤 H A f.signature (WpFn 𝓤 H (𝓣 .C) (𝓣 .Λ) code.function) (f.spec 𝓤 H A at-mem run)
 meets 𝓤 H A W at-mem run 𝓣 known-claim = walk-meets 𝓤 H A f.ended stayed W (goes 𝓤 H A W at-mem run) (f.clauses 𝓤 H A at-mem run) (WpFn 𝓤 H (𝓣 .C) (𝓣 .Λ) code.function) (WpFn-mono 𝓤 H (W .laws) 𝓣 code.function)
     (walks 𝓤 H A W at-mem run (𝓣 .C) (𝓣 .Λ) (fmOf 𝓤 H (W .laws) 𝓣) known-claim)
@@ -242,4 +242,4 @@ ninotskev-claim-spec 𝓤 H 𝓜 𝓖 𝓡 =
     entered 𝓤 H (tripleOf 𝓤 H (𝓖 .A) f.signature (f.spec 𝓤 H (𝓖 .A) (𝓜 .mem) (𝓡 .run)))
     (tables 𝓤 H 𝓜 𝓡 code.env .C) (tables 𝓤 H 𝓜 𝓡 code.env .Λ) #self code.function (code.unfolded 𝓤 H 𝓜 𝓡)
     (meets 𝓤 H (𝓖 .A) (givenOf 𝓤 H 𝓜 𝓖) (𝓜 .mem) (𝓡 .run) (tablesOf 𝓤 H 𝓜 (tables 𝓤 H 𝓜 𝓡 code.env))
-    (cited 𝓤 H (C-claim 𝓤 H (𝓖 .A) (𝓜 .mem) (𝓡 .run)) 𝓜 𝓡 code.env #server·door·claim claim-def.routine code.calls-server·door·claim (claim-thm.met 𝓤 H 𝓜 𝓖 𝓡)))
+    (cited 𝓤 H (C-claim 𝓤 H (𝓖 .A) (𝓜 .mem) (𝓡 .run)) 𝓜 𝓡 code.env #turns·claim claim-def.routine code.calls-turns·claim (claim-thm.met 𝓤 H 𝓜 𝓖 𝓡)))

@@ -47,14 +47,14 @@ use Rattle.wire.proofs.numbers.Numbers.Laws as TNumbers′
 use Rattle.consumer.specs.declared.Settings.{Settings}
 use Rattle.consumer.proofs.Settings as TSettings
 use Rattle.consumer.proofs.Settings.Laws as TSettings′
-use Rattle.server.specs.declared.door.MachineAnswer.{MachineAnswer}
-use Rattle.server.proofs.door.MachineAnswer as TMachineAnswer
-use Rattle.server.proofs.door.MachineAnswer.Laws as TMachineAnswer′
-use Rattle.server.specs.Door.{StartIs}
-use Rattle.server.proofs.door.start as start
-use Rattle.server.proofs.door.start.Symbol as start-def
-use Rattle.server.proofs.door.start.Symbol.{name as #server·door·start}
-use Rattle.server.proofs.door.start.Met as start-thm
+use Rattle.turns.specs.declared.MachineAnswer.{MachineAnswer}
+use Rattle.turns.proofs.MachineAnswer as TMachineAnswer
+use Rattle.turns.proofs.MachineAnswer.Laws as TMachineAnswer′
+use Rattle.turns.specs.Door.{StartIs}
+use Rattle.turns.proofs.start as start
+use Rattle.turns.proofs.start.Symbol as start-def
+use Rattle.turns.proofs.start.Symbol.{name as #turns·start}
+use Rattle.turns.proofs.start.Met as start-thm
 use Rattle.server.proofs.door.ninotskev_start.Key.{name as #self}
 use Rattle.server.proofs.door.ninotskev_start as f
 use Rattle.server.proofs.door.ninotskev_start.Statement as stated
@@ -135,7 +135,7 @@ module _ {M : Type 1} (𝓤 : URA M) (H : Heap 𝓤) (A : Atoms 𝓤) (W : Given
       owned ! TMachine.the-row (Is TMachine.the-row) ((LL.makes TMachine.the-type TMachine′.the-plain) 𝓤 H A) h1 _ was $ fjoin ! $
       nothing ! $ join ! $ nothing ! $ move ! (1 ∷ 0 ∷ []) $ done !
 
-  module _ (C : Calls 𝓤 H) (Λ : Loops 𝓤 H) (fm : FmC 𝓤 H (W .laws) C) (known-start : Triple 𝓤 (C #server·door·start) (C-start 𝓤 H A at-mem run)) where
+  module _ (C : Calls 𝓤 H) (Λ : Loops 𝓤 H) (fm : FmC 𝓤 H (W .laws) C) (known-start : Triple 𝓤 (C #turns·start) (C-start 𝓤 H A at-mem run)) where
     walk : ent 𝓤 (onEntry 𝓤 H A f.signature (κ0, (κ1, (κ2, tt))) (q0, (q1, (q2, tt))) x vals) (WpFn 𝓤 H C Λ code.function (vptr b1 o1 ∷ vptr b2 o2 ∷ vptr b3 o3 ∷ vint w64 n4 ∷ []) Post)
     walk =
         qed W ((‵ (flft κ0 q0) ⊛ ‵ (flft κ1 q1) ⊛ ‵ (flft κ2 q2) ⊛ ‵ ftrue) ∷ ‵ (owns (MutRef (named 0) κ0 TMachine.the-row ∷ MutRef (named 1) κ1 TNumbers.the-row ∷ ShrRef (named 2) κ2 TSettings.the-row ∷ u64 ∷ []) x vals) ∷ []) ∵
@@ -172,14 +172,14 @@ module _ {M : Type 1} (𝓤 : URA M) (H : Heap 𝓤) (A : Atoms 𝓤) (W : Given
         keep ! (0 ∷ 1 ∷ 2 ∷ 3 ∷ 4 ∷ 5 ∷ 6 ∷ []) $ by ! (exits r e))))))))))))))))))
 
 module _ {M : Type 1} (𝓤 : URA M) (H : Heap 𝓤) (A : Atoms 𝓤) (W : Given 𝓤 H A) (at-mem : Memory → SProp 𝓤) (run : Routine → Fun 𝓤) where
-  walks : (C : Calls 𝓤 H) (Λ : Loops 𝓤 H) → FmC 𝓤 H (W .laws) C → Triple 𝓤 (C #server·door·start) (C-start 𝓤 H A at-mem run) → Walks 𝓤 H A f.ended stayed (WpFn 𝓤 H C Λ code.function) (f.clauses 𝓤 H A at-mem run)
+  walks : (C : Calls 𝓤 H) (Λ : Loops 𝓤 H) → FmC 𝓤 H (W .laws) C → Triple 𝓤 (C #turns·start) (C-start 𝓤 H A at-mem run) → Walks 𝓤 H A f.ended stayed (WpFn 𝓤 H C Λ code.function) (f.clauses 𝓤 H A at-mem run)
   walks C Λ fm known-start = walked 𝓤 H A f.ended stayed (f.clauses 𝓤 H A at-mem run) (WpFn 𝓤 H C Λ code.function) (λ κs. (ptr-vals, (ptr-vals, (ptr-vals, (uint-vals w64, tt))))) (λ κs. (mut-tells (named 0) (κs .0) TMachine.the-row, (mut-tells (named 1) (κs .1 .0) TNumbers.the-row, (shr-tells (named 2) (κs .1 .1 .0) TSettings.the-row, (uint-tells w64, tt)))))
       (λ κs qs bounds a _ are. via 𝓤 _ (fst∗ 𝓤 _ (emp 𝓤)) (walk 𝓤 H A W at-mem run (κs .0) (κs .1 .0) (κs .1 .1 .0) (qs .0) (qs .1 .0) (qs .1 .1 .0) (a .0 .ptr .0) (a .0 .ptr .1) (a .0 .name) (a .0 .now) (a .1 .0 .ptr .0) (a .1 .0 .ptr .1) (a .1 .0 .name) (a .1 .0 .now) (a .1 .1 .0 .ptr .0) (a .1 .1 .0 .ptr .1) (a .1 .1 .0 .name) (a .1 .1 .0 .now) (a .1 .1 .1 .0) (are .1 .1 .1 .0 .1) C Λ fm known-start))
 
   goes : AllGo 𝓤 H A W 3 (f.signature .params) (f.ended .kept) stayed
   goes = (goes-ref 𝓤 H A W 3 0 tt (plain (λ _. TMachine.the-row)), (goes-ref 𝓤 H A W 3 1 tt (plain (λ _. TNumbers.the-row)), (goes-dropped 𝓤 H A W 3 (shrRef 2 tt (λ _. TSettings.the-row)) yes (λ κs x f. refl), (goes-dropped 𝓤 H A W 3 (plain (λ _. u64)) yes (λ κs x f. refl), tt))))
 
-meets : {M : Type 1} (𝓤 : URA M) (H : Heap 𝓤) (A : Atoms 𝓤) → Given 𝓤 H A → (at-mem : Memory → SProp 𝓤) (run : Routine → Fun 𝓤) (𝓣 : Tables 𝓤 H) → Triple 𝓤 (𝓣 .C #server·door·start) (C-start 𝓤 H A at-mem run)
+meets : {M : Type 1} (𝓤 : URA M) (H : Heap 𝓤) (A : Atoms 𝓤) → Given 𝓤 H A → (at-mem : Memory → SProp 𝓤) (run : Routine → Fun 𝓤) (𝓣 : Tables 𝓤 H) → Triple 𝓤 (𝓣 .C #turns·start) (C-start 𝓤 H A at-mem run)
     → Meets 𝓤 H A f.signature (WpFn 𝓤 H (𝓣 .C) (𝓣 .Λ) code.function) (f.spec 𝓤 H A at-mem run)
 meets 𝓤 H A W at-mem run 𝓣 known-start = walk-meets 𝓤 H A f.ended stayed W (goes 𝓤 H A W at-mem run) (f.clauses 𝓤 H A at-mem run) (WpFn 𝓤 H (𝓣 .C) (𝓣 .Λ) code.function) (WpFn-mono 𝓤 H (W .laws) 𝓣 code.function)
     (walks 𝓤 H A W at-mem run (𝓣 .C) (𝓣 .Λ) (fmOf 𝓤 H (W .laws) 𝓣) known-start)
@@ -190,4 +190,4 @@ ninotskev-start-spec 𝓤 H 𝓜 𝓖 𝓡 =
     entered 𝓤 H (tripleOf 𝓤 H (𝓖 .A) f.signature (f.spec 𝓤 H (𝓖 .A) (𝓜 .mem) (𝓡 .run)))
     (tables 𝓤 H 𝓜 𝓡 code.env .C) (tables 𝓤 H 𝓜 𝓡 code.env .Λ) #self code.function (code.unfolded 𝓤 H 𝓜 𝓡)
     (meets 𝓤 H (𝓖 .A) (givenOf 𝓤 H 𝓜 𝓖) (𝓜 .mem) (𝓡 .run) (tablesOf 𝓤 H 𝓜 (tables 𝓤 H 𝓜 𝓡 code.env))
-    (cited 𝓤 H (C-start 𝓤 H (𝓖 .A) (𝓜 .mem) (𝓡 .run)) 𝓜 𝓡 code.env #server·door·start start-def.routine code.calls-server·door·start (start-thm.met 𝓤 H 𝓜 𝓖 𝓡)))
+    (cited 𝓤 H (C-start 𝓤 H (𝓖 .A) (𝓜 .mem) (𝓡 .run)) 𝓜 𝓡 code.env #turns·start start-def.routine code.calls-turns·start (start-thm.met 𝓤 H 𝓜 𝓖 𝓡)))

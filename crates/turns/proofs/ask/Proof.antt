@@ -2,9 +2,9 @@
 use native.Mathlib.Omega.{arith}
 use mathlib.Core.Path.{_≡_}
 use borrow.Author.Needs.{needs}
-use Rattle.server.proofs.Turned.{not-idle, idle-sound, idle-asked}
-use Rattle.server.proofs.door.ask.Statement.{statement}
-use Rattle.server.proofs.door.ask.Tie as tie
+use Rattle.turns.proofs.Turned.{not-idle, idle-sound, idle-asked}
+use Rattle.turns.proofs.ask.Statement.{statement}
+use Rattle.turns.proofs.ask.Tie as tie
 
 elsewhere : (c : tie.Then1) → c .before .before .args .phase ≡ 0 → ⊥
 elsewhere c e = omega arith

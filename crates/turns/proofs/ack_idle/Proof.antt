@@ -1,8 +1,8 @@
 -- `ack_idle` meets its contract: what the consumer answers, in numbers. Assumes nothing.
 use borrow.Author.Needs.{needs}
-use Rattle.server.proofs.Turned.{ack-told}
-use Rattle.server.proofs.door.ack_idle.Statement.{statement}
-use Rattle.server.proofs.door.ack_idle.Tie as tie
+use Rattle.turns.proofs.Turned.{ack-told}
+use Rattle.turns.proofs.ack_idle.Statement.{statement}
+use Rattle.turns.proofs.ack_idle.Tie as tie
 
 settle-requires : tie.Need-settle-requires
 settle-requires c κs = search needs

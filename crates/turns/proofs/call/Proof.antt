@@ -3,9 +3,9 @@ use mathlib.Core.Path.{sym, ap, _∙_}
 use lib.ListN.{length}
 use borrow.Author.Needs.{needs}
 use Rattle.wire.specs.Numbers.{callingOf}
-use Rattle.server.proofs.Turned.{call-none, call-some}
-use Rattle.server.proofs.door.call.Statement.{statement}
-use Rattle.server.proofs.door.call.Tie as tie
+use Rattle.turns.proofs.Turned.{call-none, call-some}
+use Rattle.turns.proofs.call.Statement.{statement}
+use Rattle.turns.proofs.call.Tie as tie
 
 call-of-requires : tie.Need-call-of-requires
 call-of-requires c κs = search needs

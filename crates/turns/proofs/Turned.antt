@@ -41,7 +41,7 @@ use Rattle.machine.specs.declared.calls.CallAnswer.{CallAnswer}
 use Rattle.machine.specs.declared.calls.CallAnswer.the-variants as callAnswers
 use Rattle.wire.specs.Numbers.{askAt, callAt, numbersOf, notNow, noValues, handOutValues, seenNumbers, numbersIn}
 use Rattle.wire.proofs.Starts.{start-numbers}
-use Rattle.server.specs.Door.{onAsk, onCall, phaseIn, areaIn, answered, answeredBy, KeptBy, KeptIn, askTurn, AnswersAsk, Declined, SoundIf, AskedOn, holding, AskIs, CallIs, StartIs}
+use Rattle.turns.specs.Door.{onAsk, onCall, phaseIn, areaIn, answered, answeredBy, KeptBy, KeptIn, askTurn, AnswersAsk, Declined, SoundIf, AskedOn, holding, AskIs, CallIs, StartIs}
 use Rattle.wire.specs.declared.numbers.Numbers.{Numbers}
 
 -- ## parts

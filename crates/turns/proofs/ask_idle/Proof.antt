@@ -3,9 +3,9 @@ use mathlib.Core.Path.{sym, ap, _∙_}
 use lib.ListN.{length}
 use borrow.Author.Needs.{needs}
 use Rattle.wire.specs.Numbers.{askingOf}
-use Rattle.server.proofs.Turned.{ask-none, ask-some}
-use Rattle.server.proofs.door.ask_idle.Statement.{statement}
-use Rattle.server.proofs.door.ask_idle.Tie as tie
+use Rattle.turns.proofs.Turned.{ask-none, ask-some}
+use Rattle.turns.proofs.ask_idle.Statement.{statement}
+use Rattle.turns.proofs.ask_idle.Tie as tie
 
 ask-of-requires : tie.Need-ask-of-requires
 ask-of-requires c κs = search needs

@@ -1,8 +1,8 @@
 -- `start` meets its contract: a fresh machine, or the one that was handed in beside a refusal. Assumes nothing.
 use borrow.Author.Needs.{needs}
-use Rattle.server.proofs.Turned.{start-refused, start-done}
-use Rattle.server.proofs.door.start.Statement.{statement}
-use Rattle.server.proofs.door.start.Tie as tie
+use Rattle.turns.proofs.Turned.{start-refused, start-done}
+use Rattle.turns.proofs.start.Statement.{statement}
+use Rattle.turns.proofs.start.Tie as tie
 
 start-requires : tie.Need-start-requires
 start-requires c κs = search needs

@@ -1,8 +1,8 @@
 -- `claim_idle` meets its contract: what the consumer answers, in numbers. Assumes nothing.
 use borrow.Author.Needs.{needs}
-use Rattle.server.proofs.Turned.{claim-told}
-use Rattle.server.proofs.door.claim_idle.Statement.{statement}
-use Rattle.server.proofs.door.claim_idle.Tie as tie
+use Rattle.turns.proofs.Turned.{claim-told}
+use Rattle.turns.proofs.claim_idle.Statement.{statement}
+use Rattle.turns.proofs.claim_idle.Tie as tie
 
 grant-requires : tie.Need-grant-requires
 grant-requires c κs = search needs

@@ -3,9 +3,9 @@ use native.Mathlib.Omega.{arith}
 use mathlib.Core.Path.{_≡_}
 use borrow.Author.Needs.{needs}
 use Rattle.consumer.specs.View as consumers
-use Rattle.server.proofs.Turned.{not-idle, idle-sound, idle-asked}
-use Rattle.server.proofs.door.claim.Statement.{statement}
-use Rattle.server.proofs.door.claim.Tie as tie
+use Rattle.turns.proofs.Turned.{not-idle, idle-sound, idle-asked}
+use Rattle.turns.proofs.claim.Statement.{statement}
+use Rattle.turns.proofs.claim.Tie as tie
 
 elsewhere : (c : tie.Then1) → c .before .args .phase ≡ 0 → ⊥
 elsewhere c e = omega arith
