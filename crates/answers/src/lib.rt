@@ -6,7 +6,6 @@ ghost use Rattle.cursor.specs.Answers.{rangesError, snapshotError};
 ghost use Rattle.attempt.specs.Codec.{decodeOf};
 ghost use Rattle.consumer.specs.View.{claimOf, settleOf, nackOf, progressOf, commitOf};
 ghost use Rattle.consumer.specs.Writing.{stepOf};
-ghost use Rattle.consumer.specs.Starting.{startFault};
 ghost use Rattle.answers.specs.Told.{with, toldOf, refusalIn, beginRefusal, faultIn};
 use attempt::Decode;
 use consumer::calls::ClaimAnswer;

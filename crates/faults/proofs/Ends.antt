@@ -3,9 +3,9 @@
 use Prim.Native.Nat.{ℕ, zero, suc, _+_, _-_, _≤_, _<_}
 use native.Mathlib.Omega.{arith}
 use mathlib.Core.Path.{_≡_, refl, ap}
-use mathlib.Core.Bool.{true, false}
+use mathlib.Core.Bool.{false}
 use mathlib.Core.List.{List}
-use mathlib.Core.Option.{Option, none, some}
+use mathlib.Core.Option.{Option, none}
 use borrow.Author.Tests.{lt-ltb, le-ltb, ne-eqb}
 use Rattle.types.specs.Limits.{MAX}
 use Rattle.types.specs.Refusal.{Result, refused, done}
@@ -16,7 +16,6 @@ use Rattle.journal.specs.Walks.{Stop, stop, walkFrom, walk}
 use Rattle.journal.proofs.Sound.{formed-counted, says-header}
 use Rattle.journal.proofs.Walks.{Group, walk-ind, walk-ended}
 use Rattle.faults.specs.Places.{placeAt}
-use Rattle.faults.specs.declared.places.Place.{Place}
 use Rattle.faults.specs.declared.places.Place.the-variants as places
 
 -- what a walk that stopped says

@@ -3,9 +3,8 @@ use Prim.Native.Nat.{ℕ, _+_, _-_, _≤_, _<_, min}
 use native.Mathlib.Omega.{arith}
 use native.Mathlib.Decide.{decLe}
 use mathlib.Core.Path.{_≡_, refl, sym, _∙_, ap}
-use mathlib.Core.Bool.{Bool, true, false, not}
+use mathlib.Core.Bool.{true, false}
 use mathlib.Core.List.{List, [], _∷_, _++_}
-use lib.Dec.{leb, ltb, eqb}
 use lib.ListN.{length, take, drop}
 use borrow.Author.Tests.{eq-eqb, ne-eqb, lt-ltb, le-ltb, le-leb, lt-leb}
 use Rattle.crc.specs.Seal.{isSealed}
@@ -15,7 +14,6 @@ use Rattle.journal.specs.Sound.{allZero, zerosAt}
 use Rattle.journal.specs.declared.Header.{Header}
 use Rattle.faults.specs.declared.Fault.{Fault}
 use Rattle.faults.specs.declared.Fault.the-variants.{Length, Kind, Check, Number, Zeros, CursorLength, AttemptLength, Count, Fit, Index, Used}
-use Rattle.faults.specs.declared.Verdict.{Verdict}
 use Rattle.faults.specs.declared.Verdict.the-variants.{Sound, Unsound}
 use Rattle.faults.proofs.Verdicts.{passed, passes, no-fault}
 use Rattle.types.proofs.Cases.{split}

@@ -1,22 +1,21 @@
 -- A block is sound by its verdict where `journal` has it sound, as a header and as a body: what is shown as sound is what a walk
 -- takes for sound. Assumes nothing.
-use Prim.Native.Nat.{ℕ, _+_, _-_, _≤_}
-use native.Mathlib.Omega.{arith}
+use Prim.Native.Nat.{ℕ, _+_, _-_}
 use mathlib.Core.Path.{_≡_, refl, sym, _∙_, ap}
-use mathlib.Core.Bool.{Bool, true, false, not, cond, true≢false}
+use mathlib.Core.Bool.{Bool, true, false, not, true≢false}
 use mathlib.Core.List.{List, [], _∷_, _++_}
-use lib.Dec.{leb, ltb, eqb}
+use lib.Dec.{eqb}
 use lib.ListN.{length}
 use borrow.Author.Tests.{eqb-true, ltb-false, leb-true, eq-eqb, le-ltb, le-leb, not-false}
 use Rattle.types.proofs.Cases.{split}
 use Rattle.crc.specs.Seal.{isSealed}
 use Rattle.journal.specs.Blocks.{bodiesFor, kindOf, groupOf, bodyCount, cursorLength, attemptLength, payloadLength, indexOf, usedOf}
-use Rattle.journal.specs.Sound.{zerosAt, isKind, soundHeader, soundBody}
-use Rattle.journal.proofs.Sound.{Header, Body, Formed, Lengths, Kind, kind-says, says-kind, header-says, says-header, body-says, says-body}
+use Rattle.journal.specs.Sound.{zerosAt, soundHeader, soundBody}
+use Rattle.journal.proofs.Sound.{Header, Body, kind-says, says-kind, header-says, says-header, body-says, says-body}
 use Rattle.faults.specs.declared.Fault.{Fault}
 use Rattle.faults.specs.declared.Verdict.{Verdict}
 use Rattle.faults.specs.declared.Verdict.the-variants.{Sound, Unsound}
-use Rattle.faults.specs.Verdicts.{Row, verdict, isSound, openingTable, sizesTable, headerRestTable, bodyRestTable, openingVerdict, headerVerdict, bodyVerdict}
+use Rattle.faults.specs.Verdicts.{Row, verdict, isSound, openingTable, headerRestTable, bodyRestTable, openingVerdict, headerVerdict, bodyVerdict}
 
 -- a fault is no soundness
 pub no-fault : {f : Fault} → Unsound f ≡ Sound → ⊥

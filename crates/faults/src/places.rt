@@ -1,7 +1,6 @@
 // What is expected at each block, from block 0 on: the header of group 1, behind a sound header its bodies, behind these the
 // header of the next group. Behind a block that is no sound header where one is expected, nothing is: the groups end there.
 ghost use mathlib.Core.Path.{_≡_};
-ghost use lib.ListN.{length};
 ghost use Rattle.journal.specs.Blocks.{usedIn};
 ghost use Rattle.faults.specs.Places.{first as firstPlace, judged, behindBody, behindHeader, placeAfter};
 use crate::Seen;

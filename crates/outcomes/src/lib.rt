@@ -8,7 +8,7 @@ ghost use Rattle.cursor.specs.Answers as cursors;
 ghost use Rattle.attempt.specs.Codec.{encodeOf, decodeOf};
 ghost use Rattle.lease.specs.Answers.{claimOf, ackOf, extendOf, nackOf, resumeOf, attemptsOf};
 ghost use Rattle.delivery.specs.Config as configs;
-ghost use Rattle.answers.specs.Told.{toldOf, refusalIn};
+ghost use Rattle.answers.specs.Told.{toldOf};
 ghost use Rattle.outcomes.specs.Said.{answerOf, said, numbers, says, faulty, nothing, one, flag, option, grant, destination};
 use answers::Told;
 use attempt::Encode;

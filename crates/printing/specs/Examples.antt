@@ -4,7 +4,7 @@ use mathlib.Core.Path.{_≡_, refl}
 use mathlib.Core.List.{List, [], _∷_, _++_}
 use Rattle.types.specs.Refusal.{refused, done, EmptyRange}
 use Rattle.text.specs.Output as output
-use Rattle.text.specs.Output.{ascii, decimal}
+use Rattle.text.specs.Output.{ascii}
 use Rattle.delivery.specs.Policy.{DeadLetter}
 use Rattle.cursor.specs.Ranges.{range}
 use Rattle.shown.specs.Shown.{rangesText}

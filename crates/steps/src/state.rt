@@ -1,5 +1,4 @@
 // What a list of operations works on, beside the two lent columns of the list and the lent bytes.
-ghost use mathlib.Core.Path.{_≡_};
 ghost use Prim.Native.Nat.{_≤_};
 ghost use Rattle.cursor.specs.View as cursors;
 ghost use Rattle.lease.specs.State as tables;

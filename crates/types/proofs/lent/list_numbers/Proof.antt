@@ -1,11 +1,11 @@
 -- `list_numbers` meets its contract. The loop's invariant: the first i numbers are written, the places behind the list are as they
 -- were. Assumes nothing.
-use Prim.Native.Nat.{_-_, _≤_, min}
+use Prim.Native.Nat.{_-_, _≤_}
 use native.Mathlib.Omega.{arith}
-use mathlib.Core.Path.{_≡_, refl, _∙_}
-use lib.ListN.{length, take}
+use mathlib.Core.Path.{_≡_}
+use lib.ListN.{length}
 use borrow.Author.Needs.{needs}
-use Rattle.types.specs.Lists.{roomFor, counted, listedOf}
+use Rattle.types.specs.Lists.{listedOf}
 use Rattle.types.proofs.Listing.{Written, none-written, one-more, numbers-fit, numbers-written}
 use Rattle.types.proofs.lent.list_numbers.Statement.{statement}
 use Rattle.types.proofs.lent.list_numbers.Tie as tie
