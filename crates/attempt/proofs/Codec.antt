@@ -3,7 +3,7 @@
 use Prim.Native.Nat.{ℕ, _+_, _*_, _≤_}
 use native.Mathlib.Omega.{arith}
 use mathlib.Core.Path.{_≡_, refl, ap, _∙_}
-use mathlib.Core.List.{List, [], _∷_}
+use mathlib.Core.List.{List}
 use lib.ListN.{length, take, drop, length-map}
 use lib.Seq.{take-at}
 use Rattle.types.specs.Limits.{PAIRS}
@@ -20,16 +20,6 @@ use Rattle.attempt.specs.declared.Decoded.{Decoded}
 use Rattle.attempt.proofs.Snapshot.{decoded-few, fill-room}
 use Rattle.attempt.proofs.Writing.{count-entries, whole}
 use Rattle.attempt.proofs.Reading.{length-blank}
-
--- pairs with the same entries are the same
-pub entries-same : (ps qs : List Pair) → entriesOf ps ≡ entriesOf qs → ps ≡ qs
-entries-same [] [] e = refl
-entries-same [] (q ∷ qs) e = absurd (omega (arith, ap length e))
-entries-same (p ∷ ps) [] e = absurd (omega (arith, ap length e))
-entries-same (p ∷ ps) (q ∷ qs) e =
-    let tail : entriesOf ps ≡ entriesOf qs = cc in
-    let head : entryOf p ≡ entryOf q = cc in
-    λ i. record { offset = head i .key; attempt = head i .value } ∷ entries-same ps qs tail i
 
 -- with room for it the whole snapshot was written
 pub encoded : (pairs : List Pair) (n at : ℕ) (bs after : List ℕ) (o : Result ℕ) → answer o after ≡ encodeFirst n pairs at bs

@@ -57,11 +57,6 @@ touches-above o lo (r ∷ rs) a h =
     rw (ne-eqb (r .end) o (λ z. omega arith), ne-eqb (r .start) (o + 1) (λ z. omega arith))
     (touches-above o (r .end) rs (a .3) (omega arith))
 
--- the bound may be lower
-pub above-weaken : (lo hi : ℕ) (l : List Range) → lo ≤ hi → Above hi l → Above lo l
-above-weaken lo hi [] h a = tt
-above-weaken lo hi (r ∷ rs) h a = (omega arith, a .1, a .2, a .3)
-
 joined-in : (s e o lo : ℕ) (l : List Range) → s ≤ e → Above lo l → inside o (joined s e l) ≡ (within s e o || inside o l)
 joined-in s e o lo [] h a = refl
 joined-in s e o lo (r ∷ rs) h a =

@@ -1,6 +1,6 @@
 -- What is read in the columns of a cursor: the sum over the ranges; and the search for an offset, where the place that the
 -- starts give, the end before it and the start at it tell where the offset stands. Assumes nothing.
-use Prim.Native.Nat.{ℕ, _+_, _-_, _≤_, _<_, max}
+use Prim.Native.Nat.{ℕ, suc, _+_, _-_, _≤_, _<_, max}
 use native.Mathlib.Omega.{arith}
 use mathlib.Core.Path.{_≡_, sym, _∙_}
 use mathlib.Core.Bool.{Bool, true, false, _&&_}
@@ -10,8 +10,8 @@ use lib.ListN.{length, take, drop, getD}
 use lib.Seq.{length-take-le}
 use Rattle.types.specs.Limits.{MAX}
 use Rattle.types.specs.Zipped.{removed}
-use Rattle.types.specs.Search.{Sorted, upTo}
-use Rattle.types.proofs.Search.{upTo-most}
+use Rattle.types.specs.Sorted.{Ascending, upTo}
+use Rattle.types.proofs.Sorted.{below-le}
 use Rattle.cursor.specs.Ranges.{Above, offsets}
 use Rattle.cursor.specs.Cursor.{settled, committedTo}
 use Rattle.cursor.specs.View.{ackCursor, view, Whole}
@@ -35,7 +35,7 @@ module _ (g : AckCursor) (w : Whole g) where
   pub runs-is : length (view g .ahead) ≡ g .runs
   runs-is = count (g .runs) (g .starts) (g .ends) long-starts long-ends
 
-  pub starts-rise : Sorted 0 (take (g .runs) (g .starts))
+  pub starts-rise : Ascending 0 (take (g .runs) (g .starts))
   starts-rise = starts-sorted (g .runs) (g .starts) (g .ends) long-starts long-ends (g .committed) above
 
   -- the sum over the ranges, one range on
@@ -56,7 +56,7 @@ module _ (g : AckCursor) (w : Whole g) where
 
   module _ (x i : ℕ) (p : i ≡ upTo x (take (g .runs) (g .starts))) where
     pub place-within : i ≤ g .runs
-    place-within = omega (arith, upTo-most x (take (g .runs) (g .starts)), length-take-le (g .runs) (g .starts) long-starts)
+    place-within = omega (arith, below-le (suc x) (take (g .runs) (g .starts)), length-take-le (g .runs) (g .starts) long-starts)
 
     placed-there : i ≡ place x (view g .ahead)
     placed-there = p ∙ sym (place-is (g .runs) (g .starts) (g .ends) long-starts long-ends x)

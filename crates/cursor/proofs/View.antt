@@ -12,8 +12,9 @@ use lib.ListN.{length, take, drop, getD, set, drop-of-length-le}
 use lib.Seq.{drop-cons, length-take-le, getD-take, take-set-lt}
 use borrow.Author.Tests.{ltb-true}
 use Rattle.types.specs.Zipped.{zipped, inserted, removed}
-use Rattle.types.specs.Search.{Sorted, upTo}
+use Rattle.types.specs.Sorted.{Ascending, upTo}
 use Rattle.types.proofs.Cases.{split}
+use Rattle.types.proofs.Sorted.{up-to-next}
 use Rattle.types.proofs.Zipped.{zipped-length, zipped-getD, zipped-set-left, zipped-set-right, zipped-inserted, zipped-removed}
 use Rattle.cursor.specs.Ranges.{range, Above}
 use Rattle.cursor.specs.Cursor.{cursor}
@@ -25,12 +26,12 @@ use Rattle.cursor.proofs.Place.{place, endBefore, nextAt}
 place-zipped : (o : ℕ) (s e : List ℕ) → length s ≡ length e → place o (zipped range s e) ≡ upTo o s
 place-zipped o [] e h = refl
 place-zipped o (x ∷ s) [] h = absurd (omega arith)
-place-zipped o (x ∷ s) (y ∷ e) h = rw (place-zipped o s e (suc-inj h))
+place-zipped o (x ∷ s) (y ∷ e) h = rw (up-to-next x o, place-zipped o s e (suc-inj h))
 
-sorted-zipped : (lo n : ℕ) (s e : List ℕ) → length s ≡ length e → Above n (zipped range s e) → lo ≤ n → Sorted lo s
-sorted-zipped lo n [] e h a k = tt
-sorted-zipped lo n (x ∷ s) [] h a k = absurd (omega arith)
-sorted-zipped lo n (x ∷ s) (y ∷ e) h a k = (omega arith, sorted-zipped (suc x) y s e (suc-inj h) (a .3) (omega arith))
+ascending-zipped : (lo n : ℕ) (s e : List ℕ) → length s ≡ length e → Above n (zipped range s e) → lo ≤ n → Ascending lo s
+ascending-zipped lo n [] e h a k = tt
+ascending-zipped lo n (x ∷ s) [] h a k = absurd (omega arith)
+ascending-zipped lo n (x ∷ s) (y ∷ e) h a k = (omega arith, ascending-zipped (suc x) y s e (suc-inj h) (a .3) (omega arith))
 
 -- the ranges of the first n places of two columns
 module _ (n : ℕ) (s e : List ℕ) (hs : n ≤ length s) (he : n ≤ length e) where
@@ -56,8 +57,8 @@ module _ (n : ℕ) (s e : List ℕ) (hs : n ≤ length s) (he : n ≤ length e) 
   pub place-is : (o : ℕ) → place o ranges ≡ upTo o (take n s)
   place-is o = place-zipped o (take n s) (take n e) even
 
-  pub starts-sorted : (lo : ℕ) → Above lo ranges → Sorted 0 (take n s)
-  starts-sorted lo a = sorted-zipped 0 lo (take n s) (take n e) even a (omega arith)
+  pub starts-sorted : (lo : ℕ) → Above lo ranges → Ascending 0 (take n s)
+  starts-sorted lo a = ascending-zipped 0 lo (take n s) (take n e) even a (omega arith)
 
   pub end-is : (lo i : ℕ) → i ≤ n → getD (lo ∷ e) i 0 ≡ endBefore lo i ranges
   end-is lo zero h = refl

@@ -13,8 +13,8 @@ ghost use Rattle.types.specs.Refusal.{done};
 ghost use Rattle.types.specs.Lists.{listed, roomFor, listedOf};
 ghost use Rattle.types.specs.Table.{answer, first};
 ghost use Rattle.raw.specs.Bytes.{overwrite, write, outcomeOf};
-ghost use Rattle.types.specs.Zipped.{zipped, inserted, removed};
-ghost use Rattle.types.specs.Search.{Sorted, upTo};
+ghost use Rattle.types.specs.Zipped.{zipped};
+ghost use Rattle.types.specs.Sorted.{Ascending, upTo};
 ghost use Rattle.cursor.specs.Ranges.{range, offsets};
 ghost use Rattle.cursor.specs.Snapshot.{rangesBytes, bodyBytes, encodeCursor, readRanges, decodeTable};
 ghost use Rattle.cursor.specs.Cursor.{settled, ackBounded, commitUpTo, rangeTable, resumeTable};
@@ -158,7 +158,7 @@ enum Spot {
 
 // How many of the first n numbers of a column, which rise, are at most x.
 fn partition_point(column: &[u64; 128], n: usize, x: u64) -> usize
-    requires { ⌜ (length (now column) ≡ 128) × (n ≤ 128) × Sorted 0 (take n (now column)) ⌝ }
+    requires { ⌜ (length (now column) ≡ 128) × (n ≤ 128) × Ascending 0 (take n (now column)) ⌝ }
     ensures { λ r. ⌜ r ≡ upTo x (take n (now (column .entry))) ⌝ }
 {
     let mut low: usize = 0;
@@ -172,36 +172,6 @@ fn partition_point(column: &[u64; 128], n: usize, x: u64) -> usize
         }
     }
     low
-}
-
-// Puts x in at a place of the first n numbers of a column.
-fn insert_at(column: &mut [u64; 128], n: usize, at: usize, x: u64)
-    requires { ⌜ (length (now column) ≡ 128) × (n < 128) × (at ≤ n) ⌝ }
-    ensures { λ _. ⌜ take (n + 1) (now (column .exit)) ≡ inserted at x (take n (now (column .entry))) ⌝ }
-{
-    let mut held = x;
-    let mut i = at;
-    while i < n {
-        let next = column[i];
-        column[i] = held;
-        held = next;
-        i += 1;
-    }
-    column[i] = held;
-}
-
-// Takes the places from `from` up to `to` out of the first n numbers of a column.
-fn remove(column: &mut [u64; 128], n: usize, from: usize, to: usize)
-    requires { ⌜ (length (now column) ≡ 128) × (n ≤ 128) × (from ≤ to) × (to ≤ n) ⌝ }
-    ensures { λ _. ⌜ (length (now (column .exit)) ≡ 128) × (take (n - (to - from)) (now (column .exit)) ≡ removed from to (take n (now (column .entry)))) ⌝ }
-{
-    let mut i = from;
-    let mut j = to;
-    while j < n {
-        column[i] = column[j];
-        i += 1;
-        j += 1;
-    }
 }
 
 // Whether x stands at a place of the first n numbers of a column.
@@ -278,8 +248,8 @@ fn join(
     ensures { λ r. ⌜ view (ackCursor r (now (starts .exit)) (now (ends .exit)) (runs - 1)) ≡ joinedAt at (view (ackCursor committed (now (starts .entry)) (now (ends .entry)) runs)) ⌝ }
 {
     let end = ends[at];
-    remove(starts, runs, at, at + 1);
-    remove(ends, runs, at, at + 1);
+    tables::remove_128(starts, runs, at, at + 1);
+    tables::remove_128(ends, runs, at, at + 1);
     stretch(committed, ends, at, end)
 }
 
@@ -322,8 +292,8 @@ fn ack_in_place(
         Spot::Apart(i) => {
             if runs < max_runs {
                 if runs < 128 {
-                    insert_at(starts, runs, i, x);
-                    insert_at(ends, runs, i, x + 1);
+                    tables::insert_128(starts, runs, i, x);
+                    tables::insert_128(ends, runs, i, x + 1);
                     return recorded(committed, runs + 1);
                 }
             }
@@ -369,8 +339,8 @@ fn commit_in_place(
     }
     let k = partition_point(starts, runs, bound);
     let end = end_before(committed, ends, k);
-    remove(starts, runs, 0, k);
-    remove(ends, runs, 0, k);
+    tables::remove_128(starts, runs, 0, k);
+    tables::remove_128(ends, runs, 0, k);
     Moved {
         advanced: true,
         committed: larger(bound, end),

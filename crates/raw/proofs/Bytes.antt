@@ -10,9 +10,9 @@ use mathlib.Core.List.{List, [], _∷_, _++_, append-assoc}
 use mir.Syntax.{w8}
 use mir.Val.{Fits}
 use lib.ListN.{length, take, drop, getD, set, length-append, length-take, length-drop, take-append-drop, drop-of-length-le}
-use lib.Seq.{sets, sets-eq, set-comm, set-split, length-take-le, getD-take, getD-drop}
+use lib.Seq.{sets, sets-eq, set-comm, set-split, length-take-le, getD-drop}
 use lib.Seq.{take-at, take-nil, take-take, take-append-le, take-append-seam}
-use lib.Seq.{drop-at, drop-nil, drop-drop, drop-append-le, drop-append-add}
+use lib.Seq.{drop-at, drop-nil, drop-drop}
 use borrow.Author.Tests.{lt-ltb, le-ltb}
 use Rattle.types.specs.Refusal.{Result, refused, done}
 use Rattle.types.specs.Refusal as refusal
@@ -36,11 +36,6 @@ pub bytes-drop : (n : ℕ) (bs : List ℕ) → IsBytes bs → IsBytes (drop n bs
 bytes-drop zero bs p = p
 bytes-drop (suc n) [] p = tt
 bytes-drop (suc n) (b ∷ bs) p = bytes-drop n bs (p .1)
-
-pub bytes-overwrite : (pos : ℕ) (new bs : List ℕ) → IsBytes new → IsBytes bs → IsBytes (overwrite pos new bs)
-bytes-overwrite pos new bs p q =
-    bytes-append (take pos bs) (new ++ drop (pos + length new) bs) (bytes-take pos bs q)
-    (bytes-append new (drop (pos + length new) bs) p (bytes-drop (pos + length new) bs q))
 
 -- at every place, and back; what is past the end reads as 0
 pub byte-at : (bs : List ℕ) (i : ℕ) → IsBytes bs → getD bs i 0 < 256
@@ -116,28 +111,11 @@ le-number k pos bs p room =
 pub number-past : (k pos : ℕ) (bs : List ℕ) → length bs ≤ pos → numberAt k pos bs ≡ 0
 number-past k pos bs h = rw (drop-of-length-le bs h, take-nil)
 
--- in the first of two lists, in the second, at their seam, and in a part
-pub number-append-left : (k q : ℕ) (a b : List ℕ) → q + k ≤ length a → numberAt k q (a ++ b) ≡ numberAt k q a
-number-append-left k q a b h =
-    let l : k ≤ length (drop q a) = simp length-drop (omega arith) in
-    rw (drop-append-le q a b (omega arith), take-append-le k (drop q a) b l)
-
-pub number-append-right : (k q : ℕ) (a b : List ℕ) → numberAt k (length a + q) (a ++ b) ≡ numberAt k q b
-number-append-right k q a b = rw drop-append-add
-
-pub number-append-le : (k n pos : ℕ) (a b : List ℕ) → n < 256 ^ k → length a ≡ pos
-    → numberAt k pos (a ++ (le k n ++ b)) ≡ n
-number-append-le k n pos a b h e =
-    rw (drop-at a (le k n ++ b) pos e, take-at (le k n) b k (length-le k n)) (unle-le k n h)
-
 module _ (k q n pos : ℕ) (bs : List ℕ) (h : q + k ≤ n) where
   pub part-part : take k (drop q (take n (drop pos bs))) ≡ take k (drop (pos + q) bs)
   part-part =
       rw (part-front k q (take n (drop pos bs)), take-take (q + k) n (drop pos bs) h)
       (rw (← part-front k q (drop pos bs), drop-drop))
-
-  pub number-part : numberAt k q (take n (drop pos bs)) ≡ numberAt k (pos + q) bs
-  number-part = ap unle part-part
 
 -- ---- a write
 
@@ -193,10 +171,6 @@ module _ (pos : ℕ) (new bs : List ℕ) (room : pos + length new ≤ length bs)
 
   pub getD-apart : (i : ℕ) → Apart pos (length new) i 1 → getD (overwrite pos new bs) i 0 ≡ getD bs i 0
   getD-apart i h = sym (number-byte i (overwrite pos new bs)) ∙ number-apart i 1 h ∙ number-byte i bs
-
-  pub getD-overwritten : (i : ℕ) → i < length new → getD (overwrite pos new bs) (pos + i) 0 ≡ getD new i 0
-  getD-overwritten i h =
-      rw (← getD-drop, ← getD-take (length new) (drop pos (overwrite pos new bs)) i 0 h, overwritten)
 
   -- what write answers
   pub write-room : write pos new bs ≡ answer (done (pos + length new)) (overwrite pos new bs)
@@ -271,11 +245,6 @@ module _ (pos : ℕ) (new bs : List ℕ) {o : Result ℕ} {after : List ℕ} (is
 
   pub wrote : pos + length new ≤ length bs → after ≡ overwrite pos new bs
   wrote room = ap (λ (a : Answer ℕ (List ℕ)). a .state) (is ∙ write-room pos new bs room)
-
-  pub wrote-none : length bs < pos + length new → (o ≡ refused refusal.OutTooShort) × (after ≡ bs)
-  wrote-none h =
-      let e : answer o after ≡ answer (refused refusal.OutTooShort) bs = is ∙ write-short pos new bs h in
-      (ap (λ (a : Answer ℕ (List ℕ)). a .outcome) e, ap (λ (a : Answer ℕ (List ℕ)). a .state) e)
 
   -- behind `a`, which was written from place `start` on
   pub wrote-behind : (start : ℕ) (a before : List ℕ) → pos ≡ start + length a → bs ≡ overwrite start a before

@@ -30,3 +30,6 @@ module _ {A : Type 0} where
   taken-out-front n from to l h k m e =
       let long : length (removed from to (take n l)) ≡ n - (to - from) = simp (length-append, length-take, length-drop) (omega arith) in
       ap (take (n - (to - from))) (e ∙ taken-out n from to l h k m) ∙ front (n - (to - from)) (removed from to (take n l)) (drop (n - (to - from)) l) long
+
+  pub taken-out-length : (n from to : ℕ) (l : List A) → from ≤ to → to ≤ n → n ≤ length l → {l′ : List A} → l′ ≡ takenOut n from to l → length l′ ≡ length l
+  taken-out-length n from to l h k m e = ap length (e ∙ taken-out n from to l h k m) ∙ simp (length-append, length-take, length-drop) (omega arith)

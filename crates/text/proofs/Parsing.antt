@@ -34,12 +34,6 @@ pub to-end : (c : ℕ) (bs : List ℕ) (i : ℕ) → length bs ≤ i → lengthT
 unfolding lengthTo
 to-end c bs i h = rw (drop-of-length-le bs h)
 
-pub length-to : (c : ℕ) (bs : List ℕ) → lengthTo c bs ≤ length bs
-unfolding lengthTo
-length-to c [] = omega arith
-length-to c (b ∷ bs) =
-    split (eqb b c) (λ t. rw t (omega arith)) (λ f. rw f (omega (arith, length-to c bs)))
-
 -- behind the bytes in front of the first c, there are none
 pub to-there : (c : ℕ) (bs : List ℕ) → lengthTo c (drop (lengthTo c bs) bs) ≡ 0
 unfolding lengthTo

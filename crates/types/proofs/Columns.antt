@@ -25,21 +25,11 @@ module _ {A : Type 0} where
   length-entries (k ∷ ks) [] e = absurd (omega arith)
   length-entries (k ∷ ks) (v ∷ vs) e = ap suc (length-entries ks vs (omega arith))
 
-  no-values : (ks : List ℕ) → entries {A = A} ks [] ≡ []
-  no-values [] = refl
-  no-values (k ∷ ks) = refl
-
   pub entries-snoc : (x : ℕ) (v : A) (ks : List ℕ) (vs : List A) → length ks ≡ length vs → entries (ks ++ (x ∷ [])) (vs ++ (v ∷ [])) ≡ entries ks vs ++ (entry x v ∷ [])
   entries-snoc x v [] [] n = refl
   entries-snoc x v [] (w ∷ vs) n = absurd (omega arith)
   entries-snoc x v (k ∷ ks) [] n = absurd (omega arith)
   entries-snoc x v (k ∷ ks) (w ∷ vs) n = ap (λ (l : List (Entry A)). entry k w ∷ l) (entries-snoc x v ks vs (omega arith))
-
-  pub drop-entries : (i : ℕ) (ks : List ℕ) (vs : List A) → drop i (entries ks vs) ≡ entries (drop i ks) (drop i vs)
-  drop-entries zero ks vs = refl
-  drop-entries (suc i) [] vs = refl
-  drop-entries (suc i) (k ∷ ks) [] = sym (no-values (drop i ks))
-  drop-entries (suc i) (k ∷ ks) (v ∷ vs) = drop-entries i ks vs
 
   -- the entries from place i on begin with the one there, and there are none past the shorter column
   pub drop-entry : (d : A) (i : ℕ) (ks : List ℕ) (vs : List A) → i < length ks → i < length vs

@@ -4,13 +4,13 @@ use Prim.Native.Nat.{ℕ, zero, suc, _≤_, _<_}
 use native.Mathlib.Omega.{arith}
 use native.Mathlib.Nat.{le-of-suc-le-suc}
 use mathlib.Core.Path.{_≡_, refl, sym, ap, _∙_}
-use mathlib.Core.Bool.{true, false, cond, true≢false}
+use mathlib.Core.Bool.{true, false, cond}
 use mathlib.Core.List.{List, [], _∷_}
 use mathlib.Core.Option.{none, some, Option·none-ne-some, Option·map}
 use lib.Dec.{ltb, eqb}
 use lib.ListN.{length, getD}
 use borrow.Author.Tests.{ltb-true, ltb-false, eqb-true, eqb-false, eq-eqb, ne-eqb}
-use Rattle.types.specs.Keyed.{Entry, lookup, put, update, delete, dropBelow, anyBelow, Rising, All, mapValues}
+use Rattle.types.specs.Keyed.{Entry, lookup, put, update, delete, dropBelow, Rising, All, mapValues}
 use Rattle.types.proofs.Cases.{split}
 
 eqb-move : (j k x : ℕ) → eqb j k ≡ false → eqb k x ≡ true → eqb j x ≡ false
@@ -58,13 +58,6 @@ module _ {A : Type 0} where
       split (ltb (e .key) b)
       (λ q. rw (q, ne-eqb j (e .key) (λ r. omega (arith, ltb-false j b n, ltb-true (e .key) b q))) (lookup-keep-above j b l n))
       (λ q. rw q (ap (cond (eqb j (e .key)) (some (e .value))) (lookup-keep-above j b l n)))
-
-  pub lookup-none-below : (j b : ℕ) (l : List (Entry A)) → anyBelow b l ≡ false → ltb j b ≡ true → lookup j l ≡ none
-  lookup-none-below j b [] a n = refl
-  lookup-none-below j b (e ∷ l) a n =
-      split (ltb (e .key) b)
-      (λ q. absurd (true≢false (rw q at a)))
-      (λ q. rw (ne-eqb j (e .key) (λ r. omega (arith, ltb-true j b n, ltb-false (e .key) b q))) (lookup-none-below j b l (rw q at a) n))
 
   -- ---- they stay sorted
   pub rising-weaken : (a b : ℕ) (l : List (Entry A)) → a ≤ b → Rising b l → Rising a l

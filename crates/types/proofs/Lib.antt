@@ -2,7 +2,6 @@ pub mod Cases
 pub mod Table
 pub mod Keyed
 pub mod Zipped
-pub mod Search
 pub mod Shift
 pub mod Scan
 pub mod Sorted

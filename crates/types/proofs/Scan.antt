@@ -23,11 +23,6 @@ module _ {A B : Type 0} (f : A → B) where
   map-take (suc n) [] = refl
   map-take (suc n) (a ∷ l) = ap (λ (m : List B). f a ∷ m) (map-take n l)
 
-  pub map-drop : (n : ℕ) (l : List A) → map f (drop n l) ≡ drop n (map f l)
-  map-drop zero l = refl
-  map-drop (suc n) [] = refl
-  map-drop (suc n) (a ∷ l) = map-drop n l
-
   pub map-set : (l : List A) (i : ℕ) (a : A) → map f (set l i a) ≡ set (map f l) i (f a)
   map-set [] i a = refl
   map-set (x ∷ l) zero a = refl

@@ -1,29 +1,22 @@
 -- Laws of the place of a number in a sorted list: an element below the number lies before its place, any other does not,
 -- so that a search by halves finds it.
 -- Assumes nothing.
-use Prim.Native.Nat.{ℕ, zero, suc, _≤_, _<_}
+use Prim.Native.Nat.{ℕ, zero, suc, _+_, _≤_, _<_}
 use native.Mathlib.Omega.{arith}
 use native.Mathlib.Nat.{le-of-suc-le-suc}
-use mathlib.Core.Path.{_≡_}
+use native.Mathlib.Numerals.{add-one}
+use mathlib.Core.Path.{_≡_, sym, _∙_}
 use mathlib.Core.List.{List, [], _∷_}
-use lib.Dec.{ltb}
+use lib.Dec.{ltb, leb}
 use lib.ListN.{length, take, getD}
 use lib.Seq.{length-take-le, getD-take}
-use borrow.Author.Tests.{ltb-false, lt-ltb, le-ltb}
+use borrow.Author.Tests.{lt-ltb, le-ltb, leb-true, leb-false}
 use Rattle.types.specs.Sorted.{Ascending, below}
 use Rattle.types.proofs.Cases.{split}
 
 pub below-le : (x : ℕ) (ks : List ℕ) → below x ks ≤ length ks
 below-le x [] = omega arith
 below-le x (k ∷ ks) = split (ltb k x) (λ t. rw t (omega (arith, below-le x ks))) (λ t. rw t (omega arith))
-
--- the element at the place is not below the number
-pub below-at : (x : ℕ) (ks : List ℕ) → below x ks < length ks → x ≤ getD ks (below x ks) 0
-below-at x [] h = absurd (omega arith)
-below-at x (k ∷ ks) h =
-    split (ltb k x)
-    (λ t. rw t (below-at x ks (le-of-suc-le-suc (rw t at h))))
-    (λ t. rw t (omega (arith, ltb-false k x t)))
 
 pub ascending-at : (i lo : ℕ) (ks : List ℕ) → Ascending lo ks → i < length ks → lo ≤ getD ks i 0
 ascending-at i lo [] a h = absurd (omega arith)
@@ -45,21 +38,20 @@ not-before-place x (suc i) (k ∷ ks) h t =
     (λ s. rw s (omega (arith, not-before-place x i ks (le-of-suc-le-suc h) t)))
     (λ s. rw s (omega arith))
 
--- where the number stands is its place
-pub place-of : (x i lo : ℕ) (ks : List ℕ) → Ascending lo ks → i < length ks → getD ks i 0 ≡ x → i ≡ below x ks
-place-of x i lo [] a h e = absurd (omega arith)
-place-of x zero lo (k ∷ ks) a h e = rw (le-ltb k x (omega arith))
-place-of x (suc i) lo (k ∷ ks) a h e =
-    let g : i < length ks = le-of-suc-le-suc h in
-    rw (lt-ltb k x (omega (arith, ascending-at i (suc k) ks (a .1) g))) (omega (arith, place-of x i (suc k) ks (a .1) g e))
-
 -- ## one comparison of a search among the first `len` elements of an array
 module _ (x i len : ℕ) (keys : List ℕ) (inside : i < len) (fits : len ≤ length keys) where
   counted : i < length (take len keys)
   counted = rw (length-take-le len keys fits) inside
 
-  pub place-right : Ascending 0 (take len keys) → getD keys i 0 < x → i < below x (take len keys)
-  place-right a t = before-place x i 0 (take len keys) a counted (rw (getD-take len keys i 0 inside) t)
+  pub place-right : Ascending 0 (take len keys) → getD keys i 0 < x → i + 1 ≤ below x (take len keys)
+  place-right a t = rw add-one (before-place x i 0 (take len keys) a counted (rw (getD-take len keys i 0 inside) t))
 
   pub place-left : x ≤ getD keys i 0 → below x (take len keys) ≤ i
   place-left t = not-before-place x i (take len keys) counted (rw (getD-take len keys i 0 inside) t)
+
+-- what is at most x is below the next number
+pub up-to-next : (k x : ℕ) → ltb k (suc x) ≡ leb k x
+up-to-next k x =
+    split (leb k x)
+    (λ t. lt-ltb k (suc x) (omega (arith, leb-true k x t)) ∙ sym t)
+    (λ t. le-ltb k (suc x) (omega (arith, leb-false k x t)) ∙ sym t)

@@ -4,6 +4,5 @@ pub mod Refusal
 pub mod Table
 pub mod Keyed
 pub mod Zipped
-pub mod Search
 pub mod Sorted
 pub mod Lists

@@ -13,3 +13,7 @@ Ascending lo (k ∷ ks) = (lo ≤ k) × Ascending (suc k) ks
 abbrev pub below : ℕ → List ℕ → ℕ
 below x [] = 0
 below x (k ∷ ks) = cond (ltb k x) (suc (below x ks)) 0
+
+-- how many are at most x
+abbrev pub upTo : ℕ → List ℕ → ℕ
+upTo x ks = below (suc x) ks

@@ -1,11 +1,12 @@
 -- `ack_in_place` meets its contract: each answer of the search, with what is done to the columns there, is one law.
 -- Assumes nothing.
-use Prim.Native.Nat.{_≤_}
+use Prim.Native.Nat.{_+_, _≤_}
 use native.Mathlib.Omega.{arith}
 use mathlib.Core.Path.{_≡_, subst, ap}
 use lib.ListN.{length}
 use borrow.Author.Needs.{needs}
 use Rattle.types.specs.Limits.{MAX}
+use Rattle.tables.proofs.Columns.{put-in-front}
 use Rattle.cursor.specs.Cursor.{cursor}
 use Rattle.cursor.specs.View.{ackCursor, view}
 use Rattle.cursor.specs.Place.{Spotted}
@@ -102,22 +103,16 @@ recorded-requires-3 c κs = search needs
 enum-known-spot-4 : tie.Need-enum-known-spot-4
 enum-known-spot-4 c = search needs
 
-insert-at-requires : tie.Need-insert-at-requires
-insert-at-requires c κs =
-    let p = c .before .before .before .before in
-    let s = start (p .before .before) in
-    (s .pre .starts, omega arith, omega (arith, told-apart p .0, size s))
+insert-128-requires : tie.Need-insert-128-requires
+insert-128-requires c κs = search needs
 
-add-insert-at : tie.Need-add-insert-at
-add-insert-at c =
+add-insert-128 : tie.Need-add-insert-128
+add-insert-128 c =
     let p = c .before .before .before .before .before .before in
     omega (arith, not-last (told-apart p .1) (small (start (p .before .before))))
 
-insert-at-requires-2 : tie.Need-insert-at-requires-2
-insert-at-requires-2 c κs =
-    let p = c .before .before .before .before .before .before in
-    let s = start (p .before .before) in
-    (s .pre .ends, omega arith, omega (arith, told-apart p .0, size s))
+insert-128-requires-2 : tie.Need-insert-128-requires-2
+insert-128-requires-2 c κs = search needs
 
 add-recorded : tie.Need-add-recorded
 add-recorded c = search needs
@@ -132,9 +127,13 @@ returns c =
     let p = t .before .before .before in
     let s = start (p .before .before) in
     let a = s .args in
+    let at = p .spot4 .given .0 .0 in
+    let h : at ≤ a .runs = omega (arith, told-apart p .0, size s) in
     noted (c .recorded4 .result) (c .recorded4 .ensures)
     (landed-apart (g s) (a .x) (a .max-runs) (s .pre .sound) (small s) _ (omega arith) (told-apart p .1) (omega (arith, size s))
-    (ap (cursor (a .committed)) (ranges-inserted (a .runs) (a .starts .now) (a .ends .now) (long-starts (g s) (s .pre)) (long-ends (g s) (s .pre)) (p .spot4 .given .0 .0) _ _ (i .insert-at .last .0) (c .before .insert-at2 .last .0) (i .insert-at .ensures) (c .before .insert-at2 .ensures))))
+    (ap (cursor (a .committed)) (ranges-inserted (a .runs) (a .starts .now) (a .ends .now) (long-starts (g s) (s .pre)) (long-ends (g s) (s .pre)) at _ _ (i .insert-128 .last .0) (c .before .insert-1282 .last .0)
+    (put-in-front (a .runs) at (a .x) (a .starts .now) h (omega (arith, s .pre .starts)) (i .insert-128 .ensures))
+    (put-in-front (a .runs) at (a .x + 1) (a .ends .now) h (omega (arith, s .pre .ends)) (c .before .insert-1282 .ensures)))))
 
 returns-2 : tie.Need-returns-2
 returns-2 c =
@@ -198,9 +197,9 @@ ack-in-place-spec =
     element-write-starts
     recorded-requires-3
     enum-known-spot-4
-    insert-at-requires
-    add-insert-at
-    insert-at-requires-2
+    insert-128-requires
+    add-insert-128
+    insert-128-requires-2
     add-recorded
     recorded-requires-4
     returns

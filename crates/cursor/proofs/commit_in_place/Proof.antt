@@ -2,9 +2,10 @@
 use Prim.Native.Nat.{_≤_}
 use native.Mathlib.Omega.{arith}
 use borrow.Author.Needs.{needs}
+use Rattle.tables.proofs.Columns.{taken-out-front}
 use Rattle.cursor.specs.View.{ackCursor}
 use Rattle.cursor.specs.declared.AckCursor.{AckCursor}
-use Rattle.cursor.proofs.Search.{starts-rise, place-within, found-committed}
+use Rattle.cursor.proofs.Search.{long-starts, long-ends, starts-rise, place-within, found-committed}
 use Rattle.cursor.proofs.Answers.{not-advanced, moved}
 use Rattle.cursor.proofs.commit_in_place.Statement.{statement}
 use Rattle.cursor.proofs.commit_in_place.Tie as tie
@@ -30,15 +31,11 @@ within c = place-within (g (start c)) (start c .pre) (start c .args .bound) (c .
 end-before-requires : tie.Need-end-before-requires
 end-before-requires c κs = omega (arith, within (c .before), start (c .before) .pre .sound .few)
 
-remove-requires : tie.Need-remove-requires
-remove-requires c κs =
-    let p = c .before .before .before in
-    (start p .pre .starts, start p .pre .sound .few, omega arith, within p)
+remove-128-requires : tie.Need-remove-128-requires
+remove-128-requires c κs = search needs
 
-remove-requires-2 : tie.Need-remove-requires-2
-remove-requires-2 c κs =
-    let p = c .before .before .before .before .before in
-    (start p .pre .ends, start p .pre .sound .few, omega arith, within p)
+remove-128-requires-2 : tie.Need-remove-128-requires-2
+remove-128-requires-2 c κs = search needs
 
 larger-requires : tie.Need-larger-requires
 larger-requires c κs = search needs
@@ -55,8 +52,11 @@ returns-2 c =
     let s = start p in
     let r = c .before .before .before in
     let b = r .before .before in
+    let k = p .partition-point .result in
     moved (g s) (s .args .bound) (s .pre .sound) (omega arith) (p .before .before .if1 .left) _ (omega (arith, s .pre .sound .few))
-    (found-committed (g s) (s .pre) (s .args .bound) (p .partition-point .result) (p .partition-point .ensures) (b .end-before .result) (b .end-before .ensures) (omega arith) _ (r .remove .last .0) (c .before .remove2 .last .0) (c .larger .ensures) (r .remove .ensures .1) (c .before .remove2 .ensures .1))
+    (found-committed (g s) (s .pre) (s .args .bound) (p .partition-point .result) (p .partition-point .ensures) (b .end-before .result) (b .end-before .ensures) (omega arith) _ (r .remove-128 .last .0) (c .before .remove-1282 .last .0) (c .larger .ensures)
+    (taken-out-front (s .args .runs) 0 k (s .args .starts .now) (omega arith) (within p) (long-starts (g s) (s .pre)) (r .remove-128 .ensures))
+    (taken-out-front (s .args .runs) 0 k (s .args .ends .now) (omega arith) (within p) (long-ends (g s) (s .pre)) (c .before .remove-1282 .ensures)))
 
 pub commit-in-place-spec : {M : Type 1} → statement M
 commit-in-place-spec =
@@ -65,8 +65,8 @@ commit-in-place-spec =
     returns
     partition-point-requires
     end-before-requires
-    remove-requires
-    remove-requires-2
+    remove-128-requires
+    remove-128-requires-2
     larger-requires
     sub-t15
     returns-2)

@@ -1,11 +1,11 @@
 -- `partition_point` meets its contract. The loop's invariant: the place lies between low and high. The measure is their
 -- distance. Assumes nothing.
-use Prim.Native.Nat.{_≤_, _-_}
+use Prim.Native.Nat.{suc, _≤_, _-_}
 use native.Mathlib.Omega.{arith}
 use lib.ListN.{take}
 use lib.Seq.{length-take-le}
-use Rattle.types.specs.Search.{upTo}
-use Rattle.types.proofs.Search.{upTo-most, halve-up, halve-down}
+use Rattle.types.specs.Sorted.{upTo}
+use Rattle.types.proofs.Sorted.{below-le, place-right, place-left}
 use Rattle.cursor.proofs.partition_point.Statement.{statement}
 use Rattle.cursor.proofs.partition_point.Tie as tie
 
@@ -18,7 +18,7 @@ abbrev μ-loop : tie.MeasureT-loop
 loop-holds : tie.Need-loop-holds Inv-loop μ-loop
 loop-holds c =
     let a = c .args in
-    (omega arith, omega (arith, upTo-most (a .x) (take (a .n) (a .column .now)), length-take-le (a .n) (a .column .now) (omega arith)), omega arith)
+    (omega arith, omega (arith, below-le (suc (a .x)) (take (a .n) (a .column .now)), length-take-le (a .n) (a .column .now) (omega arith)), omega arith)
 
 sub-middle : tie.Need-sub-middle Inv-loop μ-loop
 sub-middle c = omega arith
@@ -41,7 +41,7 @@ loop-less c = omega arith
 loop-again : tie.Need-loop-again Inv-loop μ-loop
 loop-again c =
     let s = c .before .before .before .before in
-    (halve-up (s .args .x) (s .args .n) _ (s .args .column .now) (omega arith) (omega arith) (s .pre .2) (c .if1 .taken), omega arith, omega arith)
+    (place-right (suc (s .args .x)) _ (s .args .n) (s .args .column .now) (omega arith) (omega arith) (s .pre .2) (omega arith), omega arith, omega arith)
 
 loop-less-2 : tie.Need-loop-less-2 Inv-loop μ-loop
 loop-less-2 c = omega arith
@@ -49,7 +49,7 @@ loop-less-2 c = omega arith
 loop-again-2 : tie.Need-loop-again-2 Inv-loop μ-loop
 loop-again-2 c =
     let s = c .before .before .before .before in
-    (omega arith, halve-down (s .args .x) (s .args .n) _ (s .args .column .now) (omega arith) (omega arith) (c .if1 .left), omega arith)
+    (omega arith, place-left (suc (s .args .x)) _ (s .args .n) (s .args .column .now) (omega arith) (omega arith) (omega arith), omega arith)
 
 returns : tie.Need-returns Inv-loop μ-loop
 returns c = omega arith
