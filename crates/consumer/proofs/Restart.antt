@@ -17,7 +17,7 @@ use Rattle.types.proofs.Cases.{split, neither}
 use Rattle.types.proofs.Keyed.{rising-weaken, lookup-under, lookup-all}
 use Rattle.types.proofs.Entries.{absent}
 use Rattle.types.proofs.Checked.{refused-not-done, done-inj, checked-says}
-use Rattle.raw.specs.Bytes.{IsBytes}
+use Rattle.raw.specs.Bytes.{allZero, IsBytes}
 use Rattle.raw.proofs.Bytes.{bytes-append, bytes-take, bytes-drop, number-lt}
 use Rattle.cursor.specs.Cursor.{Cursor, settled, resume}
 use Rattle.cursor.specs.Cursor as cursors
@@ -29,7 +29,6 @@ use Rattle.lease.specs.State.{startingAt, Counted}
 use Rattle.lease.proofs.Valid.{valid-start, valid-carried}
 use Rattle.journal.specs.Area.{blocks, blockAt}
 use Rattle.journal.specs.Blocks.{bodiesFor, ceilingOf, cursorLength, attemptLength, payloadLength, contentOf}
-use Rattle.journal.specs.Sound.{allZero}
 use Rattle.journal.specs.Walks.{Stop, stop, walk, contents, payload}
 use Rattle.journal.proofs.Sound.{zero-header}
 use Rattle.journal.proofs.Walks.{says-nothing, walk-turn, walk-ended}

@@ -7,10 +7,11 @@ use mathlib.Core.Bool.{true, false}
 use mathlib.Core.List.{List, [], _∷_, _++_}
 use lib.ListN.{length, take, drop}
 use borrow.Author.Tests.{eq-eqb, ne-eqb, lt-ltb, le-ltb, le-leb, lt-leb}
+use Rattle.raw.specs.Bytes.{allZero}
 use Rattle.crc.specs.Seal.{isSealed}
 use Rattle.journal.specs.Answers.{headerIn}
 use Rattle.journal.specs.Blocks.{bodiesFor, kindOf, groupOf, bodyCount, cursorLength, attemptLength, payloadLength, indexOf, usedOf}
-use Rattle.journal.specs.Sound.{allZero, zerosAt}
+use Rattle.journal.specs.Sound.{zerosAt}
 use Rattle.journal.specs.declared.Header.{Header}
 use Rattle.faults.specs.declared.Fault.{Fault}
 use Rattle.faults.specs.declared.Fault.the-variants.{Length, Kind, Check, Number, Zeros, CursorLength, AttemptLength, Count, Fit, Index, Used}

@@ -5,6 +5,7 @@ use mathlib.Core.Bool.{Bool, true, false, not, cond}
 use mathlib.Core.List.{List, [], _∷_, _++_}
 use lib.Dec.{leb, ltb, eqb}
 use lib.ListN.{length}
+use Rattle.raw.specs.Bytes.{allZero}
 use Rattle.crc.specs.Seal.{isSealed}
 use Rattle.journal.specs.Blocks.{
   bodiesFor,
@@ -17,7 +18,7 @@ use Rattle.journal.specs.Blocks.{
   indexOf,
   usedOf,
 }
-use Rattle.journal.specs.Sound.{allZero, zerosAt}
+use Rattle.journal.specs.Sound.{zerosAt}
 use Rattle.faults.specs.declared.Fault.{Fault}
 use Rattle.faults.specs.declared.Fault.the-variants.{
   Length,

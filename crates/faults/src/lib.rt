@@ -3,7 +3,6 @@
 ghost use mathlib.Core.Path.{_≡_};
 ghost use Prim.Native.Nat.{min};
 ghost use lib.ListN.{length};
-ghost use Rattle.journal.specs.Sound.{allZero};
 ghost use Rattle.faults.specs.Verdicts.{openingVerdict, sizesVerdict, headerRest, headerVerdict, bodyRest, bodyVerdict, seen, seenOf};
 
 pub mod places;
@@ -36,20 +35,6 @@ pub enum Seen {
     Header,
     Body,
     Unsound(Fault),
-}
-
-// Whether every byte is zero.
-pub fn all_zero(bytes: &[u8]) -> bool
-    ensures { λ r. ⌜ r ≡ allZero (now (bytes .entry)) ⌝ }
-{
-    let mut i: usize = 0;
-    while i < bytes.len() {
-        if bytes[i] != 0 {
-            return false;
-        }
-        i += 1;
-    }
-    true
 }
 
 // The last tests of a header at block `at`: its lengths, its body count, and that its group doesn't pass block `hi`.
@@ -109,10 +94,10 @@ fn header_rest(block: &[u8], hi: usize, at: usize) -> Verdict
     requires { ⌜ length (now block) ≡ 512 ⌝ }
     ensures { λ r. ⌜ r ≡ headerRest hi at (now (block .entry)) ⌝ }
 {
-    if !all_zero(&block[2..4]) {
+    if !raw::all_zero(&block[2..4]) {
         return Verdict::Unsound(Fault::Zeros);
     }
-    if !all_zero(&block[20..508]) {
+    if !raw::all_zero(&block[20..508]) {
         return Verdict::Unsound(Fault::Zeros);
     }
     sizes_verdict(block, hi, at)
@@ -142,7 +127,7 @@ fn body_rest(block: &[u8], index: usize, used: usize) -> Verdict
         return Verdict::Unsound(Fault::Used);
     }
     let from = lesser(8 + bytes, 508);
-    if !all_zero(&block[from..508]) {
+    if !raw::all_zero(&block[from..508]) {
         return Verdict::Unsound(Fault::Zeros);
     }
     Verdict::Sound
@@ -166,7 +151,7 @@ pub fn by_itself(block: &[u8], hi: usize, at: usize) -> Seen
     if block.len() != 512 {
         return Seen::Unsound(Fault::Length);
     }
-    if all_zero(block) {
+    if raw::all_zero(block) {
         return Seen::Empty;
     }
     let group = raw::read_u32(block, 4) as u64;

@@ -6,7 +6,7 @@ use mathlib.Core.Bool.{true}
 use mathlib.Core.List.{List, _++_, append-assoc}
 use lib.ListN.{length, take, replicate, length-append, length-replicate}
 use lib.Seq.{take-at, drop-at, drop-append-add}
-use Rattle.raw.specs.Bytes.{le}
+use Rattle.raw.specs.Bytes.{allZero, le}
 use Rattle.raw.proofs.Bytes.{unle-le}
 use Rattle.crc.specs.Crc32c.{crc}
 use Rattle.crc.specs.Seal.{sealed, isSealed}
@@ -26,7 +26,7 @@ use Rattle.journal.specs.Blocks.{
   usedOf,
   contentOf,
 }
-use Rattle.journal.specs.Sound.{allZero, zerosAt}
+use Rattle.journal.specs.Sound.{zerosAt}
 use Rattle.journal.specs.declared.Header.{Header}
 use Rattle.journal.specs.Answers.{headerIn, headerOf}
 

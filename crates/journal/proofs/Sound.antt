@@ -2,16 +2,15 @@
 -- are no sound headers; and what a sound block says, part by part. Assumes nothing.
 use Prim.Native.Nat.{ℕ, zero, suc, _+_, _-_, _≤_, _<_, _^_, min}
 use native.Mathlib.Omega.{arith}
-use native.Mathlib.Numerals.{add-one}
 use native.Mathlib.Decide.{decLe}
 use mathlib.Core.Path.{_≡_, refl, sym, _∙_}
 use mathlib.Core.Bool.{Bool, true, false, _&&_, and-false, true≢false}
 use mathlib.Core.List.{List, [], _∷_}
 use lib.Dec.{leb, eqb}
-use lib.ListN.{length, take, drop, getD, drop-of-length-le}
-use lib.Seq.{drop-cons}
+use lib.ListN.{length, take, drop}
 use borrow.Author.Tests.{eqb-true, leb-true, eq-eqb, ne-eqb, le-leb}
 use Rattle.types.proofs.Cases.{split, both}
+use Rattle.raw.specs.Bytes.{allZero}
 use Rattle.crc.specs.Seal.{isSealed}
 use Rattle.journal.specs.Blocks.{
   bodiesFor,
@@ -27,7 +26,7 @@ use Rattle.journal.specs.Blocks.{
   indexOf,
   usedOf,
 }
-use Rattle.journal.specs.Sound.{allZero, zerosAt, isKind, heads, formed, soundHeader, soundBody}
+use Rattle.journal.specs.Sound.{zerosAt, isKind, heads, formed, soundHeader, soundBody}
 use Rattle.journal.proofs.Blocks.{
   header-length,
   header-kind,
@@ -54,20 +53,7 @@ refuted t n = split t (λ e. absurd (n e)) (λ e. sym e)
 pub differ : {t : Bool} → t ≡ true → t ≡ false → ⊥
 differ e f = true≢false (sym e ∙ f)
 
--- ## Zeros, as a loop finds them
-module _ (b : List ℕ) (i : ℕ) (so-far : allZero (drop i b) ≡ allZero b) where
-  next-zero : i < length b → allZero b ≡ (eqb (getD b i 0) 0 && allZero (drop (i + 1) b))
-  next-zero h = sym so-far ∙ rw (drop-cons b i 0 h, add-one i)
-
-  pub zero-more : i < length b → getD b i 0 ≡ 0 → allZero (drop (i + 1) b) ≡ allZero b
-  zero-more h e = sym (next-zero h ∙ rw (eq-eqb (getD b i 0) 0 e))
-
-  pub zero-not : i < length b → (getD b i 0 ≡ 0 → ⊥) → false ≡ allZero b
-  zero-not h n = sym (next-zero h ∙ rw (ne-eqb (getD b i 0) 0 n))
-
-  pub zero-all : length b ≤ i → true ≡ allZero b
-  zero-all h = sym (sym so-far ∙ rw (drop-of-length-le b {i = i} h))
-
+-- ## Zeros
 -- a part of zeros is zeros
 pub zeros-take : (n : ℕ) (b : List ℕ) → allZero b ≡ true → allZero (take n b) ≡ true
 zeros-take zero b e = refl

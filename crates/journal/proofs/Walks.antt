@@ -11,9 +11,10 @@ use mathlib.Core.Option.{Option, none, some, Option·none-ne-some}
 use lib.ListN.{length, drop}
 use Rattle.types.specs.Refusal.{Result}
 use Rattle.types.proofs.Cases.{split}
+use Rattle.raw.specs.Bytes.{allZero}
 use Rattle.journal.specs.Area.{blockAt, writeAt, Same}
 use Rattle.journal.specs.Blocks.{usedIn, bodyCount, payloadLength}
-use Rattle.journal.specs.Sound.{allZero, heads, soundHeader, soundBody}
+use Rattle.journal.specs.Sound.{heads, soundHeader, soundBody}
 use Rattle.journal.specs.Walks.{
   firstUnsound,
   Found,

@@ -6,10 +6,9 @@ use native.Mathlib.Nat.{sub-zero, zero-sub}
 use native.Mathlib.Decide.{decLe}
 use mathlib.Core.Path.{_≡_, refl, sym, ap, _∙_}
 use mathlib.Core.Bool.{true, false}
-use mathlib.Core.List.{List, _∷_, _++_, append-nil}
-use lib.ListN.{length, take, drop, set, replicate, length-set, length-drop, drop-of-length-le}
+use mathlib.Core.List.{List, _∷_, _++_}
+use lib.ListN.{length, take, drop, set, replicate, length-drop, drop-of-length-le}
 use lib.Seq.{take-all, take-at, take-append-add, drop-append-add, drop-drop}
-use borrow.Author.Fill.{fill-more}
 use borrow.Author.Tests.{eq-eqb, ne-eqb}
 use Rattle.types.specs.Refusal.{Result, refused, done}
 use Rattle.types.specs.Refusal as refusal
@@ -22,30 +21,6 @@ use Rattle.journal.specs.Blocks.{bodiesFor, chunkOf, opening, headerBloc
 use Rattle.journal.specs.Area.{outside, writeAt}
 use Rattle.journal.specs.Answers.{fill, writeBlock}
 use Rattle.journal.proofs.Area.{inside-says, partAt, part-is, block-length}
-
--- ## Zeros
--- zeros stand up to i, and behind them what stood there before
-pub record Clearing (before bytes : List ℕ) (i : ℕ) : Type 0 where
-  pub within : i ≤ length before
-  pub same : length bytes ≡ length before
-  pub zeros : bytes ≡ replicate i 0 ++ drop i before
-
-pub clear-none : (before : List ℕ) → Clearing before before 0
-clear-none before = record { within = omega arith; same = refl; zeros = refl }
-
-module _ (before bytes : List ℕ) (i : ℕ) (s : Clearing before bytes i) where
-  pub clear-more : i < length before → Clearing before (set bytes i 0) (i + 1)
-  clear-more h =
-      record {
-        within = omega arith;
-        same = length-set bytes i 0 ∙ s .same;
-        zeros = rw (s .zeros) (fill-more i 0 before h);
-      }
-
-  pub cleared : length before ≤ i → bytes ≡ replicate (length before) 0
-  cleared h =
-      let e : i ≡ length before = omega (arith, s .within) in
-      s .zeros ∙ rw (drop-of-length-le before {i = i} (omega arith), append-nil, e)
 
 -- ## The check
 pub seal-made : (before after : List ℕ) (check : ℕ) (o : Result ℕ) → length before ≡ 512 → check ≡ crc (take 508 before)

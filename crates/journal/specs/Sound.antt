@@ -1,10 +1,11 @@
 -- Sound blocks, as 01 has them under "journal": kind, check, group number, zeros as laid down, lengths, body count. A
 -- header's number and its fit, which depend on where it stands, come last.
 use Prim.Native.Nat.{ℕ, _+_, _-_}
-use mathlib.Core.Bool.{Bool, true, _&&_}
-use mathlib.Core.List.{List, [], _∷_}
+use mathlib.Core.Bool.{Bool, _&&_}
+use mathlib.Core.List.{List}
 use lib.Dec.{leb, eqb}
 use lib.ListN.{length, take, drop}
+use Rattle.raw.specs.Bytes.{allZero}
 use Rattle.crc.specs.Seal.{isSealed}
 use Rattle.journal.specs.Blocks.{
   bodiesFor,
@@ -17,10 +18,6 @@ use Rattle.journal.specs.Blocks.{
   indexOf,
   usedOf,
 }
-
-abbrev pub allZero : List ℕ → Bool
-allZero [] = true
-allZero (b ∷ bs) = eqb b 0 && allZero bs
 
 -- the k bytes from place pos on are zero
 abbrev pub zerosAt : ℕ → ℕ → List ℕ → Bool

@@ -9,7 +9,7 @@ ghost use Rattle.types.specs.Table.{answer};
 ghost use Rattle.crc.specs.Seal.{sealed};
 ghost use Rattle.journal.specs.Blocks.{bodiesFor, Counted, usedIn, chunkOf, opening, bodyBlock};
 ghost use Rattle.journal.specs.Area.{badLength, outside};
-ghost use Rattle.journal.specs.Sound.{allZero, isKind, heads, formed, soundHeader, soundBody};
+ghost use Rattle.journal.specs.Sound.{isKind, heads, formed, soundHeader, soundBody};
 ghost use Rattle.journal.specs.Walks.{firstUnsound, orUnsound, groupAt, contents};
 ghost use Rattle.journal.specs.Answers.{fill, writeBlock, walkIn, readPayload, headerIn, headerOf, blockOf, filledOf, foundOf, walkedOf, payloadOf};
 
@@ -89,17 +89,6 @@ pub fn outside(len: usize, at: usize) -> bool
     len / 512 <= at
 }
 
-// Fills with zeros.
-fn clear(bytes: &mut [u8])
-    ensures { λ _. ⌜ now (bytes .exit) ≡ replicate (length (now (bytes .entry))) 0 ⌝ }
-{
-    let mut i: usize = 0;
-    while i < bytes.len() {
-        bytes[i] = 0;
-        i += 1;
-    }
-}
-
 // Puts the check behind the first 508 bytes of a block.
 fn seal(block: &mut [u8])
     requires { ⌜ length (now block) ≡ 512 ⌝ }
@@ -114,7 +103,7 @@ fn open_block(block: &mut [u8], kind: u8, second: u8, third: u16, number: u32)
     requires { ⌜ length (now block) ≡ 512 ⌝ }
     ensures { λ _. ⌜ now (block .exit) ≡ opening kind second third number ++ replicate 504 0 ⌝ }
 {
-    clear(block);
+    raw::clear(block);
     block[0] = kind;
     block[1] = second;
     raw::write_u16(block, 2, third);
@@ -178,20 +167,6 @@ pub fn write_block(area: &mut [u8], at: usize, block: Block, payload: &[u8]) -> 
     }
 }
 
-// Whether every byte is zero.
-fn all_zero(bytes: &[u8]) -> bool
-    ensures { λ r. ⌜ r ≡ allZero (now (bytes .entry)) ⌝ }
-{
-    let mut i: usize = 0;
-    while i < bytes.len() {
-        if bytes[i] != 0 {
-            return false;
-        }
-        i += 1;
-    }
-    true
-}
-
 // Whether this is a block of that kind with a right check.
 fn is_kind(block: &[u8], kind: u8) -> bool
     ensures { λ r. ⌜ r ≡ isKind kind (now (block .entry)) ⌝ }
@@ -219,10 +194,10 @@ pub fn is_formed(block: &[u8]) -> bool
     if !is_head(block) {
         return false;
     }
-    if !all_zero(&block[2..4]) {
+    if !raw::all_zero(&block[2..4]) {
         return false;
     }
-    if !all_zero(&block[20..508]) {
+    if !raw::all_zero(&block[20..508]) {
         return false;
     }
     let cursor_len = raw::read_u16(block, 16);
@@ -285,7 +260,7 @@ pub fn is_sound_body(block: &[u8], number: u64, index: u8, used: u16) -> bool
         return false;
     }
     let from = lesser(8 + used as usize, 508);
-    all_zero(&block[from..508])
+    raw::all_zero(&block[from..508])
 }
 
 // Bytes that body `index` of `bodies` is to use, of `total`.

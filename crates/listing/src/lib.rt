@@ -101,7 +101,7 @@ fn why(out: &mut [u8], at: usize, block: &[u8], fault: Fault) -> usize {
 
 // A block that is not what is expected: empty, or the test that it fails.
 fn unsound(out: &mut [u8], at: usize, block: &[u8], fault: Fault) -> usize {
-    if faults::all_zero(block) {
+    if raw::all_zero(block) {
         return put(out, at, b"empty");
     }
     let next = put(out, at, b"unsound: ");

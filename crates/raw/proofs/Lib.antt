@@ -1,2 +1,3 @@
 pub mod Bytes
 mod Loops
+mod Zeros

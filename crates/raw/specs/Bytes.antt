@@ -2,8 +2,9 @@
 -- refused, 20, where it would pass the end.
 use Prim.Native.Nat.{ℕ, zero, suc, _+_, _*_, _/_, _%_, _^_, _<_}
 use mathlib.Core.Path.{_≡_}
+use mathlib.Core.Bool.{Bool, true, _&&_}
 use mathlib.Core.List.{List, [], _∷_, _++_}
-use lib.Dec.{ltb}
+use lib.Dec.{ltb, eqb}
 use lib.ListN.{length, take, drop}
 use Rattle.types.specs.Refusal.{Result, refused, done}
 use Rattle.types.specs.Refusal as refusal
@@ -15,6 +16,11 @@ use Rattle.raw.specs.declared.Write.the-variants.{Next, OutTooShort}
 abbrev pub IsBytes : List ℕ → Type 0
 IsBytes [] = Unit {0}
 IsBytes (b ∷ bs) = (b < 256) × IsBytes bs
+
+-- each is zero
+abbrev pub allZero : List ℕ → Bool
+allZero [] = true
+allZero (b ∷ bs) = eqb b 0 && allZero bs
 
 -- the low k bytes of n, the lowest first
 abbrev pub le : ℕ → ℕ → List ℕ

@@ -1,10 +1,11 @@
 // Little-endian numbers in byte slices, at any position. Reading past the end sees zeros; a write without room changes
-// no byte and says so.
+// no byte and says so. And slices of zeros.
 ghost use mathlib.Core.Path.{_≡_};
 ghost use Prim.Native.Nat.{_+_, _≤_};
 ghost use lib.Dec.{ltb};
+ghost use lib.ListN.{length, replicate};
 ghost use Rattle.types.specs.Table.{answer};
-ghost use Rattle.raw.specs.Bytes.{le, numberAt, ReadIs, write, outcomeOf};
+ghost use Rattle.raw.specs.Bytes.{allZero, le, numberAt, ReadIs, write, outcomeOf};
 
 // What a write answers: the position behind what was written, or refusal 20.
 pub enum Write {
@@ -113,4 +114,29 @@ pub fn write_bytes(buf: &mut [u8], pos: usize, bytes: &[u8]) -> Write
         i += 1;
     }
     Write::Next(pos + n)
+}
+
+// Whether every byte is 0.
+pub fn all_zero(bytes: &[u8]) -> bool
+    ensures { λ r. ⌜ r ≡ allZero (now (bytes .entry)) ⌝ }
+{
+    let mut i: usize = 0;
+    while i < bytes.len() {
+        if bytes[i] != 0 {
+            return false;
+        }
+        i += 1;
+    }
+    true
+}
+
+// Fills with zeros.
+pub fn clear(bytes: &mut [u8])
+    ensures { λ _. ⌜ now (bytes .exit) ≡ replicate (length (now (bytes .entry))) 0 ⌝ }
+{
+    let mut i: usize = 0;
+    while i < bytes.len() {
+        bytes[i] = 0;
+        i += 1;
+    }
 }

@@ -1,7 +1,7 @@
 // What is being run by a script: a machine with its journal in a lent area, its start, and its calls, each with its answer line.
 ghost use mathlib.Core.Path.{_≡_};
 ghost use Prim.Native.Nat.{ℕ, _≤_};
-ghost use lib.ListN.{length, replicate};
+ghost use lib.ListN.{length};
 ghost use Rattle.session.specs.Session.{Ready};
 use consumer::Settings;
 use consumer::starts::StartAnswer;
@@ -74,17 +74,6 @@ pub fn says(session: Session, out: &mut [u8], at: usize, text: &[u8]) -> Done
     }
 }
 
-// Fills with zeros.
-fn clear(bytes: &mut [u8])
-    ensures { λ _. ⌜ now (bytes .exit) ≡ replicate (length (now (bytes .entry))) 0 ⌝ }
-{
-    let mut i: usize = 0;
-    while i < bytes.len() {
-        bytes[i] = 0;
-        i += 1;
-    }
-}
-
 // A start on the first bytes of the area, which are zeroed; refused, it leaves what was there.
 pub fn start(
     session: Session,
@@ -110,7 +99,7 @@ pub fn start(
     if area.len() < len {
         return says(session, out, at, b"refused 4\n");
     }
-    clear(&mut area[..len]);
+    raw::clear(&mut area[..len]);
     let machine = started.machine;
     Done {
         session: Session {

@@ -1,13 +1,13 @@
--- `all_zero` meets its contract. The invariant: the answer for the bytes from i on is the answer for all.
+-- `raw::all_zero` meets its contract. The invariant: the answer for the bytes from i on is the answer for all.
 -- Assumes nothing.
 use Prim.Native.Nat.{_-_, _≤_}
 use native.Mathlib.Omega.{arith}
 use mathlib.Core.Path.{_≡_, refl}
 use lib.ListN.{length, drop}
-use Rattle.journal.specs.Sound.{allZero}
-use Rattle.journal.proofs.Sound.{zero-more, zero-not, zero-all}
-use Rattle.faults.proofs.all_zero.Statement.{statement}
-use Rattle.faults.proofs.all_zero.Tie as tie
+use Rattle.raw.specs.Bytes.{allZero}
+use Rattle.raw.proofs.Zeros.{zero-more, zero-not, zero-all}
+use Rattle.raw.proofs.all_zero.Statement.{statement}
+use Rattle.raw.proofs.all_zero.Tie as tie
 
 abbrev Inv-loop : tie.InvT-loop
 Inv-loop bytes i₀ i = (i ≤ length bytes) × (allZero (drop i bytes) ≡ allZero bytes)

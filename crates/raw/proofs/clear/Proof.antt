@@ -1,12 +1,12 @@
--- `journal::clear` meets its contract. The invariant: zeros stand up to i, and behind them what stood there. Assumes
+-- `raw::clear` meets its contract. The invariant: zeros stand up to i, and behind them what stood there. Assumes
 -- nothing.
 use Prim.Native.Nat.{_-_}
 use native.Mathlib.Omega.{arith}
 use borrow.Author.Needs.{needs}
 use lib.ListN.{length}
-use Rattle.journal.proofs.Writer.{Clearing, clear-none, clear-more, cleared}
-use Rattle.journal.proofs.clear.Statement.{statement}
-use Rattle.journal.proofs.clear.Tie as tie
+use Rattle.raw.proofs.Zeros.{Clearing, clear-none, clear-more, cleared}
+use Rattle.raw.proofs.clear.Statement.{statement}
+use Rattle.raw.proofs.clear.Tie as tie
 
 abbrev Inv-loop : tie.InvT-loop
 Inv-loop bytes₀ i₀ bytes i = Clearing bytes₀ bytes i
