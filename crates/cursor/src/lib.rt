@@ -565,6 +565,13 @@ impl AckCursor {
         AckCursor::resume(Offset::ZERO)
     }
 
+    // The same.
+    pub fn default() -> AckCursor
+        ensures { λ r. ⌜ Fresh 0 r ⌝ }
+    {
+        AckCursor::new()
+    }
+
     // A cursor at a committed offset with nothing acked ahead of it.
     pub fn resume(committed: Offset) -> AckCursor
         ensures { λ r. ⌜ Fresh (committed .0) r ⌝ }

@@ -30,6 +30,13 @@ impl Offset {
     // The first offset in a log.
     pub const ZERO: Offset = Offset(0);
 
+    // The first offset.
+    pub fn default() -> Offset
+        ensures { λ r. ⌜ r ≡ offset 0 ⌝ }
+    {
+        Offset::ZERO
+    }
+
     // Wraps a raw number.
     pub fn new(value: u64) -> Offset
         ensures { λ r. ⌜ r ≡ offset value ⌝ }
