@@ -19,7 +19,7 @@ use ghost.Atoms.{Atoms, sem}
 use contract.Monad.{Fun, fact}
 use contract.Running.{givenOf, tables, tablesOf}
 use types.Kit.{Given, Item, ‵, raw, _⊛_, some, later, ⋆, _$_, _∵_, !, qed, by, move, keep, drop, use1, use2, split, join, pick, rewrite, fsplit, fsplit3, fjoin, fjoin3, feqL, feqI, suffices, frame, await, done}
-use types.Run.{look, look-raw, store-raw, init, forget, stop, hop, fld, from, load, unit-lit, and-then, no-more, of-opd, addr, assigns, land, returns, enter, alloc1, alloc0, params1, pass1, pass0, free1, free0}
+use types.Run.{look, store-raw, init, forget, stop, hop, fld, from, load, unit-lit, and-then, no-more, of-opd, addr, assigns, land, returns, enter, alloc1, alloc0, params1, pass1, pass0, free1, free0}
 use types.Part.{whole, sub, look-in, store-in, agg}
 use types.SemTy.{Body}
 use sound.WpLaws.{FmC, fmOf, WpFn-mono}
@@ -46,11 +46,11 @@ use Rattle.machine.specs.View.{Sound}
 use Rattle.machine.specs.declared.Machine.{Machine}
 use Rattle.machine.proofs.Machine as TMachine
 use Rattle.machine.proofs.Machine.Laws as TMachine′
-use Rattle.consumer.proofs.checkpoint.Writing as TWriting
-use Rattle.consumer.proofs.checkpoint.Writing.Laws as TWriting′
 use Rattle.consumer.specs.declared.Consumer.{Consumer}
 use Rattle.consumer.proofs.Consumer as TConsumer
 use Rattle.consumer.proofs.Consumer.Laws as TConsumer′
+use Rattle.checkpoint.proofs.Writing as TWriting
+use Rattle.checkpoint.proofs.Writing.Laws as TWriting′
 use Rattle.wire.specs.declared.numbers.Numbers.{Numbers}
 use Rattle.wire.proofs.numbers.Numbers as TNumbers
 use Rattle.wire.proofs.numbers.Numbers.Laws as TNumbers′
