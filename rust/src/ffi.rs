@@ -60,7 +60,7 @@ struct Consumer {
     delivery: DeliveryConfig,
 }
 
-// consumer: Writing
+// checkpoint: Writing
 #[repr(C)]
 struct Writing {
     consumer: Consumer,

@@ -6,10 +6,10 @@ use Rattle.types.specs.Refusal.{numbered, Result, answered}
 use Rattle.types.specs.Refusal as refusal
 use Rattle.attempt.specs.Codec.{decodeOf}
 use Rattle.cursor.specs.Answers.{snapshotError}
-use Rattle.consumer.specs.declared.checkpoint.BeginAnswer.{BeginAnswer}
-use Rattle.consumer.specs.declared.checkpoint.BeginAnswer.the-variants as begins
-use Rattle.consumer.specs.declared.starts.StartAnswer.{StartAnswer}
-use Rattle.consumer.specs.declared.starts.StartAnswer.the-variants as starts
+use Rattle.checkpoint.specs.declared.BeginAnswer.{BeginAnswer}
+use Rattle.checkpoint.specs.declared.BeginAnswer.the-variants as begins
+use Rattle.starts.specs.declared.StartAnswer.{StartAnswer}
+use Rattle.starts.specs.declared.StartAnswer.the-variants as starts
 use Rattle.answers.specs.declared.Told.{Told}
 
 abbrev pub with : ℕ → ℕ → ℕ → ℕ → Told

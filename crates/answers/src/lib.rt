@@ -5,19 +5,19 @@ ghost use Rattle.types.specs.Refusal.{numbered};
 ghost use Rattle.cursor.specs.Answers.{rangesError, snapshotError};
 ghost use Rattle.attempt.specs.Codec.{decodeOf};
 ghost use Rattle.consumer.specs.View.{claimOf, settleOf, nackOf, progressOf, commitOf};
-ghost use Rattle.consumer.specs.Writing.{stepOf};
+ghost use Rattle.checkpoint.specs.Writing.{stepOf};
 ghost use Rattle.answers.specs.Told.{with, toldOf, refusalIn, beginRefusal, faultIn};
 use attempt::Decode;
+use checkpoint::BeginAnswer;
+use checkpoint::StepAnswer;
 use consumer::calls::ClaimAnswer;
 use consumer::calls::CommitAnswer;
 use consumer::calls::NackAnswer;
 use consumer::calls::ProgressAnswer;
 use consumer::calls::SettleAnswer;
-use consumer::checkpoint::BeginAnswer;
-use consumer::checkpoint::StepAnswer;
-use consumer::starts::StartAnswer;
 use cursor::AckCursorError;
 use cursor::SnapshotError;
+use starts::StartAnswer;
 
 // A number of document 01 and the first `count` of two values.
 pub struct Told {

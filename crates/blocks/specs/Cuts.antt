@@ -1,7 +1,7 @@
 -- What a line's power failure is, and the block that a step wrote.
 use Prim.Native.Nat.{ℕ}
-use Rattle.consumer.specs.declared.checkpoint.StepAnswer.{StepAnswer}
-use Rattle.consumer.specs.declared.checkpoint.StepAnswer.the-variants as steps
+use Rattle.checkpoint.specs.declared.StepAnswer.{StepAnswer}
+use Rattle.checkpoint.specs.declared.StepAnswer.the-variants as steps
 use Rattle.machine.specs.declared.calls.CallAnswer.{CallAnswer}
 use Rattle.machine.specs.declared.calls.CallAnswer.the-variants as calls
 use Rattle.power_cut.specs.declared.Kind.{Kind}

@@ -4,7 +4,7 @@ ghost use lib.ListN.{length};
 ghost use Rattle.machine.specs.View.{Sound};
 ghost use Rattle.session.specs.Session.{Ready};
 ghost use Rattle.blocks.specs.Cuts.{writtenBy, kindOf};
-use consumer::checkpoint::StepAnswer;
+use checkpoint::StepAnswer;
 use machine::Machine;
 use machine::calls::Call;
 use machine::calls::CallAnswer;

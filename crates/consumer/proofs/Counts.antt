@@ -9,21 +9,19 @@ use mathlib.Core.List.{List, [], _∷_}
 use mathlib.Core.Option.{Option, none, some}
 use lib.Dec.{eqb}
 use lib.ListN.{length}
-use borrow.Author.Tests.{eqb-true, ne-eqb}
-use Rattle.types.specs.Limits.{MAX, MAX32, PAIRS, sat32}
+use borrow.Author.Tests.{eqb-true}
+use Rattle.types.specs.Limits.{PAIRS, sat32}
 use Rattle.types.specs.Keyed.{Entry, lookup, put, Rising, All, mapValues}
 use Rattle.types.proofs.Cases.{split}
 use Rattle.types.proofs.Keyed.{lookup-put-same, lookup-put-other, lookup-under, rising-put, length-put, all-put, all-of-lookup, lookup-all}
 use Rattle.types.proofs.Entries.{absent, all-imply}
 use Rattle.cursor.specs.Cursor.{settled}
-use Rattle.attempt.specs.Snapshot.{PairsFit}
 use Rattle.lease.specs.declared.Lease.{Lease}
 use Rattle.lease.specs.State.{Counted}
 use Rattle.lease.specs.Operations.{leaseOf, handedOut, nextCount}
 use Rattle.lease.specs.Counts.{raiseAll, allAttemptCounts}
 use Rattle.consumer.specs.State.{State, countOr0}
 use Rattle.consumer.specs.Questions.{countOf}
-use Rattle.consumer.specs.Restart.{unsettledCounts}
 use Rattle.consumer.specs.Valid.{Valid}
 
 -- ## What the leases make of the carried counts
@@ -132,20 +130,6 @@ module _ (s : State) (v : Valid s) where
   pub counts-counted : All Counted (allAttemptCounts (s .table))
   counts-counted = all-imply Unsettled Counted (allAttemptCounts (s .table)) (λ o n h. h .0) counts-all
 
-  pub counts-fit : PairsFit (allAttemptCounts (s .table))
-  counts-fit =
-      all-imply Counted (λ o n. (o ≤ MAX) × (n ≤ MAX32)) (allAttemptCounts (s .table)) (λ o n h. (h .offset-fits, h .count-fits)) counts-counted
-
   pub counts-unsettled : All (λ o n. settled (s .cursor) o ≡ false) (allAttemptCounts (s .table))
   counts-unsettled =
       all-imply Unsettled (λ o n. settled (s .cursor) o ≡ false) (allAttemptCounts (s .table)) (λ o n h. h .1) counts-all
-
-  -- a restart drops none of them
-  pub counts-carried : unsettledCounts (s .cursor) (allAttemptCounts (s .table)) ≡ allAttemptCounts (s .table)
-  counts-carried = go (allAttemptCounts (s .table)) counts-all
-    where
-      go : (l : List (Entry ℕ)) → All Unsettled l → unsettledCounts (s .cursor) l ≡ l
-      go [] a = refl
-      go (e ∷ l) a =
-          rw (ne-eqb (e .value) 0 (λ z. omega (arith, a .0 .0 .once)), a .0 .1)
-          (ap (λ (t : List (Entry ℕ)). e ∷ t) (go l (a .1)))

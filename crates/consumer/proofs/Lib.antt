@@ -7,14 +7,5 @@ pub mod CallsReturns
 pub mod CallsClaim
 pub mod CallsToken
 pub mod CallsCommit
-pub mod Payload
-pub mod Restart
 pub mod Questions
-pub mod Starting
 pub mod Asked
-pub mod Writing
-pub mod Encoding
-pub mod Carrying
-pub mod Resuming
-pub mod Reading
-pub mod Restarting

@@ -1,29 +1,24 @@
--- What each refusal table says where none of its tests holds, by name, and every answer of each call: a refusal, which keeps the
--- state, or the effect with these facts. A row more in a table is a field more here and moves nothing else. Assumes nothing.
-use Prim.Native.Nat.{ℕ, suc, _+_, _≤_, _<_}
-use native.Mathlib.Omega.{arith}
+-- What the refusal table of each call says where none of its tests holds, by name, and every answer of each: a refusal, which keeps
+-- the state, or the effect with these facts. A row more in a table is a field more here and moves nothing else. Assumes nothing.
+use Prim.Native.Nat.{ℕ, _+_, _≤_, _<_}
 use mathlib.Core.Path.{_≡_, refl}
 use mathlib.Core.Bool.{Bool, true, false, not, _&&_, true≢false}
 use mathlib.Core.Option.{Option, none, some}
 use lib.Dec.{leb}
 use lib.ListN.{length}
-use borrow.Author.Tests.{ltb-false, leb-true, leb-false, eqb-true, eqb-false, not-false}
-use Rattle.types.specs.Limits.{MAX, LEASES, CARRIED, RANGES, STEPS}
+use borrow.Author.Tests.{leb-true, leb-false, eqb-true, eqb-false, not-false}
+use Rattle.types.specs.Limits.{MAX, LEASES, CARRIED, RANGES}
 use Rattle.types.specs.Refusal.{Refusal, refused, done}
 use Rattle.types.specs.Table.{Passed, Answer, answer}
 use Rattle.types.specs.Keyed.{lookup, update, anyBelow}
 use Rattle.types.proofs.Cases.{split, neither}
-use Rattle.types.proofs.Table.{guarded-cases, checked-done}
+use Rattle.types.proofs.Table.{guarded-cases}
 use Rattle.cursor.specs.Cursor.{settled, ackBounded}
-use Rattle.delivery.specs.Policy.{unlimited}
 use Rattle.lease.specs.declared.Lease.{Lease}
 use Rattle.lease.specs.State.{Table, withLeases}
 use Rattle.lease.specs.Operations.{leaseOf, isNone, running, owns, tokenRow, capFrom, startOf, dueAt, extended, extend, extendRows}
-use Rattle.journal.specs.Area.{badLength}
-use Rattle.consumer.specs.State.{Settings, State, withTable, blocksOf}
+use Rattle.consumer.specs.State.{State, withTable}
 use Rattle.consumer.specs.Calls.{HandOut, handOut, atCeiling, atThreshold, isFull, claimTable, claimed, claim, isShed, ackTable, acked, ack, nackDeadline, nackTable, nacked, nack, onTable, progress, commitTable, committedTo, commit}
-use Rattle.consumer.specs.Checkpoint.{bodies, Writing, writing, beginTable, begin}
-use Rattle.consumer.specs.Restart.{startTable, fresh, start}
 
 -- ## claim
 pub record ClaimOpen (s : State) (o now : ℕ) : Type 0 where
@@ -162,38 +157,3 @@ commit-cases s bound P refusal unchanged effect =
     split (leb bound (s .cursor .committed))
     (λ e. rw e (unchanged (leb-true bound (s .cursor .committed) e)))
     (λ e. rw e (guarded-cases (commitTable s bound) s _ P (λ r q. refusal r) (λ p. effect (commit-open s bound e p))))
-
--- ## begin
-pub record BeginOpen (s : State) : Type 0 where
-  pub room : s .seat .block + suc (bodies s) ≤ blocksOf s
-
-pub begin-open : (s : State) → Passed (beginTable s) → BeginOpen s
-begin-open s p = record { room = ltb-false (blocksOf s) (s .seat .block + suc (bodies s)) (p .0) }
-
-pub begin-says : (s : State) (w : Writing) → begin s ≡ done w → BeginOpen s × (writing s 0 ≡ w)
-unfolding begin
-begin-says s w e =
-    let d = checked-done (beginTable s) (writing s 0) w e in
-    (begin-open s (d .0), d .1)
-
--- ## start
-pub record StartOpen (c : Settings) (size : ℕ) : Type 0 where
-  pub allowed : (unlimited (c .policy .maxDeliver) && not (c .policy .allowUnlimited)) ≡ false
-  pub few-steps : length (c .policy .backoff) ≤ STEPS
-  pub some-threshold : 0 < c .policy .flushRedeliveries
-  pub area : badLength size ≡ false
-
-pub start-open : (c : Settings) (size : ℕ) → Passed (startTable c size) → StartOpen c size
-start-open c size p =
-    record {
-      allowed = p .0;
-      few-steps = ltb-false STEPS (length (c .policy .backoff)) (p .1 .0);
-      some-threshold = omega (arith, eqb-false (c .policy .flushRedeliveries) 0 (p .1 .1 .0));
-      area = p .1 .1 .1 .0;
-    }
-
-pub start-says : (c : Settings) (size : ℕ) (s : State) → start c size ≡ done s → StartOpen c size × (fresh c size ≡ s)
-unfolding start
-start-says c size s e =
-    let d = checked-done (startTable c size) (fresh c size) s e in
-    (start-open c size (d .0), d .1)

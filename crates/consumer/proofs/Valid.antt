@@ -1,6 +1,6 @@
--- Every answer of every call keeps what holds of a state; so do a begin and every step of what holds of a record, and the last one
--- gives a state back. A call changes cursor and table alone, so that `changed` leaves little to be shown of it. Assumes nothing.
-use Prim.Native.Nat.{ℕ, _+_, _≤_, _<_}
+-- Every answer of every call keeps what holds of a state. A call changes cursor and table alone, so that `changed` leaves little to be
+-- shown of it. Assumes nothing.
+use Prim.Native.Nat.{ℕ, _+_, _≤_}
 use native.Mathlib.Omega.{arith}
 use mathlib.Core.Path.{_≡_, refl, sym, _∙_}
 use mathlib.Core.Bool.{Bool, true, false, _&&_, _||_, true≢false}
@@ -8,13 +8,12 @@ use mathlib.Core.List.{List}
 use mathlib.Core.Option.{Option, none, some}
 use lib.Dec.{ltb, leb, eqb}
 use lib.ListN.{length}
-use borrow.Author.Tests.{leb-false, eqb-true, ne-eqb, lt-leb}
+use borrow.Author.Tests.{eqb-true, ne-eqb, lt-leb}
 use Rattle.types.specs.Limits.{MAX, LEASES, CARRIED, RANGES}
 use Rattle.types.specs.Refusal.{done}
 use Rattle.types.specs.Table.{Answer}
 use Rattle.types.specs.Keyed.{Entry, lookup, put, update}
 use Rattle.types.proofs.Cases.{split}
-use Rattle.types.proofs.Table.{guarded-cases}
 use Rattle.types.proofs.Keyed.{lookup-put-other, lookup-delete-same, lookup-delete-other, lookup-drop-below, lookup-keep-above, length-put, length-put-old, length-delete, length-delete-old, length-update, length-dropBelow}
 use Rattle.consumer.proofs.Updates.{lookup-update-other}
 use Rattle.types.proofs.Entries.{absent}
@@ -25,12 +24,11 @@ use Rattle.lease.specs.declared.Lease.{Lease}
 use Rattle.lease.specs.State.{Table}
 use Rattle.lease.specs.State as leases
 use Rattle.lease.specs.Operations.{lease, deadlineFrom, leaseOf, isNone, nextCount, consumed, afterGrant, grant, dueAt, requeuedAs, extended}
-use Rattle.lease.proofs.Valid.{valid-grant, valid-ack, valid-requeue, valid-update, valid-release, valid-flushed}
-use Rattle.consumer.specs.State.{State, withBoth, blocksOf}
+use Rattle.lease.proofs.Valid.{valid-grant, valid-ack, valid-requeue, valid-update, valid-release}
+use Rattle.consumer.specs.State.{State, withBoth}
 use Rattle.consumer.specs.Calls.{HandOut, claimed, claim, isShed, acked, ack, nackDeadline, nacked, nack, progress, committedTo, commit}
-use Rattle.consumer.specs.Checkpoint.{bodies, flushed, Writing, begin, isLast, nextPlace, going, leftBy, Wrote, Lent, lent, stepTable, step}
-use Rattle.consumer.specs.Valid.{Leased, Valid, ValidWriting, ValidLeft}
-use Rattle.consumer.proofs.Open.{ClaimOpen, claim-cases, AckOpen, ack-cases, NackOpen, nack-cases, ProgressOpen, progressed, progress-cases, commit-cases, BeginOpen, begin-says}
+use Rattle.consumer.specs.Valid.{Leased, Valid}
+use Rattle.consumer.proofs.Open.{ClaimOpen, claim-cases, AckOpen, ack-cases, NackOpen, nack-cases, ProgressOpen, progressed, progress-cases, commit-cases}
 
 -- ## A state with another cursor and another table
 module _ (s : State) (c : Cursor) (t : Table) where
@@ -264,46 +262,3 @@ module _ (s : State) (bound : ℕ) (v : Valid s) where
 pub commit-valid : (s : State) (bound : ℕ) → bound ≤ MAX → Valid s → Valid (commit s bound .state)
 commit-valid s bound fits v =
     commit-cases s bound (λ (a : Answer Bool State). Valid (a .state)) (λ r. v) (λ h. v) (λ p. committed-valid s bound v fits)
-
--- ## A finished checkpoint
-pub flushed-valid : (s : State) → BeginOpen s → Valid s → Valid (flushed s)
-flushed-valid s p v =
-    record {
-      cursor = v .cursor;
-      table = valid-flushed (s .table) (v .table);
-      together = v .together;
-      leased = v .leased;
-      carried = v .carried;
-      under-ceiling = omega (arith, v .table .generation-fits);
-      ceiling-fits = omega arith;
-      counter = omega arith;
-      policy = v .policy;
-      area = v .area;
-      within = p .room;
-      numbered = omega (arith, v .numbered);
-    }
-
--- ## The record, from begin through every step
-pub begin-valid : (s : State) (w : Writing) → begin s ≡ done w → Valid s → ValidWriting w
-begin-valid s w e v =
-    let d = begin-says s w e in
-    rw (← d .1) (record { state = v; room = d .0 .room; few = omega arith })
-
-module _ (w : Writing) (v : ValidWriting w) where
-  -- the block that is written lies in the area
-  pub next-inside : nextPlace w < blocksOf (w .state)
-  next-inside =
-      split (isLast w)
-      (λ e. rw e (omega (arith, v .room)))
-      (λ e. rw e (omega (arith, v .room, leb-false (bodies (w .state)) (w .written) e)))
-
-  left-valid : ValidLeft (leftBy w)
-  left-valid =
-      split (isLast w)
-      (λ e. rw e (flushed-valid (w .state) (record { room = v .room }) (v .state)))
-      (λ e. rw e (record { state = v .state; room = v .room; few = omega (arith, leb-false (bodies (w .state)) (w .written) e) }))
-
-  pub step-valid : (a : List ℕ) → ValidLeft (step w a .state .left)
-  unfolding step
-  step-valid a =
-      guarded-cases (stepTable w a) (lent (going w) a) _ (λ (r : Answer Wrote Lent). ValidLeft (r .state .left)) (λ r e. v) (λ p. left-valid)

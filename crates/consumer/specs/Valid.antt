@@ -1,5 +1,5 @@
--- What holds of every state that a start, a restart on any area and every answer give, and of every writing record: the
--- invariant that the consumer's contracts require.
+-- What holds of every state that a start, a restart on any area and every answer give: the invariant that the consumer's contracts
+-- require.
 use Prim.Native.Nat.{ℕ, suc, _+_, _≤_, _<_}
 use mathlib.Core.Path.{_≡_}
 use mathlib.Core.Bool.{false, not, _&&_}
@@ -15,7 +15,6 @@ use Rattle.lease.specs.declared.Lease.{Lease}
 use Rattle.lease.specs.State as lease
 use Rattle.journal.specs.Area.{badLength}
 use Rattle.consumer.specs.State.{State, blocksOf}
-use Rattle.consumer.specs.Checkpoint.{bodies, Writing, Left, going, finished}
 
 -- a policy whose numbers are of their types
 pub record Fits (p : Policy) : Type 0 where
@@ -49,14 +48,3 @@ pub record Valid (s : State) : Type 0 where
   pub area : badLength (s .size) ≡ false
   pub within : s .seat .block ≤ blocksOf s
   pub numbered : s .seat .number ≤ suc (s .seat .block)
-
--- the same of a writing record: its group fits, and no more bodies are written than it has
-pub record ValidWriting (w : Writing) : Type 0 where
-  pub state : Valid (w .state)
-  pub room : w .state .seat .block + suc (bodies (w .state)) ≤ blocksOf (w .state)
-  pub few : w .written ≤ bodies (w .state)
-
--- and of what a step leaves
-abbrev pub ValidLeft : Left → Type 0
-ValidLeft (going w) = ValidWriting w
-ValidLeft (finished s) = Valid s

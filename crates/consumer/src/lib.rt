@@ -1,7 +1,6 @@
 // The delivery state of one consumer: which offsets are settled, who holds which until when, how often each was handed out,
 // and where the next checkpoint goes. Every call takes the state by value and gives it back beside its answer; a refusal gives
-// back the very state that it was handed. Begin takes it into a writing record, and the last step gives it back. Times are
-// nanoseconds of any clock: it may stand still or run backwards.
+// back the very state that it was handed. Times are nanoseconds of any clock: it may stand still or run backwards.
 use cursor::AckCursor;
 use delivery::DeliveryConfig;
 use lease::LeaseConfig;
@@ -9,9 +8,7 @@ use lease::LeaseTable;
 use types::Generation;
 
 pub mod calls;
-pub mod checkpoint;
 pub mod queries;
-pub mod starts;
 
 // What a consumer is started with.
 #[repr(C)]

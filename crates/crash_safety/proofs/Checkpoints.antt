@@ -11,8 +11,8 @@ use borrow.Author.Tests.{eq-eqb, le-ltb, lt-leb, le-leb}
 use Rattle.types.specs.Refusal.{done}
 use Rattle.journal.specs.Area.{writeAt}
 use Rattle.consumer.specs.State.{Settings, State, blocksOf}
-use Rattle.consumer.specs.Checkpoint as checkpoint
-use Rattle.consumer.specs.Checkpoint.{bodies, bodyOf, headerOf, flushed}
+use Rattle.checkpoint.specs.Checkpoint as checkpoint
+use Rattle.checkpoint.specs.Checkpoint.{bodies, bodyOf, headerOf, flushed}
 use Rattle.machine.specs.Calls.{begin, step, begun, stepped}
 use Rattle.machine.specs.Door.{idle, writing, Turn, door}
 use Rattle.crash_safety.specs.Runs.{Item, call, World, world, next, after, run, ends}

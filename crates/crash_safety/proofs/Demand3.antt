@@ -7,8 +7,8 @@ use mathlib.Core.List.{List}
 use Rattle.types.specs.Limits.{MAX32}
 use Rattle.types.specs.Refusal.{done}
 use Rattle.consumer.specs.State.{Settings, State}
-use Rattle.consumer.specs.Restart.{start}
 use Rattle.consumer.specs.Valid.{Fits}
+use Rattle.starts.specs.Restart.{start}
 use Rattle.crash_safety.specs.Runs.{Item, run, begins}
 use Rattle.crash_safety.specs.Demand3.{Premises, Demand3}
 use Rattle.crash_safety.proofs.Law.{emptyLedger, noted, Law, Along, restarts-right}

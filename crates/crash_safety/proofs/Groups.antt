@@ -20,7 +20,7 @@ use Rattle.journal.proofs.Sound.{headless}
 use Rattle.journal.proofs.Group.{Written, group-written, payload-written, payload-same}
 use Rattle.journal.proofs.Walks.{LastIs, at-once, behind, nothing-says, past-end, walk-ended, walk-write, walk-longer}
 use Rattle.consumer.specs.State.{Settings, Seat, seatAt}
-use Rattle.consumer.specs.Restart.{lastGroup}
+use Rattle.starts.specs.Restart.{lastGroup}
 use Rattle.crash_safety.proofs.Invariant.{Groups}
 
 -- groups whose last has its header at block i, and reads so

@@ -16,9 +16,10 @@ use Rattle.journal.specs.Sound.{heads}
 use Rattle.journal.specs.Walks.{stop, walk}
 use Rattle.consumer.specs.State.{Settings, State, Seat}
 use Rattle.consumer.specs.Questions.{countOf}
-use Rattle.consumer.specs.Checkpoint.{Writing, bodyOf}
-use Rattle.consumer.specs.Restart.{resumed, origin, lastGroup}
-use Rattle.consumer.specs.Valid.{Valid, ValidWriting}
+use Rattle.consumer.specs.Valid.{Valid}
+use Rattle.checkpoint.specs.Checkpoint.{Writing, bodyOf}
+use Rattle.checkpoint.specs.Valid.{ValidWriting}
+use Rattle.starts.specs.Restart.{resumed, origin, lastGroup}
 use Rattle.machine.specs.Door.{Phase, idle, writing, off}
 use Rattle.crash_safety.specs.Runs.{World}
 use Rattle.crash_safety.specs.Book.{Page}

@@ -8,8 +8,8 @@ use lib.Dec.{eqb}
 use lib.ListN.{length}
 use Rattle.types.proofs.Cases.{split}
 use Rattle.consumer.specs.State.{Settings}
-use Rattle.consumer.specs.Checkpoint as checkpoint
-use Rattle.consumer.specs.Restart as restarts
+use Rattle.checkpoint.specs.Checkpoint as checkpoint
+use Rattle.starts.specs.Restart as restarts
 use Rattle.machine.specs.Calls.{Ask, ask, begin, step, restart, fits}
 use Rattle.machine.specs.Door.{Phase, idle, writing, off, Turn, asked, beganAs, steppedAs, restartedAs, door}
 use Rattle.power_cut.specs.Cut.{Cut, cutOn}

@@ -22,12 +22,13 @@ use Rattle.journal.specs.Blocks.{cursorLength, attemptLength, ceilingOf}
 use Rattle.journal.proofs.Area.{whole-says, write-length}
 use Rattle.journal.proofs.Blocks.{header-length, header-ceiling, header-cursor, header-attempt}
 use Rattle.consumer.specs.State.{Settings, State}
-use Rattle.consumer.specs.Checkpoint.{cursorBytes, attemptBytes, payloadOf, bodies, newCeiling, bodyOf, headerOf, flushed}
-use Rattle.consumer.specs.Restart.{startTable, readGroup, fromWalk, restart}
 use Rattle.consumer.specs.Valid.{Accepted, Valid}
-use Rattle.consumer.proofs.Payload.{PayloadFits, payload-fits}
-use Rattle.consumer.proofs.Restart.{resumed-valid}
-use Rattle.consumer.proofs.Counts.{counts-rising, counts-fit, counts-few, counts-counted, counts-unsettled, counts-carried}
+use Rattle.consumer.proofs.Counts.{counts-rising, counts-few, counts-counted, counts-unsettled}
+use Rattle.checkpoint.specs.Checkpoint.{cursorBytes, attemptBytes, payloadOf, bodies, newCeiling, bodyOf, headerOf, flushed}
+use Rattle.checkpoint.proofs.Payload.{counts-fit, PayloadFits, payload-fits}
+use Rattle.starts.specs.Restart.{startTable, readGroup, fromWalk, restart}
+use Rattle.starts.proofs.Valid.{resumed-valid}
+use Rattle.starts.proofs.Counts.{counts-carried}
 use Rattle.crash_safety.proofs.Invariant.{Groups, Saved, restored, Journal}
 use Rattle.crash_safety.proofs.Groups.{read-same, write-outside, groups-kept, one-more}
 

@@ -4,7 +4,7 @@ use mathlib.Core.List.{List}
 use mathlib.Core.Option.{Option}
 use Rattle.types.specs.Table.{Passed}
 use Rattle.consumer.specs.State.{Settings}
-use Rattle.consumer.specs.Restart.{startTable}
+use Rattle.starts.specs.Restart.{startTable}
 use Rattle.machine.specs.Door.{Phase, idle, writing, off, Turn}
 use Rattle.crash_safety.specs.Runs.{Item, World, world, next}
 use Rattle.crash_safety.proofs.Law.{Ledger, noted, Law}

@@ -6,8 +6,8 @@ use mathlib.Core.List.{List}
 use Rattle.types.specs.Refusal.{done}
 use Rattle.types.specs.Table.{Passed}
 use Rattle.consumer.specs.State.{Settings, State}
-use Rattle.consumer.specs.Restart.{startTable, start}
 use Rattle.consumer.specs.Valid.{Fits}
+use Rattle.starts.specs.Restart.{startTable, start}
 use Rattle.crash_safety.specs.Book.{emptyBook, bookAfter}
 use Rattle.crash_safety.specs.Runs.{Item, run, ends, begins}
 use Rattle.crash_safety.proofs.Law.{Ledger, emptyLedger, noted, Law, folded, folded-book}

@@ -13,10 +13,10 @@ use Rattle.types.specs.Refusal.{Result, refused, done}
 use Rattle.types.specs.Table.{Passed}
 use Rattle.journal.specs.Area.{writeAt}
 use Rattle.consumer.specs.State.{Settings, State}
-use Rattle.consumer.specs.Checkpoint as checkpoint
-use Rattle.consumer.specs.Checkpoint.{bodies, headerOf, bodyOf, flushed, Writing, nextPlace}
-use Rattle.consumer.specs.Restart as restarts
-use Rattle.consumer.specs.Restart.{startTable}
+use Rattle.checkpoint.specs.Checkpoint as checkpoint
+use Rattle.checkpoint.specs.Checkpoint.{bodies, headerOf, bodyOf, flushed, Writing, nextPlace}
+use Rattle.starts.specs.Restart as restarts
+use Rattle.starts.specs.Restart.{startTable}
 use Rattle.machine.specs.Calls.{step, restart, restarted, failed}
 use Rattle.machine.specs.Door.{Phase, idle, writing, off, Turn, restartedAs, door}
 use Rattle.power_cut.specs.Cut.{Cut, old, new, torn, isTorn, cutAt}

@@ -9,9 +9,9 @@ use lib.ListN.{length}
 use Rattle.types.specs.Refusal.{Result, refused, done}
 use Rattle.types.proofs.Cases.{split}
 use Rattle.consumer.specs.State.{Settings, State}
-use Rattle.consumer.specs.Checkpoint as checkpoint
-use Rattle.consumer.specs.Checkpoint.{Writing}
-use Rattle.consumer.specs.Restart as restarts
+use Rattle.checkpoint.specs.Checkpoint as checkpoint
+use Rattle.checkpoint.specs.Checkpoint.{Writing}
+use Rattle.starts.specs.Restart as restarts
 use Rattle.machine.specs.Calls.{Ask, claim, ack, term, nack, progress, commit, look}
 use Rattle.machine.specs.Door.{Phase, idle, writing, off, Turn, asked, beganAs, restartedAs}
 use Rattle.power_cut.specs.Cut.{Cut, old, new, torn, isTorn, cutAt, cutOn}

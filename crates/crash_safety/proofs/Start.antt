@@ -19,10 +19,11 @@ use Rattle.journal.specs.Blocks.{kindOf}
 use Rattle.journal.specs.Sound.{heads}
 use Rattle.journal.proofs.Sound.{other-kind}
 use Rattle.consumer.specs.State.{Settings, State, seatAt}
-use Rattle.consumer.specs.Restart.{startTable, fresh, start}
 use Rattle.consumer.specs.Valid.{Fits, Valid}
-use Rattle.consumer.proofs.Open.{start-open}
-use Rattle.consumer.proofs.Restart.{walk-zeros, fresh-valid}
+use Rattle.starts.specs.Restart.{startTable, fresh, start}
+use Rattle.starts.proofs.Open.{start-open}
+use Rattle.starts.proofs.Valid.{fresh-valid}
+use Rattle.starts.proofs.Zeros.{walk-zeros}
 use Rattle.crash_safety.specs.Runs.{begins}
 use Rattle.crash_safety.specs.Book.{blank}
 use Rattle.crash_safety.specs.Demand3.{Finds}

@@ -15,12 +15,12 @@ use Rattle.types.proofs.Cases.{split}
 use Rattle.lease.specs.Counts.{allAttemptCounts}
 use Rattle.journal.specs.Area.{writeAt}
 use Rattle.consumer.specs.State.{Settings, State}
-use Rattle.consumer.specs.Checkpoint.{bodies, bodyOf, headerOf, flushed, Writing, isLast, nextPlace, step}
-use Rattle.consumer.specs.Checkpoint as checkpoint
-use Rattle.consumer.specs.Restart.{startTable}
-use Rattle.consumer.specs.Restart as restarts
-use Rattle.consumer.proofs.Open.{begin-says}
-use Rattle.consumer.proofs.Valid.{flushed-valid}
+use Rattle.checkpoint.specs.Checkpoint.{bodies, bodyOf, headerOf, flushed, Writing, isLast, nextPlace, step}
+use Rattle.checkpoint.specs.Checkpoint as checkpoint
+use Rattle.checkpoint.proofs.Open.{begin-says}
+use Rattle.checkpoint.proofs.Valid.{flushed-valid}
+use Rattle.starts.specs.Restart.{startTable}
+use Rattle.starts.specs.Restart as restarts
 use Rattle.machine.specs.Door.{Phase, idle, writing, off, Turn, beganAs, steppedAs, restartedAs}
 use Rattle.crash_safety.specs.Book.{Page, renewed}
 use Rattle.power_cut.specs.Cut.{Cut, old, new, torn, isTorn, cutAt, cutOn}

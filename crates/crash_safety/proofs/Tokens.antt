@@ -23,11 +23,12 @@ use Rattle.lease.specs.Operations.{leaseOf, owns, dueAt, requeuedAs, extend}
 use Rattle.consumer.specs.State.{Settings, State}
 use Rattle.consumer.specs.Calls as consumer
 use Rattle.consumer.specs.Calls.{HandOut, handOut, nackDeadline}
-use Rattle.consumer.specs.Checkpoint as checkpoint
-use Rattle.consumer.specs.Checkpoint.{Writing, isLast}
-use Rattle.consumer.specs.Restart as restarts
-use Rattle.consumer.specs.Restart.{startTable}
-use Rattle.consumer.proofs.Open.{claim-cases, ack-cases, Owned, nack-cases, progress-cases, commit-cases, begin-says}
+use Rattle.consumer.proofs.Open.{claim-cases, ack-cases, Owned, nack-cases, progress-cases, commit-cases}
+use Rattle.checkpoint.specs.Checkpoint as checkpoint
+use Rattle.checkpoint.specs.Checkpoint.{Writing, isLast}
+use Rattle.checkpoint.proofs.Open.{begin-says}
+use Rattle.starts.specs.Restart as restarts
+use Rattle.starts.specs.Restart.{startTable}
 use Rattle.machine.specs.Calls.{Ask, claim, ack, term, nack, progress, commit, look, Event, claimed, acked, termed, nacked, extended, committed}
 use Rattle.machine.specs.Door.{Phase, idle, writing, off, Turn, asked, beganAs, steppedAs, restartedAs}
 use Rattle.power_cut.specs.Cut.{Cut, old, new, torn, isTorn, cutAt, cutOn}

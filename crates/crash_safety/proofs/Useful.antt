@@ -23,10 +23,10 @@ use Rattle.lease.specs.Rest.{dueOffsets}
 use Rattle.consumer.specs.State.{Settings, State}
 use Rattle.consumer.specs.Calls.{HandOut, handOut, isFull, claimTable, claim, atCeiling, atThreshold}
 use Rattle.consumer.specs.Questions.{keysOf, waitingAt, countOf}
-use Rattle.consumer.specs.Checkpoint as checkpoints
-use Rattle.consumer.specs.Checkpoint.{bodies, flushed}
 use Rattle.consumer.specs.Valid.{Valid}
 use Rattle.consumer.proofs.Counts.{count-is, lease-count, carried-count}
+use Rattle.checkpoint.specs.Checkpoint as checkpoints
+use Rattle.checkpoint.specs.Checkpoint.{bodies, flushed}
 use Rattle.machine.specs.Door.{Phase, idle, writing}
 use Rattle.machine.specs.Calls.{step}
 use Rattle.crash_safety.specs.Book.{Page}

@@ -18,8 +18,8 @@ use Rattle.journal.proofs.Blocks.{body-length}
 use Rattle.journal.proofs.Sound.{unchecked, body-heads}
 use Rattle.journal.proofs.Group.{chunk-few}
 use Rattle.consumer.specs.State.{Settings, State, blocksOf}
-use Rattle.consumer.specs.Checkpoint.{payloadOf, bodies, bodyOf, headerOf, Writing, writing, isLast, nextPlace}
 use Rattle.consumer.specs.Valid.{Valid}
+use Rattle.checkpoint.specs.Checkpoint.{payloadOf, bodies, bodyOf, headerOf, Writing, writing, isLast, nextPlace}
 use Rattle.power_cut.specs.Cut.{isTorn}
 use Rattle.crash_safety.proofs.Law.{Ledger}
 use Rattle.crash_safety.proofs.Invariant.{Saved, Journal, Stands, Written}

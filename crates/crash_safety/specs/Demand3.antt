@@ -12,8 +12,8 @@ use Rattle.cursor.specs.Cursor.{settled}
 use Rattle.delivery.specs.Policy.{Destination, Deliver, DeadLetter}
 use Rattle.consumer.specs.State.{Settings, State, countOr0}
 use Rattle.consumer.specs.Calls.{HandOut}
-use Rattle.consumer.specs.Restart.{start}
 use Rattle.consumer.specs.Valid.{Fits}
+use Rattle.starts.specs.Restart.{start}
 use Rattle.machine.specs.Calls.{ask, begin, step, restart, Event, claimed, acked, termed, nacked, extended, committed, looked, begun, stepped, restarted, failed}
 use Rattle.crash_safety.specs.Runs.{Item, call, stepOn, cut, run, begins}
 use Rattle.crash_safety.specs.Book.{Page, Book, emptyBook, note}

@@ -9,9 +9,9 @@ use mathlib.Core.List.{List, [], _∷_, _++_}
 use lib.ListN.{replicate}
 use Rattle.types.specs.Refusal.{done}
 use Rattle.consumer.specs.State.{Settings, State, blocksOf}
-use Rattle.consumer.specs.Checkpoint.{bodies, Writing}
-use Rattle.consumer.specs.Restart.{start}
 use Rattle.consumer.specs.Valid.{Fits}
+use Rattle.checkpoint.specs.Checkpoint.{bodies, Writing}
+use Rattle.starts.specs.Restart.{start}
 use Rattle.machine.specs.Calls.{begin, step, restart}
 use Rattle.machine.specs.Door.{idle, writing}
 use Rattle.power_cut.specs.Cut.{Cut, old, new, torn, isTorn, cutAt}

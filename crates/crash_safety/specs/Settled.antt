@@ -8,8 +8,8 @@ use mathlib.Core.Option.{Option, none, some}
 use Rattle.types.specs.Refusal.{refused, done}
 use Rattle.cursor.specs.Cursor.{settled}
 use Rattle.consumer.specs.State.{Settings, State}
-use Rattle.consumer.specs.Restart.{start}
 use Rattle.consumer.specs.Valid.{Fits}
+use Rattle.starts.specs.Restart.{start}
 use Rattle.machine.specs.Calls.{Event, claimed, acked, termed, nacked, extended, committed, looked, begun, stepped, restarted, failed}
 use Rattle.machine.specs.Door.{Phase, idle, writing, off}
 use Rattle.crash_safety.specs.Book.{only, below}

@@ -11,8 +11,8 @@ use lib.Dec.{eqb}
 use Rattle.types.specs.Refusal.{Result, refused, done, Fenced}
 use Rattle.consumer.specs.State.{Settings, State}
 use Rattle.consumer.specs.Calls.{HandOut}
-use Rattle.consumer.specs.Restart.{start}
 use Rattle.consumer.specs.Valid.{Fits}
+use Rattle.starts.specs.Restart.{start}
 use Rattle.machine.specs.Calls.{Event, claimed, acked, termed, nacked, extended, committed, looked, begun, stepped, restarted, failed}
 use Rattle.crash_safety.specs.Book.{only, below}
 use Rattle.crash_safety.specs.Runs.{Item, run, begins}

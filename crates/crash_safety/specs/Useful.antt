@@ -13,9 +13,9 @@ use Rattle.lease.specs.Operations.{leaseOf, running}
 use Rattle.consumer.specs.State.{Settings, State}
 use Rattle.consumer.specs.Calls.{isFull, handOut, claim}
 use Rattle.consumer.specs.Questions.{waitingAt}
-use Rattle.consumer.specs.Checkpoint.{bodies, flushed}
-use Rattle.consumer.specs.Restart.{start}
 use Rattle.consumer.specs.Valid.{Fits}
+use Rattle.checkpoint.specs.Checkpoint.{bodies, flushed}
+use Rattle.starts.specs.Restart.{start}
 use Rattle.machine.specs.Calls.{Event, claimed, acked, termed, nacked, extended, committed, looked, begun, stepped, restarted, failed}
 use Rattle.machine.specs.Door.{idle}
 use Rattle.crash_safety.specs.Book.{Page, emptyBook, bookAfter}

@@ -15,9 +15,9 @@ use Rattle.journal.specs.Blocks.{headerBlock, bodyBlock}
 use Rattle.journal.specs.Sound.{isKind, formed, soundHeader, soundBody}
 use Rattle.journal.specs.Walks.{groupAt, walkOver, walkFrom, payload}
 use Rattle.consumer.specs.Calls as consumer
-use Rattle.consumer.specs.Checkpoint as checkpoint
-use Rattle.consumer.specs.Restart as restarts
-use Rattle.consumer.specs.Restart.{fresh, fromWalk}
+use Rattle.checkpoint.specs.Checkpoint as checkpoint
+use Rattle.starts.specs.Restart as restarts
+use Rattle.starts.specs.Restart.{fresh, fromWalk}
 use Rattle.examples.specs.Consumer.{settings}
 use Rattle.machine.specs.Calls.{claim, ask, begin, step, restart}
 use Rattle.machine.specs.Door.{door}

@@ -21,8 +21,8 @@ use Rattle.journal.specs.Sound.{isKind, formed, soundHeader, soundBody}
 use Rattle.journal.specs.Walks.{groupAt, walkOver, walkFrom, payload}
 use Rattle.consumer.specs.State.{Settings, State, seatAt}
 use Rattle.consumer.specs.Calls.{HandOut, claim}
-use Rattle.consumer.specs.Checkpoint.{bodies, begin, Left, going, finished, Lent, lent, step}
-use Rattle.consumer.specs.Restart.{resumed, fresh, start, fromWalk, restart}
+use Rattle.checkpoint.specs.Checkpoint.{bodies, begin, Left, going, finished, Lent, lent, step}
+use Rattle.starts.specs.Restart.{resumed, fresh, start, fromWalk, restart}
 
 -- M 2, N 1, visibility 10, cap 25
 abbrev pub settings : Settings

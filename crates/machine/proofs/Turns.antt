@@ -11,24 +11,24 @@ use Rattle.types.specs.Table.{Answer, answer, Kept}
 use Rattle.types.proofs.Table.{guarded-cases}
 use Rattle.types.proofs.Checked.{refused-not-done}
 use Rattle.consumer.specs.State.{State}
-use Rattle.consumer.specs.Checkpoint.{going, Wrote, Lent, lent, bodies, stepTable}
-use Rattle.consumer.specs.Checkpoint as checkpoint
-use Rattle.consumer.specs.Restart as restarts
 use Rattle.consumer.specs.View.{view, claimOf, settleOf, nackOf, progressOf, commitOf, Unmoved}
 use Rattle.consumer.specs.View as consumer
-use Rattle.consumer.specs.Writing.{viewWriting, SoundWriting, BegunIs, stepOf, leftOf, SoundLeft, SteppedIs}
-use Rattle.consumer.specs.Starting.{settingsOf, StartedIs}
 use Rattle.consumer.specs.declared.Consumer.{Consumer}
 use Rattle.consumer.specs.declared.Settings.{Settings}
-use Rattle.consumer.specs.declared.checkpoint.Writing.{Writing}
-use Rattle.consumer.specs.declared.checkpoint.Begun.{Begun}
-use Rattle.consumer.specs.declared.checkpoint.BeginAnswer.the-variants as begins
-use Rattle.consumer.specs.declared.checkpoint.Stepped.{Stepped}
-use Rattle.consumer.specs.declared.checkpoint.StepAnswer.{StepAnswer}
-use Rattle.consumer.specs.declared.checkpoint.StepAnswer.the-variants as steps
-use Rattle.consumer.specs.declared.starts.Started.{Started}
-use Rattle.consumer.specs.declared.starts.StartAnswer.the-variants as starts
-use Rattle.consumer.proofs.Restarting.{Other, other-faulty}
+use Rattle.checkpoint.specs.Checkpoint.{going, Wrote, Lent, lent, bodies, stepTable}
+use Rattle.checkpoint.specs.Checkpoint as checkpoint
+use Rattle.checkpoint.specs.Writing.{viewWriting, SoundWriting, BegunIs, stepOf, leftOf, SoundLeft, SteppedIs}
+use Rattle.checkpoint.specs.declared.Writing.{Writing}
+use Rattle.checkpoint.specs.declared.Begun.{Begun}
+use Rattle.checkpoint.specs.declared.BeginAnswer.the-variants as begins
+use Rattle.checkpoint.specs.declared.Stepped.{Stepped}
+use Rattle.checkpoint.specs.declared.StepAnswer.{StepAnswer}
+use Rattle.checkpoint.specs.declared.StepAnswer.the-variants as steps
+use Rattle.starts.specs.Restart as restarts
+use Rattle.starts.specs.Starting.{settingsOf, StartedIs}
+use Rattle.starts.specs.declared.Started.{Started}
+use Rattle.starts.specs.declared.StartAnswer.the-variants as starts
+use Rattle.starts.proofs.Restarting.{Other, other-faulty}
 use Rattle.machine.specs.Calls.{Ask, Call, ask, begin, step, restart, fits}
 use Rattle.machine.specs.Door.{writing, Turn, onState, onRecord, leftAs, door}
 use Rattle.machine.specs.Answers.{callOf, AskKept}

@@ -13,8 +13,8 @@ use Rattle.types.specs.declared.lent.Listed.{Listed}
 use Rattle.types.specs.declared.lent.Listed.the-variants as listed
 use Rattle.consumer.specs.Questions.{Question, Waiting, Committed, IsSettled, LeaseOf, CountOf, InFlight, IsDue, BlocksLeft, bit, leaseValues}
 use Rattle.consumer.specs.View.{claimOf, settleOf, nackOf, progressOf, commitOf, Unmoved}
-use Rattle.consumer.specs.declared.checkpoint.BeginAnswer.{BeginAnswer}
-use Rattle.consumer.specs.declared.checkpoint.BeginAnswer.the-variants as begins
+use Rattle.checkpoint.specs.declared.BeginAnswer.{BeginAnswer}
+use Rattle.checkpoint.specs.declared.BeginAnswer.the-variants as begins
 use Rattle.machine.specs.Calls.{Ask, claim, ack, term, nack, progress, commit, look, Call, ask, begin, step, restart, Event, claimed, acked, termed, nacked, extended, committed, looked, begun, stepped, restarted, failed}
 use Rattle.machine.specs.Door.{Turn}
 use Rattle.machine.specs.declared.calls.Question.the-variants as question

@@ -9,7 +9,7 @@ use Rattle.types.specs.Refusal.{Result}
 use Rattle.consumer.specs.State.{State}
 use Rattle.consumer.specs.Calls.{HandOut}
 use Rattle.consumer.specs.Questions.{Question, Waiting, IsSettled, LeaseOf, CountOf, Committed, InFlight, IsDue, BlocksLeft}
-use Rattle.consumer.specs.Checkpoint.{Wrote}
+use Rattle.checkpoint.specs.Checkpoint.{Wrote}
 
 -- what the state answers
 pub data Ask : Type 0 where

@@ -9,9 +9,9 @@ use Rattle.types.specs.Table.{Answer}
 use Rattle.consumer.specs.State.{Settings, State}
 use Rattle.consumer.specs.Calls as consumer
 use Rattle.consumer.specs.Questions.{reply}
-use Rattle.consumer.specs.Checkpoint as checkpoint
-use Rattle.consumer.specs.Checkpoint.{Writing, bodies, Left, going, finished, Wrote, Lent}
-use Rattle.consumer.specs.Restart as restarts
+use Rattle.checkpoint.specs.Checkpoint as checkpoint
+use Rattle.checkpoint.specs.Checkpoint.{Writing, bodies, Left, going, finished, Wrote, Lent}
+use Rattle.starts.specs.Restart as restarts
 use Rattle.machine.specs.Calls.{Ask, claim, ack, term, nack, progress, commit, look, Call, ask, begin, step, restart, fits, Event, claimed, acked, termed, nacked, extended, committed, looked, begun, stepped, restarted}
 
 -- who can be called: the state, a writing record, or nobody, as after a power failure

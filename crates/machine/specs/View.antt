@@ -7,16 +7,16 @@ use Rattle.types.specs.Refusal.{Result, refused, done}
 use Rattle.types.specs.Table.{Kept, unless}
 use Rattle.consumer.specs.State.{State}
 use Rattle.consumer.specs.Questions.{Question, reply}
-use Rattle.consumer.specs.Restart as restarts
 use Rattle.consumer.specs.View.{view}
 use Rattle.consumer.specs.View as consumer
-use Rattle.consumer.specs.Writing.{viewWriting, SoundWriting, stepOf}
-use Rattle.consumer.specs.Starting.{settingsOf, startFault, startOf}
 use Rattle.consumer.specs.declared.Consumer.{Consumer}
 use Rattle.consumer.specs.declared.Settings.{Settings}
-use Rattle.consumer.specs.declared.checkpoint.Writing.{Writing}
-use Rattle.consumer.specs.declared.checkpoint.StepAnswer.{StepAnswer}
-use Rattle.consumer.specs.declared.checkpoint.StepAnswer.the-variants as steps
+use Rattle.checkpoint.specs.Writing.{viewWriting, SoundWriting, stepOf}
+use Rattle.checkpoint.specs.declared.Writing.{Writing}
+use Rattle.checkpoint.specs.declared.StepAnswer.{StepAnswer}
+use Rattle.checkpoint.specs.declared.StepAnswer.the-variants as steps
+use Rattle.starts.specs.Restart as restarts
+use Rattle.starts.specs.Starting.{settingsOf, startFault, startOf}
 use Rattle.machine.specs.Calls.{Ask, Call, ask, begin, step, restart, begun, stepped, restarted}
 use Rattle.machine.specs.Door.{Phase, idle, writing, off, Turn, turn, asked, door}
 use Rattle.machine.specs.Answers.{replyOf, Arguments, noArguments, argumentsIn, argumentsOf, askedBy, seenOf, AskKept, begunOf, filledWith, listIn, outAfter}

@@ -1,17 +1,17 @@
 // The calls that go through the door, and what they are answered.
+use checkpoint::BeginAnswer;
+use checkpoint::StepAnswer;
 use consumer::Consumer;
 use consumer::calls::ClaimAnswer;
 use consumer::calls::CommitAnswer;
 use consumer::calls::NackAnswer;
 use consumer::calls::ProgressAnswer;
 use consumer::calls::SettleAnswer;
-use consumer::checkpoint::BeginAnswer;
-use consumer::checkpoint::StepAnswer;
 use consumer::queries::Due;
-use consumer::starts::StartAnswer;
 use delivery::Delay;
 use lease::LeaseToken;
 use lease::lookup::LeaseAt;
+use starts::StartAnswer;
 use types::Offset;
 use types::lent::Listed;
 

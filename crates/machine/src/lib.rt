@@ -10,12 +10,12 @@ ghost use Rattle.machine.specs.View.{Sound, StartedIs, OffIs, CalledIs, 
 use crate::calls::Ask;
 use crate::calls::Call;
 use crate::calls::CallAnswer;
+use checkpoint::BeginAnswer;
+use checkpoint::StepAnswer;
+use checkpoint::Writing;
 use consumer::Consumer;
 use consumer::Settings;
-use consumer::checkpoint::BeginAnswer;
-use consumer::checkpoint::StepAnswer;
-use consumer::checkpoint::Writing;
-use consumer::starts::StartAnswer;
+use starts::StartAnswer;
 
 pub mod asks;
 pub mod calls;
@@ -72,7 +72,7 @@ impl Machine {
     pub fn start(settings: Settings, area_len: usize) -> Started
         ensures { λ r. ⌜ StartedIs settings «area_len» r ⌝ }
     {
-        let started = Consumer::start(settings, area_len);
+        let started = starts::start(settings, area_len);
         let answer = started.answer;
         let consumer = started.consumer;
         let StartAnswer::Started = answer else {
@@ -91,7 +91,7 @@ impl Machine {
     pub fn off(settings: Settings) -> Machine
         ensures { λ r. ⌜ OffIs settings r ⌝ }
     {
-        let started = Consumer::start(settings, 0);
+        let started = starts::start(settings, 0);
         let consumer = started.consumer;
         Machine::resting(settings, 2, consumer)
     }
@@ -134,7 +134,7 @@ impl Machine {
                 machine: self,
             };
         }
-        let begun = self.writing.consumer.begin();
+        let begun = checkpoint::begin(self.writing.consumer);
         let answer = begun.answer;
         let BeginAnswer::Begun { writes: _ } = answer else {
             return Called {
@@ -185,7 +185,7 @@ impl Machine {
         ensures { λ r. ⌜ ((out : List ℕ) → CalledIs self restart (now (area .entry)) out r (now (area .entry)) out) ⌝ }
     {
         let settings = self.settings;
-        let started = Consumer::restart(settings, area);
+        let started = starts::restart(settings, area);
         let answer = started.answer;
         let consumer = started.consumer;
         let StartAnswer::Started = answer else {

@@ -21,15 +21,15 @@ use Rattle.journal.proofs.Area.{whole-says, inside-says, write-length}
 use Rattle.journal.proofs.Blocks.{header-length, body-length}
 use Rattle.journal.proofs.Group.{chunk-few}
 use Rattle.consumer.specs.State.{blocksOf}
-use Rattle.consumer.specs.Checkpoint.{payloadOf, bodies, isLast, nextPlace, nextBlock, leftBy, Wrote, Lent, lent, step}
-use Rattle.consumer.specs.Checkpoint as checkpoint
 use Rattle.consumer.specs.View.{view}
-use Rattle.consumer.specs.Writing.{viewWriting, SoundWriting, stepOf, SteppedIs}
-use Rattle.consumer.specs.declared.checkpoint.Writing.{Writing}
-use Rattle.consumer.specs.declared.checkpoint.Stepped.{Stepped}
-use Rattle.consumer.specs.declared.checkpoint.StepAnswer.{StepAnswer}
-use Rattle.consumer.specs.declared.checkpoint.StepAnswer.the-variants as steps
-use Rattle.consumer.proofs.Writing.{into-inside}
+use Rattle.checkpoint.specs.Checkpoint.{payloadOf, bodies, isLast, nextPlace, nextBlock, leftBy, Wrote, Lent, lent, step}
+use Rattle.checkpoint.specs.Checkpoint as checkpoint
+use Rattle.checkpoint.specs.Writing.{viewWriting, SoundWriting, stepOf, SteppedIs}
+use Rattle.checkpoint.specs.declared.Writing.{Writing}
+use Rattle.checkpoint.specs.declared.Stepped.{Stepped}
+use Rattle.checkpoint.specs.declared.StepAnswer.{StepAnswer}
+use Rattle.checkpoint.specs.declared.StepAnswer.the-variants as steps
+use Rattle.checkpoint.proofs.Steps.{into-inside}
 use Rattle.machine.specs.Calls.{failed}
 use Rattle.machine.specs.Door.{off, turn}
 use Rattle.machine.specs.View.{phaseOf, Sound}

@@ -8,7 +8,7 @@ use lib.Dec.{eqb}
 use lib.ListN.{length}
 use Rattle.crc.specs.Seal.{isSealed}
 use Rattle.journal.specs.Area.{writeAt}
-use Rattle.consumer.specs.Checkpoint.{Writing, isLast, nextPlace, nextBlock}
+use Rattle.checkpoint.specs.Checkpoint.{Writing, isLast, nextPlace, nextBlock}
 use Rattle.machine.specs.Calls.{failed}
 use Rattle.machine.specs.Door.{Phase, off, onRecord, Turn, turn}
 

@@ -5,9 +5,9 @@ use mathlib.Core.Bool.{Bool, true, false}
 use mathlib.Core.List.{List}
 use mathlib.Core.Option.{Option, none}
 use lib.ListN.{length}
-use Rattle.consumer.specs.Writing.{SoundWriting}
-use Rattle.consumer.specs.declared.checkpoint.StepAnswer.{StepAnswer}
-use Rattle.consumer.specs.declared.checkpoint.StepAnswer.the-variants as steps
+use Rattle.checkpoint.specs.Writing.{SoundWriting}
+use Rattle.checkpoint.specs.declared.StepAnswer.{StepAnswer}
+use Rattle.checkpoint.specs.declared.StepAnswer.the-variants as steps
 use Rattle.machine.specs.Calls.{failed}
 use Rattle.machine.specs.Door.{Turn, turn}
 use Rattle.machine.specs.View.{phaseOf, Sound, held}

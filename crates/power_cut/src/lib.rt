@@ -3,7 +3,7 @@ ghost use mathlib.Core.Path.{_≡_};
 ghost use Rattle.machine.specs.View.{Sound};
 ghost use Rattle.power_cut.specs.Cut.{new, torn};
 ghost use Rattle.power_cut.specs.View.{cutOf, CutIs, Stepping, OffIs, placeOf, isHeader};
-use consumer::checkpoint::StepAnswer;
+use checkpoint::StepAnswer;
 use machine::Machine;
 
 // What the failure leaves of the block being written: what it was, what it was to be, or bytes whose check fails.

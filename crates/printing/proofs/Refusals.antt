@@ -8,7 +8,6 @@ use Rattle.answers.specs.Told.{refusalIn, beginRefusal, faultIn}
 use Rattle.shown.specs.Shown.{numberLine, refusalLine}
 use Rattle.text.specs.Output.{ascii}
 use Rattle.consumer.specs.View.{claimOf, settleOf, nackOf, progressOf, commitOf}
-use Rattle.consumer.specs.Writing.{stepOf}
 use Rattle.consumer.specs.declared.calls.ClaimAnswer.{ClaimAnswer}
 use Rattle.consumer.specs.declared.calls.ClaimAnswer.the-variants as claim
 use Rattle.consumer.specs.declared.calls.SettleAnswer.{SettleAnswer}
@@ -19,20 +18,21 @@ use Rattle.consumer.specs.declared.calls.ProgressAnswer.{ProgressAnswer}
 use Rattle.consumer.specs.declared.calls.ProgressAnswer.the-variants as progress
 use Rattle.consumer.specs.declared.calls.CommitAnswer.{CommitAnswer}
 use Rattle.consumer.specs.declared.calls.CommitAnswer.the-variants as commit
-use Rattle.consumer.specs.declared.checkpoint.BeginAnswer.{BeginAnswer}
-use Rattle.consumer.specs.declared.checkpoint.BeginAnswer.the-variants as begins
-use Rattle.consumer.specs.declared.checkpoint.StepAnswer.{StepAnswer}
-use Rattle.consumer.specs.declared.checkpoint.StepAnswer.the-variants as steps
-use Rattle.consumer.specs.declared.starts.StartAnswer.{StartAnswer}
-use Rattle.consumer.specs.declared.starts.StartAnswer.the-variants as starts
 use Rattle.consumer.proofs.calls.ClaimAnswer as claims
 use Rattle.consumer.proofs.calls.SettleAnswer as settles
 use Rattle.consumer.proofs.calls.NackAnswer as nacks
 use Rattle.consumer.proofs.calls.ProgressAnswer as progresses
 use Rattle.consumer.proofs.calls.CommitAnswer as commits
-use Rattle.consumer.proofs.checkpoint.BeginAnswer as beginnings
-use Rattle.consumer.proofs.checkpoint.StepAnswer as stepping
-use Rattle.consumer.proofs.starts.StartAnswer as startings
+use Rattle.checkpoint.specs.Writing.{stepOf}
+use Rattle.checkpoint.specs.declared.BeginAnswer.{BeginAnswer}
+use Rattle.checkpoint.specs.declared.BeginAnswer.the-variants as begins
+use Rattle.checkpoint.specs.declared.StepAnswer.{StepAnswer}
+use Rattle.checkpoint.specs.declared.StepAnswer.the-variants as steps
+use Rattle.checkpoint.proofs.BeginAnswer as beginnings
+use Rattle.checkpoint.proofs.StepAnswer as stepping
+use Rattle.starts.specs.declared.StartAnswer.{StartAnswer}
+use Rattle.starts.specs.declared.StartAnswer.the-variants as starts
+use Rattle.starts.proofs.StartAnswer as startings
 use Rattle.machine.specs.Answers.{begunOf}
 use Rattle.machine.specs.declared.calls.Reply.{Reply}
 use Rattle.machine.specs.declared.calls.Reply.the-variants as reply

@@ -12,11 +12,11 @@ use Rattle.answers.specs.Told.{faultIn}
 use Rattle.shown.specs.Shown.{numberLine, refusalLine}
 use Rattle.delivery.specs.Policy.{Destination, Deliver, DeadLetter}
 use Rattle.consumer.specs.Calls.{HandOut}
-use Rattle.consumer.specs.Checkpoint.{Wrote}
 use Rattle.consumer.specs.View.{claimOf, settleOf, nackOf, progressOf, commitOf}
-use Rattle.consumer.specs.Writing.{stepOf}
-use Rattle.consumer.specs.declared.starts.StartAnswer.{StartAnswer}
-use Rattle.consumer.specs.declared.starts.StartAnswer.the-variants as starts
+use Rattle.checkpoint.specs.Checkpoint.{Wrote}
+use Rattle.checkpoint.specs.Writing.{stepOf}
+use Rattle.starts.specs.declared.StartAnswer.{StartAnswer}
+use Rattle.starts.specs.declared.StartAnswer.the-variants as starts
 use Rattle.machine.specs.Answers.{begunOf}
 use Rattle.machine.specs.declared.calls.Reply.{Reply}
 use Rattle.machine.specs.declared.calls.Reply.the-variants as reply

@@ -1,14 +1,13 @@
 // A journal: its blocks, where the walk ends, and what a restart would find.
 use answers::Told;
-use consumer::Consumer;
 use consumer::Settings;
-use consumer::starts::StartAnswer;
 use delivery::DeliveryConfig;
 use journal::LastGroup;
 use journal::Walked;
 use lease::LeaseConfig;
 use shown::numbered;
 use shown::with;
+use starts::StartAnswer;
 use text::output::put;
 
 // Settings that every start accepts. What a restart finds doesn't depend on them.
@@ -83,7 +82,7 @@ fn last_group(out: &mut [u8], at: usize, last: LastGroup) -> usize {
 
 // What a restart would find, or its refusal.
 fn restart(out: &mut [u8], at: usize, area: &[u8]) -> usize {
-    let started = Consumer::restart(settings(), area);
+    let started = starts::restart(settings(), area);
     let answer = started.answer;
     let StartAnswer::Started = answer else {
         return refused(out, at, answers::of_start(answer));

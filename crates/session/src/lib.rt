@@ -4,12 +4,12 @@ ghost use Prim.Native.Nat.{ℕ, _≤_};
 ghost use lib.ListN.{length};
 ghost use Rattle.session.specs.Session.{Ready};
 use consumer::Settings;
-use consumer::starts::StartAnswer;
 use delivery::DeliveryConfig;
 use lease::LeaseConfig;
 use machine::Machine;
 use machine::calls::Call;
 use machine::calls::CallAnswer;
+use starts::StartAnswer;
 use text::output;
 
 // Whether anything was started, the machine, and how many bytes of the lent area are its journal.

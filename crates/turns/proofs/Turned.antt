@@ -11,15 +11,15 @@ use Rattle.types.specs.Refusal.{Refusal, Result, refused, done}
 use Rattle.types.specs.Refusal as refusal
 use Rattle.types.specs.Table.{Kept, unless}
 use Rattle.consumer.specs.State.{State}
-use Rattle.consumer.specs.Restart as restarts
 use Rattle.consumer.specs.View.{view, Unmoved}
 use Rattle.consumer.specs.View as consumer
-use Rattle.consumer.specs.Starting.{settingsOf, startFault}
 use Rattle.consumer.specs.declared.Consumer.{Consumer}
 use Rattle.consumer.specs.declared.Settings.{Settings}
-use Rattle.consumer.specs.declared.starts.StartAnswer.the-variants as starts
-use Rattle.consumer.proofs.Restarting.{Other, other-faulty}
-use Rattle.consumer.specs.declared.checkpoint.Writing.{Writing}
+use Rattle.checkpoint.specs.declared.Writing.{Writing}
+use Rattle.starts.specs.Restart as restarts
+use Rattle.starts.specs.Starting.{settingsOf, startFault}
+use Rattle.starts.specs.declared.StartAnswer.the-variants as starts
+use Rattle.starts.proofs.Restarting.{Other, other-faulty}
 use Rattle.cursor.specs.declared.AckCursor.{AckCursor}
 use Rattle.lease.specs.declared.LeaseTable.{LeaseTable}
 use Rattle.consumer.specs.Calls as calls

@@ -8,12 +8,12 @@ use Rattle.types.specs.Refusal.{Result, refused, done}
 use Rattle.types.specs.Refusal as refusal
 use Rattle.types.specs.Table.{Kept}
 use Rattle.consumer.specs.State.{State}
-use Rattle.consumer.specs.Restart as restarts
 use Rattle.consumer.specs.View.{view, Unmoved}
 use Rattle.consumer.specs.View as consumer
-use Rattle.consumer.specs.Starting.{settingsOf}
 use Rattle.consumer.specs.declared.Consumer.{Consumer}
 use Rattle.consumer.specs.declared.Settings.{Settings}
+use Rattle.starts.specs.Restart as restarts
+use Rattle.starts.specs.Starting.{settingsOf}
 use Rattle.machine.specs.Calls.{Ask, Call, Event, claimed, acked, termed, nacked, extended, committed, looked, begun, stepped, restarted, failed}
 use Rattle.machine.specs.Door.{Phase, idle, Turn, onState, asked, door}
 use Rattle.machine.specs.Answers.{outAfter}

@@ -8,8 +8,8 @@ use lib.ListN.{length, getD}
 use Rattle.types.specs.Refusal.{Told, told, answered}
 use Rattle.delivery.specs.Policy.{Destination, Deliver, DeadLetter}
 use Rattle.consumer.specs.Calls.{HandOut}
-use Rattle.consumer.specs.Checkpoint.{Wrote}
 use Rattle.consumer.specs.Questions.{Waiting, Committed, IsSettled, LeaseOf, CountOf, InFlight, IsDue, BlocksLeft, bit}
+use Rattle.checkpoint.specs.Checkpoint.{Wrote}
 use Rattle.machine.specs.Calls.{Ask, claim, ack, term, nack, progress, commit, look, Call, ask, begin, step, restart, Event, claimed, acked, termed, nacked, extended, committed, looked, begun, stepped, restarted, failed}
 use Rattle.machine.specs.Door.{Turn}
 use Rattle.machine.specs.Answers.{askOf, callOf}

@@ -47,8 +47,8 @@ use Rattle.consumer.specs.View as consumers
 use Rattle.consumer.specs.declared.Consumer.{Consumer}
 use Rattle.consumer.proofs.Consumer as TConsumer
 use Rattle.consumer.proofs.Consumer.Laws as TConsumer′
-use Rattle.consumer.proofs.checkpoint.Writing as TWriting
-use Rattle.consumer.proofs.checkpoint.Writing.Laws as TWriting′
+use Rattle.checkpoint.proofs.Writing as TWriting
+use Rattle.checkpoint.proofs.Writing.Laws as TWriting′
 use Rattle.machine.specs.View.{Sound}
 use Rattle.machine.specs.declared.Machine.{Machine}
 use Rattle.machine.proofs.Machine as TMachine

@@ -46,11 +46,11 @@ use Rattle.machine.specs.View.{Sound}
 use Rattle.machine.specs.declared.Machine.{Machine}
 use Rattle.machine.proofs.Machine as TMachine
 use Rattle.machine.proofs.Machine.Laws as TMachine′
-use Rattle.consumer.proofs.checkpoint.Writing as TWriting
-use Rattle.consumer.proofs.checkpoint.Writing.Laws as TWriting′
 use Rattle.consumer.specs.declared.Consumer.{Consumer}
 use Rattle.consumer.proofs.Consumer as TConsumer
 use Rattle.consumer.proofs.Consumer.Laws as TConsumer′
+use Rattle.checkpoint.proofs.Writing as TWriting
+use Rattle.checkpoint.proofs.Writing.Laws as TWriting′
 use Rattle.wire.specs.declared.numbers.Numbers.{Numbers}
 use Rattle.wire.proofs.numbers.Numbers as TNumbers
 use Rattle.wire.proofs.numbers.Numbers.Laws as TNumbers′

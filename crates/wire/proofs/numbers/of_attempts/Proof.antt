@@ -3,7 +3,7 @@ use mathlib.Core.Path.{sym, ap}
 use borrow.Author.Needs.{needs}
 use Rattle.types.specs.Refusal.{numbered}
 use Rattle.attempt.specs.Codec.{decodeOf}
-use Rattle.consumer.specs.Starting.{refusalIn}
+use Rattle.starts.specs.Starting.{refusalIn}
 use Rattle.attempt.specs.declared.Decode.{Decode}
 use Rattle.wire.specs.declared.numbers.Numbers.{Numbers}
 use Rattle.wire.specs.Numbers.{numbersOf}

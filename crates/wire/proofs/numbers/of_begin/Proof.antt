@@ -3,7 +3,7 @@ use mathlib.Core.Path.{sym, ap}
 use borrow.Author.Needs.{needs}
 use Rattle.types.specs.Refusal.{answered}
 use Rattle.machine.specs.Answers.{begunOf}
-use Rattle.consumer.specs.declared.checkpoint.BeginAnswer.{BeginAnswer}
+use Rattle.checkpoint.specs.declared.BeginAnswer.{BeginAnswer}
 use Rattle.wire.specs.declared.numbers.Numbers.{Numbers}
 use Rattle.wire.specs.Numbers.{numbersOf, oneValue}
 use Rattle.wire.proofs.numbers.of_begin.Statement.{statement}

@@ -4,7 +4,7 @@ use mathlib.Core.Path.{sym, ap, _∙_}
 use mathlib.Core.List.{List}
 use borrow.Author.Needs.{needs}
 use Rattle.consumer.specs.View.{view}
-use Rattle.consumer.specs.Starting.{startFault}
+use Rattle.starts.specs.Starting.{startFault}
 use Rattle.machine.specs.Calls.{Call}
 use Rattle.machine.specs.View.{turnOf, givenTo}
 use Rattle.machine.specs.declared.Machine.{Machine}

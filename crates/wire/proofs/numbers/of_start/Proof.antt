@@ -3,8 +3,8 @@ use mathlib.Core.Path.{sym, ap, _∙_}
 use borrow.Author.Needs.{needs}
 use Rattle.types.specs.Refusal.{done, answered}
 use Rattle.types.specs.Table.{unless}
-use Rattle.consumer.specs.Starting.{startFault}
-use Rattle.consumer.specs.declared.starts.StartAnswer.{StartAnswer}
+use Rattle.starts.specs.Starting.{startFault}
+use Rattle.starts.specs.declared.StartAnswer.{StartAnswer}
 use Rattle.wire.specs.declared.numbers.Numbers.{Numbers}
 use Rattle.wire.specs.Numbers.{numbersOf, noValues}
 use Rattle.wire.proofs.numbers.of_start.Statement.{statement}

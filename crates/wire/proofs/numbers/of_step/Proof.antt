@@ -2,8 +2,8 @@
 use mathlib.Core.Path.{sym, ap}
 use borrow.Author.Needs.{needs}
 use Rattle.types.specs.Refusal.{answered}
-use Rattle.consumer.specs.Writing.{stepOf}
-use Rattle.consumer.specs.declared.checkpoint.StepAnswer.{StepAnswer}
+use Rattle.checkpoint.specs.Writing.{stepOf}
+use Rattle.checkpoint.specs.declared.StepAnswer.{StepAnswer}
 use Rattle.wire.specs.declared.numbers.Numbers.{Numbers}
 use Rattle.wire.specs.Numbers.{numbersOf, wroteValues}
 use Rattle.wire.proofs.numbers.of_step.Statement.{statement}

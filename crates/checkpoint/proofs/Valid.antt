@@ -1,0 +1,60 @@
+-- A begin keeps what holds of a state, and so does every step of what holds of a record; the last one gives a state back of which
+-- the invariant holds. Assumes nothing.
+use Prim.Native.Nat.{ℕ, _<_}
+use native.Mathlib.Omega.{arith}
+use mathlib.Core.Path.{_≡_}
+use mathlib.Core.List.{List}
+use borrow.Author.Tests.{leb-false}
+use Rattle.types.specs.Refusal.{done}
+use Rattle.types.specs.Table.{Answer}
+use Rattle.types.proofs.Cases.{split}
+use Rattle.types.proofs.Table.{guarded-cases}
+use Rattle.lease.proofs.Valid.{valid-flushed}
+use Rattle.consumer.specs.State.{State, blocksOf}
+use Rattle.consumer.specs.Valid.{Valid}
+use Rattle.checkpoint.specs.Checkpoint.{bodies, flushed, Writing, begin, isLast, nextPlace, going, leftBy, Wrote, Lent, lent, stepTable, step}
+use Rattle.checkpoint.specs.Valid.{ValidWriting, ValidLeft}
+use Rattle.checkpoint.proofs.Open.{BeginOpen, begin-says}
+
+-- ## A finished checkpoint
+pub flushed-valid : (s : State) → BeginOpen s → Valid s → Valid (flushed s)
+flushed-valid s p v =
+    record {
+      cursor = v .cursor;
+      table = valid-flushed (s .table) (v .table);
+      together = v .together;
+      leased = v .leased;
+      carried = v .carried;
+      under-ceiling = omega (arith, v .table .generation-fits);
+      ceiling-fits = omega arith;
+      counter = omega arith;
+      policy = v .policy;
+      area = v .area;
+      within = p .room;
+      numbered = omega (arith, v .numbered);
+    }
+
+-- ## The record, from begin through every step
+pub begin-valid : (s : State) (w : Writing) → begin s ≡ done w → Valid s → ValidWriting w
+begin-valid s w e v =
+    let d = begin-says s w e in
+    rw (← d .1) (record { state = v; room = d .0 .room; few = omega arith })
+
+module _ (w : Writing) (v : ValidWriting w) where
+  -- the block that is written lies in the area
+  pub next-inside : nextPlace w < blocksOf (w .state)
+  next-inside =
+      split (isLast w)
+      (λ e. rw e (omega (arith, v .room)))
+      (λ e. rw e (omega (arith, v .room, leb-false (bodies (w .state)) (w .written) e)))
+
+  left-valid : ValidLeft (leftBy w)
+  left-valid =
+      split (isLast w)
+      (λ e. rw e (flushed-valid (w .state) (record { room = v .room }) (v .state)))
+      (λ e. rw e (record { state = v .state; room = v .room; few = omega (arith, leb-false (bodies (w .state)) (w .written) e) }))
+
+  pub step-valid : (a : List ℕ) → ValidLeft (step w a .state .left)
+  unfolding step
+  step-valid a =
+      guarded-cases (stepTable w a) (lent (going w) a) _ (λ (r : Answer Wrote Lent). ValidLeft (r .state .left)) (λ r e. v) (λ p. left-valid)

@@ -1,0 +1,108 @@
+-- A checkpoint, block write by block write (01, "journal" and "consumer"): begin takes the state into a writing record, each
+-- step makes the next block write, and the last one, the header's, gives the state back.
+use Prim.Native.Nat.{ℕ, suc, _+_}
+use mathlib.Core.Bool.{Bool, cond, not}
+use mathlib.Core.List.{List, [], _∷_, _++_}
+use lib.Dec.{ltb, leb, eqb}
+use lib.ListN.{length}
+use Rattle.types.specs.Limits.{sat64}
+use Rattle.types.specs.Refusal.{Result, done, BadArea, JournalFull}
+use Rattle.types.specs.Table.{Row, _⇒_, Answer, answer, checked, guarded}
+use Rattle.cursor.specs.Snapshot.{encodeCursor}
+use Rattle.attempt.specs.Snapshot.{encodeAttempts1}
+use Rattle.lease.specs.Counts.{allAttemptCounts}
+use Rattle.lease.specs.Rest.{attemptsFlushed}
+use Rattle.journal.specs.Area.{writeAt}
+use Rattle.journal.specs.Blocks.{bodiesFor, chunkOf, headerBlock, bodyBlock}
+use Rattle.consumer.specs.State.{State, stateOf, seatAt, blocksOf}
+
+-- ## what is written
+-- the cursor's snapshot and that of all attempt counts, and both as the payload
+abbrev pub cursorBytes : State → List ℕ
+cursorBytes s = encodeCursor (s .cursor)
+
+abbrev pub attemptBytes : State → List ℕ
+attemptBytes s = encodeAttempts1 (allAttemptCounts (s .table))
+
+abbrev pub payloadOf : State → List ℕ
+payloadOf s = cursorBytes s ++ attemptBytes s
+
+-- the bodies that the payload takes
+abbrev pub bodies : State → ℕ
+bodies s = bodiesFor (length (payloadOf s))
+
+-- the next generation and 4,096, at most MAX
+abbrev pub newCeiling : State → ℕ
+newCeiling s = sat64 (s .table .nextGeneration) 4096
+
+-- body j, counted from 1, and the header
+abbrev pub bodyOf : State → ℕ → List ℕ
+bodyOf s j = bodyBlock (s .seat .number) j (chunkOf j (payloadOf s))
+
+abbrev pub headerOf : State → List ℕ
+headerOf s = headerBlock (s .seat .number) (newCeiling s) (length (cursorBytes s)) (length (attemptBytes s))
+
+-- the state once the header is written: the ceiling and the counter change only now
+abbrev pub flushed : State → State
+flushed s =
+    stateOf (s .cursor) (attemptsFlushed (s .table)) (newCeiling s)
+    (seatAt (s .seat .number + 1) (s .seat .block + suc (bodies s))) (s .size) (s .policy)
+
+-- ## begin
+-- the record: the state, and how many blocks are written
+pub record Writing : Type 0 where
+  pub state : State
+  pub written : ℕ
+
+abbrev pub writing : State → ℕ → Writing
+writing s n = record { state = s; written = n }
+
+-- 31: fewer blocks are left than the group needs
+abbrev pub beginTable : State → List Row
+beginTable s = ltb (blocksOf s) (s .seat .block + suc (bodies s)) ⇒ JournalFull ∷ []
+
+-- nothing is written yet; a refusal leaves the caller the state
+unfoldable pub begin : State → Result Writing
+begin s = checked (beginTable s) (done (writing s 0))
+
+-- ## step
+-- all bodies are written, so the header is next
+abbrev pub isLast : Writing → Bool
+isLast w = leb (bodies (w .state)) (w .written)
+
+-- where the next block goes, and what it is: bodies 1 to n behind the header's place, then the header
+abbrev pub nextPlace : Writing → ℕ
+nextPlace w = cond (isLast w) (w .state .seat .block) (w .state .seat .block + suc (w .written))
+
+abbrev pub nextBlock : Writing → List ℕ
+nextBlock w = cond (isLast w) (headerOf (w .state)) (bodyOf (w .state) (suc (w .written)))
+
+-- what a step leaves: the record, or the state that the last one gives back
+pub data Left : Type 0 where
+  going : Writing → Left
+  finished : State → Left
+
+abbrev pub leftBy : Writing → Left
+leftBy w = cond (isLast w) (finished (flushed (w .state))) (going (writing (w .state) (suc (w .written))))
+
+-- a step answers its block and whether it was the last one; it leaves the record or the state, and the lent area
+pub record Wrote : Type 0 where
+  pub block : ℕ
+  pub last : Bool
+
+pub record Lent : Type 0 where
+  pub left : Left
+  pub area : List ℕ
+
+abbrev pub lent : Left → List ℕ → Lent
+lent l a = record { left = l; area = a }
+
+-- 4: an area of another length than the one that the consumer was started on
+abbrev pub stepTable : Writing → List ℕ → List Row
+stepTable w a = not (eqb (length a) (w .state .size)) ⇒ BadArea ∷ []
+
+-- the next block write, and no other
+unfoldable pub step : Writing → List ℕ → Answer Wrote Lent
+step w a =
+    guarded (stepTable w a) (lent (going w) a)
+    (answer (done (record { block = nextPlace w; last = isLast w })) (lent (leftBy w) (writeAt a (nextPlace w) (nextBlock w))))

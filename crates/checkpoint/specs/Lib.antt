@@ -1,0 +1,3 @@
+pub mod Checkpoint
+pub mod Valid
+pub mod Writing

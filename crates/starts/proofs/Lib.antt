@@ -1,0 +1,9 @@
+pub mod Open
+pub mod Valid
+pub mod Zeros
+pub mod Counts
+pub mod Starting
+pub mod Carrying
+pub mod Resuming
+pub mod Reading
+pub mod Restarting

@@ -1,0 +1,175 @@
+-- A restart from its tests to its answer: the last group of the walk lies in the area, what each end of the walk is answered with,
+-- and that the consumer which goes on is sound. Assumes nothing.
+use Prim.Native.Nat.{ℕ, _+_, _/_, min}
+use native.Mathlib.Omega.{arith}
+use mathlib.Core.Path.{_≡_, refl, sym, ap, _∙_}
+use mathlib.Core.Bool.{false}
+use mathlib.Core.List.{List, [], _∷_}
+use mathlib.Core.Option.{Option, none, some, Option·none-ne-some}
+use lib.ListN.{length}
+use types.Run.{OneOf, miss}
+use denote.Enum.Declared.{tagOf}
+use Rattle.types.specs.Refusal.{Refusal, Result, refused, done}
+use Rattle.types.specs.Table.{first, Passed, unless}
+use Rattle.types.proofs.Table.{first-none}
+use Rattle.types.proofs.Checked.{refused-not-done, done-inj}
+use Rattle.raw.specs.Bytes.{IsBytes}
+use Rattle.journal.specs.Area.{badLength, blocks, blockAt}
+use Rattle.journal.specs.Answers.{walkedOf, walkIn}
+use Rattle.journal.specs.Blocks.{bodiesFor, payloadLength}
+use Rattle.journal.specs.Walks.{stop, walk}
+use Rattle.journal.specs.declared.LastGroup.{LastGroup}
+use Rattle.journal.specs.declared.LastGroup.the-variants.{At, None}
+use Rattle.journal.specs.declared.Walked.{Walked}
+use Rattle.journal.specs.declared.Walked.the-variants as walked
+use Rattle.journal.proofs.Area.{says-inside, whole-says}
+use Rattle.journal.proofs.Sound.{Header}
+use Rattle.journal.proofs.Walks.{LastIs, at-once, behind, walk-ended}
+use Rattle.consumer.specs.State.{State, seatAt}
+use Rattle.consumer.specs.Valid.{Fits, Valid}
+use Rattle.consumer.specs.View.{view, Sound}
+use Rattle.consumer.specs.declared.Settings.{Settings}
+use Rattle.consumer.specs.declared.Consumer.{Consumer}
+use Rattle.starts.specs.Restart.{startTable, readGroup, fromWalk, restart}
+use Rattle.starts.specs.Starting.{settingsOf, keptOf, startFault, FreshIs, StartedIs, Lies, WalkedIs, Parts, ResumedIs}
+use Rattle.starts.specs.declared.Started.{Started}
+use Rattle.starts.specs.declared.StartAnswer.{StartAnswer}
+use Rattle.starts.specs.declared.StartAnswer.the-variants as answers
+use Rattle.starts.proofs.StartAnswer.{the-type}
+use Rattle.starts.proofs.Valid.{restart-valid}
+use Rattle.starts.proofs.Starting.{same-settings, kept-open, config-sound}
+
+-- ## The last group of a walk
+module _ (a : List ℕ) where
+  -- its header is sound, so its bodies lie in the area, and its lengths are those that 01 allows
+  last-lies : (i k e : ℕ) → badLength (length a) ≡ false → walk a (blocks a) 1 0 ≡ stop (some i) k e → Lies a i
+  last-lies i k e area w = go (walk-ended a (blocks a) none 1 0 (some i) k e w .last-is)
+    where
+      lies : (m : ℕ) → Header (blocks a) m i (blockAt a i) → Lies a i
+      lies m h =
+          record {
+            inside =
+                says-inside (length a) (i + bodiesFor (payloadLength (blockAt a i)))
+                (record { area = whole-says (length a) area; fits = omega (arith, h .fits, h .form .count) });
+            cursor = h .form .lengths .cursor-high;
+            attempts = h .form .lengths .attempt-high;
+          }
+
+      go : LastIs a (blocks a) none 1 0 (some i) k e → Lies a i
+      go (at-once p q r) = absurd (Option·none-ne-some i (sym p))
+      go (behind h m p q r s g) = let same : h ≡ i = cc in lies m (rw same at (g .header))
+
+  pub stopped-lies : (w : Walked) (l : LastGroup) (i k e : ℕ) → WalkedIs a w → w ≡ walked.Stopped l k e → l ≡ At i → Lies a i
+  stopped-lies w l i k e h p q =
+      last-lies i k e (h .area) (sym (h .is) ∙ ap walkedOf (p ∙ ap (λ (x : LastGroup). walked.Stopped x k e) q))
+
+  -- ## What each end of the walk is answered with
+  module _ (s : Settings) (w : Walked) where
+    pub group-resumed : (l : LastGroup) (i k e : ℕ) → w ≡ walked.Stopped l k e → l ≡ At i
+        → (r : Started) → ResumedIs s (length a) (readGroup (keptOf s) a i (seatAt k e)) r
+        → ResumedIs s (length a) (fromWalk (keptOf s) a (walkedOf w)) r
+    unfolding fromWalk
+    group-resumed l i k e p q r h = rw (p, q) h
+
+    module _ (c : Consumer) (f : FreshIs s (length a) c) where
+      pub none-resumed : (l : LastGroup) (k e : ℕ) → w ≡ walked.Stopped l k e → l ≡ None
+          → ResumedIs s (length a) (fromWalk (keptOf s) a (walkedOf w)) (record { answer = answers.Started; consumer = c })
+      unfolding fromWalk
+      none-resumed l k e p q =
+          rw (p, q)
+          (record {
+            is = ap done (f .is);
+            beside =
+                record {
+                  cursor = f .cursor;
+                  leases = f .table .len;
+                  carried = f .table .carried-len;
+                  settings = f .settings;
+                };
+          })
+
+      pub area-resumed : w ≡ walked.BadArea
+          → ResumedIs s (length a) (fromWalk (keptOf s) a (walkedOf w)) (record { answer = answers.BadArea; consumer = c })
+      unfolding fromWalk
+      area-resumed p = rw p (record { is = refl; beside = f .is })
+
+      pub damaged-resumed : (j : ℕ) → w ≡ walked.Damaged j
+          → ResumedIs s (length a) (fromWalk (keptOf s) a (walkedOf w)) (record { answer = answers.Damaged j; consumer = c })
+      unfolding fromWalk
+      damaged-resumed j p = rw p (record { is = refl; beside = f .is })
+
+-- ## The tests before
+-- every answer but `Started` is a refusal
+abbrev variants : List ℕ
+variants = 1 ∷ 2 ∷ 3 ∷ 4 ∷ 5 ∷ 6 ∷ 7 ∷ []
+
+abbrev pub Other : StartAnswer → Type 0
+Other d = OneOf variants (tagOf the-type d)
+
+pub record Faulty (d : StartAnswer) : Type 0 where
+  pub refusal : Refusal
+  pub is : startFault d ≡ some refusal
+
+pub other-faulty : (d : StartAnswer) → Other d → Faulty d
+other-faulty answers.Started o = absurd (miss variants 0 tt o)
+other-faulty answers.UnlimitedDeliverNotAllowed o = record { refusal = _; is = refl }
+other-faulty answers.TooManySteps o = record { refusal = _; is = refl }
+other-faulty answers.ZeroThreshold o = record { refusal = _; is = refl }
+other-faulty answers.BadArea o = record { refusal = _; is = refl }
+other-faulty (answers.Damaged block) o = record { refusal = _; is = refl }
+other-faulty (answers.Cursor error) o = record { refusal = _; is = refl }
+other-faulty (answers.Attempts decoded) o = record { refusal = _; is = refl }
+
+shown : (o : Option Refusal) (u t : State) → unless o (done u) ≡ done t → u ≡ t
+shown none u t e = done-inj e
+shown (some r) u t e = refused-not-done e
+
+-- ## The whole
+module _ (s : Settings) (a : List ℕ) (d : StartAnswer) (e : startFault d ≡ first (startTable (settingsOf s) (length a))) where
+  pub restart-refused : Other d → (c : Consumer) → FreshIs s (length a) c
+      → StartedIs s (length a) (restart (settingsOf s) a) (record { answer = d; consumer = c })
+  unfolding restart
+  restart-refused o c i =
+      let f = other-faulty d o in
+      let q : first (startTable (settingsOf s) (length a)) ≡ some (f .refusal) = sym e ∙ f .is in
+      record { is = rw (e, q); beside = rw q (i .is) }
+
+  module _ (full : length (s .delivery .«backoff_nanos») ≡ 16) (f : Fits (settingsOf s .policy)) (q : d ≡ answers.Started) where
+    untouched : first (startTable (settingsOf s) (length a)) ≡ none
+    untouched = sym e ∙ ap startFault q
+
+    passed : Passed (startTable (settingsOf s) (length a))
+    passed = first-none (startTable (settingsOf s) (length a)) untouched
+
+    pub walked-whole : (w : Walked) → walkedOf w ≡ walkIn (length a / 512) 1 0 a → WalkedIs a w
+    unfolding walkIn
+    walked-whole w h =
+        let area : badLength (length a) ≡ false = kept-open s (length a) full f passed .area in
+        let all : min (blocks a) (blocks a) ≡ blocks a = omega arith in
+        record { area = area; is = rw (area, all) at h }
+
+    right-is : restart (settingsOf s) a ≡ fromWalk (keptOf s) a (walk a (blocks a) 1 0)
+    unfolding restart
+    right-is = rw untouched (rw (same-settings s (length a) full f passed))
+
+    parts-sound : (c : Consumer) → Parts s c → Valid (view c) → Sound c
+    parts-sound c p v =
+        record {
+          cursor = p .cursor;
+          table = record { len = p .leases; carried-len = p .carried; valid = v .table };
+          delivery = config-sound s (length a) full f passed (c .delivery) (p .settings);
+          valid = v;
+        }
+
+    pub restarted : IsBytes a → (w : Walked) → WalkedIs a w → (r : Started)
+        → ResumedIs s (length a) (fromWalk (keptOf s) a (walkedOf w)) r → StartedIs s (length a) (restart (settingsOf s) a) r
+    restarted bytes w h r i = go (restart (settingsOf s) a) refl (rw (h .is, ← right-is) at i)
+      where
+        go : (x : Result State) → restart (settingsOf s) a ≡ x → ResumedIs s (length a) x r → StartedIs s (length a) x r
+        go (refused y) p i = record { is = i .is; beside = i .beside }
+        go (done t) p i =
+            let same : view (r .consumer) ≡ t = shown (startFault (r .answer)) (view (r .consumer)) t (i .is) in
+            record {
+              is = i .is;
+              beside = parts-sound (r .consumer) (i .beside) (rw same (restart-valid (settingsOf s) a t bytes p f));
+            }

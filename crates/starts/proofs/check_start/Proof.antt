@@ -1,0 +1,62 @@
+-- `check_start` meets its contract: the tests of a start, in their order. Assumes nothing.
+use native.Mathlib.Omega.{arith}
+use borrow.Author.Needs.{needs}
+use mathlib.Core.Path.{_≡_, sym, _∙_}
+use mathlib.Core.Bool.{false, not, _&&_}
+use lib.ListN.{length}
+use Rattle.delivery.specs.Policy.{unlimited}
+use Rattle.starts.specs.Starting.{backoffsOf, settingsOf}
+use Rattle.starts.proofs.Starting.{unlimited-refused, steps-refused, threshold-refused, area-refused, accepted, backoffs-count}
+use Rattle.starts.proofs.check_start.Statement.{statement}
+use Rattle.starts.proofs.check_start.Tie as tie
+
+-- ---- what is known at a place
+abbrev start : tie.Else1 → tie.Start
+start c = c .before .before .before
+
+lacks-opt-in-requires : tie.Need-lacks-opt-in-requires
+lacks-opt-in-requires c κs = search needs
+
+-- the config's array has its length, so the backoffs are as many as it counts
+counted : (c : tie.Start) → length (backoffsOf (c .args .settings .delivery)) ≡ c .args .settings .delivery .«backoff_len»
+counted c = backoffs-count (c .args .settings .delivery) (search needs)
+
+limited : (c : tie.Else1) → (unlimited (start c .args .settings .delivery .«max_deliver») && not (start c .args .settings .delivery .«allow_unlimited»)) ≡ false
+limited c = sym (c .before .lacks-opt-in .ensures) ∙ c .if1 .left
+
+returns : tie.Need-returns
+returns c = unlimited-refused (settingsOf (c .before .before .before .args .settings)) (c .before .before .before .args .area-len) (sym (c .before .lacks-opt-in .ensures) ∙ c .if1 .taken)
+
+returns-2 : tie.Need-returns-2
+returns-2 c =
+    let e = c .before .before in
+    let s = start e in
+    steps-refused (settingsOf (s .args .settings)) (s .args .area-len) (limited e) (omega (arith, counted s))
+
+returns-3 : tie.Need-returns-3
+returns-3 c =
+    let e = c .before .before .before .before in
+    let s = start e in
+    threshold-refused (settingsOf (s .args .settings)) (s .args .area-len) (limited e) (omega (arith, counted s)) (c .if3 .taken)
+
+bad-length-requires : tie.Need-bad-length-requires
+bad-length-requires c κs = search needs
+
+returns-4 : tie.Need-returns-4
+returns-4 c =
+    let t = c .before .before in
+    let e = t .before .before .before .before in
+    let s = start e in
+    area-refused (settingsOf (s .args .settings)) (s .args .area-len) (limited e) (omega (arith, counted s)) (t .if3 .left) (sym (c .before .bad-length .ensures) ∙ c .if4 .taken)
+
+returns-5 : tie.Need-returns-5
+returns-5 c =
+    let t = c .before .before in
+    let e = t .before .before .before .before in
+    let s = start e in
+    accepted (settingsOf (s .args .settings)) (s .args .area-len) (limited e) (omega (arith, counted s)) (t .if3 .left) (sym (c .before .bad-length .ensures) ∙ c .if4 .left)
+
+pub check-start-spec : {M : Type 1} → statement M
+check-start-spec =
+    tie.close
+    (tie.spec lacks-opt-in-requires returns returns-2 returns-3 bad-length-requires returns-4 returns-5)

@@ -1,0 +1,145 @@
+-- What a start and a restart are handed and answer in the code: the settings that the struct stands for, 01's refusals for the
+-- cases of the answer, and the parts of the contracts.
+use Prim.Native.Nat.{ℕ, _+_, _-_, _≤_}
+use mathlib.Core.Path.{_≡_}
+use mathlib.Core.List.{List, _++_}
+use mathlib.Core.Option.{Option, none, some}
+use mathlib.Core.Bool.{false}
+use lib.ListN.{length, take, replicate}
+use Rattle.journal.specs.Area.{badLength, outside, blocks, blockAt}
+use Rattle.journal.specs.Answers.{walkedOf}
+use Rattle.journal.specs.Walks.{walk}
+use Rattle.journal.specs.declared.Walked.{Walked}
+use Rattle.journal.specs.Blocks.{bodiesFor, cursorLength, attemptLength, payloadLength}
+use Rattle.types.specs.Refusal.{Refusal, Result, refused, done}
+use Rattle.types.specs.Refusal as refusal
+use Rattle.types.specs.Table.{unless}
+use Rattle.types.specs.Limits.{LEASES, CARRIED}
+use Rattle.types.specs.Keyed.{Entry, entries}
+use Rattle.cursor.specs.Answers.{snapshotError}
+use Rattle.cursor.specs.View as cursor
+use Rattle.attempt.specs.Codec.{decodeOf}
+use Rattle.delivery.specs.declared.DeliveryConfig.{DeliveryConfig}
+use Rattle.delivery.specs.Config as delivery
+use Rattle.delivery.specs.Policy.{policy}
+use Rattle.lease.specs.State as lease
+use Rattle.lease.specs.State.{startingAt, withCarried}
+use Rattle.lease.specs.declared.LeaseConfig.{LeaseConfig}
+use Rattle.lease.specs.declared.LeaseTable.{LeaseTable}
+use Rattle.cursor.specs.declared.AckCursor.{AckCursor}
+use Rattle.consumer.specs.State.{State}
+use Rattle.consumer.specs.State as state
+use Rattle.consumer.specs.View.{view, Sound}
+use Rattle.consumer.specs.declared.Settings.{Settings}
+use Rattle.consumer.specs.declared.Seat.{Seat}
+use Rattle.consumer.specs.declared.Consumer.{Consumer}
+use Rattle.starts.specs.Restart.{fresh}
+use Rattle.starts.specs.declared.Carried.{Carried}
+use Rattle.starts.specs.declared.Started.{Started}
+use Rattle.starts.specs.declared.StartAnswer.{StartAnswer}
+use Rattle.starts.specs.declared.StartAnswer.the-variants as answers
+
+-- the backoffs of a config, as many as it counts: any past its array are 0
+abbrev pub backoffsOf : DeliveryConfig → List ℕ
+backoffsOf c = take (c .«backoff_len») (c .«backoff_nanos») ++ replicate (c .«backoff_len» - 16) 0
+
+abbrev pub settingsOf : Settings → state.Settings
+settingsOf s =
+    record {
+      policy =
+          policy (s .delivery .«max_deliver») (s .delivery .«allow_unlimited») (backoffsOf (s .delivery))
+          (s .delivery .«attempts_flush_redeliveries»);
+      lease = s .lease;
+    }
+
+-- the settings as the consumer keeps them
+abbrev pub keptOf : Settings → state.Settings
+keptOf s = record { policy = delivery.view (s .delivery); lease = s .lease }
+
+-- the refusal of an attempt decoder's answer; pairs are none, so that no start answers with them
+abbrev pub refusalIn : Result ℕ → Refusal
+refusalIn (refused r) = r
+refusalIn (done n) = refusal.AttemptTruncated
+
+-- the refusal that an answer is, if it is one
+abbrev pub startFault : StartAnswer → Option Refusal
+startFault answers.Started = none
+startFault answers.UnlimitedDeliverNotAllowed = some refusal.UnlimitedDeliverNotAllowed
+startFault answers.TooManySteps = some refusal.TooManySteps
+startFault answers.ZeroThreshold = some refusal.ZeroThreshold
+startFault answers.BadArea = some refusal.BadArea
+startFault (answers.Damaged block) = some (refusal.Damaged block)
+startFault (answers.Cursor error) = some (snapshotError error)
+startFault (answers.Attempts decoded) = some (refusalIn (decodeOf decoded))
+
+-- the answer, with the state that stands beside it
+abbrev pub startOf : StartAnswer → State → Result State
+startOf a s = unless (startFault a) (done s)
+
+-- a fresh consumer
+pub record FreshIs (s : Settings) (size : ℕ) (c : Consumer) : Type 0 where
+  pub is : view c ≡ fresh (keptOf s) size
+  pub cursor : cursor.Sound (c .cursor)
+  pub table : lease.Sound (c .table)
+  pub settings : c .delivery ≡ s .delivery
+
+-- beside a refusal stands the fresh consumer; else the consumer is sound
+abbrev pub Beside : Result State → Settings → ℕ → Consumer → Type 0
+Beside (refused r) s size c = view c ≡ fresh (keptOf s) size
+Beside (done t) s size c = Sound c
+
+pub record StartedIs (s : Settings) (size : ℕ) (right : Result State) (r : Started) : Type 0 where
+  pub is : startOf (r .answer) (view (r .consumer)) ≡ right
+  pub beside : Beside right s size (r .consumer)
+
+-- ## a restart's parts
+-- the counts that are carried, in two columns
+pub record CarriedIs (counts : List (Entry ℕ)) (r : Carried) : Type 0 where
+  pub is : entries (take (r .len) (r .offsets)) (take (r .len) (r .counts)) ≡ counts
+  pub few : r .len ≤ CARRIED
+
+-- a table that carries them, without leases
+pub record TableIs (c : LeaseConfig) (ceiling : ℕ) (carried : Carried) (r : LeaseTable) : Type 0 where
+  pub is : lease.view r ≡ withCarried (startingAt c ceiling) (entries (take (carried .len) (carried .offsets)) (take (carried .len) (carried .counts)))
+  pub none : r .len ≡ 0
+  pub len : r .«carried_len» ≡ carried .len
+
+abbrev pub consumerOf : AckCursor → LeaseTable → ℕ → Seat → ℕ → DeliveryConfig → Consumer
+consumerOf cursor table ceiling seat size delivery =
+    record {
+      cursor = cursor;
+      table = table;
+      ceiling = record { 0 = ceiling };
+      seat = seat;
+      «area_len» = size;
+      delivery = delivery;
+    }
+
+abbrev pub seatOf : Seat → state.Seat
+seatOf seat = state.seatAt (seat .number) (seat .block)
+
+-- a group lies in the area, with its header at a block, and its snapshots have lengths that 01 allows
+pub record Lies (a : List ℕ) (i : ℕ) : Type 0 where
+  pub inside : outside (length a) (i + bodiesFor (payloadLength (blockAt a i))) ≡ false
+  pub cursor : cursorLength (blockAt a i) ≤ 2061
+  pub attempts : attemptLength (blockAt a i) ≤ 1545
+
+-- what a walk over the whole area answered; the area is one that 01 allows
+pub record WalkedIs (a : List ℕ) (r : Walked) : Type 0 where
+  pub area : badLength (length a) ≡ false
+  pub is : walkedOf r ≡ walk a (blocks a) 1 0
+
+-- the parts of a consumer that goes on from a journal
+pub record Parts (s : Settings) (c : Consumer) : Type 0 where
+  pub cursor : cursor.Sound (c .cursor)
+  pub leases : c .table .len ≤ LEASES
+  pub carried : c .table .«carried_len» ≤ CARRIED
+  pub settings : c .delivery ≡ s .delivery
+
+abbrev pub BesideParts : Result State → Settings → ℕ → Consumer → Type 0
+BesideParts (refused r) s size c = view c ≡ fresh (keptOf s) size
+BesideParts (done t) s size c = Parts s c
+
+pub record ResumedIs (s : Settings) (size : ℕ) (right : Result State) (r : Started) : Type 0 where
+  pub is : startOf (r .answer) (view (r .consumer)) ≡ right
+  pub beside : BesideParts right s size (r .consumer)

@@ -1,0 +1,321 @@
+// How a consumer starts: fresh, or from what its journal has.
+ghost use mathlib.Core.Path.{_≡_};
+ghost use Prim.Native.Nat.{_-_, _≤_};
+ghost use mathlib.Core.Bool.{not};
+ghost use lib.ListN.{length, take, drop};
+ghost use Rattle.types.specs.Table.{first};
+ghost use Rattle.types.specs.Lists.{entryOf, entriesOf};
+ghost use Rattle.cursor.specs.View as cursors;
+ghost use Rattle.cursor.specs.Snapshot.{decodeCursor};
+ghost use Rattle.attempt.specs.Snapshot.{decodeAttempts};
+ghost use Rattle.journal.specs.Answers.{walkedOf};
+ghost use Rattle.starts.specs.Restart.{startTable, start, isDropped, unsettledCounts, fromSnapshots, readGroup, fromWalk, restart};
+ghost use Rattle.starts.specs.Starting.{settingsOf, startFault, FreshIs, StartedIs, CarriedIs, TableIs, consumerOf, keptOf, seatOf, ResumedIs, Lies, WalkedIs};
+use attempt::Decode;
+use consumer::Consumer;
+use consumer::Seat;
+use consumer::Settings;
+use cursor::AckCursor;
+use cursor::Decode as Snapshot;
+use cursor::SnapshotError;
+use journal::LastGroup;
+use journal::Walked;
+use lease::Lease;
+use lease::LeaseConfig;
+use lease::LeaseTable;
+use types::Generation;
+use types::Offset;
+use types::Pair;
+
+// What a start or a restart answers: a consumer, or a refusal: 1 to 5, the cursor snapshot's (6 to 12), or the attempt
+// snapshot's (13 to 19), as its decoder has it.
+pub enum StartAnswer {
+    Started,
+    UnlimitedDeliverNotAllowed,
+    TooManySteps,
+    ZeroThreshold,
+    BadArea,
+    Damaged { block: usize },
+    Cursor(SnapshotError),
+    Attempts(Decode),
+}
+
+// Beside a refusal stands the fresh consumer of these settings, which is not to be called.
+pub struct Started {
+    pub answer: StartAnswer,
+    pub consumer: Consumer,
+}
+
+// Refusals 1 to 4.
+fn check_start(settings: Settings, area_len: usize) -> StartAnswer
+    ensures { λ r. ⌜ startFault r ≡ first (startTable (settingsOf settings) «area_len») ⌝ }
+{
+    let config = settings.delivery;
+    if delivery::lacks_opt_in(config.max_deliver, config.allow_unlimited) {
+        return StartAnswer::UnlimitedDeliverNotAllowed;
+    }
+    if 16 < config.backoff_len {
+        return StartAnswer::TooManySteps;
+    }
+    if config.attempts_flush_redeliveries == 0 {
+        return StartAnswer::ZeroThreshold;
+    }
+    if journal::bad_length(area_len) {
+        return StartAnswer::BadArea;
+    }
+    StartAnswer::Started
+}
+
+// Nothing settled, nothing handed out, and the first group at block 0.
+fn fresh(settings: Settings, area_len: usize) -> Consumer
+    ensures { λ r. ⌜ FreshIs settings «area_len» r ⌝ }
+{
+    let delivery = settings.delivery;
+    let lease = settings.lease;
+    Consumer {
+        cursor: AckCursor::new(),
+        table: LeaseTable::starting_at(lease, Generation(0)),
+        ceiling: Generation(0),
+        seat: Seat {
+            number: 1,
+            block: 0,
+        },
+        area_len: area_len,
+        delivery: delivery,
+    }
+}
+
+// The counts that a restart carries, by offset: the first `len` places of each array.
+struct Carried {
+    offsets: [u64; 128],
+    counts: [u32; 128],
+    len: usize,
+}
+
+// Whether a count is carried: it isn't zero, and its offset isn't settled.
+fn is_carried(cursor: AckCursor, pair: Pair) -> bool
+    requires { ⌜ cursors.Sound cursor ⌝ }
+    ensures { λ r. ⌜ r ≡ not (isDropped (cursors.view cursor) (entryOf pair)) ⌝ }
+{
+    if pair.attempt == 0 {
+        return false;
+    }
+    !cursor.is_acked(Offset(pair.offset))
+}
+
+// The nonzero counts of offsets that are not settled, of the first `count` pairs.
+fn carry(cursor: AckCursor, pairs: [Pair; 128], count: usize) -> Carried
+    requires { ⌜ cursors.Sound cursor × (count ≤ 128) ⌝ }
+    ensures { λ r. ⌜ CarriedIs (unsettledCounts (cursors.view cursor) (entriesOf (take count pairs))) r ⌝ }
+{
+    let mut offsets = [0u64; 128];
+    let mut counts = [0u32; 128];
+    let mut len: usize = 0;
+    let mut i: usize = 0;
+    while i < count {
+        let pair = pairs[i];
+        if is_carried(cursor, pair) {
+            offsets[len] = pair.offset;
+            counts[len] = pair.attempt;
+            len += 1;
+        }
+        i += 1;
+    }
+    Carried {
+        offsets: offsets,
+        counts: counts,
+        len: len,
+    }
+}
+
+// A table without leases whose generations begin at the ceiling.
+fn resumed_table(config: LeaseConfig, ceiling: u64, carried: Carried) -> LeaseTable
+    ensures { λ r. ⌜ TableIs config ceiling carried r ⌝ }
+{
+    let none = Lease {
+        generation: Generation(0),
+        attempt_start: 0,
+        deadline: 0,
+        deliveries: 0,
+    };
+    let carried_offsets = carried.offsets;
+    let carried_counts = carried.counts;
+    LeaseTable {
+        config: config,
+        offsets: [0; 64],
+        leases: [none; 64],
+        len: 0,
+        carried_offsets: carried_offsets,
+        carried_counts: carried_counts,
+        carried_len: carried.len,
+        next_generation: Generation(ceiling),
+        redeliveries_since_flush: 0,
+    }
+}
+
+// The consumer that goes on from a cursor and counts.
+fn resumed(
+    settings: Settings,
+    area_len: usize,
+    cursor: AckCursor,
+    table: LeaseTable,
+    ceiling: u64,
+    seat: Seat,
+) -> Consumer
+    ensures { λ r. ⌜ r ≡ consumerOf cursor table ceiling seat «area_len» (settings .delivery) ⌝ }
+{
+    let delivery = settings.delivery;
+    Consumer {
+        cursor: cursor,
+        table: table,
+        ceiling: Generation(ceiling),
+        seat: seat,
+        area_len: area_len,
+        delivery: delivery,
+    }
+}
+
+// The consumer of two snapshots, the cursor's read first: 6 to 19.
+fn read_snapshots<'a>(
+    settings: Settings,
+    area_len: usize,
+    cursor_bytes: &'a [u8],
+    attempt_bytes: &'a [u8],
+    ceiling: u64,
+    seat: Seat,
+) -> Started
+    ensures { λ r. ⌜ ResumedIs settings «area_len» (fromSnapshots (keptOf settings) «area_len» (decodeCursor (now («cursor_bytes» .entry))) (decodeAttempts (now («attempt_bytes» .entry))) ceiling (seatOf seat)) r ⌝ }
+{
+    let restored = AckCursor::decode_snapshot(cursor_bytes);
+    let outcome = restored.outcome;
+    if let Snapshot::Refused(error) = outcome {
+        return Started {
+            answer: StartAnswer::Cursor(error),
+            consumer: fresh(settings, area_len),
+        };
+    }
+    let decoded = attempt::decode_pairs(attempt_bytes);
+    let pairs = decoded.outcome;
+    let Decode::Pairs(count) = pairs else {
+        return Started {
+            answer: StartAnswer::Attempts(pairs),
+            consumer: fresh(settings, area_len),
+        };
+    };
+    let cursor = restored.cursor;
+    let list = decoded.pairs;
+    let carried = carry(cursor, list, count);
+    let lease = settings.lease;
+    let table = resumed_table(lease, ceiling, carried);
+    Started {
+        answer: StartAnswer::Started,
+        consumer: resumed(settings, area_len, cursor, table, ceiling, seat),
+    }
+}
+
+// The same of two snapshots that stand one behind the other, up to a place each.
+fn read_both(
+    settings: Settings,
+    area_len: usize,
+    bytes: &[u8],
+    middle: usize,
+    end: usize,
+    ceiling: u64,
+    seat: Seat,
+) -> Started
+    requires { ⌜ (middle ≤ end) × (end ≤ length (now bytes)) ⌝ }
+    ensures { λ r. ⌜ ResumedIs settings «area_len» (fromSnapshots (keptOf settings) «area_len» (decodeCursor (take middle (now (bytes .entry)))) (decodeAttempts (take (end - middle) (drop middle (now (bytes .entry))))) ceiling (seatOf seat)) r ⌝ }
+{
+    read_snapshots(
+        settings,
+        area_len,
+        &bytes[..middle],
+        &bytes[middle..end],
+        ceiling,
+        seat,
+    )
+}
+
+// The consumer of the group whose header stands at a block.
+fn read_group(settings: Settings, area: &[u8], at: usize, seat: Seat) -> Started
+    requires { ⌜ Lies (now area) at ⌝ }
+    ensures { λ r. ⌜ ResumedIs settings (length (now (area .entry))) (readGroup (keptOf settings) (now (area .entry)) at (seatOf seat)) r ⌝ }
+{
+    let from = 512 * at;
+    let to = from + 512;
+    let header = journal::read_header(&area[from..to]);
+    let mut payload = [0u8; 3606];
+    journal::read_payload(area, at, &mut payload);
+    let middle = header.cursor_len as usize;
+    let end = middle + header.attempt_len as usize;
+    let ceiling = header.ceiling;
+    read_both(settings, area.len(), &payload, middle, end, ceiling, seat)
+}
+
+// The consumer of the last group that a walk over the whole area met, or a fresh one where there is none: 5 to 19. The walk
+// answers no 4, since the area's length was tested before.
+fn resume_from(settings: Settings, area: &[u8], walked: Walked) -> Started
+    requires { ⌜ WalkedIs (now area) walked ⌝ }
+    ensures { λ r. ⌜ ResumedIs settings (length (now (area .entry))) (fromWalk (keptOf settings) (now (area .entry)) (walkedOf walked)) r ⌝ }
+{
+    match walked {
+        Walked::Stopped {
+            last,
+            number,
+            block,
+        } => match last {
+            LastGroup::At(at) => {
+                let seat = Seat {
+                    number: number,
+                    block: block,
+                };
+                return read_group(settings, area, at, seat);
+            }
+            LastGroup::None => {
+                return Started {
+                    answer: StartAnswer::Started,
+                    consumer: fresh(settings, area.len()),
+                };
+            }
+        },
+        Walked::BadArea => {
+            return Started {
+                answer: StartAnswer::BadArea,
+                consumer: fresh(settings, area.len()),
+            };
+        }
+        Walked::Damaged(block) => {
+            return Started {
+                answer: StartAnswer::Damaged { block: block },
+                consumer: fresh(settings, area.len()),
+            };
+        }
+    }
+}
+
+// A fresh consumer for an area of so many zeroed bytes: 1 to 4.
+pub fn start(settings: Settings, area_len: usize) -> Started
+    ensures { λ r. ⌜ StartedIs settings «area_len» (start (settingsOf settings) «area_len») r ⌝ }
+{
+    let answer = check_start(settings, area_len);
+    let consumer = fresh(settings, area_len);
+    Started {
+        answer: answer,
+        consumer: consumer,
+    }
+}
+
+// A consumer that goes on from what its journal has: 1 to 19. The area is read and nothing is written.
+pub fn restart(settings: Settings, area: &[u8]) -> Started
+    ensures { λ r. ⌜ StartedIs settings (length (now (area .entry))) (restart (settingsOf settings) (now (area .entry))) r ⌝ }
+{
+    let answer = check_start(settings, area.len());
+    let StartAnswer::Started = answer else {
+        return Started {
+            answer: answer,
+            consumer: fresh(settings, area.len()),
+        };
+    };
+    let walked = journal::walk(area, area.len() / 512, 1, 0);
+    resume_from(settings, area, walked)
+}
