@@ -3,7 +3,7 @@
 -- Assumes nothing.
 use Prim.Native.Nat.{ℕ, _≤_, _<_}
 use mathlib.Core.Path.{_≡_, refl, sym, ap, _∙_}
-use mathlib.Core.Bool.{true, false, true≢false}
+use mathlib.Core.Bool.{Bool, true, false, not, true≢false}
 use mathlib.Core.Option.{none, some}
 use lib.Dec.{ltb, leb}
 use borrow.Author.Tests.{ltb-true, ltb-false, lt-ltb, le-ltb, le-leb, lt-leb}
@@ -16,6 +16,7 @@ use Rattle.lease.specs.State.{Table, Sound, view, leasesOf, withLeases}
 use Rattle.lease.specs.Operations.{leaseOf, owns, dueAt}
 use Rattle.lease.specs.Rest.{resealedAs, resealFromTo, overdue, deferRedelivery, isClaimable, deliveries, pendingRedeliveryAttempt}
 use Rattle.lease.specs.Answers.{Tries}
+use Rattle.lease.specs.Helpers.{held}
 use Rattle.lease.specs.Lookup.{leaseAt}
 use Rattle.lease.specs.declared.Lease.{Lease}
 use Rattle.lease.specs.declared.LeaseTable.{LeaseTable}
@@ -64,6 +65,15 @@ module _ (t : LeaseTable) (ok : Sound t) (o now delay : ℕ) where
       }
 
 -- ## a lease that has run out
+-- it has, or it still runs
+pub run-out-or-running : (d now : ℕ) → leb d now ≡ not (ltb now d)
+run-out-or-running d now = split (ltb now d) (λ t. rw (t, lt-leb d now (ltb-true now d t))) (λ t. rw (t, le-leb d now (ltb-false now d t)))
+
+-- one that has was found
+pub overdue-found : (found : Bool) (l : Lease) (now : ℕ) → overdue (held found l) now ≡ true → found ≡ true
+overdue-found true l now h = refl
+overdue-found false l now h = absurd (true≢false (sym h))
+
 module _ (s : Table) (o now : ℕ) where
   pub none-overdue : leaseOf s o ≡ none → overdue (leaseOf s o) now ≡ false
   none-overdue e = rw e
@@ -80,4 +90,4 @@ module _ (s : Table) (o now : ℕ) where
     pending h = rw (run-out h, e)
 
     pub claimable : leb (l .deadline) now ≡ isClaimable s o now
-    claimable = rw e (split (ltb now (l .deadline)) (λ t. rw t (lt-leb (l .deadline) now (ltb-true now (l .deadline) t))) (λ t. rw t (le-leb (l .deadline) now (ltb-false now (l .deadline) t))))
+    claimable = rw e (run-out-or-running (l .deadline) now)

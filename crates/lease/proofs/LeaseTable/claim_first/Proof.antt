@@ -12,7 +12,8 @@ use Rattle.types.proofs.Scan.{length-mapped}
 use Rattle.tables.proofs.Columns.{put-in-front, taken-out-front}
 use Rattle.redeliveries.specs.Counter.{afterGrant}
 use Rattle.lease.specs.declared.LeaseTable.{LeaseTable}
-use Rattle.lease.proofs.Slots.{nil, Full, Free, Spanned, holding, free, in-flight, carried-span}
+use Rattle.tables.proofs.Places.{Spanned}
+use Rattle.lease.proofs.Slots.{nil, Full, Free, holding, free, in-flight, carried-span}
 use Rattle.lease.proofs.Claims.{claimed, room-first, finished, count-first, granted-first}
 use Rattle.lease.proofs.LeaseTable.claim_first.Statement.{statement}
 use Rattle.lease.proofs.LeaseTable.claim_first.Tie as tie
