@@ -1,24 +1,25 @@
 -- What a call with a token owes its contract at each of its answers, over the lease that was found.
 -- Assumes nothing.
-use Prim.Native.Nat.{ℕ, _+_, _≤_, _<_}
+use Prim.Native.Nat.{ℕ, _+_, _-_, _≤_, _<_}
 use native.Mathlib.Omega.{arith}
 use mathlib.Core.Path.{_≡_, refl, sym, ap, subst, _∙_}
 use mathlib.Core.Bool.{Bool, true, false, true≢false}
 use mathlib.Core.List.{List, [], _∷_}
 use mathlib.Core.Option.{Option, some}
-use lib.ListN.{getD, set}
+use lib.ListN.{take, getD, set}
 use lib.Seq.{set-getD}
 use borrow.Author.Tests.{not-false, le-leb, lt-leb, eq-eqb, ne-eqb}
 use Rattle.types.specs.Limits.{MAX, sat64}
 use Rattle.types.specs.Refusal.{Result, refused, done, Fenced, Exhausted, CapReached}
 use Rattle.types.specs.Table.{first, Passed}
 use Rattle.types.specs.Keyed.{Entry, update, delete}
+use Rattle.types.specs.Zipped.{removed}
 use Rattle.types.proofs.Keyed.{update-put}
 use Rattle.tables.specs.declared.Seat.{Seat}
 use Rattle.lease.specs.State.{Table, Sound, view, leasesOf, withLeases}
 use Rattle.lease.specs.Operations.{owns, tokenRow, ack, capFrom, deadlineFrom, dueAt, extendRows, extended, extend, nackRows, requeuedAs, requeue, nack}
 use Rattle.lease.specs.Answers.{Answers}
-use Rattle.lease.specs.Helpers.{held, extensionRows, Extends, requeueRows, Requeues, Shorter}
+use Rattle.lease.specs.Helpers.{held, extensionRows, Extends, requeueRows, Requeues, rebuilt}
 use Rattle.lease.specs.declared.LeaseConfig.{LeaseConfig}
 use Rattle.lease.specs.declared.Lease.{Lease}
 use Rattle.lease.specs.declared.LeaseTable.{LeaseTable}
@@ -92,13 +93,15 @@ module _ (t : LeaseTable) (ok : Sound t) (o at : ℕ) (here : Leased t o at) whe
         is = ap (λ (l : List (Entry Lease)). withNext (withLeases (view t) l)) (stored-leases (requeuedAs (t .«next_generation» .0) deadline));
       }
 
-  -- without the place
-  pub shows-removed : {after : LeaseTable} → Shorter t at (at + 1) after → Shows after (withLeases (view t) (delete o (leasesOf t)))
-  shows-removed s =
-      subst (λ (u : LeaseTable). Shows u (withLeases (view t) (delete o (leasesOf t)))) (sym (s .rest)) (record {
+  -- the columns without the place
+  pub shows-removed : (ks : List ℕ) (vs : List Lease) (n : ℕ) → n ≡ t .len - (at + 1 - at) → take (t .len - (at + 1 - at)) ks ≡ removed at (at + 1) (take (t .len) (t .offsets))
+      → take (t .len - (at + 1 - at)) vs ≡ removed at (at + 1) (take (t .len) (t .leases))
+      → {after : LeaseTable} → after ≡ rebuilt t ks vs n → Shows after (withLeases (view t) (delete o (leasesOf t)))
+  shows-removed ks vs n w p q e =
+      rw e (record {
         len = omega (arith, ok .len);
         carried-len = ok .carried-len;
-        is = ap (withLeases (view t)) (rw (s .keys, s .values) (here .gone));
+        is = ap (withLeases (view t)) (rw (w, p, q) (here .gone));
       })
 
 -- ## ack

@@ -14,7 +14,7 @@ ghost use Rattle.lease.specs.State.{Sound, view, startingAt};
 ghost use Rattle.lease.specs.Operations.{lease, owns, grantOf, claim, ack, extend, nack, capFrom, deadlineFrom};
 ghost use Rattle.lease.specs.Rest.{attemptsFlushed, releaseBelow, resealFromTo, overdue, deferRedelivery, shiftedBy, shiftDeadlines, inFlight, isClaimable, deliveries, holdsActive, pendingRedeliveryAttempt};
 ghost use Rattle.lease.specs.Answers.{claimOf, ackOf, extendOf, nackOf, attemptsOf, Answers, Tries, Becomes};
-ghost use Rattle.lease.specs.Helpers.{held, Extends, Requeues, Shorter};
+ghost use Rattle.lease.specs.Helpers.{held, Extends, Requeues};
 use lookup::LeaseAt;
 use tables::Place;
 use tables::counts;
@@ -370,26 +370,18 @@ impl LeaseTable {
         tables::remove_128(&mut self.carried_offsets, n, 0, carried);
         tables::remove_counts_128(&mut self.carried_counts, n, 0, carried);
         self.carried_len = n - carried;
-        let first = tables::position(&self.offsets, self.len, up_to.0);
-        self.without_leases(0, first)
-    }
-
-    // Takes the leases at the places from `from` up to `to` out.
-    fn without_leases(mut self, from: usize, to: usize) -> LeaseTable
-        requires { ⌜ (from ≤ to) × (to ≤ self .len) × (self .len ≤ LEASES) ⌝ }
-        ensures { λ r. ⌜ Shorter self from to r ⌝ }
-    {
         let len = self.len;
-        tables::remove_64(&mut self.offsets, len, from, to);
-        let mut i = from;
-        let mut j = to;
+        let first = tables::position(&self.offsets, len, up_to.0);
+        tables::remove_64(&mut self.offsets, len, 0, first);
+        let mut i: usize = 0;
+        let mut j = first;
         while j < len {
             let next = self.leases[j];
             self.leases[i] = next;
             i += 1;
             j += 1;
         }
-        self.len = len - (to - from);
+        self.len = i;
         self
     }
 
@@ -532,7 +524,8 @@ impl LeaseTable {
         requires { ⌜ Sound self ⌝ }
         ensures { λ r. ⌜ Answers (ackOf (r .outcome)) self (r .table) (ack (view self) (token .offset .0) (token .generation .0)) ⌝ }
     {
-        let seat = tables::seat_of(&self.offsets, self.len, token.offset.0);
+        let len = self.len;
+        let seat = tables::seat_of(&self.offsets, len, token.offset.0);
         let at = seat.at;
         let lease = self.leases[at];
         let owned = lease.owned_by(seat.found, token.generation);
@@ -542,9 +535,19 @@ impl LeaseTable {
                 table: self,
             };
         }
+        let mut i = at;
+        let mut j = at + 1;
+        tables::remove_64(&mut self.offsets, len, i, j);
+        while j < len {
+            let next = self.leases[j];
+            self.leases[i] = next;
+            i += 1;
+            j += 1;
+        }
+        self.len = i;
         Acked {
             outcome: AckOutcome::Acked,
-            table: self.without_leases(at, at + 1),
+            table: self,
         }
     }
 

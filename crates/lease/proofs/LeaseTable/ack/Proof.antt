@@ -1,71 +1,145 @@
--- `LeaseTable::ack` meets its contract.
+-- `LeaseTable::ack` meets its contract. The loop's invariant: the leases from j on belong at i, and the rest of the table
+-- is as it was before the loop.
 -- Assumes nothing.
+use Prim.Native.Nat.{_+_, _-_, _≤_}
 use native.Mathlib.Omega.{arith}
-use mathlib.Core.Path.{sym, _∙_}
+use mathlib.Core.Path.{_≡_, refl, sym, ap, _∙_}
+use mathlib.Core.Bool.{true}
+use lib.ListN.{set, getD}
 use borrow.Author.Needs.{needs}
 use borrow.Author.Tests.{not-true, not-false}
+use Rattle.types.specs.Limits.{LEASES}
+use Rattle.types.proofs.Loops.{Closing, closing, closing-more, closed}
 use Rattle.types.proofs.Scan.{length-mapped}
-use Rattle.lease.proofs.Slots.{Full, Leased, Looks, looks}
+use Rattle.tables.proofs.Columns.{taken-out-front}
+use Rattle.lease.specs.Operations.{owns}
+use Rattle.lease.specs.Helpers.{held, rebuilt}
+use Rattle.lease.specs.declared.LeaseTable.{LeaseTable}
+use Rattle.lease.proofs.Slots.{nil, Full, Leased, Looks, holding, looks}
 use Rattle.lease.proofs.Tokens.{owned-found, shows-removed, ack-fenced, acked}
 use Rattle.lease.proofs.LeaseTable.ack.Statement.{statement}
 use Rattle.lease.proofs.LeaseTable.ack.Tie as tie
 
-full : (c : tie.Start) → Full (c .args .t1)
+abbrev Inv-loop : tie.InvT-loop
+Inv-loop self₀ len at owned i₀ j₀ self i j = Closing (self₀ .leases) (self .leases) len i₀ j₀ i j × (self ≡ holding self₀ (self .leases))
+
+abbrev μ-loop : tie.MeasureT-loop
+μ-loop self₀ len at owned i₀ j₀ self i j = len - j
+
+full : (c : tie.Start Inv-loop μ-loop) → Full (c .args .t1)
 full c = record { offsets = search needs; leases = search (needs, length-mapped); carried-offsets = search needs; carried-counts = search needs }
 
-look : (c : tie.After-seat-of) → Looks (c .before .before .before .before .args .t1) (c .before .before .before .before .args .token .offset .0) (c .seat-of .result)
-look c = let s = c .before .before .before .before in looks (s .args .t1) (full s) (s .pre) (c .seat-of .ensures)
+abbrev start : tie.After-seat-of Inv-loop μ-loop → tie.Start Inv-loop μ-loop
+start c = c .before .before .before .before
+
+look : (c : tie.After-seat-of Inv-loop μ-loop) → Looks (start c .args .t1) (start c .args .token .offset .0) (c .seat-of .result)
+look c = let s = start c in looks (s .args .t1) (full s) (s .pre) (c .seat-of .ensures)
 
 -- the token owns the lease that was found
-abbrev seat : tie.Else1 → tie.After-seat-of
+abbrev seat : tie.Else1 Inv-loop μ-loop → tie.After-seat-of Inv-loop μ-loop
 seat c = c .before .before .before
 
-here : (c : tie.Else1) → let s = seat c .before .before .before .before in Leased (s .args .t1) (s .args .token .offset .0) (seat c .seat-of .result .at)
-here c = look (seat c) .here (owned-found _ _ _ (sym (c .before .owned-by .ensures) ∙ not-false _ (c .if1 .left)))
+owned : (c : tie.Else1 Inv-loop μ-loop) → owns (held (seat c .seat-of .result .found) (getD (start (seat c) .args .t1 .leases) (seat c .seat-of .result .at) nil)) (start (seat c) .args .token .generation .0) ≡ true
+owned c = sym (c .before .owned-by .ensures) ∙ not-false _ (c .if1 .left)
 
-seat-of-requires : tie.Need-seat-of-requires
+here : (c : tie.Else1 Inv-loop μ-loop) → Leased (start (seat c) .args .t1) (start (seat c) .args .token .offset .0) (seat c .seat-of .result .at)
+here c = look (seat c) .here (owned-found _ _ _ (owned c))
+
+seat-of-requires : tie.Need-seat-of-requires Inv-loop μ-loop
 seat-of-requires c κs = search needs
 
-mul-lease : tie.Need-mul-lease
+mul-lease : tie.Need-mul-lease Inv-loop μ-loop
 mul-lease c = omega (arith, look c .inside)
 
-element-copy-out-lease : tie.Need-element-copy-out-lease
+element-copy-out-lease : tie.Need-element-copy-out-lease Inv-loop μ-loop
 element-copy-out-lease c = look c .inside
 
-owned-by-requires : tie.Need-owned-by-requires
+owned-by-requires : tie.Need-owned-by-requires Inv-loop μ-loop
 owned-by-requires c κs = search needs
 
-returns : tie.Need-returns
+returns : tie.Need-returns Inv-loop μ-loop
 returns c =
     let p = c .before .before .before in
-    let s = p .before .before .before .before in
+    let s = start p in
     ack-fenced (s .args .t1) (s .pre) (s .args .token .offset .0) (s .args .token .generation .0) (p .seat-of .result) (look p) (sym (c .before .owned-by .ensures) ∙ not-true _ (c .if1 .taken))
 
-add-without-leases : tie.Need-add-without-leases
-add-without-leases c = omega (arith, look (seat c) .inside)
+add-j : tie.Need-add-j Inv-loop μ-loop
+add-j c = omega (arith, look (seat c) .inside)
 
-without-leases-requires : tie.Need-without-leases-requires
-without-leases-requires c κs =
-    let s = seat c .before .before .before .before in
-    (omega arith, omega (arith, here c .inside), s .pre .len)
+remove-64-requires : tie.Need-remove-64-requires Inv-loop μ-loop
+remove-64-requires c κs = search needs
 
-returns-2 : tie.Need-returns-2
+loop-holds : tie.Need-loop-holds Inv-loop μ-loop
+loop-holds c =
+    let e = c .before .before in
+    let s = start (seat e) in
+    let at = seat e .seat-of .result .at in
+    (closing (s .args .t1 .leases) (s .args .t1 .len) at (at + 1) (omega arith) (omega (arith, here e .inside)) (omega (arith, full s .leases, s .pre .len)), refl)
+
+few : (c : tie.At-loop Inv-loop μ-loop) → start (seat (c .before .before .before)) .args .t1 .len ≤ LEASES
+few c = start (seat (c .before .before .before)) .pre .len
+
+mul-next : tie.Need-mul-next Inv-loop μ-loop
+mul-next c = omega (arith, few (c .before))
+
+element-copy-out-next : tie.Need-element-copy-out-next Inv-loop μ-loop
+element-copy-out-next c = omega (arith, few (c .before))
+
+mul-next-2 : tie.Need-mul-next-2 Inv-loop μ-loop
+mul-next-2 c = omega (arith, few (c .before .before))
+
+element-set-from-next : tie.Need-element-set-from-next Inv-loop μ-loop
+element-set-from-next c = omega (arith, few (c .before .before))
+
+add-i : tie.Need-add-i Inv-loop μ-loop
+add-i c = omega (arith, few (c .before .before))
+
+add-j-2 : tie.Need-add-j-2 Inv-loop μ-loop
+add-j-2 c = omega (arith, few (c .before .before))
+
+loop-less : tie.Need-loop-less Inv-loop μ-loop
+loop-less c = omega arith
+
+loop-again : tie.Need-loop-again Inv-loop μ-loop
+loop-again c =
+    let l = c .before .before .loop in
+    (closing-more nil (l .inv .0) (c .before .loop-test .taken), ap (λ (s : LeaseTable). holding s (set (l .self .leases) (l .i) (getD (l .self .leases) (l .j) nil))) (l .inv .1))
+
+returns-2 : tie.Need-returns-2 Inv-loop μ-loop
 returns-2 c =
-    let e = c .before in
+    let l = c .before .loop in
+    let r = c .before .before in
+    let e = r .before .before in
     let p = seat e in
-    let s = p .before .before .before .before in
-    acked (s .args .t1) (s .pre) (s .args .token .offset .0) (s .args .token .generation .0) (p .seat-of .result) (look p) (sym (e .before .owned-by .ensures) ∙ not-false _ (e .if1 .left))
-    (shows-removed (s .args .t1) (s .pre) (s .args .token .offset .0) (p .seat-of .result .at) (here e) (c .without-leases .ensures))
+    let s = start p in
+    let at = p .seat-of .result .at in
+    let inv = l .inv .0 in
+    acked (s .args .t1) (s .pre) (s .args .token .offset .0) (s .args .token .generation .0) (p .seat-of .result) (look p) (owned e)
+    (shows-removed (s .args .t1) (s .pre) (s .args .token .offset .0) at (here e) (r .remove-64 .last .0) (l .self .leases) (l .i) (omega (arith, inv .order, inv .inside, inv .moved, c .loop-test .left))
+    (taken-out-front (s .args .t1 .len) at (at + 1) (s .args .t1 .offsets) (omega arith) (omega (arith, here e .inside)) (omega (arith, full s .offsets, s .pre .len)) (r .remove-64 .ensures))
+    (closed nil inv (omega arith) (c .loop-test .left))
+    (ap (λ (t : LeaseTable). rebuilt t (t .offsets) (t .leases) (l .i)) (l .inv .1)))
 
 pub ack-spec : {M : Type 1} → statement M
 ack-spec =
     tie.close
     (tie.spec
+    Inv-loop
+    μ-loop
     seat-of-requires
     mul-lease
     element-copy-out-lease
     owned-by-requires
     returns
-    add-without-leases
-    without-leases-requires
+    add-j
+    remove-64-requires
+    loop-holds
+    mul-next
+    element-copy-out-next
+    mul-next-2
+    element-set-from-next
+    add-i
+    add-j-2
+    loop-less
+    loop-again
     returns-2)
