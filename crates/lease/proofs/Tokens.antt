@@ -57,7 +57,7 @@ abbrev pub stored : LeaseTable → ℕ → Lease → LeaseTable
 stored t at l = holding t (set (t .leases) at l)
 
 -- what stood there stored again
-stored-same : (t : LeaseTable) (at : ℕ) → stored t at (getD (t .leases) at nil) ≡ t
+pub stored-same : (t : LeaseTable) (at : ℕ) → stored t at (getD (t .leases) at nil) ≡ t
 stored-same t at = ap (holding t) (set-getD (t .leases) at nil)
 
 -- the same with another next generation

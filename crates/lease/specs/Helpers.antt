@@ -1,12 +1,14 @@
 -- What the private helpers answer. No public contract cites this file.
-use Prim.Native.Nat.{ℕ, _+_}
+use Prim.Native.Nat.{ℕ, _+_, _-_}
 use mathlib.Core.Path.{_≡_}
 use mathlib.Core.Bool.{Bool, cond, not}
 use mathlib.Core.List.{List, [], _∷_}
 use mathlib.Core.Option.{Option, none, some}
 use lib.Dec.{leb, eqb}
+use lib.ListN.{take}
 use Rattle.types.specs.Limits.{MAX}
 use Rattle.types.specs.Keyed.{Entry}
+use Rattle.types.specs.Zipped.{removed}
 use Rattle.types.specs.Refusal.{Result, refused, done, Fenced, Exhausted, CapReached, TooManyPairs}
 use Rattle.types.specs.Table.{Row, _⇒_, first, Passed, Answer, answer}
 use Rattle.tables.specs.Carried.{carriedIn, carryOn, Tidy}
@@ -58,6 +60,12 @@ rebuilt t ks vs n =
       «next_generation» = t .«next_generation»;
       «redeliveries_since_flush» = t .«redeliveries_since_flush»;
     }
+
+-- without the leases at the places from `from` up to `to`
+pub record Shorter (t : LeaseTable) (from to : ℕ) (r : LeaseTable) : Type 0 where
+  pub keys : take (t .len - (to - from)) (r .offsets) ≡ removed from to (take (t .len) (t .offsets))
+  pub values : take (t .len - (to - from)) (r .leases) ≡ removed from to (take (t .len) (t .leases))
+  pub rest : r ≡ rebuilt t (r .offsets) (r .leases) (t .len - (to - from))
 
 -- ## pairs carried one by one
 -- each of a list

@@ -5,7 +5,7 @@
 ghost use mathlib.Core.Path.{_≡_};
 ghost use Prim.Native.Nat.{_≤_, _<_};
 ghost use lib.ListN.{take, getD};
-ghost use Rattle.types.specs.Limits.{MAX, LEASES, sat64, sat32};
+ghost use Rattle.types.specs.Limits.{MAX, LEASES};
 ghost use Rattle.types.specs.Refusal.{done};
 ghost use Rattle.tables.specs.Search.{Placed};
 ghost use Rattle.tables.specs.declared.Place.the-variants.{Missing};
@@ -14,10 +14,11 @@ ghost use Rattle.lease.specs.State.{Sound, view, startingAt};
 ghost use Rattle.lease.specs.Operations.{lease, owns, grantOf, claim, ack, extend, nack, capFrom, deadlineFrom};
 ghost use Rattle.lease.specs.Rest.{attemptsFlushed, releaseBelow, resealFromTo, overdue, deferRedelivery, shiftedBy, shiftDeadlines, inFlight, isClaimable, deliveries, holdsActive, pendingRedeliveryAttempt};
 ghost use Rattle.lease.specs.Answers.{claimOf, ackOf, extendOf, nackOf, attemptsOf, Answers, Tries, Becomes};
-ghost use Rattle.lease.specs.Helpers.{held, Extends, Requeues};
+ghost use Rattle.lease.specs.Helpers.{held, Extends, Requeues, Shorter};
 use lookup::LeaseAt;
 use tables::Place;
 use tables::counts;
+use tables::numbers;
 use types::Generation;
 use types::Offset;
 
@@ -64,14 +65,14 @@ impl LeaseConfig {
     fn cap(self, start: u64) -> u64
         ensures { λ r. ⌜ r ≡ capFrom self start ⌝ }
     {
-        saturating_add(start, self.hard_cap_nanos)
+        numbers::saturating_add(start, self.hard_cap_nanos)
     }
 
     // One visibility window from now, within the cap of an attempt that began at `start`.
     fn deadline(self, start: u64, now: u64) -> u64
         ensures { λ r. ⌜ r ≡ deadlineFrom self start now ⌝ }
     {
-        let window = saturating_add(now, self.visibility_nanos);
+        let window = numbers::saturating_add(now, self.visibility_nanos);
         let cap = self.cap(start);
         if window <= cap { window } else { cap }
     }
@@ -209,8 +210,8 @@ impl Lease {
         let generation = self.generation;
         Lease {
             generation: generation,
-            attempt_start: saturating_add(self.attempt_start, delta),
-            deadline: saturating_add(self.deadline, delta),
+            attempt_start: numbers::saturating_add(self.attempt_start, delta),
+            deadline: numbers::saturating_add(self.deadline, delta),
             deliveries: self.deliveries,
         }
     }
@@ -370,11 +371,19 @@ impl LeaseTable {
         tables::remove_128(&mut self.carried_offsets, n, 0, carried);
         tables::remove_counts_128(&mut self.carried_counts, n, 0, carried);
         self.carried_len = n - carried;
+        let first = tables::position(&self.offsets, self.len, up_to.0);
+        self.without_leases(0, first)
+    }
+
+    // Takes the leases at the places from `from` up to `to` out. (An ack, which is called often, does the same in place.)
+    fn without_leases(mut self, from: usize, to: usize) -> LeaseTable
+        requires { ⌜ (from ≤ to) × (to ≤ self .len) × (self .len ≤ LEASES) ⌝ }
+        ensures { λ r. ⌜ Shorter self from to r ⌝ }
+    {
         let len = self.len;
-        let first = tables::position(&self.offsets, len, up_to.0);
-        tables::remove_64(&mut self.offsets, len, 0, first);
-        let mut i: usize = 0;
-        let mut j = first;
+        tables::remove_64(&mut self.offsets, len, from, to);
+        let mut i = from;
+        let mut j = to;
         while j < len {
             let next = self.leases[j];
             self.leases[i] = next;
@@ -428,7 +437,7 @@ impl LeaseTable {
         tables::remove_128(&mut self.carried_offsets, n, prior.from, prior.to);
         tables::remove_counts_128(&mut self.carried_counts, n, prior.from, prior.to);
         self.carried_len = n - (prior.to - prior.from);
-        let deliveries = saturating_next(prior.count);
+        let deliveries = numbers::saturating_next(prior.count);
         tables::insert_64(&mut self.offsets, len, at, offset.0);
         let mut held = self.config.lease(generation, now, deliveries);
         let mut i = at;
@@ -470,7 +479,7 @@ impl LeaseTable {
             };
         }
         let generation = self.next_generation;
-        let deliveries = saturating_next(prior.deliveries);
+        let deliveries = numbers::saturating_next(prior.deliveries);
         self.leases[at] = self.config.lease(generation, now, deliveries);
         self.next_generation.0 = generation.0 + 1;
         self.redeliveries_since_flush = redeliveries::after_grant(
@@ -498,9 +507,7 @@ impl LeaseTable {
         let at = seat.at;
         let lease = self.leases[at];
         let owned = lease.owned_by(seat.found, from);
-        if owned {
-            self.leases[at].generation.0 = generation.0;
-        }
+        self.leases[at].generation.0 = numbers::chosen(owned, generation.0, lease.generation.0);
         Changed {
             changed: owned,
             table: self,
@@ -608,7 +615,7 @@ impl LeaseTable {
         let at = seat.at;
         let lease = self.leases[at];
         let fence = self.next_generation;
-        let deadline = saturating_add(now, delay_nanos);
+        let deadline = numbers::saturating_add(now, delay_nanos);
         let requeue = lease.requeue(seat.found, token.generation, fence, deadline);
         let requeued = requeue.lease;
         self.leases[at] = requeued;
@@ -644,9 +651,8 @@ impl LeaseTable {
         let at = seat.at;
         let lease = self.leases[at];
         let overdue = lease.overdue(seat.found, now);
-        if overdue {
-            self.leases[at].deadline = saturating_add(now, delay_nanos);
-        }
+        let deadline = numbers::saturating_add(now, delay_nanos);
+        self.leases[at].deadline = numbers::chosen(overdue, deadline, lease.deadline);
         Changed {
             changed: overdue,
             table: self,
@@ -692,22 +698,4 @@ fn to_nanos(ms: u64) -> u64
     } else {
         18446744073709551615
     }
-}
-
-// The sum, at most the largest number.
-fn saturating_add(a: u64, b: u64) -> u64
-    ensures { λ r. ⌜ r ≡ sat64 a b ⌝ }
-{
-    if a <= 18446744073709551615 - b {
-        a + b
-    } else {
-        18446744073709551615
-    }
-}
-
-// One more, at most the largest number.
-fn saturating_next(n: u32) -> u32
-    ensures { λ r. ⌜ r ≡ sat32 n 1 ⌝ }
-{
-    if n == 4294967295 { n } else { n + 1 }
 }

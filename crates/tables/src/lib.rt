@@ -6,6 +6,7 @@ ghost use Rattle.tables.specs.Columns.{putIn, takenOut};
 ghost use Rattle.tables.specs.Search.{Boundary, Placed, Seated};
 
 pub mod counts;
+pub mod numbers;
 
 // Where a key stands, or where it would stand.
 pub enum Place {

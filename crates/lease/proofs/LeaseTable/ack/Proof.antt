@@ -2,7 +2,6 @@
 -- is as it was before the loop.
 -- Assumes nothing.
 use Prim.Native.Nat.{_+_, _-_, _≤_}
-use native.Mathlib.Omega.{arith}
 use mathlib.Core.Path.{_≡_, refl, sym, ap, _∙_}
 use mathlib.Core.Bool.{true}
 use lib.ListN.{set, getD}
@@ -15,6 +14,7 @@ use Rattle.tables.proofs.Columns.{taken-out-front}
 use Rattle.lease.specs.Operations.{owns}
 use Rattle.lease.specs.Helpers.{held, rebuilt}
 use Rattle.lease.specs.declared.LeaseTable.{LeaseTable}
+use Rattle.lease.proofs.Bounds.{place-in-memory, in-use, next-place, in-memory, up-one, up-to, further, within, closed-at, to-fill}
 use Rattle.lease.proofs.Slots.{nil, Full, Leased, Looks, holding, looks}
 use Rattle.lease.proofs.Tokens.{owned-found, shows-removed, ack-fenced, acked}
 use Rattle.lease.proofs.LeaseTable.ack.Statement.{statement}
@@ -49,7 +49,7 @@ seat-of-requires : tie.Need-seat-of-requires Inv-loop μ-loop
 seat-of-requires c κs = search needs
 
 mul-lease : tie.Need-mul-lease Inv-loop μ-loop
-mul-lease c = omega (arith, look c .inside)
+mul-lease c = place-in-memory (look c .inside)
 
 element-copy-out-lease : tie.Need-element-copy-out-lease Inv-loop μ-loop
 element-copy-out-lease c = look c .inside
@@ -64,7 +64,7 @@ returns c =
     ack-fenced (s .args .t1) (s .pre) (s .args .token .offset .0) (s .args .token .generation .0) (p .seat-of .result) (look p) (sym (c .before .owned-by .ensures) ∙ not-true _ (c .if1 .taken))
 
 add-j : tie.Need-add-j Inv-loop μ-loop
-add-j c = omega (arith, look (seat c) .inside)
+add-j c = next-place (here c .inside) (start (seat c) .pre .len)
 
 remove-64-requires : tie.Need-remove-64-requires Inv-loop μ-loop
 remove-64-requires c κs = search needs
@@ -74,31 +74,31 @@ loop-holds c =
     let e = c .before .before in
     let s = start (seat e) in
     let at = seat e .seat-of .result .at in
-    (closing (s .args .t1 .leases) (s .args .t1 .len) at (at + 1) (omega arith) (omega (arith, here e .inside)) (omega (arith, full s .leases, s .pre .len)), refl)
+    (closing (s .args .t1 .leases) (s .args .t1 .len) at (at + 1) (up-one at) (up-to (here e .inside)) (within (full s .leases) (s .pre .len)), refl)
 
 few : (c : tie.At-loop Inv-loop μ-loop) → start (seat (c .before .before .before)) .args .t1 .len ≤ LEASES
 few c = start (seat (c .before .before .before)) .pre .len
 
 mul-next : tie.Need-mul-next Inv-loop μ-loop
-mul-next c = omega (arith, few (c .before))
+mul-next c = in-memory (c .loop-test .taken) (few (c .before))
 
 element-copy-out-next : tie.Need-element-copy-out-next Inv-loop μ-loop
-element-copy-out-next c = omega (arith, few (c .before))
+element-copy-out-next c = in-use (c .loop-test .taken) (few (c .before))
 
 mul-next-2 : tie.Need-mul-next-2 Inv-loop μ-loop
-mul-next-2 c = omega (arith, few (c .before .before))
+mul-next-2 c = in-memory (to-fill (c .before .before .loop .inv .0) (c .before .loop-test .taken)) (few (c .before .before))
 
 element-set-from-next : tie.Need-element-set-from-next Inv-loop μ-loop
-element-set-from-next c = omega (arith, few (c .before .before))
+element-set-from-next c = in-use (to-fill (c .before .before .loop .inv .0) (c .before .loop-test .taken)) (few (c .before .before))
 
 add-i : tie.Need-add-i Inv-loop μ-loop
-add-i c = omega (arith, few (c .before .before))
+add-i c = next-place (to-fill (c .before .before .loop .inv .0) (c .before .loop-test .taken)) (few (c .before .before))
 
 add-j-2 : tie.Need-add-j-2 Inv-loop μ-loop
-add-j-2 c = omega (arith, few (c .before .before))
+add-j-2 c = next-place (c .before .loop-test .taken) (few (c .before .before))
 
 loop-less : tie.Need-loop-less Inv-loop μ-loop
-loop-less c = omega arith
+loop-less c = further _ _ (c .before .loop-test .taken)
 
 loop-again : tie.Need-loop-again Inv-loop μ-loop
 loop-again c =
@@ -115,9 +115,9 @@ returns-2 c =
     let at = p .seat-of .result .at in
     let inv = l .inv .0 in
     acked (s .args .t1) (s .pre) (s .args .token .offset .0) (s .args .token .generation .0) (p .seat-of .result) (look p) (owned e)
-    (shows-removed (s .args .t1) (s .pre) (s .args .token .offset .0) at (here e) (r .remove-64 .last .0) (l .self .leases) (l .i) (omega (arith, inv .order, inv .inside, inv .moved, c .loop-test .left))
-    (taken-out-front (s .args .t1 .len) at (at + 1) (s .args .t1 .offsets) (omega arith) (omega (arith, here e .inside)) (omega (arith, full s .offsets, s .pre .len)) (r .remove-64 .ensures))
-    (closed nil inv (omega arith) (c .loop-test .left))
+    (shows-removed (s .args .t1) (s .pre) (s .args .token .offset .0) at (here e) (r .remove-64 .last .0) (l .self .leases) (l .i) (closed-at inv (c .loop-test .left))
+    (taken-out-front (s .args .t1 .len) at (at + 1) (s .args .t1 .offsets) (up-one at) (up-to (here e .inside)) (within (full s .offsets) (s .pre .len)) (r .remove-64 .ensures))
+    (closed nil inv (up-one at) (c .loop-test .left))
     (ap (λ (t : LeaseTable). rebuilt t (t .offsets) (t .leases) (l .i)) (l .inv .1)))
 
 pub ack-spec : {M : Type 1} → statement M

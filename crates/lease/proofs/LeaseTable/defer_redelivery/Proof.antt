@@ -1,13 +1,10 @@
 -- `LeaseTable::defer_redelivery` meets its contract.
 -- Assumes nothing.
-use native.Mathlib.Omega.{arith}
-use mathlib.Core.Path.{sym, _∙_}
 use borrow.Author.Needs.{needs}
 use Rattle.types.proofs.Scan.{length-mapped}
-use Rattle.lease.specs.Operations.{dueAt}
+use Rattle.lease.proofs.Bounds.{place-in-memory}
 use Rattle.lease.proofs.Slots.{Full, Looks, looks}
-use Rattle.lease.proofs.Tokens.{shows-stored}
-use Rattle.lease.proofs.Questions.{overdue-found, not-deferred, deferred}
+use Rattle.lease.proofs.Questions.{deferred-as}
 use Rattle.lease.proofs.LeaseTable.defer_redelivery.Statement.{statement}
 use Rattle.lease.proofs.LeaseTable.defer_redelivery.Tie as tie
 
@@ -21,7 +18,7 @@ seat-of-requires : tie.Need-seat-of-requires
 seat-of-requires c κs = search needs
 
 mul-lease : tie.Need-mul-lease
-mul-lease c = omega (arith, look c .inside)
+mul-lease c = place-in-memory (look c .inside)
 
 element-copy-out-lease : tie.Need-element-copy-out-lease
 element-copy-out-lease c = look c .inside
@@ -32,30 +29,22 @@ overdue-requires c κs = search needs
 saturating-add-requires : tie.Need-saturating-add-requires
 saturating-add-requires c κs = search needs
 
+chosen-requires : tie.Need-chosen-requires
+chosen-requires c κs = search needs
+
 mul-self : tie.Need-mul-self
-mul-self c = omega (arith, look (c .before .before .before .before) .inside)
+mul-self c = place-in-memory (look (c .before .before .before .before) .inside)
 
 way-write-given-self : tie.Need-way-write-given-self
 way-write-given-self c = (look (c .before .before .before .before) .inside, tt)
 
 returns : tie.Need-returns
 returns c =
-    let d = c .before .saturating-add in
-    let e = c .before .before in
-    let o = e .before in
+    let d = c .before .before .saturating-add in
+    let o = c .before .before .before in
     let p = o .before .before in
     let s = p .before .before .before .before in
-    let due = sym (o .overdue .ensures) ∙ e .if1 .taken in
-    rw (e .if1 .taken)
-    (deferred (s .args .t1) (s .pre) (s .args .offset .0) (s .args .now) (s .args .delay-nanos) (rw (look p .is) due) (d .result) (d .ensures)
-    (shows-stored (s .args .t1) (s .pre) (s .args .offset .0) (p .seat-of .result .at) (look p .here (overdue-found _ _ _ due)) (dueAt (d .result))))
-
-returns-2 : tie.Need-returns-2
-returns-2 c =
-    let p = c .before .before .before in
-    let s = p .before .before .before .before in
-    rw (c .if1 .left)
-    (not-deferred (s .args .t1) (s .pre) (s .args .offset .0) (s .args .now) (s .args .delay-nanos) (rw (look p .is) (sym (c .before .overdue .ensures) ∙ c .if1 .left)))
+    deferred-as (s .args .t1) (s .pre) (s .args .offset .0) (p .seat-of .result) (look p) (s .args .now) (s .args .delay-nanos) (d .result) (d .ensures) (o .overdue .result) (o .overdue .ensures) (c .before .chosen .result) (c .before .chosen .ensures)
 
 pub defer-redelivery-spec : {M : Type 1} → statement M
 defer-redelivery-spec =
@@ -66,7 +55,7 @@ defer-redelivery-spec =
     element-copy-out-lease
     overdue-requires
     saturating-add-requires
+    chosen-requires
     mul-self
     way-write-given-self
-    returns
-    returns-2)
+    returns)

@@ -1,9 +1,9 @@
 -- `LeaseTable::extend` meets its contract.
 -- Assumes nothing.
-use native.Mathlib.Omega.{arith}
 use borrow.Author.Needs.{needs}
 use Rattle.types.proofs.Scan.{length-mapped}
 use Rattle.lease.specs.Answers.{extendOf}
+use Rattle.lease.proofs.Bounds.{place-in-memory}
 use Rattle.lease.proofs.Slots.{Full, Looks, looks}
 use Rattle.lease.proofs.Tokens.{extended-as}
 use Rattle.lease.proofs.LeaseTable.extend.Statement.{statement}
@@ -19,7 +19,7 @@ seat-of-requires : tie.Need-seat-of-requires
 seat-of-requires c κs = search needs
 
 mul-extension : tie.Need-mul-extension
-mul-extension c = omega (arith, look (c .before) .inside)
+mul-extension c = place-in-memory (look (c .before) .inside)
 
 element-copy-out-extension : tie.Need-element-copy-out-extension
 element-copy-out-extension c = look (c .before) .inside
@@ -28,7 +28,7 @@ extension-requires : tie.Need-extension-requires
 extension-requires c κs = search needs
 
 mul-self : tie.Need-mul-self
-mul-self c = omega (arith, look (c .before .before .before) .inside)
+mul-self c = place-in-memory (look (c .before .before .before) .inside)
 
 way-write-given-self : tie.Need-way-write-given-self
 way-write-given-self c = (look (c .before .before .before) .inside, tt)

@@ -1,9 +1,9 @@
 -- `LeaseTable::nack` meets its contract.
 -- Assumes nothing.
-use native.Mathlib.Omega.{arith}
 use borrow.Author.Needs.{needs}
 use Rattle.types.proofs.Scan.{length-mapped}
 use Rattle.lease.specs.Answers.{nackOf}
+use Rattle.lease.proofs.Bounds.{place-in-memory}
 use Rattle.lease.proofs.Slots.{Full, Looks, looks}
 use Rattle.lease.proofs.Tokens.{nacked-as}
 use Rattle.lease.proofs.LeaseTable.nack.Statement.{statement}
@@ -19,7 +19,7 @@ seat-of-requires : tie.Need-seat-of-requires
 seat-of-requires c κs = search needs
 
 mul-lease : tie.Need-mul-lease
-mul-lease c = omega (arith, look c .inside)
+mul-lease c = place-in-memory (look c .inside)
 
 element-copy-out-lease : tie.Need-element-copy-out-lease
 element-copy-out-lease c = look c .inside
@@ -31,7 +31,7 @@ requeue-requires : tie.Need-requeue-requires
 requeue-requires c κs = search needs
 
 mul-requeued : tie.Need-mul-requeued
-mul-requeued c = omega (arith, look (c .before .before .before .before .before) .inside)
+mul-requeued c = place-in-memory (look (c .before .before .before .before .before) .inside)
 
 element-set-from-requeued : tie.Need-element-set-from-requeued
 element-set-from-requeued c = look (c .before .before .before .before .before) .inside
