@@ -1,66 +1,34 @@
--- Counts carried one by one: what each makes of the columns, and that the number of counts never falls on the way, so that
--- the first one too many decides.
+-- Counts carried one by one: their number never falls on the way, so that the first one too many decides.
 -- Assumes nothing.
 use Prim.Native.Nat.{ℕ, _+_, _≤_, _<_}
 use native.Mathlib.Omega.{arith}
 use native.Mathlib.Numerals.{add-one}
-use mathlib.Core.Path.{_≡_, refl, ap, _∙_, subst}
+use mathlib.Core.Path.{_≡_, refl, ap, _∙_}
 use mathlib.Core.Bool.{true, false}
 use mathlib.Core.List.{List, [], _∷_}
 use mathlib.Core.Option.{Option, none, some}
 use lib.Dec.{eqb, ltb}
-use lib.ListN.{length, take, drop, getD, set, drop-of-length-le}
+use lib.ListN.{length, drop, getD, drop-of-length-le}
 use lib.Seq.{drop-cons}
-use borrow.Author.Tests.{ltb-true, ltb-false, lt-ltb, le-ltb, eq-eqb, ne-eqb}
-use Rattle.types.specs.Limits.{MAX, MAX32, CARRIED}
+use borrow.Author.Tests.{ltb-true, ltb-false, lt-ltb, le-ltb}
+use Rattle.types.specs.Limits.{CARRIED}
 use Rattle.types.specs.Refusal.{refused, done, TooManyPairs}
 use Rattle.types.specs.Table.{answer}
-use Rattle.types.specs.Keyed.{Entry, entries, lookup, put, Rising}
+use Rattle.types.specs.Keyed.{Entry, lookup, put, Rising}
 use Rattle.types.specs.Lists.{pair, entriesOf}
 use Rattle.types.specs.declared.Pair.{Pair}
 use Rattle.types.proofs.Cases.{split}
 use Rattle.types.proofs.Keyed.{length-put-old, length-put-new}
-use Rattle.types.proofs.Columns.{length-used}
-use Rattle.types.specs.Zipped.{inserted}
 use Rattle.lease.specs.State.{Table, Valid, Sound, view, withCarried}
 use Rattle.lease.specs.Counts.{carry, carryAll, resumeAttempts}
-use Rattle.tables.specs.Search.{Placed}
-use Rattle.lease.specs.Helpers.{heldIn, carriedIn, within, carryOnAll, Tidy, CarriesPair, resumedWith}
+use Rattle.lease.specs.Helpers.{carryOnAll, resumedWith}
 use Rattle.lease.specs.Answers.{Answers}
 use Rattle.lease.specs.declared.LeaseTable.{LeaseTable}
-use Rattle.lease.specs.declared.lent.Carried.{Carried}
-use Rattle.tables.specs.declared.Place.{Place}
-use Rattle.tables.specs.declared.Place.the-variants.{Found, Missing}
-use Rattle.lease.proofs.Slots.{stands, lacks}
+use Rattle.tables.specs.Carried.{heldIn, carriedIn, within, Tidy, CarriesPair}
+use Rattle.tables.specs.declared.counts.Carried.{Carried}
+use Rattle.tables.proofs.Carried.{carry-rising}
 use Rattle.lease.proofs.Returns.{Shows, sound-as}
-use Rattle.lease.proofs.Valid.{carry-rising, carry-counted, valid-carried}
-
--- ## a count put into the columns
--- they hold the list, which is within its limit
-pub record Holds (held right : List (Entry ℕ)) : Type 0 where
-  pub is : held ≡ right
-  pub few : length right ≤ CARRIED
-
-module _ (n : ℕ) (ks vs : List ℕ) (full : length ks ≡ CARRIED) (full′ : length vs ≡ CARRIED) (few : n ≤ CARRIED) (rise : Rising 0 (entries (take n ks) (take n vs))) where
-  held : length (entries (take n ks) (take n vs)) ≡ n
-  held = length-used 0 n ks vs (omega arith) (omega arith)
-
-  module _ (x c : ℕ) (some-count : c ≡ 0 → ⊥) {at : ℕ} {r : Place} (p : Placed x (take n ks) r) where
-    pub counted-anew : r ≡ Found at → Holds (entries (take n ks) (take n (set vs at c))) (carry x c (entries (take n ks) (take n vs)))
-    counted-anew e =
-        let h = stands 0 n ks vs (omega arith) (omega arith) rise x at (subst (Placed x (take n ks)) e p) in
-        rw (ne-eqb c 0 some-count) (record { is = h .put c; few = omega (arith, held, length-put-old 0 x c (getD vs at 0) (entries (take n ks) (take n vs)) rise (h .is)) })
-
-    pub one-too-many : r ≡ Missing at → n ≡ CARRIED → CARRIED < length (carry x c (entries (take n ks) (take n vs)))
-    one-too-many e q =
-        let h = lacks 0 n ks vs (omega arith) (omega arith) rise x at (subst (Placed x (take n ks)) e p) in
-        rw (ne-eqb c 0 some-count, length-put-new x c (entries (take n ks) (take n vs)) (h .is), held) (omega arith)
-
-    pub counted-more : r ≡ Missing at → (n ≡ CARRIED → ⊥) → (ks′ vs′ : List ℕ) → take (n + 1) ks′ ≡ inserted at x (take n ks) → take (n + 1) vs′ ≡ inserted at c (take n vs)
-        → Holds (entries (take (n + 1) ks′) (take (n + 1) vs′)) (carry x c (entries (take n ks) (take n vs)))
-    counted-more e q ks′ vs′ u w =
-        let h = lacks 0 n ks vs (omega arith) (omega arith) rise x at (subst (Placed x (take n ks)) e p) in
-        rw (u, w, ne-eqb c 0 some-count) (record { is = h .put c; few = omega (arith, held, length-put-new x c (entries (take n ks) (take n vs)) (h .is)) })
+use Rattle.lease.proofs.Valid.{valid-carried}
 
 -- ## all of them
 length-carry : (x c lo : ℕ) (l : List (Entry ℕ)) → Rising lo l → length l ≤ length (carry x c l)
@@ -74,33 +42,6 @@ length-carry-all : (ps l : List (Entry ℕ)) → Rising 0 l → length l ≤ len
 length-carry-all [] l r = omega arith
 length-carry-all (p ∷ ps) l r =
     omega (arith, length-carry (p .key) (p .value) 0 l r, length-carry-all ps (carry (p .key) (p .value) l) (carry-rising (p .key) (p .value) l r))
-
--- what the columns hold is the list with the pair in it, or there are too many
-module _ (p : Pair) (c : Carried) (tidy : Tidy c) (room : c .full ≡ false) where
-  abbrev more : List (Entry ℕ)
-  more = carry (p .offset) (p .attempt) (heldIn c)
-
-  pub pair-nothing : length (heldIn c) ≤ CARRIED → p .attempt ≡ 0 → CarriesPair p c c
-  pair-nothing few e = record { is = rw (room, eq-eqb (p .attempt) 0 e, le-ltb CARRIED (length (heldIn c)) few); tidy = tidy }
-
-  pub pair-carried : p .offset ≤ MAX → p .attempt ≤ MAX32 → (n : ℕ) (ks vs : List ℕ) → n ≤ CARRIED → Holds (entries (take n ks) (take n vs)) more
-      → CarriesPair p c (record { offsets = ks; counts = vs; len = n; full = c .full })
-  pair-carried fits fits′ n ks vs few h =
-      record {
-        is = rw (room, h .is, le-ltb CARRIED (length more) (h .few));
-        tidy = record {
-          few = few;
-          rising = rw (h .is) (carry-rising (p .offset) (p .attempt) (heldIn c) (tidy .rising));
-          counted = rw (h .is) (carry-counted (p .offset) (p .attempt) (heldIn c) fits fits′ (tidy .counted));
-        };
-      }
-
-  pub pair-refused : CARRIED < length more → CarriesPair p c (record { offsets = c .offsets; counts = c .counts; len = c .len; full = true })
-  pair-refused h = record { is = rw (room, lt-ltb CARRIED (length more) h); tidy = record { few = tidy .few; rising = tidy .rising; counted = tidy .counted } }
-
--- with too many, nothing is carried any more
-pub pair-kept : (p : Pair) (c : Carried) → Tidy c → c .full ≡ true → CarriesPair p c c
-pair-kept p c tidy e = record { is = rw e; tidy = tidy }
 
 -- once there are too many, there are too many at the end
 pub carried-within : (ps l : List (Entry ℕ)) → Rising 0 l → length l ≤ CARRIED → carryOnAll ps (some l) ≡ within (carryAll ps l)

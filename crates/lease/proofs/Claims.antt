@@ -20,7 +20,8 @@ use Rattle.lease.specs.Answers.{Answers}
 use Rattle.lease.specs.declared.Lease.{Lease}
 use Rattle.lease.specs.declared.LeaseTable.{LeaseTable}
 use Rattle.tables.specs.declared.counts.Span.{Span}
-use Rattle.lease.proofs.Slots.{nil, Leased, Free, Spanned}
+use Rattle.tables.proofs.Places.{Spanned}
+use Rattle.lease.proofs.Slots.{nil, Leased, Free}
 use Rattle.lease.proofs.Returns.{Shows, refuses, takes-effect}
 use Rattle.lease.proofs.Valid.{valid-grant}
 

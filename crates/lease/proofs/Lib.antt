@@ -5,6 +5,7 @@ pub mod Generations
 pub mod Counts
 pub mod Slots
 pub mod Examples
+mod Bounds
 mod Returns
 mod Claims
 mod Tokens

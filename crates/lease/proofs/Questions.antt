@@ -2,26 +2,31 @@
 -- that was found.
 -- Assumes nothing.
 use Prim.Native.Nat.{ℕ, _≤_, _<_}
-use mathlib.Core.Path.{_≡_, refl, sym, ap, _∙_}
-use mathlib.Core.Bool.{true, false, true≢false}
+use mathlib.Core.Path.{_≡_, refl, sym, ap, subst, _∙_}
+use mathlib.Core.Bool.{Bool, true, false, cond, not, true≢false}
 use mathlib.Core.Option.{none, some}
 use lib.Dec.{ltb, leb}
+use lib.ListN.{getD}
 use borrow.Author.Tests.{ltb-true, ltb-false, lt-ltb, le-ltb, le-leb, lt-leb}
 use Rattle.types.specs.Limits.{sat64}
 use Rattle.types.specs.Refusal.{done}
 use Rattle.types.specs.Table.{answer}
 use Rattle.types.specs.Keyed.{update}
 use Rattle.types.proofs.Cases.{split}
+use Rattle.tables.specs.declared.Seat.{Seat}
 use Rattle.lease.specs.State.{Table, Sound, view, leasesOf, withLeases}
 use Rattle.lease.specs.Operations.{leaseOf, owns, dueAt}
 use Rattle.lease.specs.Rest.{resealedAs, resealFromTo, overdue, deferRedelivery, isClaimable, deliveries, pendingRedeliveryAttempt}
 use Rattle.lease.specs.Answers.{Tries}
+use Rattle.lease.specs.Helpers.{held}
 use Rattle.lease.specs.Lookup.{leaseAt}
 use Rattle.lease.specs.declared.Lease.{Lease}
 use Rattle.lease.specs.declared.LeaseTable.{LeaseTable}
 use Rattle.lease.specs.declared.lookup.LeaseAt.{LeaseAt}
 use Rattle.lease.specs.declared.lookup.LeaseAt.the-variants.{Some, None}
-use Rattle.lease.proofs.Returns.{Shows, sound-as}
+use Rattle.lease.proofs.Slots.{nil, Looks}
+use Rattle.lease.proofs.Returns.{sound-as}
+use Rattle.lease.proofs.Tokens.{owned-found, stored, stored-same, shows-stored}
 use Rattle.lease.proofs.Valid.{valid-update}
 
 -- ## what a look-up found
@@ -32,38 +37,16 @@ module _ (s : Table) (o : ℕ) {r : LeaseAt} (p : leaseAt r ≡ leaseOf s o) whe
   pub found-none : r ≡ None → leaseOf s o ≡ none
   found-none e = sym p ∙ ap leaseAt e
 
--- ## changes
-module _ (t : LeaseTable) (ok : Sound t) (o from to : ℕ) where
-  pub not-resealed : owns (leaseOf (view t) o) from ≡ false → Tries false t t (resealFromTo (view t) o from to)
-  unfolding resealFromTo
-  not-resealed h = record { is = rw h; sound = ok; kept = λ e. refl }
-
-  pub resealed : owns (leaseOf (view t) o) from ≡ true → {after : LeaseTable} → Shows after (withLeases (view t) (update o (resealedAs to) (leasesOf t)))
-      → Tries true t after (resealFromTo (view t) o from to)
-  unfolding resealFromTo
-  resealed h m =
-      record {
-        is = rw h (ap (answer (done true)) (m .is));
-        sound = sound-as m (valid-update (view t) o (resealedAs to) (λ l. refl) (ok .valid));
-        kept = λ e. absurd (true≢false e);
-      }
-
-module _ (t : LeaseTable) (ok : Sound t) (o now delay : ℕ) where
-  pub not-deferred : overdue (leaseOf (view t) o) now ≡ false → Tries false t t (deferRedelivery (view t) o now delay)
-  unfolding deferRedelivery
-  not-deferred h = record { is = rw h; sound = ok; kept = λ e. refl }
-
-  pub deferred : overdue (leaseOf (view t) o) now ≡ true → (d : ℕ) → d ≡ sat64 now delay → {after : LeaseTable} → Shows after (withLeases (view t) (update o (dueAt d) (leasesOf t)))
-      → Tries true t after (deferRedelivery (view t) o now delay)
-  unfolding deferRedelivery
-  deferred h d e m =
-      record {
-        is = rw h (ap (answer (done true)) (m .is ∙ ap (λ (k : ℕ). withLeases (view t) (update o (dueAt k) (leasesOf t))) e));
-        sound = sound-as m (valid-update (view t) o (dueAt d) (λ l. refl) (ok .valid));
-        kept = λ q. absurd (true≢false q);
-      }
-
 -- ## a lease that has run out
+-- it has, or it still runs
+pub run-out-or-running : (d now : ℕ) → leb d now ≡ not (ltb now d)
+run-out-or-running d now = split (ltb now d) (λ t. rw (t, lt-leb d now (ltb-true now d t))) (λ t. rw (t, le-leb d now (ltb-false now d t)))
+
+-- one that has was found
+pub overdue-found : (found : Bool) (l : Lease) (now : ℕ) → overdue (held found l) now ≡ true → found ≡ true
+overdue-found true l now h = refl
+overdue-found false l now h = absurd (true≢false (sym h))
+
 module _ (s : Table) (o now : ℕ) where
   pub none-overdue : leaseOf s o ≡ none → overdue (leaseOf s o) now ≡ false
   none-overdue e = rw e
@@ -80,4 +63,39 @@ module _ (s : Table) (o now : ℕ) where
     pending h = rw (run-out h, e)
 
     pub claimable : leb (l .deadline) now ≡ isClaimable s o now
-    claimable = rw e (split (ltb now (l .deadline)) (λ t. rw t (lt-leb (l .deadline) now (ltb-true now (l .deadline) t))) (λ t. rw t (le-leb (l .deadline) now (ltb-false now (l .deadline) t))))
+    claimable = rw e (run-out-or-running (l .deadline) now)
+
+-- ## changes, of what was looked at in a seat
+module _ (t : LeaseTable) (ok : Sound t) (o : ℕ) (s : Seat) (look : Looks t o s) where
+  abbrev old : Lease
+  old = getD (t .leases) (s .at) nil
+
+  module _ (from to : ℕ) where
+    pub resealed-as : (owned : Bool) → owned ≡ owns (held (s .found) old) from → (g : ℕ) → g ≡ cond owned to (old .generation .0)
+        → Tries owned t (stored t (s .at) (resealedAs g old)) (resealFromTo (view t) o from to)
+    unfolding resealFromTo
+    resealed-as false e g q =
+        subst (λ (u : LeaseTable). Tries false t u (resealFromTo (view t) o from to)) (sym (ap (λ (k : ℕ). stored t (s .at) (resealedAs k old)) q ∙ stored-same t (s .at)))
+        (record { is = rw (look .is, ← e); sound = ok; kept = λ _. refl })
+    resealed-as true e g q =
+        let m = shows-stored t ok o (s .at) (look .here (owned-found (s .found) old from (sym e))) (resealedAs g) in
+        record {
+          is = rw (look .is, ← e) (ap (answer (done true)) (m .is ∙ ap (λ (k : ℕ). withLeases (view t) (update o (resealedAs k) (leasesOf t))) q));
+          sound = sound-as m (valid-update (view t) o (resealedAs g) (λ l. refl) (ok .valid));
+          kept = λ h. absurd (true≢false h);
+        }
+
+  module _ (now delay d : ℕ) (is-d : d ≡ sat64 now delay) where
+    pub deferred-as : (due : Bool) → due ≡ overdue (held (s .found) old) now → (g : ℕ) → g ≡ cond due d (old .deadline)
+        → Tries due t (stored t (s .at) (dueAt g old)) (deferRedelivery (view t) o now delay)
+    unfolding deferRedelivery
+    deferred-as false e g q =
+        subst (λ (u : LeaseTable). Tries false t u (deferRedelivery (view t) o now delay)) (sym (ap (λ (k : ℕ). stored t (s .at) (dueAt k old)) q ∙ stored-same t (s .at)))
+        (record { is = rw (look .is, ← e); sound = ok; kept = λ _. refl })
+    deferred-as true e g q =
+        let m = shows-stored t ok o (s .at) (look .here (overdue-found (s .found) old now (sym e))) (dueAt g) in
+        record {
+          is = rw (look .is, ← e) (ap (answer (done true)) (m .is ∙ ap (λ (k : ℕ). withLeases (view t) (update o (dueAt k) (leasesOf t))) (q ∙ is-d)));
+          sound = sound-as m (valid-update (view t) o (dueAt g) (λ l. refl) (ok .valid));
+          kept = λ h. absurd (true≢false h);
+        }

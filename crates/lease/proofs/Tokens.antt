@@ -3,44 +3,66 @@
 use Prim.Native.Nat.{ℕ, _+_, _-_, _≤_, _<_}
 use native.Mathlib.Omega.{arith}
 use mathlib.Core.Path.{_≡_, refl, sym, ap, subst, _∙_}
-use mathlib.Core.Bool.{true, false}
+use mathlib.Core.Bool.{Bool, true, false, true≢false}
 use mathlib.Core.List.{List, [], _∷_}
-use mathlib.Core.Option.{none, some}
+use mathlib.Core.Option.{Option, some}
 use lib.ListN.{take, getD, set}
-use borrow.Author.Tests.{eq-eqb, ne-eqb, le-leb, lt-leb}
+use lib.Seq.{set-getD}
+use borrow.Author.Tests.{not-false, le-leb, lt-leb, eq-eqb, ne-eqb}
 use Rattle.types.specs.Limits.{MAX, sat64}
-use Rattle.types.specs.Refusal.{refused, done, Fenced, Exhausted, CapReached}
+use Rattle.types.specs.Refusal.{Result, refused, done, Fenced, Exhausted, CapReached}
+use Rattle.types.specs.Table.{first, Passed}
 use Rattle.types.specs.Keyed.{Entry, update, delete}
-use Rattle.types.proofs.Keyed.{update-put}
 use Rattle.types.specs.Zipped.{removed}
+use Rattle.types.proofs.Keyed.{update-put}
+use Rattle.tables.specs.declared.Seat.{Seat}
 use Rattle.lease.specs.State.{Table, Sound, view, leasesOf, withLeases}
-use Rattle.lease.specs.Operations.{leaseOf, owns, tokenRow, ack, capFrom, deadlineFrom, dueAt, extendRows, extended, extend, nackRows, requeuedAs, requeue, nack}
+use Rattle.lease.specs.Operations.{owns, tokenRow, ack, capFrom, deadlineFrom, dueAt, extendRows, extended, extend, nackRows, requeuedAs, requeue, nack}
 use Rattle.lease.specs.Answers.{Answers}
-use Rattle.lease.specs.Helpers.{rebuilt}
+use Rattle.lease.specs.Helpers.{held, extensionRows, Extends, requeueRows, Requeues, rebuilt}
+use Rattle.lease.specs.declared.LeaseConfig.{LeaseConfig}
 use Rattle.lease.specs.declared.Lease.{Lease}
 use Rattle.lease.specs.declared.LeaseTable.{LeaseTable}
-use Rattle.lease.proofs.Slots.{nil, Leased, holding}
+use Rattle.lease.proofs.Slots.{nil, Leased, Looks, holding}
 use Rattle.lease.proofs.Returns.{Shows, refuses, takes-effect}
 use Rattle.lease.proofs.Valid.{valid-update, valid-ack, valid-requeue}
 
 -- ## whether a token owns the lease of its offset
-module _ (s : Table) (o g : ℕ) where
-  pub not-leased : leaseOf s o ≡ none → owns (leaseOf s o) g ≡ false
-  not-leased e = rw e
+-- the lease that it owns was found
+pub owned-found : (found : Bool) (l : Lease) (g : ℕ) → owns (held found l) g ≡ true → found ≡ true
+owned-found true l g h = refl
+owned-found false l g h = absurd (true≢false (sym h))
 
-  pub other-generation : (l : Lease) → leaseOf s o ≡ some l → (l .generation .0 ≡ g → ⊥) → owns (leaseOf s o) g ≡ false
-  other-generation l e n = rw (e, ne-eqb (l .generation .0) g n)
+pub held-owned : (found : Bool) (l : Lease) (g : ℕ) → owns (held found l) g ≡ true → held found l ≡ some l
+held-owned true l g h = refl
+held-owned false l g h = absurd (true≢false (sym h))
 
-  pub owned : (l : Lease) → leaseOf s o ≡ some l → l .generation .0 ≡ g → owns (leaseOf s o) g ≡ true
-  owned l e q = rw (e, eq-eqb (l .generation .0) g q)
+-- the rows behind that test
+module _ (found : Bool) (l : Lease) (g : ℕ) (h : owns (held found l) g ≡ true) where
+  module _ (c : LeaseConfig) (now cap : ℕ) (e : cap ≡ capFrom c (l .«attempt_start»)) where
+    pub cap-reached : cap ≤ now → first (extensionRows c (held found l) g now) ≡ some CapReached
+    cap-reached k = rw h (rw (held-owned found l g h, le-leb (capFrom c (l .«attempt_start»)) now (rw (← e) k)))
+
+    pub below-cap : now < cap → Passed (extensionRows c (held found l) g now)
+    below-cap k = (rw h, (rw (held-owned found l g h, lt-leb (capFrom c (l .«attempt_start»)) now (rw (← e) k)), tt))
+
+  pub none-left : (next : ℕ) → next ≡ MAX → first (requeueRows (held found l) g next) ≡ some Exhausted
+  none-left next e = rw (h, eq-eqb next MAX e)
+
+  pub one-left : (next : ℕ) → (next ≡ MAX → ⊥) → Passed (requeueRows (held found l) g next)
+  one-left next n = (rw h, (ne-eqb next MAX n, tt))
 
 -- ## a lease changed or removed at its place
 abbrev pub stored : LeaseTable → ℕ → Lease → LeaseTable
 stored t at l = holding t (set (t .leases) at l)
 
--- the same with the next generation taken
-abbrev pub taken : LeaseTable → LeaseTable
-taken t =
+-- what stood there stored again
+pub stored-same : (t : LeaseTable) (at : ℕ) → stored t at (getD (t .leases) at nil) ≡ t
+stored-same t at = ap (holding t) (set-getD (t .leases) at nil)
+
+-- the same with another next generation
+abbrev pub taking : LeaseTable → ℕ → LeaseTable
+taking t g =
     record {
       config = t .config;
       offsets = t .offsets;
@@ -49,7 +71,7 @@ taken t =
       «carried_offsets» = t .«carried_offsets»;
       «carried_counts» = t .«carried_counts»;
       «carried_len» = t .«carried_len»;
-      «next_generation» = record { 0 = t .«next_generation» .0 + 1 };
+      «next_generation» = record { 0 = g };
       «redeliveries_since_flush» = t .«redeliveries_since_flush»;
     }
 
@@ -63,7 +85,7 @@ module _ (t : LeaseTable) (ok : Sound t) (o at : ℕ) (here : Leased t o at) whe
   pub shows-stored : (f : Lease → Lease) → Shows (stored t at (f (getD (t .leases) at nil))) (withLeases (view t) (update o f (leasesOf t)))
   shows-stored f = record { len = ok .len; carried-len = ok .carried-len; is = ap (withLeases (view t)) (stored-leases f) }
 
-  pub shows-requeued : (deadline : ℕ) → Shows (taken (stored t at (requeuedAs (t .«next_generation» .0) deadline (getD (t .leases) at nil)))) (requeue (view t) o deadline)
+  pub shows-requeued : (deadline : ℕ) → Shows (taking (stored t at (requeuedAs (t .«next_generation» .0) deadline (getD (t .leases) at nil))) (t .«next_generation» .0 + 1)) (requeue (view t) o deadline)
   shows-requeued deadline =
       record {
         len = ok .len;
@@ -72,70 +94,63 @@ module _ (t : LeaseTable) (ok : Sound t) (o at : ℕ) (here : Leased t o at) whe
       }
 
   -- the columns without the place
-  pub shows-removed : (ks : List ℕ) (vs : List Lease) → take (t .len - (at + 1 - at)) ks ≡ removed at (at + 1) (take (t .len) (t .offsets))
+  pub shows-removed : (ks : List ℕ) (vs : List Lease) (n : ℕ) → n ≡ t .len - (at + 1 - at) → take (t .len - (at + 1 - at)) ks ≡ removed at (at + 1) (take (t .len) (t .offsets))
       → take (t .len - (at + 1 - at)) vs ≡ removed at (at + 1) (take (t .len) (t .leases))
-      → {after : LeaseTable} → after ≡ rebuilt t ks vs (t .len - 1) → Shows after (withLeases (view t) (delete o (leasesOf t)))
-  shows-removed ks vs p q e =
-      let n : t .len - (at + 1 - at) ≡ t .len - 1 = omega arith in
+      → {after : LeaseTable} → after ≡ rebuilt t ks vs n → Shows after (withLeases (view t) (delete o (leasesOf t)))
+  shows-removed ks vs n w p q e =
       rw e (record {
         len = omega (arith, ok .len);
         carried-len = ok .carried-len;
-        is = ap (withLeases (view t)) (rw (← n, p, q) (here .gone));
+        is = ap (withLeases (view t)) (rw (w, p, q) (here .gone));
       })
 
 -- ## ack
-module _ (t : LeaseTable) (ok : Sound t) (o g : ℕ) where
-  pub ack-fenced : owns (leaseOf (view t) o) g ≡ false → Answers (refused Fenced) t t (ack (view t) o g)
+module _ (t : LeaseTable) (ok : Sound t) (o g : ℕ) (s : Seat) (look : Looks t o s) where
+  pub ack-fenced : owns (held (s .found) (getD (t .leases) (s .at) nil)) g ≡ false → Answers (refused Fenced) t t (ack (view t) o g)
   unfolding ack
-  ack-fenced h = refuses t ok (tokenRow (view t) o g ∷ []) Fenced _ (rw h)
+  ack-fenced h = refuses t ok (tokenRow (view t) o g ∷ []) Fenced _ (rw (look .is, h))
 
-  pub acked : owns (leaseOf (view t) o) g ≡ true → {after : LeaseTable} → Shows after (withLeases (view t) (delete o (leasesOf t)))
+  pub acked : owns (held (s .found) (getD (t .leases) (s .at) nil)) g ≡ true → {after : LeaseTable} → Shows after (withLeases (view t) (delete o (leasesOf t)))
       → Answers (done tt) t after (ack (view t) o g)
   unfolding ack
-  acked h m = takes-effect t ok (tokenRow (view t) o g ∷ []) tt (rw h, tt) m (valid-ack (view t) o (ok .valid))
+  acked h m = takes-effect t ok (tokenRow (view t) o g ∷ []) tt (rw (look .is, h), tt) m (valid-ack (view t) o (ok .valid))
 
 -- ## extend
-module _ (t : LeaseTable) (ok : Sound t) (o g now : ℕ) where
-  pub extend-fenced : owns (leaseOf (view t) o) g ≡ false → Answers (refused Fenced) t t (extend (view t) o g now)
+module _ (t : LeaseTable) (ok : Sound t) (o g : ℕ) (s : Seat) (look : Looks t o s) where
+  -- the lease that was looked at
+  abbrev old : Lease
+  old = getD (t .leases) (s .at) nil
+
+  pub extended-as : (now : ℕ) (out : Result ℕ) (d : ℕ) → Extends (t .config) (s .found) old g now out d → Answers out t (stored t (s .at) (dueAt d old)) (extend (view t) o g now)
   unfolding extend
-  extend-fenced h = refuses t ok (extendRows (view t) o g now) Fenced _ (rw h)
+  extended-as now (refused r) d h =
+      subst (λ (u : LeaseTable). Answers (refused r) t u (extend (view t) o g now)) (sym (ap (λ (k : ℕ). stored t (s .at) (dueAt k old)) (h .1) ∙ stored-same t (s .at)))
+      (refuses t ok (extendRows (view t) o g now) r _ (subst (λ (l : Option Lease). first (extensionRows (t .config) l g now) ≡ some r) (sym (look .is)) (h .0)))
+  extended-as now (done b) d h =
+      let here = look .here (owned-found (s .found) old g (not-false _ (h .0 .0))) in
+      let same : deadlineFrom (t .config) (old .«attempt_start») now ≡ extended (view t) o now = rw (here .is) in
+      subst (λ (n : ℕ). Answers (done n) t (stored t (s .at) (dueAt d old)) (extend (view t) o g now)) (sym (h .1 ∙ same))
+      (takes-effect t ok (extendRows (view t) o g now) (extended (view t) o now)
+      (subst (λ (l : Option Lease). Passed (extensionRows (t .config) l g now)) (sym (look .is)) (h .0))
+      (subst (λ (n : ℕ). Shows (stored t (s .at) (dueAt d old)) (withLeases (view t) (update o (dueAt n) (leasesOf t)))) (h .2 ∙ same) (shows-stored t ok o (s .at) here (dueAt d)))
+      (valid-update (view t) o (dueAt (extended (view t) o now)) (λ v. refl) (ok .valid)))
 
-  module _ (l : Lease) (e : leaseOf (view t) o ≡ some l) (q : l .generation .0 ≡ g) where
-    pub extend-capped : capFrom (t .config) (l .«attempt_start») ≤ now → Answers (refused CapReached) t t (extend (view t) o g now)
-    unfolding extend
-    extend-capped h =
-        refuses t ok (extendRows (view t) o g now) CapReached _
-        (rw (owned (view t) o g l e q) (rw (e, le-leb (capFrom (t .config) (l .«attempt_start»)) now h)))
+  -- ## nack
+  abbrev next : ℕ
+  next = t .«next_generation» .0
 
-    pub extend-done : now < capFrom (t .config) (l .«attempt_start») → (d : ℕ) → d ≡ deadlineFrom (t .config) (l .«attempt_start») now → {after : LeaseTable}
-        → Shows after (withLeases (view t) (update o (dueAt d) (leasesOf t)))
-        → Answers (done d) t after (extend (view t) o g now)
-    unfolding extend
-    extend-done h d p {after} m =
-        let same : d ≡ extended (view t) o now = p ∙ rw e in
-        subst (λ (n : ℕ). Answers (done n) t after (extend (view t) o g now)) (sym same)
-        (takes-effect t ok (extendRows (view t) o g now) (extended (view t) o now)
-        (rw (owned (view t) o g l e q), (rw (e, lt-leb (capFrom (t .config) (l .«attempt_start»)) now h), tt))
-        (subst (λ (n : ℕ). Shows after (withLeases (view t) (update o (dueAt n) (leasesOf t)))) same m)
-        (valid-update (view t) o (dueAt (extended (view t) o now)) (λ v. refl) (ok .valid)))
-
--- ## nack
-module _ (t : LeaseTable) (ok : Sound t) (o g now delay : ℕ) where
-  pub nack-fenced : owns (leaseOf (view t) o) g ≡ false → Answers (refused Fenced) t t (nack (view t) o g now delay)
+  pub nacked-as : (now delay d : ℕ) → d ≡ sat64 now delay → (out : Result ℕ) (l : Lease) (n : ℕ)
+      → Requeues (s .found) old g next d out (l, n)
+      → Answers out t (taking (stored t (s .at) l) n) (nack (view t) o g now delay)
   unfolding nack
-  nack-fenced h = refuses t ok (nackRows (view t) o g) Fenced _ (rw h)
-
-  module _ (h : owns (leaseOf (view t) o) g ≡ true) where
-    pub nack-exhausted : t .«next_generation» .0 ≡ MAX → Answers (refused Exhausted) t t (nack (view t) o g now delay)
-    unfolding nack
-    nack-exhausted n = refuses t ok (nackRows (view t) o g) Exhausted _ (rw (h, eq-eqb (t .«next_generation» .0) MAX n))
-
-    pub nacked : (t .«next_generation» .0 ≡ MAX → ⊥) → (d : ℕ) → d ≡ sat64 now delay → {after : LeaseTable} → Shows after (requeue (view t) o d)
-        → Answers (done d) t after (nack (view t) o g now delay)
-    unfolding nack
-    nacked n d e {after} m =
-        subst (λ (k : ℕ). Answers (done k) t after (nack (view t) o g now delay)) (sym e)
-        (takes-effect t ok (nackRows (view t) o g) (sat64 now delay)
-        (rw h, (ne-eqb (t .«next_generation» .0) MAX n, tt))
-        (subst (λ (k : ℕ). Shows after (requeue (view t) o k)) e m)
-        (valid-requeue (view t) o (sat64 now delay) (ne-eqb (t .«next_generation» .0) MAX n) (ok .valid)))
+  nacked-as now delay d e (refused r) l n h =
+      subst (λ (u : LeaseTable). Answers (refused r) t u (nack (view t) o g now delay)) (sym (ap (λ (p : Lease × ℕ). taking (stored t (s .at) (p .0)) (p .1)) (h .1) ∙ ap (λ (u : LeaseTable). taking u next) (stored-same t (s .at))))
+      (refuses t ok (nackRows (view t) o g) r _ (subst (λ (x : Option Lease). first (requeueRows x g next) ≡ some r) (sym (look .is)) (h .0)))
+  nacked-as now delay d e (done b) l n h =
+      let here = look .here (owned-found (s .found) old g (not-false _ (h .0 .0))) in
+      subst (λ (k : ℕ). Answers (done k) t (taking (stored t (s .at) l) n) (nack (view t) o g now delay)) (sym (h .1 ∙ e))
+      (takes-effect t ok (nackRows (view t) o g) (sat64 now delay)
+      (subst (λ (x : Option Lease). Passed (requeueRows x g next)) (sym (look .is)) (h .0))
+      (subst (λ (k : ℕ). Shows (taking (stored t (s .at) l) n) (requeue (view t) o k)) e
+      (subst (λ (u : LeaseTable). Shows u (requeue (view t) o d)) (sym (ap (λ (p : Lease × ℕ). taking (stored t (s .at) (p .0)) (p .1)) (h .2))) (shows-requeued t ok o (s .at) here d)))
+      (valid-requeue (view t) o (sat64 now delay) (h .0 .1 .0) (ok .valid)))

@@ -10,14 +10,12 @@ use mathlib.Core.Option.{Option, none, some}
 use lib.Dec.{leb, eqb}
 use lib.ListN.{length}
 use borrow.Author.Tests.{leb-false, eqb-false}
-use Rattle.types.specs.Limits.{MAX, MAX32, LEASES, CARRIED, sat32}
+use Rattle.types.specs.Limits.{MAX, LEASES, CARRIED, sat32}
 use Rattle.types.specs.Keyed.{Entry, lookup, put, update, delete, Rising, All, mapValues}
-use Rattle.types.proofs.Cases.{split}
 use Rattle.types.proofs.Keyed.{rising-put, length-put, length-put-old, all-put, rising-delete, length-delete, all-delete, rising-update, length-update, all-update, rising-dropBelow, length-dropBelow, all-dropBelow, rising-mapValues, length-mapValues, all-mapValues}
 use Rattle.lease.specs.State.{Table, withLeases, withCarried, startingAt, Counted, Valid}
 use Rattle.lease.specs.Operations.{leaseOf, isNone, handedOut, nextCount, consumed, grant, lease, requeue, requeuedAs, deadlineFrom}
 use Rattle.lease.specs.Rest.{attemptsFlushed, releaseBelow, shiftedBy, shiftDeadlines}
-use Rattle.lease.specs.Counts.{carry}
 use Rattle.lease.specs.declared.LeaseConfig.{LeaseConfig}
 use Rattle.lease.specs.declared.Lease.{Lease}
 
@@ -138,13 +136,3 @@ valid-grant t o now h n f v =
       carried-counted = c .counted;
       generation-fits = next-fits (t .nextGeneration) (v .generation-fits) n;
     }
-
--- ## counts carried over
-pub carry-rising : (o n : ℕ) (c : List (Entry ℕ)) → Rising 0 c → Rising 0 (carry o n c)
-carry-rising o n c r = split (eqb n 0) (λ q. rw q r) (λ q. rw q (rising-put 0 o n c (omega arith) r))
-
-pub carry-counted : (o n : ℕ) (c : List (Entry ℕ)) → o ≤ MAX → n ≤ MAX32 → All Counted c → All Counted (carry o n c)
-carry-counted o n c h m a =
-    split (eqb n 0)
-    (λ q. rw q a)
-    (λ q. rw q (all-put Counted o n c (record { offset-fits = h; once = omega (arith, eqb-false n 0 q); count-fits = m }) a))

@@ -1,22 +1,18 @@
 -- Attempt counts: those carried over a restart, and the lists of them that a snapshot takes (lease.rs).
 use Prim.Native.Nat.{ℕ, max}
-use mathlib.Core.Bool.{cond}
 use mathlib.Core.List.{List, [], _∷_}
 use mathlib.Core.Option.{Option·getD}
-use lib.Dec.{ltb, eqb}
+use lib.Dec.{ltb}
 use lib.ListN.{length}
 use Rattle.types.specs.Limits.{CARRIED}
 use Rattle.types.specs.Refusal.{done, TooManyPairs}
 use Rattle.types.specs.Table.{_⇒_, Answer, answer, guarded}
 use Rattle.types.specs.Keyed.{Entry, lookup, put, mapValues}
+pub use Rattle.tables.specs.Carried.{carry}
 use Rattle.lease.specs.State.{Table, withCarried}
 
 -- ## counts carried over
--- the carried counts with one pair more: a zero says nothing, and of two counts for an offset the last stays
-abbrev pub carry : ℕ → ℕ → List (Entry ℕ) → List (Entry ℕ)
-carry o n c = cond (eqb n 0) c (put o n c)
-
--- with each of a list of pairs, in its order
+-- the carried counts with each of a list of pairs, in its order
 abbrev pub carryAll : List (Entry ℕ) → List (Entry ℕ) → List (Entry ℕ)
 carryAll [] c = c
 carryAll (p ∷ ps) c = carryAll ps (carry (p .key) (p .value) c)

@@ -1,25 +1,51 @@
 -- What the private helpers answer. No public contract cites this file.
-use Prim.Native.Nat.{ℕ, _-_, _≤_}
+use Prim.Native.Nat.{ℕ, _+_, _-_}
 use mathlib.Core.Path.{_≡_}
-use mathlib.Core.Bool.{cond}
+use mathlib.Core.Bool.{Bool, cond, not}
 use mathlib.Core.List.{List, [], _∷_}
 use mathlib.Core.Option.{Option, none, some}
-use lib.Dec.{ltb}
-use lib.ListN.{length, take}
-use Rattle.types.specs.Limits.{CARRIED}
-use Rattle.types.specs.Keyed.{Entry, entries, Rising, All}
+use lib.Dec.{leb, eqb}
+use lib.ListN.{take}
+use Rattle.types.specs.Limits.{MAX}
+use Rattle.types.specs.Keyed.{Entry}
 use Rattle.types.specs.Zipped.{removed}
-use Rattle.types.specs.Refusal.{refused, done, TooManyPairs}
-use Rattle.types.specs.Table.{Answer, answer}
-use Rattle.types.specs.Lists.{entryOf}
-use Rattle.types.specs.declared.Pair.{Pair}
-use Rattle.lease.specs.State.{Table, Counted, carriedOf, withCarried}
-use Rattle.lease.specs.Counts.{carry}
+use Rattle.types.specs.Refusal.{Result, refused, done, Fenced, Exhausted, CapReached, TooManyPairs}
+use Rattle.types.specs.Table.{Row, _⇒_, first, Passed, Answer, answer}
+use Rattle.tables.specs.Carried.{carriedIn, carryOn, Tidy}
+use Rattle.tables.specs.declared.counts.Carried.{Carried}
+use Rattle.lease.specs.State.{Table, carriedOf, withCarried}
+use Rattle.lease.specs.Operations.{owns, capFrom, deadlineFrom, startOf, requeuedAs}
+use Rattle.lease.specs.declared.LeaseConfig.{LeaseConfig}
 use Rattle.lease.specs.declared.Lease.{Lease}
 use Rattle.lease.specs.declared.LeaseTable.{LeaseTable}
-use Rattle.lease.specs.declared.lent.Carried.{Carried}
 
--- ## leases taken out
+-- ## one lease
+-- the lease that was looked at, where it was found
+abbrev pub held : Bool → Lease → Option Lease
+held found l = cond found (some l) none
+
+-- what a call makes of what is stored: it stays where a row refuses the call, the first that holds, and is new where none does
+abbrev pub Settles : {A B : Type 0} → List Row → A → B → B → Result A → B → Type 0
+Settles ws a old new (refused r) after = (first ws ≡ some r) × (after ≡ old)
+Settles ws a old new (done b) after = Passed ws × (b ≡ a) × (after ≡ new)
+
+-- the rows of an extension and of a nack, over the lease: 24, 28 and 24, 25
+abbrev pub extensionRows : LeaseConfig → Option Lease → ℕ → ℕ → List Row
+extensionRows c l g now = not (owns l g) ⇒ Fenced ∷ leb (capFrom c (startOf l)) now ⇒ CapReached ∷ []
+
+abbrev pub requeueRows : Option Lease → ℕ → ℕ → List Row
+requeueRows l g next = not (owns l g) ⇒ Fenced ∷ eqb next MAX ⇒ Exhausted ∷ []
+
+-- an extension of the lease that was looked at, and a nack of it where the next generation is given
+abbrev pub Extends : LeaseConfig → Bool → Lease → ℕ → ℕ → Result ℕ → ℕ → Type 0
+Extends c found l g now =
+    Settles (extensionRows c (held found l) g now) (deadlineFrom c (l .«attempt_start») now) (l .deadline) (deadlineFrom c (l .«attempt_start») now)
+
+abbrev pub Requeues : Bool → Lease → ℕ → ℕ → ℕ → Result ℕ → Lease × ℕ → Type 0
+Requeues found l g next deadline =
+    Settles {B = Lease × ℕ} (requeueRows (held found l) g next) deadline (l, next) (requeuedAs next deadline l, next + 1)
+
+-- ## other leases
 -- a table with other leases in it, in columns of which the first n places are in use
 abbrev pub rebuilt : LeaseTable → List ℕ → List Lease → ℕ → LeaseTable
 rebuilt t ks vs n =
@@ -42,33 +68,10 @@ pub record Shorter (t : LeaseTable) (from to : ℕ) (r : LeaseTable) : Type 0 wh
   pub rest : r ≡ rebuilt t (r .offsets) (r .leases) (t .len - (to - from))
 
 -- ## pairs carried one by one
--- the counts in the columns, or none where there would be more than 128
-abbrev pub heldIn : Carried → List (Entry ℕ)
-heldIn c = entries (take (c .len) (c .offsets)) (take (c .len) (c .counts))
-
-abbrev pub carriedIn : Carried → Option (List (Entry ℕ))
-carriedIn c = cond (c .full) none (some (heldIn c))
-
-abbrev pub within : List (Entry ℕ) → Option (List (Entry ℕ))
-within l = cond (ltb CARRIED (length l)) none (some l)
-
--- one pair more, and each of a list
-abbrev pub carryOn : Entry ℕ → Option (List (Entry ℕ)) → Option (List (Entry ℕ))
-carryOn p none = none
-carryOn p (some l) = within (carry (p .key) (p .value) l)
-
+-- each of a list
 abbrev pub carryOnAll : List (Entry ℕ) → Option (List (Entry ℕ)) → Option (List (Entry ℕ))
 carryOnAll [] c = c
 carryOnAll (p ∷ ps) c = carryOnAll ps (carryOn p c)
-
-pub record Tidy (c : Carried) : Type 0 where
-  pub few : c .len ≤ CARRIED
-  pub rising : Rising 0 (heldIn c)
-  pub counted : All Counted (heldIn c)
-
-pub record CarriesPair (p : Pair) (before after : Carried) : Type 0 where
-  pub is : carriedIn after ≡ carryOn (entryOf p) (carriedIn before)
-  pub tidy : Tidy after
 
 pub record CarriesFrom (t : LeaseTable) (c : Carried) : Type 0 where
   pub is : carriedIn c ≡ some (carriedOf t)

@@ -3,8 +3,9 @@
 use Prim.Native.Nat.{ℕ, _≤_}
 use mathlib.Core.List.{List, []}
 use lib.ListN.{length, take}
-use Rattle.types.specs.Limits.{MAX, MAX32, LEASES, CARRIED}
+use Rattle.types.specs.Limits.{MAX, LEASES, CARRIED}
 use Rattle.types.specs.Keyed.{Entry, Rising, All, entries}
+pub use Rattle.tables.specs.Carried.{Counted}
 use Rattle.lease.specs.declared.LeaseConfig.{LeaseConfig}
 use Rattle.lease.specs.declared.Lease.{Lease}
 use Rattle.lease.specs.declared.LeaseTable.{LeaseTable}
@@ -28,12 +29,6 @@ withCarried t c = record { config = t .config; leases = t .leases; carried = c; 
 -- an empty table whose generations start at the given one
 abbrev pub startingAt : LeaseConfig → ℕ → Table
 startingAt c g = record { config = c; leases = []; carried = []; nextGeneration = g; redeliveries = 0 }
-
--- an offset and an attempt count of their types, delivered once at least
-pub record Counted (offset attempts : ℕ) : Type 0 where
-  pub offset-fits : offset ≤ MAX
-  pub once : 1 ≤ attempts
-  pub count-fits : attempts ≤ MAX32
 
 -- both lists sorted, with one entry for an offset, and within their limits
 pub record Valid (t : Table) : Type 0 where

@@ -7,57 +7,19 @@ ghost use Rattle.lease.specs.State.{Sound, view};
 ghost use Rattle.lease.specs.Counts.{resumeAttempts, attemptCounts, allAttemptCounts};
 ghost use Rattle.lease.specs.Rest.{expired};
 ghost use Rattle.lease.specs.Answers.{resumeOf, Answers};
-ghost use Rattle.lease.specs.Helpers.{carriedIn, Tidy, CarriesPair, CarriesFrom, resumedWith};
+ghost use Rattle.tables.specs.Carried.{carriedIn, Tidy};
+ghost use Rattle.lease.specs.Helpers.{CarriesFrom, resumedWith};
 use crate::LeaseTable;
 use crate::ResumeOutcome;
 use crate::Resumed;
-use tables::Place;
 use tables::counts;
+use tables::counts::Carried;
 use types::Offset;
 use types::Pair;
 use types::lent;
 use types::lent::AttemptCounts;
 use types::lent::Listed;
 use types::lent::OffsetList;
-
-// The carried counts while pairs are taken in one by one, in the first `len` places of two columns; or there would be more than
-// 128.
-pub(crate) struct Carried {
-    pub offsets: [u64; 128],
-    pub counts: [u32; 128],
-    pub len: usize,
-    pub full: bool,
-}
-
-// Carries one pair more: its count takes the place of the one that its offset has. A count of 0 says nothing.
-fn carry_pair(mut carried: Carried, pair: Pair) -> Carried
-    requires { ⌜ Tidy carried ⌝ }
-    ensures { λ r. ⌜ CarriesPair pair carried r ⌝ }
-{
-    if carried.full {
-        return carried;
-    }
-    if pair.attempt == 0 {
-        return carried;
-    }
-    let len = carried.len;
-    let place = tables::find(&carried.offsets, len, pair.offset);
-    let at = match place {
-        Place::Found(at) => {
-            carried.counts[at] = pair.attempt;
-            return carried;
-        }
-        Place::Missing(at) => at,
-    };
-    if len == 128 {
-        carried.full = true;
-        return carried;
-    }
-    tables::insert_128(&mut carried.offsets, len, at, pair.offset);
-    tables::insert_count_128(&mut carried.counts, len, at, pair.attempt);
-    carried.len = len + 1;
-    carried
-}
 
 impl LeaseTable {
     // Carries attempt counts over from before a restart: the next claim of an offset goes on from its count. A count of 0 says
@@ -70,7 +32,7 @@ impl LeaseTable {
         let n = pairs.len();
         let mut i: usize = 0;
         while i < n {
-            carried = carry_pair(carried, pairs[i]);
+            carried = counts::carry_pair(carried, pairs[i]);
             i += 1;
         }
         self.resumed(carried)
@@ -81,7 +43,7 @@ impl LeaseTable {
         requires { ⌜ Sound self ⌝ }
         ensures { λ r. ⌜ Answers (resumeOf (r .outcome)) self (r .table) (resumeAttempts (view self) (entryOf pair ∷ [])) ⌝ }
     {
-        let carried = carry_pair(self.carried_so_far(), pair);
+        let carried = counts::carry_pair(self.carried_so_far(), pair);
         self.resumed(carried)
     }
 

@@ -5,19 +5,20 @@
 ghost use mathlib.Core.Path.{_≡_};
 ghost use Prim.Native.Nat.{_≤_, _<_};
 ghost use lib.ListN.{take, getD};
-ghost use Rattle.types.specs.Limits.{MAX, LEASES, sat64, sat32};
+ghost use Rattle.types.specs.Limits.{MAX, LEASES};
 ghost use Rattle.types.specs.Refusal.{done};
 ghost use Rattle.tables.specs.Search.{Placed};
 ghost use Rattle.tables.specs.declared.Place.the-variants.{Missing};
 ghost use Rattle.lease.specs.Config.{nanos, fromMillis, defaultConfig};
 ghost use Rattle.lease.specs.State.{Sound, view, startingAt};
-ghost use Rattle.lease.specs.Operations.{lease, grantOf, claim, ack, extend, nack, capFrom, deadlineFrom};
-ghost use Rattle.lease.specs.Rest.{attemptsFlushed, releaseBelow, resealFromTo, deferRedelivery, shiftedBy, shiftDeadlines, inFlight, isClaimable, deliveries, holdsActive, pendingRedeliveryAttempt};
+ghost use Rattle.lease.specs.Operations.{lease, owns, grantOf, claim, ack, extend, nack, capFrom, deadlineFrom};
+ghost use Rattle.lease.specs.Rest.{attemptsFlushed, releaseBelow, resealFromTo, overdue, deferRedelivery, shiftedBy, shiftDeadlines, inFlight, isClaimable, deliveries, holdsActive, pendingRedeliveryAttempt};
 ghost use Rattle.lease.specs.Answers.{claimOf, ackOf, extendOf, nackOf, attemptsOf, Answers, Tries, Becomes};
-ghost use Rattle.lease.specs.Helpers.{Shorter};
+ghost use Rattle.lease.specs.Helpers.{held, Extends, Requeues, Shorter};
 use lookup::LeaseAt;
 use tables::Place;
 use tables::counts;
+use tables::numbers;
 use types::Generation;
 use types::Offset;
 
@@ -64,16 +65,40 @@ impl LeaseConfig {
     fn cap(self, start: u64) -> u64
         ensures { λ r. ⌜ r ≡ capFrom self start ⌝ }
     {
-        saturating_add(start, self.hard_cap_nanos)
+        numbers::saturating_add(start, self.hard_cap_nanos)
     }
 
     // One visibility window from now, within the cap of an attempt that began at `start`.
     fn deadline(self, start: u64, now: u64) -> u64
         ensures { λ r. ⌜ r ≡ deadlineFrom self start now ⌝ }
     {
-        let window = saturating_add(now, self.visibility_nanos);
+        let window = numbers::saturating_add(now, self.visibility_nanos);
         let cap = self.cap(start);
         if window <= cap { window } else { cap }
+    }
+
+    // What an extension makes of the deadline of a lease, if one was found.
+    fn extension(self, found: bool, lease: Lease, generation: Generation, now: u64) -> Extension
+        ensures { λ r. ⌜ Extends self found lease (generation .0) now (extendOf (r .outcome)) (r .deadline) ⌝ }
+    {
+        let owned = lease.owned_by(found, generation);
+        if !owned {
+            return Extension {
+                outcome: ExtendOutcome::Fenced,
+                deadline: lease.deadline,
+            };
+        }
+        if self.cap(lease.attempt_start) <= now {
+            return Extension {
+                outcome: ExtendOutcome::CapReached,
+                deadline: lease.deadline,
+            };
+        }
+        let deadline = self.deadline(lease.attempt_start, now);
+        Extension {
+            outcome: ExtendOutcome::Extended(deadline),
+            deadline: deadline,
+        }
     }
 
     // The lease of an attempt that begins now.
@@ -107,7 +132,77 @@ pub struct Lease {
     pub deliveries: u32,
 }
 
+// What a call makes of one lease: its answer, and the deadline or the lease that is stored, the old one where it refuses.
+pub(crate) struct Extension {
+    pub outcome: ExtendOutcome,
+    pub deadline: u64,
+}
+
+pub(crate) struct Requeue {
+    pub outcome: NackOutcome,
+    pub lease: Lease,
+    // What the next grant or nack takes.
+    pub next: u64,
+}
+
 impl Lease {
+    // Whether a lease was found and the token of this generation owns it: the test that every call with a token begins with.
+    fn owned_by(self, found: bool, generation: Generation) -> bool
+        ensures { λ r. ⌜ r ≡ owns (held found self) (generation .0) ⌝ }
+    {
+        if found {
+            self.generation.0 == generation.0
+        } else {
+            false
+        }
+    }
+
+    // Whether a lease was found and has run out.
+    fn overdue(self, found: bool, now: u64) -> bool
+        ensures { λ r. ⌜ r ≡ overdue (held found self) now ⌝ }
+    {
+        if found { self.deadline <= now } else { false }
+    }
+
+    // What a nack makes of a lease, if one was found: given up until the deadline, under the generation that fences its
+    // holder off.
+    fn requeue(
+        self,
+        found: bool,
+        generation: Generation,
+        fence: Generation,
+        deadline: u64,
+    ) -> Requeue
+        ensures { λ r. ⌜ Requeues found self (generation .0) (fence .0) deadline (nackOf (r .outcome)) (r .lease, r .next) ⌝ }
+    {
+        let owned = self.owned_by(found, generation);
+        if !owned {
+            return Requeue {
+                outcome: NackOutcome::Fenced,
+                lease: self,
+                next: fence.0,
+            };
+        }
+        if fence.0 == 18446744073709551615 {
+            return Requeue {
+                outcome: NackOutcome::Exhausted,
+                lease: self,
+                next: fence.0,
+            };
+        }
+        let lease = Lease {
+            generation: fence,
+            attempt_start: self.attempt_start,
+            deadline: deadline,
+            deliveries: self.deliveries,
+        };
+        Requeue {
+            outcome: NackOutcome::Requeued { deadline: deadline },
+            lease: lease,
+            next: fence.0 + 1,
+        }
+    }
+
     // The lease with its clock forward.
     fn shifted(self, delta: u64) -> Lease
         ensures { λ r. ⌜ r ≡ shiftedBy delta self ⌝ }
@@ -115,8 +210,8 @@ impl Lease {
         let generation = self.generation;
         Lease {
             generation: generation,
-            attempt_start: saturating_add(self.attempt_start, delta),
-            deadline: saturating_add(self.deadline, delta),
+            attempt_start: numbers::saturating_add(self.attempt_start, delta),
+            deadline: numbers::saturating_add(self.deadline, delta),
             deliveries: self.deliveries,
         }
     }
@@ -280,7 +375,7 @@ impl LeaseTable {
         self.without_leases(0, first)
     }
 
-    // Takes the leases at the places from `from` up to `to` out.
+    // Takes the leases at the places from `from` up to `to` out. (An ack, which is called often, does the same in place.)
     fn without_leases(mut self, from: usize, to: usize) -> LeaseTable
         requires { ⌜ (from ≤ to) × (to ≤ self .len) × (self .len ≤ LEASES) ⌝ }
         ensures { λ r. ⌜ Shorter self from to r ⌝ }
@@ -295,7 +390,7 @@ impl LeaseTable {
             i += 1;
             j += 1;
         }
-        self.len = len - (to - from);
+        self.len = i;
         self
     }
 
@@ -342,7 +437,7 @@ impl LeaseTable {
         tables::remove_128(&mut self.carried_offsets, n, prior.from, prior.to);
         tables::remove_counts_128(&mut self.carried_counts, n, prior.from, prior.to);
         self.carried_len = n - (prior.to - prior.from);
-        let deliveries = saturating_next(prior.count);
+        let deliveries = numbers::saturating_next(prior.count);
         tables::insert_64(&mut self.offsets, len, at, offset.0);
         let mut held = self.config.lease(generation, now, deliveries);
         let mut i = at;
@@ -384,7 +479,7 @@ impl LeaseTable {
             };
         }
         let generation = self.next_generation;
-        let deliveries = saturating_next(prior.deliveries);
+        let deliveries = numbers::saturating_next(prior.deliveries);
         self.leases[at] = self.config.lease(generation, now, deliveries);
         self.next_generation.0 = generation.0 + 1;
         self.redeliveries_since_flush = redeliveries::after_grant(
@@ -408,22 +503,13 @@ impl LeaseTable {
         requires { ⌜ Sound self ⌝ }
         ensures { λ r. ⌜ Tries (r .changed) self (r .table) (resealFromTo (view self) (offset .0) (from .0) (generation .0)) ⌝ }
     {
-        let place = tables::find(&self.offsets, self.len, offset.0);
-        let Place::Found(at) = place else {
-            return Changed {
-                changed: false,
-                table: self,
-            };
-        };
-        if self.leases[at].generation.0 != from.0 {
-            return Changed {
-                changed: false,
-                table: self,
-            };
-        }
-        self.leases[at].generation.0 = generation.0;
+        let seat = tables::seat_of(&self.offsets, self.len, offset.0);
+        let at = seat.at;
+        let lease = self.leases[at];
+        let owned = lease.owned_by(seat.found, from);
+        self.leases[at].generation.0 = numbers::chosen(owned, generation.0, lease.generation.0);
         Changed {
-            changed: true,
+            changed: owned,
             table: self,
         }
     }
@@ -446,29 +532,26 @@ impl LeaseTable {
         ensures { λ r. ⌜ Answers (ackOf (r .outcome)) self (r .table) (ack (view self) (token .offset .0) (token .generation .0)) ⌝ }
     {
         let len = self.len;
-        let place = tables::find(&self.offsets, len, token.offset.0);
-        let Place::Found(at) = place else {
-            return Acked {
-                outcome: AckOutcome::Fenced,
-                table: self,
-            };
-        };
-        if self.leases[at].generation.0 != token.generation.0 {
+        let seat = tables::seat_of(&self.offsets, len, token.offset.0);
+        let at = seat.at;
+        let lease = self.leases[at];
+        let owned = lease.owned_by(seat.found, token.generation);
+        if !owned {
             return Acked {
                 outcome: AckOutcome::Fenced,
                 table: self,
             };
         }
-        tables::remove_64(&mut self.offsets, len, at, at + 1);
         let mut i = at;
         let mut j = at + 1;
+        tables::remove_64(&mut self.offsets, len, i, j);
         while j < len {
             let next = self.leases[j];
             self.leases[i] = next;
             i += 1;
             j += 1;
         }
-        self.len = len - 1;
+        self.len = i;
         Acked {
             outcome: AckOutcome::Acked,
             table: self,
@@ -480,31 +563,14 @@ impl LeaseTable {
         requires { ⌜ Sound self ⌝ }
         ensures { λ r. ⌜ Answers (extendOf (r .outcome)) self (r .table) (extend (view self) (token .offset .0) (token .generation .0) now) ⌝ }
     {
-        let place = tables::find(&self.offsets, self.len, token.offset.0);
-        let Place::Found(at) = place else {
-            return Extended {
-                outcome: ExtendOutcome::Fenced,
-                table: self,
-            };
-        };
-        let lease = self.leases[at];
-        if lease.generation.0 != token.generation.0 {
-            return Extended {
-                outcome: ExtendOutcome::Fenced,
-                table: self,
-            };
-        }
-        let cap = self.config.cap(lease.attempt_start);
-        if cap <= now {
-            return Extended {
-                outcome: ExtendOutcome::CapReached,
-                table: self,
-            };
-        }
-        let deadline = self.config.deadline(lease.attempt_start, now);
-        self.leases[at].deadline = deadline;
+        let seat = tables::seat_of(&self.offsets, self.len, token.offset.0);
+        let at = seat.at;
+        let extension = self.config
+            .extension(seat.found, self.leases[at], token.generation, now);
+        self.leases[at].deadline = extension.deadline;
+        let outcome = extension.outcome;
         Extended {
-            outcome: ExtendOutcome::Extended(deadline),
+            outcome: outcome,
             table: self,
         }
     }
@@ -518,7 +584,7 @@ impl LeaseTable {
         let LeaseAt::Some(lease) = found else {
             return Attempts::None;
         };
-        if lease.generation.0 != token.generation.0 {
+        if !lease.owned_by(true, token.generation) {
             return Attempts::None;
         }
         Attempts::Some(lease.deliveries)
@@ -533,7 +599,7 @@ impl LeaseTable {
         let LeaseAt::Some(lease) = found else {
             return false;
         };
-        if lease.generation.0 != token.generation.0 {
+        if !lease.owned_by(true, token.generation) {
             return false;
         }
         now < lease.deadline
@@ -545,37 +611,18 @@ impl LeaseTable {
         requires { ⌜ Sound self ⌝ }
         ensures { λ r. ⌜ Answers (nackOf (r .outcome)) self (r .table) (nack (view self) (token .offset .0) (token .generation .0) now «delay_nanos») ⌝ }
     {
-        let place = tables::find(&self.offsets, self.len, token.offset.0);
-        let Place::Found(at) = place else {
-            return Nacked {
-                outcome: NackOutcome::Fenced,
-                table: self,
-            };
-        };
+        let seat = tables::seat_of(&self.offsets, self.len, token.offset.0);
+        let at = seat.at;
         let lease = self.leases[at];
-        if lease.generation.0 != token.generation.0 {
-            return Nacked {
-                outcome: NackOutcome::Fenced,
-                table: self,
-            };
-        }
         let fence = self.next_generation;
-        if fence.0 == 18446744073709551615 {
-            return Nacked {
-                outcome: NackOutcome::Exhausted,
-                table: self,
-            };
-        }
-        let deadline = saturating_add(now, delay_nanos);
-        self.leases[at] = Lease {
-            generation: fence,
-            attempt_start: lease.attempt_start,
-            deadline: deadline,
-            deliveries: lease.deliveries,
-        };
-        self.next_generation.0 = fence.0 + 1;
+        let deadline = numbers::saturating_add(now, delay_nanos);
+        let requeue = lease.requeue(seat.found, token.generation, fence, deadline);
+        let requeued = requeue.lease;
+        self.leases[at] = requeued;
+        self.next_generation.0 = requeue.next;
+        let outcome = requeue.outcome;
         Nacked {
-            outcome: NackOutcome::Requeued { deadline: deadline },
+            outcome: outcome,
             table: self,
         }
     }
@@ -600,22 +647,14 @@ impl LeaseTable {
         requires { ⌜ Sound self ⌝ }
         ensures { λ r. ⌜ Tries (r .changed) self (r .table) (deferRedelivery (view self) (offset .0) now «delay_nanos») ⌝ }
     {
-        let place = tables::find(&self.offsets, self.len, offset.0);
-        let Place::Found(at) = place else {
-            return Changed {
-                changed: false,
-                table: self,
-            };
-        };
-        if now < self.leases[at].deadline {
-            return Changed {
-                changed: false,
-                table: self,
-            };
-        }
-        self.leases[at].deadline = saturating_add(now, delay_nanos);
+        let seat = tables::seat_of(&self.offsets, self.len, offset.0);
+        let at = seat.at;
+        let lease = self.leases[at];
+        let overdue = lease.overdue(seat.found, now);
+        let deadline = numbers::saturating_add(now, delay_nanos);
+        self.leases[at].deadline = numbers::chosen(overdue, deadline, lease.deadline);
         Changed {
-            changed: true,
+            changed: overdue,
             table: self,
         }
     }
@@ -659,22 +698,4 @@ fn to_nanos(ms: u64) -> u64
     } else {
         18446744073709551615
     }
-}
-
-// The sum, at most the largest number.
-fn saturating_add(a: u64, b: u64) -> u64
-    ensures { λ r. ⌜ r ≡ sat64 a b ⌝ }
-{
-    if a <= 18446744073709551615 - b {
-        a + b
-    } else {
-        18446744073709551615
-    }
-}
-
-// One more, at most the largest number.
-fn saturating_next(n: u32) -> u32
-    ensures { λ r. ⌜ r ≡ sat32 n 1 ⌝ }
-{
-    if n == 4294967295 { n } else { n + 1 }
 }

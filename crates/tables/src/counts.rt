@@ -1,10 +1,11 @@
-// Attempt counts in columns: the count of an offset, and two sorted lists of them in one.
+// Attempt counts in columns: the count of an offset, one pair more, and two sorted lists of them in one.
 ghost use mathlib.Core.Path.{_≡_};
 ghost use Prim.Native.Nat.{max};
 ghost use lib.ListN.{take, drop, getD};
 ghost use Rattle.types.specs.Keyed.{entries};
 ghost use Rattle.types.specs.Lists.{entryOf, countsIn, ListsCounts};
 ghost use Rattle.tables.specs.Search.{Spans};
+ghost use Rattle.tables.specs.Carried.{Tidy, CarriesPair};
 ghost use Rattle.tables.specs.Merge.{merge, first, headOf, lower, picked};
 use crate::Place;
 use types::Pair;
@@ -53,6 +54,45 @@ fn count_at(counts: &[u32], at: usize) -> u32
     ensures { λ r. ⌜ r ≡ getD (now (counts .entry)) at 0 ⌝ }
 {
     if at < counts.len() { counts[at] } else { 0 }
+}
+
+// The carried counts while pairs are taken in one by one, in the first `len` places of two columns; or there would be more than
+// 128.
+pub struct Carried {
+    pub offsets: [u64; 128],
+    pub counts: [u32; 128],
+    pub len: usize,
+    pub full: bool,
+}
+
+// Carries one pair more: its count takes the place of the one that its offset has. A count of 0 says nothing.
+pub fn carry_pair(mut carried: Carried, pair: Pair) -> Carried
+    requires { ⌜ Tidy carried ⌝ }
+    ensures { λ r. ⌜ CarriesPair pair carried r ⌝ }
+{
+    if carried.full {
+        return carried;
+    }
+    if pair.attempt == 0 {
+        return carried;
+    }
+    let len = carried.len;
+    let place = crate::find(&carried.offsets, len, pair.offset);
+    let at = match place {
+        Place::Found(at) => {
+            carried.counts[at] = pair.attempt;
+            return carried;
+        }
+        Place::Missing(at) => at,
+    };
+    if len == 128 {
+        carried.full = true;
+        return carried;
+    }
+    crate::insert_128(&mut carried.offsets, len, at, pair.offset);
+    crate::insert_count_128(&mut carried.counts, len, at, pair.attempt);
+    carried.len = len + 1;
+    carried
 }
 
 // Merges counts with those in the first `len` places of two columns, the larger count where an offset stands in both: the first

@@ -3,14 +3,21 @@ ghost use mathlib.Core.Path.{_≡_};
 ghost use Prim.Native.Nat.{min};
 ghost use lib.ListN.{take};
 ghost use Rattle.tables.specs.Columns.{putIn, takenOut};
-ghost use Rattle.tables.specs.Search.{Boundary, Placed};
+ghost use Rattle.tables.specs.Search.{Boundary, Placed, Seated};
 
 pub mod counts;
+pub mod numbers;
 
 // Where a key stands, or where it would stand.
 pub enum Place {
     Found(usize),
     Missing(usize),
+}
+
+// Whether a key stands in a column, and where; the first place where it does not, so that there is a place to look at.
+pub struct Seat {
+    pub found: bool,
+    pub at: usize,
 }
 
 // A place with no key below x at it, and one below x before it: in a sorted column, how many keys are below x. It halves the
@@ -42,6 +49,22 @@ pub fn find(keys: &[u64], len: usize, x: u64) -> Place
         }
     }
     Place::Missing(at)
+}
+
+// The same without the place of a key that is missing.
+pub fn seat_of(keys: &[u64], len: usize, x: u64) -> Seat
+    ensures { λ r. ⌜ Seated x (take len (now (keys .entry))) r ⌝ }
+{
+    match find(keys, len, x) {
+        Place::Found(at) => Seat {
+            found: true,
+            at: at,
+        },
+        Place::Missing(_) => Seat {
+            found: false,
+            at: 0,
+        },
+    }
 }
 
 fn smaller(a: usize, b: usize) -> usize

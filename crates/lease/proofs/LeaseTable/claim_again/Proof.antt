@@ -8,6 +8,7 @@ use borrow.Author.Tests.{lt-ltb, le-ltb}
 use Rattle.types.specs.Limits.{MAX}
 use Rattle.types.proofs.Scan.{length-mapped}
 use Rattle.tables.proofs.Search.{placed-found}
+use Rattle.lease.proofs.Bounds.{in-use, in-memory}
 use Rattle.lease.proofs.Slots.{Full, Leased, leased}
 use Rattle.lease.proofs.Claims.{claim-in-flight, claim-exhausted, claimed, count-again, granted-again}
 use Rattle.lease.proofs.LeaseTable.claim_again.Statement.{statement}
@@ -25,10 +26,10 @@ fits : (c : tie.Start) → c .args .offset .0 ≤ MAX
 fits c = omega arith
 
 mul-prior : tie.Need-mul-prior
-mul-prior c = search needs
+mul-prior c = in-memory (c .pre .1) (c .pre .0 .len)
 
 element-copy-out-prior : tie.Need-element-copy-out-prior
-element-copy-out-prior c = search needs
+element-copy-out-prior c = in-use (c .pre .1) (c .pre .0 .len)
 
 returns : tie.Need-returns
 returns c =

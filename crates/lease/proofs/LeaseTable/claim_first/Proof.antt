@@ -12,7 +12,9 @@ use Rattle.types.proofs.Scan.{length-mapped}
 use Rattle.tables.proofs.Columns.{put-in-front, taken-out-front}
 use Rattle.redeliveries.specs.Counter.{afterGrant}
 use Rattle.lease.specs.declared.LeaseTable.{LeaseTable}
-use Rattle.lease.proofs.Slots.{nil, Full, Free, Spanned, holding, free, in-flight, carried-span}
+use Rattle.tables.proofs.Places.{Spanned}
+use Rattle.lease.proofs.Bounds.{place-in-memory, one-more, in-use, next-place, in-memory, further, before, within, part-within, next-generation, not-last}
+use Rattle.lease.proofs.Slots.{nil, Full, Free, holding, free, in-flight, carried-span}
 use Rattle.lease.proofs.Claims.{claimed, room-first, finished, count-first, granted-first}
 use Rattle.lease.proofs.LeaseTable.claim_first.Statement.{statement}
 use Rattle.lease.proofs.LeaseTable.claim_first.Tie as tie
@@ -61,7 +63,7 @@ sub-self : tie.Need-sub-self Inv-loop μ-loop
 sub-self c = span (c .before .before .before .before .before) .0
 
 sub-self-2 : tie.Need-sub-self-2 Inv-loop μ-loop
-sub-self-2 c = omega (arith, span (c .before .before .before .before .before))
+sub-self-2 c = let p = span (c .before .before .before .before .before) in part-within (p .0) (p .1)
 
 saturating-next-requires : tie.Need-saturating-next-requires Inv-loop μ-loop
 saturating-next-requires c κs = search needs
@@ -80,23 +82,26 @@ loop-holds c =
 room : (c : tie.At-loop Inv-loop μ-loop) → start (counted (c .before)) .args .t1 .len < LEASES
 room c = start (counted (c .before)) .pre .3
 
+few : (c : tie.At-loop Inv-loop μ-loop) → start (counted (c .before)) .args .t1 .len ≤ LEASES
+few c = start (counted (c .before)) .pre .0 .len
+
 mul-next : tie.Need-mul-next Inv-loop μ-loop
-mul-next c = omega (arith, room (c .before))
+mul-next c = in-memory (c .loop-test .taken) (few (c .before))
 
 element-copy-out-next : tie.Need-element-copy-out-next Inv-loop μ-loop
-element-copy-out-next c = omega (arith, room (c .before))
+element-copy-out-next c = in-use (c .loop-test .taken) (few (c .before))
 
 mul-held : tie.Need-mul-held Inv-loop μ-loop
-mul-held c = omega (arith, room (c .before .before))
+mul-held c = in-memory (c .before .loop-test .taken) (few (c .before .before))
 
 element-set-from-held : tie.Need-element-set-from-held Inv-loop μ-loop
-element-set-from-held c = omega (arith, room (c .before .before))
+element-set-from-held c = in-use (c .before .loop-test .taken) (few (c .before .before))
 
 add-i : tie.Need-add-i Inv-loop μ-loop
-add-i c = omega (arith, room (c .before .before))
+add-i c = next-place (c .before .loop-test .taken) (few (c .before .before))
 
 loop-less : tie.Need-loop-less Inv-loop μ-loop
-loop-less c = omega arith
+loop-less c = further _ _ (c .before .loop-test .taken)
 
 loop-again : tie.Need-loop-again Inv-loop μ-loop
 loop-again c =
@@ -104,16 +109,16 @@ loop-again c =
     (opening-more nil (l .inv .0) (c .before .loop-test .taken), ap (λ (s : LeaseTable). holding s (set (l .self .leases) (l .i) (l .held))) (l .inv .1))
 
 mul-held-2 : tie.Need-mul-held-2 Inv-loop μ-loop
-mul-held-2 c = omega (arith, room (c .before), c .before .loop .inv .0 .inside)
+mul-held-2 c = place-in-memory (before (c .before .loop .inv .0 .inside) (room (c .before)))
 
 element-set-from-held-2 : tie.Need-element-set-from-held-2 Inv-loop μ-loop
-element-set-from-held-2 c = omega (arith, room (c .before), c .before .loop .inv .0 .inside)
+element-set-from-held-2 c = before (c .before .loop .inv .0 .inside) (room (c .before))
 
 add-self : tie.Need-add-self Inv-loop μ-loop
-add-self c = omega (arith, room (c .before))
+add-self c = one-more (room (c .before))
 
 add-self-2 : tie.Need-add-self-2 Inv-loop μ-loop
-add-self-2 c = let s = start (counted (c .before .before .before)) in omega (arith, s .pre .2)
+add-self-2 c = let s = start (counted (c .before .before .before)) in next-generation (s .pre .2)
 
 after-grant-requires : tie.Need-after-grant-requires Inv-loop μ-loop
 after-grant-requires c κs = search needs
@@ -133,16 +138,16 @@ returns c =
     let s = start o in
     let t = s .args .t1 in
     let h = here s in
-    claimed t (s .pre .0) (s .args .offset .0) (s .args .now) (rw (h .is)) (λ e. absurd (omega (arith, s .pre .2)))
+    claimed t (s .pre .0) (s .args .offset .0) (s .args .now) (rw (h .is)) (not-last (s .pre .2))
     (room-first t (s .args .offset .0) (s .args .at) h (in-flight t (full s) (s .pre .0)) (s .pre .3)) (fits s) (n .saturating-next .result)
     (count-first t (s .args .offset .0) (s .args .at) (n .saturating-next .result) h (o .count-of .result) (prior o) (n .saturating-next .ensures)) _ (c .granted .ensures)
     (granted-first t (s .pre .0) (s .args .offset .0) (s .args .at) (s .args .now) (n .saturating-next .result) (b .lease .result) (b .lease .ensures) (a .after-grant .result) (a .after-grant .ensures ∙ ap (λ (u : LeaseTable). afterGrant (u .«redeliveries_since_flush») (n .saturating-next .result)) (l .inv .1))
     h (s .pre .3) (o .count-of .result) (prior o) (n .saturating-next .ensures)
     (b .before .before .insert-64 .last .0) (set (l .self .leases) (l .i) (l .held)) (m .before .before .remove-128 .last .0) (m .remove-counts-128 .last .0)
-    (put-in-front (t .len) (s .args .at) (s .args .offset .0) (t .offsets) (h .inside) (omega (arith, full s .offsets, s .pre .3)) (b .before .before .insert-64 .ensures))
+    (put-in-front (t .len) (s .args .at) (s .args .offset .0) (t .offsets) (h .inside) (rw (full s .offsets) (s .pre .3)) (b .before .before .insert-64 .ensures))
     (opened nil (l .inv .0) (a .before .before .before .loop-test .left))
-    (taken-out-front (t .«carried_len») (o .count-of .result .from) (o .count-of .result .to) (t .«carried_offsets») (span o .0) (span o .1) (omega (arith, full s .carried-offsets, span o .2)) (m .before .before .remove-128 .ensures))
-    (taken-out-front (t .«carried_len») (o .count-of .result .from) (o .count-of .result .to) (t .«carried_counts») (span o .0) (span o .1) (omega (arith, full s .carried-counts, span o .2)) (m .remove-counts-128 .ensures))
+    (taken-out-front (t .«carried_len») (o .count-of .result .from) (o .count-of .result .to) (t .«carried_offsets») (span o .0) (span o .1) (within (full s .carried-offsets) (span o .2)) (m .before .before .remove-128 .ensures))
+    (taken-out-front (t .«carried_len») (o .count-of .result .from) (o .count-of .result .to) (t .«carried_counts») (span o .0) (span o .1) (within (full s .carried-counts) (span o .2)) (m .remove-counts-128 .ensures))
     (ap (λ (u : LeaseTable). finished u (set (l .self .leases) (l .i) (l .held)) (t .len + 1) (t .«next_generation» .0 + 1) (a .after-grant .result)) (l .inv .1)))
 
 pub claim-first-spec : {M : Type 1} → statement M

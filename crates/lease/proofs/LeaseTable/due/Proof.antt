@@ -5,6 +5,7 @@ use native.Mathlib.Omega.{arith}
 use borrow.Author.Needs.{needs}
 use Rattle.types.specs.Limits.{LEASES}
 use Rattle.types.proofs.Scan.{length-mapped}
+use Rattle.lease.proofs.Bounds.{in-use, next-place, in-memory, offset-in-memory}
 use Rattle.lease.proofs.Slots.{Full}
 use Rattle.lease.proofs.Lists.{Listing, listing, listing-due, listing-running, due-listed}
 use Rattle.lease.proofs.LeaseTable.due.Statement.{statement}
@@ -26,19 +27,19 @@ few : (c : tie.At-loop Inv-loop μ-loop) → c .before .args .t1 .len ≤ LEASES
 few c = c .before .pre .len
 
 add-i : tie.Need-add-i Inv-loop μ-loop
-add-i c = omega (arith, few (c .before))
+add-i c = next-place (c .loop-test .taken) (few (c .before))
 
 mul-if1 : tie.Need-mul-if1 Inv-loop μ-loop
-mul-if1 c = omega (arith, few (c .before))
+mul-if1 c = in-memory (c .loop-test .taken) (few (c .before))
 
 element-copy-out-if1 : tie.Need-element-copy-out-if1 Inv-loop μ-loop
-element-copy-out-if1 c = omega (arith, few (c .before))
+element-copy-out-if1 c = in-use (c .loop-test .taken) (few (c .before))
 
 mul-offsets : tie.Need-mul-offsets Inv-loop μ-loop
-mul-offsets c = omega (arith, few (c .before .before))
+mul-offsets c = offset-in-memory (c .before .loop-test .taken) (few (c .before .before))
 
 element-copy-out-offsets : tie.Need-element-copy-out-offsets Inv-loop μ-loop
-element-copy-out-offsets c = omega (arith, few (c .before .before))
+element-copy-out-offsets c = in-use (c .before .loop-test .taken) (few (c .before .before))
 
 mul-offsets-2 : tie.Need-mul-offsets-2 Inv-loop μ-loop
 mul-offsets-2 c = omega (arith, few (c .before .before .before))

@@ -10,6 +10,7 @@ use Rattle.types.specs.Limits.{LEASES}
 use Rattle.types.proofs.Loops.{filled-more, rest-more}
 use Rattle.types.proofs.Scan.{length-mapped}
 use Rattle.lease.specs.declared.Lease.{Lease}
+use Rattle.lease.proofs.Bounds.{in-use, in-list, next-place, in-memory, offset-in-memory, count-in-memory, further}
 use Rattle.lease.proofs.Slots.{nil, Full}
 use Rattle.lease.proofs.Lists.{counts, counts-listed}
 use Rattle.lease.proofs.LeaseTable.lease_counts.Statement.{statement}
@@ -38,34 +39,34 @@ few : (c : tie.At-loop Inv-loop μ-loop) → c .before .args .t1 .len ≤ LEASES
 few c = c .before .pre .len
 
 mul-offsets : tie.Need-mul-offsets Inv-loop μ-loop
-mul-offsets c = omega (arith, few (c .before))
+mul-offsets c = offset-in-memory (c .loop-test .taken) (few (c .before))
 
 element-copy-out-offsets : tie.Need-element-copy-out-offsets Inv-loop μ-loop
-element-copy-out-offsets c = omega (arith, few (c .before))
+element-copy-out-offsets c = in-use (c .loop-test .taken) (few (c .before))
 
 mul-offsets-2 : tie.Need-mul-offsets-2 Inv-loop μ-loop
-mul-offsets-2 c = omega (arith, few (c .before .before))
+mul-offsets-2 c = offset-in-memory (c .before .loop-test .taken) (few (c .before .before))
 
 array-write-offsets : tie.Need-array-write-offsets Inv-loop μ-loop
-array-write-offsets c = omega (arith, few (c .before .before))
+array-write-offsets c = in-list (c .before .loop-test .taken) (few (c .before .before))
 
 mul-attempts : tie.Need-mul-attempts Inv-loop μ-loop
-mul-attempts c = omega (arith, few (c .before .before))
+mul-attempts c = in-memory (c .before .loop-test .taken) (few (c .before .before))
 
 element-copy-out-attempts : tie.Need-element-copy-out-attempts Inv-loop μ-loop
-element-copy-out-attempts c = omega (arith, few (c .before .before))
+element-copy-out-attempts c = in-use (c .before .loop-test .taken) (few (c .before .before))
 
 mul-attempts-2 : tie.Need-mul-attempts-2 Inv-loop μ-loop
-mul-attempts-2 c = omega (arith, few (c .before .before))
+mul-attempts-2 c = count-in-memory (c .before .loop-test .taken) (few (c .before .before))
 
 array-write-attempts : tie.Need-array-write-attempts Inv-loop μ-loop
-array-write-attempts c = omega (arith, few (c .before .before))
+array-write-attempts c = in-list (c .before .loop-test .taken) (few (c .before .before))
 
 add-i : tie.Need-add-i Inv-loop μ-loop
-add-i c = omega (arith, few (c .before .before))
+add-i c = next-place (c .before .loop-test .taken) (few (c .before .before))
 
 loop-less : tie.Need-loop-less Inv-loop μ-loop
-loop-less c = omega arith
+loop-less c = further _ _ (c .before .loop-test .taken)
 
 loop-again : tie.Need-loop-again Inv-loop μ-loop
 loop-again c =

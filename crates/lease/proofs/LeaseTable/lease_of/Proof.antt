@@ -1,9 +1,9 @@
 -- `LeaseTable::lease_of` meets its contract.
 -- Assumes nothing.
-use native.Mathlib.Omega.{arith}
 use mathlib.Core.Path.{sym}
 use borrow.Author.Needs.{needs}
 use Rattle.types.proofs.Scan.{length-mapped}
+use Rattle.lease.proofs.Bounds.{in-use, in-memory}
 use Rattle.lease.proofs.Slots.{Full, Leased, leased, free}
 use Rattle.lease.proofs.LeaseTable.lease_of.Statement.{statement}
 use Rattle.lease.proofs.LeaseTable.lease_of.Tie as tie
@@ -32,10 +32,10 @@ returns c =
     sym (free (s .args .t1) (full s) (s .pre) (c .before .before .find .ensures) (c .enum-told .given .1) .is)
 
 mul-t8 : tie.Need-mul-t8
-mul-t8 c = let p = c .before in omega (arith, here p .inside, start p .pre .len)
+mul-t8 c = let p = c .before in in-memory (here p .inside) (start p .pre .len)
 
 element-copy-out-t11 : tie.Need-element-copy-out-t11
-element-copy-out-t11 c = let p = c .before in omega (arith, here p .inside, start p .pre .len)
+element-copy-out-t11 c = let p = c .before in in-use (here p .inside) (start p .pre .len)
 
 returns-2 : tie.Need-returns-2
 returns-2 c = sym (here (c .before .before) .is)

@@ -1,80 +1,56 @@
 -- `LeaseTable::reseal_from_to` meets its contract.
 -- Assumes nothing.
-use native.Mathlib.Omega.{arith}
 use borrow.Author.Needs.{needs}
 use Rattle.types.proofs.Scan.{length-mapped}
-use Rattle.lease.specs.State.{view}
-use Rattle.lease.specs.Rest.{resealedAs}
-use Rattle.lease.proofs.Slots.{Full, Leased, leased, free}
-use Rattle.lease.proofs.Tokens.{not-leased, other-generation, owned, shows-stored}
-use Rattle.lease.proofs.Questions.{not-resealed, resealed}
+use Rattle.lease.proofs.Bounds.{place-in-memory}
+use Rattle.lease.proofs.Slots.{Full, Looks, looks}
+use Rattle.lease.proofs.Questions.{resealed-as}
 use Rattle.lease.proofs.LeaseTable.reseal_from_to.Statement.{statement}
 use Rattle.lease.proofs.LeaseTable.reseal_from_to.Tie as tie
 
 full : (c : tie.Start) → Full (c .args .t1)
 full c = record { offsets = search needs; leases = search (needs, length-mapped); carried-offsets = search needs; carried-counts = search needs }
 
--- the place that was found
-abbrev start : tie.After-place → tie.Start
-start c = c .before .before .before .before .before .before
+look : (c : tie.After-seat-of) → Looks (c .before .before .before .before .args .t1) (c .before .before .before .before .args .offset .0) (c .seat-of .result)
+look c = let s = c .before .before .before .before in looks (s .args .t1) (full s) (s .pre) (c .seat-of .ensures)
 
-here : (c : tie.After-place) → Leased (start c .args .t1) (start c .args .offset .0) (c .place .given .0 .0)
-here c = let s = start c in leased (s .args .t1) (full s) (s .pre) (c .before .before .find .ensures) (c .place .given .1)
+seat-of-requires : tie.Need-seat-of-requires
+seat-of-requires c κs = search needs
 
-find-requires : tie.Need-find-requires
-find-requires c κs = search needs
+mul-lease : tie.Need-mul-lease
+mul-lease c = place-in-memory (look c .inside)
 
-enum-known-place : tie.Need-enum-known-place
-enum-known-place c = search needs
+element-copy-out-lease : tie.Need-element-copy-out-lease
+element-copy-out-lease c = look c .inside
 
-enum-told : tie.Need-enum-told
-enum-told c = search needs
+owned-by-requires : tie.Need-owned-by-requires
+owned-by-requires c κs = search needs
+
+chosen-requires : tie.Need-chosen-requires
+chosen-requires c κs = search needs
+
+mul-self : tie.Need-mul-self
+mul-self c = place-in-memory (look (c .before .before .before) .inside)
+
+way-write-given-self : tie.Need-way-write-given-self
+way-write-given-self c = (look (c .before .before .before) .inside, tt, tt)
 
 returns : tie.Need-returns
 returns c =
-    let s = c .before .before .before .before .before .before in
-    not-resealed (s .args .t1) (s .pre) (s .args .offset .0) (s .args .from .0) (s .args .generation .0)
-    (not-leased (view (s .args .t1)) (s .args .offset .0) (s .args .from .0) (free (s .args .t1) (full s) (s .pre) (c .before .before .find .ensures) (c .enum-told .given .1) .is))
-
-mul-if1 : tie.Need-mul-if1
-mul-if1 c = let p = c .before in omega (arith, here p .inside, start p .pre .len)
-
-element-copy-out-if1 : tie.Need-element-copy-out-if1
-element-copy-out-if1 c = let p = c .before in omega (arith, here p .inside, start p .pre .len)
-
-returns-2 : tie.Need-returns-2
-returns-2 c =
-    let p = c .before .before .before in
-    let s = start p in
-    not-resealed (s .args .t1) (s .pre) (s .args .offset .0) (s .args .from .0) (s .args .generation .0)
-    (other-generation (view (s .args .t1)) (s .args .offset .0) (s .args .from .0) _ (here p .is) (c .if1 .taken))
-
-mul-self : tie.Need-mul-self
-mul-self c = let p = c .before .before .before in omega (arith, here p .inside, start p .pre .len)
-
-way-write-given-self : tie.Need-way-write-given-self
-way-write-given-self c = let p = c .before .before .before in (omega (arith, here p .inside, start p .pre .len), tt, tt)
-
-returns-3 : tie.Need-returns-3
-returns-3 c =
-    let p = c .before .before .before .before in
-    let s = start p in
-    let h = here p in
-    resealed (s .args .t1) (s .pre) (s .args .offset .0) (s .args .from .0) (s .args .generation .0)
-    (owned (view (s .args .t1)) (s .args .offset .0) (s .args .from .0) _ (h .is) (c .before .if1 .left))
-    (shows-stored (s .args .t1) (s .pre) (s .args .offset .0) (p .place .given .0 .0) h (resealedAs (s .args .generation .0)))
+    let o = c .before .before in
+    let p = o .before .before in
+    let s = p .before .before .before .before in
+    resealed-as (s .args .t1) (s .pre) (s .args .offset .0) (p .seat-of .result) (look p) (s .args .from .0) (s .args .generation .0) (o .owned-by .result) (o .owned-by .ensures) (c .before .chosen .result) (c .before .chosen .ensures)
 
 pub reseal-from-to-spec : {M : Type 1} → statement M
 reseal-from-to-spec =
     tie.close
     (tie.spec
-    find-requires
-    enum-known-place
-    enum-told
-    returns
-    mul-if1
-    element-copy-out-if1
-    returns-2
+    seat-of-requires
+    mul-lease
+    element-copy-out-lease
+    owned-by-requires
+    chosen-requires
     mul-self
     way-write-given-self
-    returns-3)
+    returns)

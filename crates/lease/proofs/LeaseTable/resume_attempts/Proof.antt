@@ -53,25 +53,26 @@ use Rattle.types.proofs.Walk.{tests}
 use Rattle.lease.specs.State.{Sound, view, carriedOf}
 use Rattle.lease.specs.Counts.{resumeAttempts}
 use Rattle.lease.specs.Answers.{resumeOf, Answers}
-use Rattle.lease.specs.Helpers.{carriedIn, carryOnAll, Tidy, CarriesPair, CarriesFrom, resumedWith}
+use Rattle.tables.specs.Carried.{carriedIn, Tidy, CarriesPair}
+use Rattle.lease.specs.Helpers.{carryOnAll, CarriesFrom, resumedWith}
 use Rattle.lease.specs.declared.LeaseTable.{LeaseTable}
 use Rattle.lease.specs.declared.Resumed.{Resumed}
-use Rattle.lease.specs.declared.lent.Carried.{Carried}
+use Rattle.tables.specs.declared.counts.Carried.{Carried}
 use Rattle.lease.proofs.LeaseTable as S
 use Rattle.lease.proofs.LeaseTable.Laws as S′
 use Rattle.lease.proofs.Resumed as D
 use Rattle.lease.proofs.Resumed.Laws as D′
-use Rattle.lease.proofs.lent.Carried as B
-use Rattle.lease.proofs.lent.Carried.Laws as B′
+use Rattle.tables.proofs.counts.Carried as B
+use Rattle.tables.proofs.counts.Carried.Laws as B′
 use Rattle.lease.proofs.Carried.{pair-more, pair-end, resumed-all}
 use Rattle.lease.proofs.LeaseTable.carried_so_far as begin
 use Rattle.lease.proofs.LeaseTable.carried_so_far.Symbol as begin-def
 use Rattle.lease.proofs.LeaseTable.carried_so_far.Symbol.{name as #begin}
 use Rattle.lease.proofs.LeaseTable.carried_so_far.Met as begin-thm
-use Rattle.lease.proofs.lent.carry_pair as carry-pair
-use Rattle.lease.proofs.lent.carry_pair.Symbol as carry-pair-def
-use Rattle.lease.proofs.lent.carry_pair.Symbol.{name as #carry-pair}
-use Rattle.lease.proofs.lent.carry_pair.Met as carry-pair-thm
+use Rattle.tables.proofs.counts.carry_pair as carry-pair
+use Rattle.tables.proofs.counts.carry_pair.Symbol as carry-pair-def
+use Rattle.tables.proofs.counts.carry_pair.Symbol.{name as #carry-pair}
+use Rattle.tables.proofs.counts.carry_pair.Met as carry-pair-thm
 use Rattle.lease.proofs.LeaseTable.resumed as resumed
 use Rattle.lease.proofs.LeaseTable.resumed.Symbol as resumed-def
 use Rattle.lease.proofs.LeaseTable.resumed.Symbol.{name as #resumed}
@@ -325,5 +326,5 @@ resume-attempts-spec 𝓤 H 𝓜 𝓖 𝓡 =
     (tables 𝓤 H 𝓜 𝓡 code.env .C) (tables 𝓤 H 𝓜 𝓡 code.env .Λ) #resume-attempts code.function (code.unfolded 𝓤 H 𝓜 𝓡)
     (meets 𝓤 H (𝓖 .A) (givenOf 𝓤 H 𝓜 𝓖) (𝓜 .mem) (𝓡 .run) (tablesOf 𝓤 H 𝓜 (tables 𝓤 H 𝓜 𝓡 code.env))
     (cited 𝓤 H (Begin 𝓤 H (𝓖 .A) (𝓜 .mem) (𝓡 .run)) 𝓜 𝓡 code.env #begin begin-def.routine code.calls-lease·LeaseTable·carried-so-far (begin-thm.met 𝓤 H 𝓜 𝓖 𝓡))
-    (cited 𝓤 H (Carry 𝓤 H (𝓖 .A) (𝓜 .mem) (𝓡 .run)) 𝓜 𝓡 code.env #carry-pair carry-pair-def.routine code.calls-lease·lent·carry-pair (carry-pair-thm.met 𝓤 H 𝓜 𝓖 𝓡))
+    (cited 𝓤 H (Carry 𝓤 H (𝓖 .A) (𝓜 .mem) (𝓡 .run)) 𝓜 𝓡 code.env #carry-pair carry-pair-def.routine code.calls-tables·counts·carry-pair (carry-pair-thm.met 𝓤 H 𝓜 𝓖 𝓡))
     (cited 𝓤 H (Finish 𝓤 H (𝓖 .A) (𝓜 .mem) (𝓡 .run)) 𝓜 𝓡 code.env #resumed resumed-def.routine code.calls-lease·LeaseTable·resumed (resumed-thm.met 𝓤 H 𝓜 𝓖 𝓡)))

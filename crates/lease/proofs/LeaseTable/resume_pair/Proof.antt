@@ -5,7 +5,8 @@ use borrow.Author.Needs.{needs}
 use Rattle.types.specs.Lists.{entryOf}
 use Rattle.lease.specs.State.{view}
 use Rattle.lease.specs.Answers.{resumeOf, Answers}
-use Rattle.lease.specs.Helpers.{carryOn, resumedWith}
+use Rattle.tables.specs.Carried.{carryOn}
+use Rattle.lease.specs.Helpers.{resumedWith}
 use Rattle.lease.proofs.Carried.{resumed-all}
 use Rattle.lease.proofs.LeaseTable.resume_pair.Statement.{statement}
 use Rattle.lease.proofs.LeaseTable.resume_pair.Tie as tie

@@ -2,7 +2,6 @@
 -- the table is as it was.
 -- Assumes nothing.
 use Prim.Native.Nat.{_-_, _≤_}
-use native.Mathlib.Omega.{arith}
 use mathlib.Core.Path.{_≡_, refl, ap}
 use lib.ListN.{length, set}
 use borrow.Author.Needs.{needs}
@@ -11,6 +10,7 @@ use Rattle.types.proofs.Loops.{Mapping, mapping, mapping-more, mapped}
 use Rattle.types.proofs.Scan.{length-mapped}
 use Rattle.lease.specs.Rest.{shiftedBy}
 use Rattle.lease.specs.declared.LeaseTable.{LeaseTable}
+use Rattle.lease.proofs.Bounds.{in-use, next-place, in-memory, further, within}
 use Rattle.lease.proofs.Slots.{nil, holding}
 use Rattle.lease.proofs.Changes.{shifts}
 use Rattle.lease.proofs.LeaseTable.shift_deadlines.Statement.{statement}
@@ -25,31 +25,31 @@ abbrev μ-loop : tie.MeasureT-loop
 loop-holds : tie.Need-loop-holds Inv-loop μ-loop
 loop-holds c =
     let f : length (c .args .t1 .leases) ≡ LEASES = search (needs, length-mapped) in
-    (mapping (shiftedBy (c .args .delta)) (c .args .t1 .leases) (c .args .t1 .len) (omega (arith, c .pre .len)), refl)
+    (mapping (shiftedBy (c .args .delta)) (c .args .t1 .leases) (c .args .t1 .len) (within f (c .pre .len)), refl)
 
 few : (c : tie.At-loop Inv-loop μ-loop) → c .before .args .t1 .len ≤ LEASES
 few c = c .before .pre .len
 
 mul-lease : tie.Need-mul-lease Inv-loop μ-loop
-mul-lease c = omega (arith, few (c .before))
+mul-lease c = in-memory (c .loop-test .taken) (few (c .before))
 
 element-copy-out-lease : tie.Need-element-copy-out-lease Inv-loop μ-loop
-element-copy-out-lease c = omega (arith, few (c .before))
+element-copy-out-lease c = in-use (c .loop-test .taken) (few (c .before))
 
 shifted-requires : tie.Need-shifted-requires Inv-loop μ-loop
 shifted-requires c κs = search needs
 
 mul-t8 : tie.Need-mul-t8 Inv-loop μ-loop
-mul-t8 c = omega (arith, few (c .before .before .before))
+mul-t8 c = in-memory (c .before .before .loop-test .taken) (few (c .before .before .before))
 
 element-set-from-self : tie.Need-element-set-from-self Inv-loop μ-loop
-element-set-from-self c = omega (arith, few (c .before .before .before))
+element-set-from-self c = in-use (c .before .before .loop-test .taken) (few (c .before .before .before))
 
 add-i : tie.Need-add-i Inv-loop μ-loop
-add-i c = omega (arith, few (c .before .before .before))
+add-i c = next-place (c .before .before .loop-test .taken) (few (c .before .before .before))
 
 loop-less : tie.Need-loop-less Inv-loop μ-loop
-loop-less c = omega arith
+loop-less c = further _ _ (c .before .before .loop-test .taken)
 
 loop-again : tie.Need-loop-again Inv-loop μ-loop
 loop-again c =

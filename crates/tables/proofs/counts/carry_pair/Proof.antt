@@ -5,13 +5,13 @@ use mathlib.Core.Path.{_≡_}
 use lib.ListN.{length}
 use borrow.Author.Needs.{needs}
 use Rattle.types.specs.Limits.{MAX, MAX32, CARRIED}
 use Rattle.tables.proofs.Columns.{put-in-front}
 use Rattle.types.proofs.Columns.{length-used}
 use Rattle.tables.proofs.Search.{found-used, missing-inside}
-use Rattle.lease.specs.Helpers.{heldIn}
-use Rattle.lease.proofs.Carried.{pair-kept, pair-nothing, pair-carried, pair-refused, counted-anew, one-too-many, counted-more}
-use Rattle.lease.proofs.lent.carry_pair.Statement.{statement}
-use Rattle.lease.proofs.lent.carry_pair.Tie as tie
+use Rattle.tables.specs.Carried.{heldIn}
+use Rattle.tables.proofs.Carried.{pair-kept, pair-nothing, pair-carried, pair-refused, counted-anew, one-too-many, counted-more}
+use Rattle.tables.proofs.counts.carry_pair.Statement.{statement}
+use Rattle.tables.proofs.counts.carry_pair.Tie as tie
 
 full : (c : tie.Start) → length (c .args .t1 .offsets) ≡ CARRIED
 full c = search needs

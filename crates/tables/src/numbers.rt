@@ -1,0 +1,29 @@
+// Sums that stop at the largest number of their type.
+ghost use mathlib.Core.Path.{_≡_};
+ghost use mathlib.Core.Bool.{cond};
+ghost use Rattle.types.specs.Limits.{sat64, sat32};
+
+// The sum, at most the largest number.
+pub fn saturating_add(a: u64, b: u64) -> u64
+    ensures { λ r. ⌜ r ≡ sat64 a b ⌝ }
+{
+    if a <= 18446744073709551615 - b {
+        a + b
+    } else {
+        18446744073709551615
+    }
+}
+
+// One more, at most the largest number.
+pub fn saturating_next(n: u32) -> u32
+    ensures { λ r. ⌜ r ≡ sat32 n 1 ⌝ }
+{
+    if n == 4294967295 { n } else { n + 1 }
+}
+
+// One of two numbers.
+pub fn chosen(first: bool, a: u64, b: u64) -> u64
+    ensures { λ r. ⌜ r ≡ cond first a b ⌝ }
+{
+    if first { a } else { b }
+}
