@@ -19,6 +19,7 @@ use journal::Header;
 use raw::Write;
 use types::Pair;
 use types::lent::AttemptCounts;
+use types::numbers;
 
 // The consumer, the number of blocks written, and what is written: the snapshots of the cursor and of all attempt counts, one
 // behind the other at the front of the payload.
@@ -60,10 +61,7 @@ pub struct Stepped {
 fn new_ceiling(next: u64) -> u64
     ensures { λ r. ⌜ r ≡ sat64 next 4096 ⌝ }
 {
-    if 18446744073709547519 < next {
-        return 18446744073709551615;
-    }
-    next + 4096
+    numbers::saturating_add(next, 4096)
 }
 
 // The header of the group.

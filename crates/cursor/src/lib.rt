@@ -27,6 +27,7 @@ use raw::Write;
 use types::Offset;
 use types::lent;
 use types::lent::Listed;
+use types::numbers::shorter;
 
 const SNAPSHOT_VERSION: u8 = 1;
 
@@ -310,13 +311,6 @@ fn larger(a: u64, b: u64) -> u64
     ensures { λ r. ⌜ r ≡ max a b ⌝ }
 {
     if a < b { b } else { a }
-}
-
-// The shorter of two lengths.
-fn shorter(a: usize, b: usize) -> usize
-    ensures { λ r. ⌜ r ≡ min a b ⌝ }
-{
-    if a < b { a } else { b }
 }
 
 // A commit in place: what `commit_up_to` does to the parts of a cursor.

@@ -2,7 +2,6 @@
 ghost use mathlib.Core.Path.{_≡_};
 ghost use mathlib.Core.Bool.{cond};
 ghost use mathlib.Core.List.{[], _∷_};
-ghost use Prim.Native.Nat.{min};
 ghost use lib.ListN.{length};
 ghost use Rattle.cursor.specs.View as cursors;
 ghost use Rattle.lease.specs.State as tables;
@@ -12,6 +11,8 @@ use cursor::AckCursor;
 use delivery::DeliveryConfig;
 use lease::Lease;
 use lease::LeaseTable;
+use types::numbers::shorter;
+use types::numbers::wide;
 
 // A number more.
 fn number(before: u32, n: u64) -> u32
@@ -28,13 +29,6 @@ fn pair(before: u32, a: u64, b: u64) -> u32
 {
     let first = number(before, a);
     number(first, b)
-}
-
-// The shorter of two lengths.
-fn shorter(a: usize, b: usize) -> usize
-    ensures { λ r. ⌜ r ≡ min a b ⌝ }
-{
-    if a < b { a } else { b }
 }
 
 // Two columns, place by place, as far as both go.
@@ -61,13 +55,6 @@ fn cursor(before: u32, cursor: AckCursor) -> u32
     let starts = cursor.starts;
     let ends = cursor.ends;
     entries(check, &starts[..runs], &ends[..runs])
-}
-
-// A u32 as a u64.
-fn wide(x: u32) -> u64
-    ensures { λ r. ⌜ r ≡ x ⌝ }
-{
-    x as u64
 }
 
 fn lease(before: u32, offset: u64, lease: Lease) -> u32

@@ -3,7 +3,7 @@
 // are there, and that one that is written to overlaps no other.
 ghost use mathlib.Core.Path.{_≡_};
 ghost use mathlib.Core.List.{[], _∷_};
-ghost use Prim.Native.Nat.{_≤_, min};
+ghost use Prim.Native.Nat.{_≤_};
 ghost use lib.ListN.{length, take};
 ghost use Rattle.types.specs.Refusal.{done, answered};
 ghost use Rattle.types.specs.Table.{unless};
@@ -26,6 +26,7 @@ use cursor::SnapshotError;
 use raw::Write;
 use types::Offset;
 use types::Pair;
+use types::numbers::shorter;
 
 // 01's number of an answer, 0 where nothing is refused, and its values, 0 where there are fewer than two.
 #[repr(C)]
@@ -160,13 +161,6 @@ fn list_attempts(pairs: [Pair; 128], n: usize, out: &mut [u32])
         out[i] = pairs[i].attempt;
         i += 1;
     }
-}
-
-// The shorter of two lengths.
-fn shorter(a: usize, b: usize) -> usize
-    ensures { λ r. ⌜ r ≡ min a b ⌝ }
-{
-    if a < b { a } else { b }
 }
 
 // The first n pairs of two columns at the front of an array.

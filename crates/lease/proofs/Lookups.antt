@@ -9,7 +9,7 @@ use lib.Dec.{ltb, eqb}
 use Rattle.types.specs.Limits.{sat64}
 use Rattle.types.specs.Refusal.{Result, refused, done}
 use Rattle.types.specs.Table.{Answer}
-use Rattle.types.specs.Keyed.{Entry, lookup, update, delete}
+use Rattle.types.specs.Keyed.{Entry, lookup, update}
 use Rattle.types.proofs.Cases.{split}
 use Rattle.types.proofs.Keyed.{lookup-put, lookup-delete, lookup-dropBelow, lookup-update, lookup-mapValues}
 use Rattle.lease.specs.State.{Table, withLeases}

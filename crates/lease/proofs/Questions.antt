@@ -13,7 +13,7 @@ use Rattle.types.specs.Refusal.{done}
 use Rattle.types.specs.Table.{answer}
 use Rattle.types.specs.Keyed.{update}
 use Rattle.types.proofs.Cases.{split}
-use Rattle.tables.specs.declared.Seat.{Seat}
+use Rattle.tables.specs.declared.Slot.{Slot}
 use Rattle.lease.specs.State.{Table, Sound, view, leasesOf, withLeases}
 use Rattle.lease.specs.Operations.{leaseOf, owns, dueAt}
 use Rattle.lease.specs.Rest.{resealedAs, resealFromTo, overdue, deferRedelivery, isClaimable, deliveries, pendingRedeliveryAttempt}
@@ -65,8 +65,8 @@ module _ (s : Table) (o now : ℕ) where
     pub claimable : leb (l .deadline) now ≡ isClaimable s o now
     claimable = rw e (run-out-or-running (l .deadline) now)
 
--- ## changes, of what was looked at in a seat
-module _ (t : LeaseTable) (ok : Sound t) (o : ℕ) (s : Seat) (look : Looks t o s) where
+-- ## changes, of what was looked at in a slot
+module _ (t : LeaseTable) (ok : Sound t) (o : ℕ) (s : Slot) (look : Looks t o s) where
   abbrev old : Lease
   old = getD (t .leases) (s .at) nil
 

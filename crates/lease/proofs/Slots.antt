@@ -11,10 +11,10 @@ use lib.Seq.{getD-take}
 use Rattle.types.specs.Limits.{LEASES}
 use Rattle.types.specs.Sorted.{Ascending}
 use Rattle.types.proofs.Columns.{length-used}
-use Rattle.tables.specs.Search.{Placed, seatOf, Seated, Spans}
+use Rattle.tables.specs.Search.{Placed, slotOf, SlotIs, Spans}
 use Rattle.tables.specs.declared.Place.{Place}
 use Rattle.tables.specs.declared.Place.the-variants.{Found, Missing}
-use Rattle.tables.specs.declared.Seat.{Seat}
+use Rattle.tables.specs.declared.Slot.{Slot}
 use Rattle.tables.specs.declared.counts.Span.{Span}
 use Rattle.tables.proofs.Places.{Stands, Lacks, Spanned, keys-ascend, stands, lacks, spanned}
 use Rattle.lease.specs.State.{Sound, view, leasesOf, carriedOf}
@@ -46,8 +46,8 @@ Leased t x at = Stands nil (t .len) (t .offsets) (t .leases) x at
 abbrev pub Free : LeaseTable → ℕ → ℕ → Type 0
 Free t x at = Lacks (t .len) (t .offsets) (t .leases) x at
 
--- what is looked at in a seat: the lease of an offset, if it has one, and a lease in any case
-pub record Looks (t : LeaseTable) (x : ℕ) (r : Seat) : Type 0 where
+-- what is looked at in a slot: the lease of an offset, if it has one, and a lease in any case
+pub record Looks (t : LeaseTable) (x : ℕ) (r : Slot) : Type 0 where
   pub inside : r .at < LEASES
   pub is : leaseOf (view t) x ≡ held (r .found) (getD (t .leases) (r .at) nil)
   pub here : r .found ≡ true → Leased t x (r .at)
@@ -96,13 +96,13 @@ module _ (t : LeaseTable) (full : Full t) (ok : Sound t) where
     pub found-at : r ≡ Found at → getD (t .offsets) at 0 ≡ x
     found-at e = sym (getD-take (t .len) (t .offsets) at 0 (leased e .inside)) ∙ subst (Placed x (take (t .len) (t .offsets))) e p .1
 
-  seats : {x : ℕ} (p : Place) → Placed x (take (t .len) (t .offsets)) p → Looks t x (seatOf p)
+  seats : {x : ℕ} (p : Place) → Placed x (take (t .len) (t .offsets)) p → Looks t x (slotOf p)
   seats (Found at) p =
       let h = leased p refl in
       record { inside = omega (arith, h .inside, ok .len); is = h .is; here = λ _. h }
   seats (Missing at) p = record { inside = omega arith; is = free p refl .is; here = λ e. absurd (true≢false (sym e)) }
 
-  pub looks : {x : ℕ} {r : Seat} → Seated x (take (t .len) (t .offsets)) r → Looks t x r
+  pub looks : {x : ℕ} {r : Slot} → SlotIs x (take (t .len) (t .offsets)) r → Looks t x r
   looks s = rw (s .is) (seats (s .place) (s .placed))
 
   -- and among the offsets of the carried counts

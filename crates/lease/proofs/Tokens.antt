@@ -15,7 +15,7 @@ use Rattle.types.specs.Table.{first, Passed}
 use Rattle.types.specs.Keyed.{Entry, update, delete}
 use Rattle.types.specs.Zipped.{removed}
 use Rattle.types.proofs.Keyed.{update-put}
-use Rattle.tables.specs.declared.Seat.{Seat}
+use Rattle.tables.specs.declared.Slot.{Slot}
 use Rattle.lease.specs.State.{Table, Sound, view, leasesOf, withLeases}
 use Rattle.lease.specs.Operations.{owns, tokenRow, ack, capFrom, deadlineFrom, dueAt, extendRows, extended, extend, nackRows, requeuedAs, requeue, nack}
 use Rattle.lease.specs.Answers.{Answers}
@@ -105,7 +105,7 @@ module _ (t : LeaseTable) (ok : Sound t) (o at : ℕ) (here : Leased t o at) whe
       })
 
 -- ## ack
-module _ (t : LeaseTable) (ok : Sound t) (o g : ℕ) (s : Seat) (look : Looks t o s) where
+module _ (t : LeaseTable) (ok : Sound t) (o g : ℕ) (s : Slot) (look : Looks t o s) where
   pub ack-fenced : owns (held (s .found) (getD (t .leases) (s .at) nil)) g ≡ false → Answers (refused Fenced) t t (ack (view t) o g)
   unfolding ack
   ack-fenced h = refuses t ok (tokenRow (view t) o g ∷ []) Fenced _ (rw (look .is, h))
@@ -116,7 +116,7 @@ module _ (t : LeaseTable) (ok : Sound t) (o g : ℕ) (s : Seat) (look : Looks t 
   acked h m = takes-effect t ok (tokenRow (view t) o g ∷ []) tt (rw (look .is, h), tt) m (valid-ack (view t) o (ok .valid))
 
 -- ## extend
-module _ (t : LeaseTable) (ok : Sound t) (o g : ℕ) (s : Seat) (look : Looks t o s) where
+module _ (t : LeaseTable) (ok : Sound t) (o g : ℕ) (s : Slot) (look : Looks t o s) where
   -- the lease that was looked at
   abbrev old : Lease
   old = getD (t .leases) (s .at) nil

@@ -18,9 +18,9 @@ ghost use Rattle.lease.specs.Helpers.{held, Extends, Requeues, Shorter};
 use lookup::LeaseAt;
 use tables::Place;
 use tables::counts;
-use tables::numbers;
 use types::Generation;
 use types::Offset;
+use types::numbers;
 
 mod lent;
 pub mod lookup;
@@ -503,10 +503,10 @@ impl LeaseTable {
         requires { ⌜ Sound self ⌝ }
         ensures { λ r. ⌜ Tries (r .changed) self (r .table) (resealFromTo (view self) (offset .0) (from .0) (generation .0)) ⌝ }
     {
-        let seat = tables::seat_of(&self.offsets, self.len, offset.0);
-        let at = seat.at;
+        let slot = tables::slot_of(&self.offsets, self.len, offset.0);
+        let at = slot.at;
         let lease = self.leases[at];
-        let owned = lease.owned_by(seat.found, from);
+        let owned = lease.owned_by(slot.found, from);
         self.leases[at].generation.0 = numbers::chosen(owned, generation.0, lease.generation.0);
         Changed {
             changed: owned,
@@ -532,10 +532,10 @@ impl LeaseTable {
         ensures { λ r. ⌜ Answers (ackOf (r .outcome)) self (r .table) (ack (view self) (token .offset .0) (token .generation .0)) ⌝ }
     {
         let len = self.len;
-        let seat = tables::seat_of(&self.offsets, len, token.offset.0);
-        let at = seat.at;
+        let slot = tables::slot_of(&self.offsets, len, token.offset.0);
+        let at = slot.at;
         let lease = self.leases[at];
-        let owned = lease.owned_by(seat.found, token.generation);
+        let owned = lease.owned_by(slot.found, token.generation);
         if !owned {
             return Acked {
                 outcome: AckOutcome::Fenced,
@@ -563,10 +563,10 @@ impl LeaseTable {
         requires { ⌜ Sound self ⌝ }
         ensures { λ r. ⌜ Answers (extendOf (r .outcome)) self (r .table) (extend (view self) (token .offset .0) (token .generation .0) now) ⌝ }
     {
-        let seat = tables::seat_of(&self.offsets, self.len, token.offset.0);
-        let at = seat.at;
+        let slot = tables::slot_of(&self.offsets, self.len, token.offset.0);
+        let at = slot.at;
         let extension = self.config
-            .extension(seat.found, self.leases[at], token.generation, now);
+            .extension(slot.found, self.leases[at], token.generation, now);
         self.leases[at].deadline = extension.deadline;
         let outcome = extension.outcome;
         Extended {
@@ -611,12 +611,12 @@ impl LeaseTable {
         requires { ⌜ Sound self ⌝ }
         ensures { λ r. ⌜ Answers (nackOf (r .outcome)) self (r .table) (nack (view self) (token .offset .0) (token .generation .0) now «delay_nanos») ⌝ }
     {
-        let seat = tables::seat_of(&self.offsets, self.len, token.offset.0);
-        let at = seat.at;
+        let slot = tables::slot_of(&self.offsets, self.len, token.offset.0);
+        let at = slot.at;
         let lease = self.leases[at];
         let fence = self.next_generation;
         let deadline = numbers::saturating_add(now, delay_nanos);
-        let requeue = lease.requeue(seat.found, token.generation, fence, deadline);
+        let requeue = lease.requeue(slot.found, token.generation, fence, deadline);
         let requeued = requeue.lease;
         self.leases[at] = requeued;
         self.next_generation.0 = requeue.next;
@@ -647,10 +647,10 @@ impl LeaseTable {
         requires { ⌜ Sound self ⌝ }
         ensures { λ r. ⌜ Tries (r .changed) self (r .table) (deferRedelivery (view self) (offset .0) now «delay_nanos») ⌝ }
     {
-        let seat = tables::seat_of(&self.offsets, self.len, offset.0);
-        let at = seat.at;
+        let slot = tables::slot_of(&self.offsets, self.len, offset.0);
+        let at = slot.at;
         let lease = self.leases[at];
-        let overdue = lease.overdue(seat.found, now);
+        let overdue = lease.overdue(slot.found, now);
         let deadline = numbers::saturating_add(now, delay_nanos);
         self.leases[at].deadline = numbers::chosen(overdue, deadline, lease.deadline);
         Changed {

@@ -12,6 +12,7 @@ use outcomes::Answer;
 use types::Generation;
 use types::Offset;
 use types::Pair;
+use types::numbers::wide;
 
 // What an operation answers and leaves.
 pub struct Done {
@@ -156,11 +157,6 @@ fn hold(place: usize, v: [u64; 4], table: LeaseTable) -> Done
         12 => nack(table, token(v[0], v[1]), v[2], v[3]),
         _ => leaves(table, outcomes::bad()),
     }
-}
-
-// A u32 as a u64.
-fn wide(x: u32) -> u64 {
-    x as u64
 }
 
 // redeliveries, inflight, claimable X NOW, deliveries X G, holds X G NOW, pending X NOW

@@ -10,6 +10,7 @@ use types::lent;
 use types::lent::AttemptCounts;
 use types::lent::Listed;
 use types::lent::OffsetList;
+use types::numbers::wide;
 
 pub struct Done {
     pub answer: Answer,
@@ -72,11 +73,6 @@ pub fn ranges(
     copy(starts, n, a);
     copy(ends, n, b);
     filled(n)
-}
-
-// A u32 as a u64.
-fn wide(x: u32) -> u64 {
-    x as u64
 }
 
 // Attempt counts.

@@ -4,6 +4,7 @@ ghost use mathlib.Core.Path.{_≡_};
 ghost use Prim.Native.Nat.{_≤_};
 ghost use lib.ListN.{length};
 use outcomes::Answer;
+use types::numbers::wide;
 
 pub struct Done {
     pub answer: Answer,
@@ -97,11 +98,6 @@ fn seal(from: usize, to: usize, bytes: &mut [u8]) -> Answer {
     let check = crc::crc32c(&bytes[from..end]);
     raw::write_u32(bytes, end, check);
     outcomes::plain(0)
-}
-
-// A u32 as a u64.
-fn wide(x: u32) -> u64 {
-    x as u64
 }
 
 // crc FROM TO, of these bytes

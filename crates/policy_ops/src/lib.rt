@@ -6,6 +6,7 @@ use delivery::ConfigOutcome;
 use delivery::Delay;
 use delivery::DeliveryConfig;
 use outcomes::Answer;
+use types::numbers::wide;
 
 // What an operation answers and leaves.
 pub struct Done {
@@ -41,11 +42,6 @@ fn new(config: DeliveryConfig, limit: u64, opt_in: u64, backoffs: &[u64]) -> Don
         return leaves(after, answer);
     }
     leaves(config, answer)
-}
-
-// A u32 as a u64.
-fn wide(x: u32) -> u64 {
-    x as u64
 }
 
 // threshold, limit, unlimited

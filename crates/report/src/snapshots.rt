@@ -6,6 +6,7 @@ use shown::numbered;
 use shown::with;
 use text::output::put;
 use types::Pair;
+use types::numbers::wide;
 
 // A line for each range ahead of committed.
 fn ranges(out: &mut [u8], at: usize, cursor: AckCursor) -> usize {
@@ -36,11 +37,6 @@ pub fn cursor(out: &mut [u8], at: usize, bytes: &[u8]) -> usize {
     next = numbered(out, next, b"committed ", found.committed);
     next = numbered(out, next, b"ranges ahead ", found.runs as u64);
     ranges(out, next, found)
-}
-
-// A u32 as a u64.
-fn wide(x: u32) -> u64 {
-    x as u64
 }
 
 // A line for each of the first `count` pairs.

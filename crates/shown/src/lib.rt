@@ -1,5 +1,4 @@
 // What the programs print alike: refusals, and the state of a consumer.
-ghost use mathlib.Core.Path.{_≡_};
 ghost use mathlib.Core.List.{[], _∷_};
 ghost use Rattle.types.specs.Keyed.{entry};
 ghost use Rattle.lease.specs.State.{leasesOf, carriedOf};
@@ -14,6 +13,7 @@ use lease::Lease;
 use lease::LeaseTable;
 use text::output::put;
 use text::output::put_number;
+use types::numbers::wide;
 
 // A text and a number behind it.
 pub fn with(out: &mut [u8], at: usize, text: &[u8], n: u64) -> usize
@@ -114,13 +114,6 @@ fn leases(out: &mut [u8], at: usize, table: LeaseTable) -> usize
         i += 1;
     }
     next
-}
-
-// A u32 as a u64.
-fn wide(x: u32) -> u64
-    ensures { λ r. ⌜ r ≡ x ⌝ }
-{
-    x as u64
 }
 
 fn carried(out: &mut [u8], at: usize, table: LeaseTable) -> usize

@@ -7,7 +7,7 @@ use mathlib.Core.List.{List}
 use lib.ListN.{length, getD}
 use Rattle.tables.specs.declared.Place.{Place}
 use Rattle.tables.specs.declared.Place.the-variants.{Found, Missing}
-use Rattle.tables.specs.declared.Seat.{Seat}
+use Rattle.tables.specs.declared.Slot.{Slot}
 use Rattle.tables.specs.declared.counts.Span.{Span}
 
 -- a place with a number below x before it and none below x at it, or an end of the list
@@ -22,14 +22,14 @@ Placed x ks (Found at) = (at < length ks) × (getD ks at 0 ≡ x)
 Placed x ks (Missing at) = Boundary x ks at × (at < length ks → getD ks at 0 ≡ x → ⊥)
 
 -- whether there is a place, and the place; the first one where there is none
-abbrev pub seatOf : Place → Seat
-seatOf (Found at) = record { found = true; at = at }
-seatOf (Missing at) = record { found = false; at = 0 }
+abbrev pub slotOf : Place → Slot
+slotOf (Found at) = record { found = true; at = at }
+slotOf (Missing at) = record { found = false; at = 0 }
 
-pub record Seated (x : ℕ) (ks : List ℕ) (r : Seat) : Type 0 where
+pub record SlotIs (x : ℕ) (ks : List ℕ) (r : Slot) : Type 0 where
   pub place : Place
   pub placed : Placed x ks place
-  pub is : r ≡ seatOf place
+  pub is : r ≡ slotOf place
 
 -- the places of a key with the count there: one, or none and 0
 abbrev pub spanOf : List ℕ → Place → Span

@@ -1,12 +1,11 @@
 // Columns of sorted tables: arrays of numbers of which the first `len` places are in use.
 ghost use mathlib.Core.Path.{_≡_};
-ghost use Prim.Native.Nat.{min};
 ghost use lib.ListN.{take};
 ghost use Rattle.tables.specs.Columns.{putIn, takenOut};
-ghost use Rattle.tables.specs.Search.{Boundary, Placed, Seated};
+ghost use Rattle.tables.specs.Search.{Boundary, Placed, SlotIs};
+use types::numbers::shorter;
 
 pub mod counts;
-pub mod numbers;
 
 // Where a key stands, or where it would stand.
 pub enum Place {
@@ -15,7 +14,7 @@ pub enum Place {
 }
 
 // Whether a key stands in a column, and where; the first place where it does not, so that there is a place to look at.
-pub struct Seat {
+pub struct Slot {
     pub found: bool,
     pub at: usize,
 }
@@ -26,7 +25,7 @@ pub fn position(keys: &[u64], len: usize, x: u64) -> usize
     ensures { λ r. ⌜ Boundary x (take len (now (keys .entry))) r ⌝ }
 {
     let mut low: usize = 0;
-    let mut high = smaller(len, keys.len());
+    let mut high = shorter(len, keys.len());
     while low < high {
         let mid = low + (high - low) / 2;
         if keys[mid] < x {
@@ -43,7 +42,7 @@ pub fn find(keys: &[u64], len: usize, x: u64) -> Place
     ensures { λ r. ⌜ Placed x (take len (now (keys .entry))) r ⌝ }
 {
     let at = position(keys, len, x);
-    if at < smaller(len, keys.len()) {
+    if at < shorter(len, keys.len()) {
         if keys[at] == x {
             return Place::Found(at);
         }
@@ -52,25 +51,19 @@ pub fn find(keys: &[u64], len: usize, x: u64) -> Place
 }
 
 // The same without the place of a key that is missing.
-pub fn seat_of(keys: &[u64], len: usize, x: u64) -> Seat
-    ensures { λ r. ⌜ Seated x (take len (now (keys .entry))) r ⌝ }
+pub fn slot_of(keys: &[u64], len: usize, x: u64) -> Slot
+    ensures { λ r. ⌜ SlotIs x (take len (now (keys .entry))) r ⌝ }
 {
     match find(keys, len, x) {
-        Place::Found(at) => Seat {
+        Place::Found(at) => Slot {
             found: true,
             at: at,
         },
-        Place::Missing(_) => Seat {
+        Place::Missing(_) => Slot {
             found: false,
             at: 0,
         },
     }
-}
-
-fn smaller(a: usize, b: usize) -> usize
-    ensures { λ r. ⌜ r ≡ min a b ⌝ }
-{
-    if a < b { a } else { b }
 }
 
 // Puts x in at a place, what stood from there on one place further. Where there is no such place, or no room, the column

@@ -6,6 +6,7 @@ ghost use Rattle.types.specs.Table.{answer};
 ghost use Rattle.types.specs.Lists.{listed, roomFor, counted, listedOf, numbersOf, offsetsIn, entriesOf, countsIn};
 use crate::Offset;
 use crate::Pair;
+use crate::numbers::shorter;
 
 // What a list into lent memory answers: how many places were filled, or refusal 20.
 pub enum Listed {
@@ -27,13 +28,6 @@ pub struct AttemptCounts {
     pub offsets: [u64; 192],
     pub attempts: [u32; 192],
     pub len: usize,
-}
-
-// The shorter of two lengths.
-fn shorter(a: usize, b: usize) -> usize
-    ensures { λ r. ⌜ r ≡ min a b ⌝ }
-{
-    if a < b { a } else { b }
 }
 
 // Whether the first `len` places of an array, or all of its places where they are fewer, fit into a list of some length.

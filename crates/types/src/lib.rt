@@ -4,6 +4,7 @@ ghost use mathlib.Core.Path.{_≡_};
 ghost use Rattle.types.specs.Identifiers.{offset, checkedNext, nextOf};
 
 pub mod lent;
+pub mod numbers;
 
 // A position in the log: it names a message.
 #[repr(C)]

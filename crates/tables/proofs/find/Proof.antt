@@ -9,8 +9,8 @@ use Rattle.tables.proofs.find.Tie as tie
 position-requires : tie.Need-position-requires
 position-requires c κs = search needs
 
-smaller-requires : tie.Need-smaller-requires
-smaller-requires c κs = search needs
+shorter-requires : tie.Need-shorter-requires
+shorter-requires c κs = search needs
 
 mul-if2 : tie.Need-mul-if2
 mul-if2 c = search needs
@@ -23,7 +23,7 @@ returns c =
     let n = c .before .before .before in
     let p = n .before in
     let s = p .before .before in
-    placed-found (s .args .x) (p .position .result) (s .args .len) (s .args .keys .now) (omega (arith, n .smaller .ensures, c .before .before .if1 .taken)) (c .if2 .taken)
+    placed-found (s .args .x) (p .position .result) (s .args .len) (s .args .keys .now) (omega (arith, n .shorter .ensures, c .before .before .if1 .taken)) (c .if2 .taken)
 
 returns-2 : tie.Need-returns-2
 returns-2 c =
@@ -35,7 +35,7 @@ returns-3 : tie.Need-returns-3
 returns-3 c =
     let p = c .before .before in
     let s = p .before .before in
-    placed-missing (s .args .x) (p .position .result) (s .args .len) (s .args .keys .now) (p .position .ensures) (λ h. absurd (omega (arith, h, c .before .smaller .ensures, c .if1 .left)))
+    placed-missing (s .args .x) (p .position .result) (s .args .len) (s .args .keys .now) (p .position .ensures) (λ h. absurd (omega (arith, h, c .before .shorter .ensures, c .if1 .left)))
 
 pub find-spec : {M : Type 1} → statement M
-find-spec = tie.close (tie.spec position-requires smaller-requires mul-if2 shared-slice-read-if2 returns returns-2 returns-3)
+find-spec = tie.close (tie.spec position-requires shorter-requires mul-if2 shared-slice-read-if2 returns returns-2 returns-3)

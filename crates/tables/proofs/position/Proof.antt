@@ -13,11 +13,11 @@ Inv-loop keys len x low₀ high₀ low high = Halving x len keys low high
 abbrev μ-loop : tie.MeasureT-loop
 μ-loop keys len x low₀ high₀ low high = high - low
 
-smaller-requires : tie.Need-smaller-requires Inv-loop μ-loop
-smaller-requires c κs = search needs
+shorter-requires : tie.Need-shorter-requires Inv-loop μ-loop
+shorter-requires c κs = search needs
 
 loop-holds : tie.Need-loop-holds Inv-loop μ-loop
-loop-holds c = let s = c .before .before in halving (s .args .x) (s .args .len) (s .args .keys .now) (c .smaller .ensures)
+loop-holds c = let s = c .before .before in halving (s .args .x) (s .args .len) (s .args .keys .now) (c .shorter .ensures)
 
 sub-mid : tie.Need-sub-mid Inv-loop μ-loop
 sub-mid c = omega arith
@@ -63,7 +63,7 @@ position-spec =
     (tie.spec
     Inv-loop
     μ-loop
-    smaller-requires
+    shorter-requires
     loop-holds
     sub-mid
     add-mid

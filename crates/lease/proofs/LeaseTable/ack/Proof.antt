@@ -29,24 +29,24 @@ abbrev μ-loop : tie.MeasureT-loop
 full : (c : tie.Start Inv-loop μ-loop) → Full (c .args .t1)
 full c = record { offsets = search needs; leases = search (needs, length-mapped); carried-offsets = search needs; carried-counts = search needs }
 
-abbrev start : tie.After-seat-of Inv-loop μ-loop → tie.Start Inv-loop μ-loop
+abbrev start : tie.After-slot-of Inv-loop μ-loop → tie.Start Inv-loop μ-loop
 start c = c .before .before .before .before
 
-look : (c : tie.After-seat-of Inv-loop μ-loop) → Looks (start c .args .t1) (start c .args .token .offset .0) (c .seat-of .result)
-look c = let s = start c in looks (s .args .t1) (full s) (s .pre) (c .seat-of .ensures)
+look : (c : tie.After-slot-of Inv-loop μ-loop) → Looks (start c .args .t1) (start c .args .token .offset .0) (c .slot-of .result)
+look c = let s = start c in looks (s .args .t1) (full s) (s .pre) (c .slot-of .ensures)
 
 -- the token owns the lease that was found
-abbrev seat : tie.Else1 Inv-loop μ-loop → tie.After-seat-of Inv-loop μ-loop
-seat c = c .before .before .before
+abbrev slot : tie.Else1 Inv-loop μ-loop → tie.After-slot-of Inv-loop μ-loop
+slot c = c .before .before .before
 
-owned : (c : tie.Else1 Inv-loop μ-loop) → owns (held (seat c .seat-of .result .found) (getD (start (seat c) .args .t1 .leases) (seat c .seat-of .result .at) nil)) (start (seat c) .args .token .generation .0) ≡ true
+owned : (c : tie.Else1 Inv-loop μ-loop) → owns (held (slot c .slot-of .result .found) (getD (start (slot c) .args .t1 .leases) (slot c .slot-of .result .at) nil)) (start (slot c) .args .token .generation .0) ≡ true
 owned c = sym (c .before .owned-by .ensures) ∙ not-false _ (c .if1 .left)
 
-here : (c : tie.Else1 Inv-loop μ-loop) → Leased (start (seat c) .args .t1) (start (seat c) .args .token .offset .0) (seat c .seat-of .result .at)
-here c = look (seat c) .here (owned-found _ _ _ (owned c))
+here : (c : tie.Else1 Inv-loop μ-loop) → Leased (start (slot c) .args .t1) (start (slot c) .args .token .offset .0) (slot c .slot-of .result .at)
+here c = look (slot c) .here (owned-found _ _ _ (owned c))
 
-seat-of-requires : tie.Need-seat-of-requires Inv-loop μ-loop
-seat-of-requires c κs = search needs
+slot-of-requires : tie.Need-slot-of-requires Inv-loop μ-loop
+slot-of-requires c κs = search needs
 
 mul-lease : tie.Need-mul-lease Inv-loop μ-loop
 mul-lease c = place-in-memory (look c .inside)
@@ -61,10 +61,10 @@ returns : tie.Need-returns Inv-loop μ-loop
 returns c =
     let p = c .before .before .before in
     let s = start p in
-    ack-fenced (s .args .t1) (s .pre) (s .args .token .offset .0) (s .args .token .generation .0) (p .seat-of .result) (look p) (sym (c .before .owned-by .ensures) ∙ not-true _ (c .if1 .taken))
+    ack-fenced (s .args .t1) (s .pre) (s .args .token .offset .0) (s .args .token .generation .0) (p .slot-of .result) (look p) (sym (c .before .owned-by .ensures) ∙ not-true _ (c .if1 .taken))
 
 add-j : tie.Need-add-j Inv-loop μ-loop
-add-j c = next-place (here c .inside) (start (seat c) .pre .len)
+add-j c = next-place (here c .inside) (start (slot c) .pre .len)
 
 remove-64-requires : tie.Need-remove-64-requires Inv-loop μ-loop
 remove-64-requires c κs = search needs
@@ -72,12 +72,12 @@ remove-64-requires c κs = search needs
 loop-holds : tie.Need-loop-holds Inv-loop μ-loop
 loop-holds c =
     let e = c .before .before in
-    let s = start (seat e) in
-    let at = seat e .seat-of .result .at in
+    let s = start (slot e) in
+    let at = slot e .slot-of .result .at in
     (closing (s .args .t1 .leases) (s .args .t1 .len) at (at + 1) (up-one at) (up-to (here e .inside)) (within (full s .leases) (s .pre .len)), refl)
 
-few : (c : tie.At-loop Inv-loop μ-loop) → start (seat (c .before .before .before)) .args .t1 .len ≤ LEASES
-few c = start (seat (c .before .before .before)) .pre .len
+few : (c : tie.At-loop Inv-loop μ-loop) → start (slot (c .before .before .before)) .args .t1 .len ≤ LEASES
+few c = start (slot (c .before .before .before)) .pre .len
 
 mul-next : tie.Need-mul-next Inv-loop μ-loop
 mul-next c = in-memory (c .loop-test .taken) (few (c .before))
@@ -110,11 +110,11 @@ returns-2 c =
     let l = c .before .loop in
     let r = c .before .before in
     let e = r .before .before in
-    let p = seat e in
+    let p = slot e in
     let s = start p in
-    let at = p .seat-of .result .at in
+    let at = p .slot-of .result .at in
     let inv = l .inv .0 in
-    acked (s .args .t1) (s .pre) (s .args .token .offset .0) (s .args .token .generation .0) (p .seat-of .result) (look p) (owned e)
+    acked (s .args .t1) (s .pre) (s .args .token .offset .0) (s .args .token .generation .0) (p .slot-of .result) (look p) (owned e)
     (shows-removed (s .args .t1) (s .pre) (s .args .token .offset .0) at (here e) (r .remove-64 .last .0) (l .self .leases) (l .i) (closed-at inv (c .loop-test .left))
     (taken-out-front (s .args .t1 .len) at (at + 1) (s .args .t1 .offsets) (up-one at) (up-to (here e .inside)) (within (full s .offsets) (s .pre .len)) (r .remove-64 .ensures))
     (closed nil inv (up-one at) (c .loop-test .left))
@@ -126,7 +126,7 @@ ack-spec =
     (tie.spec
     Inv-loop
     μ-loop
-    seat-of-requires
+    slot-of-requires
     mul-lease
     element-copy-out-lease
     owned-by-requires

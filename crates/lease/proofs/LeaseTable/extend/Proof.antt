@@ -12,11 +12,11 @@ use Rattle.lease.proofs.LeaseTable.extend.Tie as tie
 full : (c : tie.Start) → Full (c .args .t1)
 full c = record { offsets = search needs; leases = search (needs, length-mapped); carried-offsets = search needs; carried-counts = search needs }
 
-look : (c : tie.After-seat-of) → Looks (c .before .before .before .before .args .t1) (c .before .before .before .before .args .token .offset .0) (c .seat-of .result)
-look c = let s = c .before .before .before .before in looks (s .args .t1) (full s) (s .pre) (c .seat-of .ensures)
+look : (c : tie.After-slot-of) → Looks (c .before .before .before .before .args .t1) (c .before .before .before .before .args .token .offset .0) (c .slot-of .result)
+look c = let s = c .before .before .before .before in looks (s .args .t1) (full s) (s .pre) (c .slot-of .ensures)
 
-seat-of-requires : tie.Need-seat-of-requires
-seat-of-requires c κs = search needs
+slot-of-requires : tie.Need-slot-of-requires
+slot-of-requires c κs = search needs
 
 mul-extension : tie.Need-mul-extension
 mul-extension c = place-in-memory (look (c .before) .inside)
@@ -38,13 +38,13 @@ returns c =
     let r = c .before .extension in
     let p = c .before .before .before .before in
     let s = p .before .before .before .before in
-    extended-as (s .args .t1) (s .pre) (s .args .token .offset .0) (s .args .token .generation .0) (p .seat-of .result) (look p) (s .args .now) (extendOf (r .result .outcome)) (r .result .deadline) (r .ensures)
+    extended-as (s .args .t1) (s .pre) (s .args .token .offset .0) (s .args .token .generation .0) (p .slot-of .result) (look p) (s .args .now) (extendOf (r .result .outcome)) (r .result .deadline) (r .ensures)
 
 pub extend-spec : {M : Type 1} → statement M
 extend-spec =
     tie.close
     (tie.spec
-    seat-of-requires
+    slot-of-requires
     mul-extension
     element-copy-out-extension
     extension-requires

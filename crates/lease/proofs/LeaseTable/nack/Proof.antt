@@ -12,11 +12,11 @@ use Rattle.lease.proofs.LeaseTable.nack.Tie as tie
 full : (c : tie.Start) → Full (c .args .t1)
 full c = record { offsets = search needs; leases = search (needs, length-mapped); carried-offsets = search needs; carried-counts = search needs }
 
-look : (c : tie.After-seat-of) → Looks (c .before .before .before .before .args .t1) (c .before .before .before .before .args .token .offset .0) (c .seat-of .result)
-look c = let s = c .before .before .before .before in looks (s .args .t1) (full s) (s .pre) (c .seat-of .ensures)
+look : (c : tie.After-slot-of) → Looks (c .before .before .before .before .args .t1) (c .before .before .before .before .args .token .offset .0) (c .slot-of .result)
+look c = let s = c .before .before .before .before in looks (s .args .t1) (full s) (s .pre) (c .slot-of .ensures)
 
-seat-of-requires : tie.Need-seat-of-requires
-seat-of-requires c κs = search needs
+slot-of-requires : tie.Need-slot-of-requires
+slot-of-requires c κs = search needs
 
 mul-lease : tie.Need-mul-lease
 mul-lease c = place-in-memory (look c .inside)
@@ -42,14 +42,14 @@ returns c =
     let d = c .before .before .before .saturating-add in
     let p = c .before .before .before .before .before .before in
     let s = p .before .before .before .before in
-    nacked-as (s .args .t1) (s .pre) (s .args .token .offset .0) (s .args .token .generation .0) (p .seat-of .result) (look p) (s .args .now) (s .args .delay-nanos) (d .result) (d .ensures)
+    nacked-as (s .args .t1) (s .pre) (s .args .token .offset .0) (s .args .token .generation .0) (p .slot-of .result) (look p) (s .args .now) (s .args .delay-nanos) (d .result) (d .ensures)
     (nackOf (r .result .outcome)) (r .result .lease) (r .result .next) (r .ensures)
 
 pub nack-spec : {M : Type 1} → statement M
 nack-spec =
     tie.close
     (tie.spec
-    seat-of-requires
+    slot-of-requires
     mul-lease
     element-copy-out-lease
     saturating-add-requires

@@ -11,11 +11,11 @@ use Rattle.lease.proofs.LeaseTable.reseal_from_to.Tie as tie
 full : (c : tie.Start) → Full (c .args .t1)
 full c = record { offsets = search needs; leases = search (needs, length-mapped); carried-offsets = search needs; carried-counts = search needs }
 
-look : (c : tie.After-seat-of) → Looks (c .before .before .before .before .args .t1) (c .before .before .before .before .args .offset .0) (c .seat-of .result)
-look c = let s = c .before .before .before .before in looks (s .args .t1) (full s) (s .pre) (c .seat-of .ensures)
+look : (c : tie.After-slot-of) → Looks (c .before .before .before .before .args .t1) (c .before .before .before .before .args .offset .0) (c .slot-of .result)
+look c = let s = c .before .before .before .before in looks (s .args .t1) (full s) (s .pre) (c .slot-of .ensures)
 
-seat-of-requires : tie.Need-seat-of-requires
-seat-of-requires c κs = search needs
+slot-of-requires : tie.Need-slot-of-requires
+slot-of-requires c κs = search needs
 
 mul-lease : tie.Need-mul-lease
 mul-lease c = place-in-memory (look c .inside)
@@ -40,13 +40,13 @@ returns c =
     let o = c .before .before in
     let p = o .before .before in
     let s = p .before .before .before .before in
-    resealed-as (s .args .t1) (s .pre) (s .args .offset .0) (p .seat-of .result) (look p) (s .args .from .0) (s .args .generation .0) (o .owned-by .result) (o .owned-by .ensures) (c .before .chosen .result) (c .before .chosen .ensures)
+    resealed-as (s .args .t1) (s .pre) (s .args .offset .0) (p .slot-of .result) (look p) (s .args .from .0) (s .args .generation .0) (o .owned-by .result) (o .owned-by .ensures) (c .before .chosen .result) (c .before .chosen .ensures)
 
 pub reseal-from-to-spec : {M : Type 1} → statement M
 reseal-from-to-spec =
     tie.close
     (tie.spec
-    seat-of-requires
+    slot-of-requires
     mul-lease
     element-copy-out-lease
     owned-by-requires

@@ -1,11 +1,11 @@
--- `seat_of` meets its contract.
+-- `slot_of` meets its contract.
 -- Assumes nothing.
 use mathlib.Core.Path.{refl, subst}
 use borrow.Author.Needs.{needs}
 use Rattle.tables.specs.Search.{Placed}
 use Rattle.tables.specs.declared.Place.the-variants.{Found, Missing}
-use Rattle.tables.proofs.seat_of.Statement.{statement}
-use Rattle.tables.proofs.seat_of.Tie as tie
+use Rattle.tables.proofs.slot_of.Statement.{statement}
+use Rattle.tables.proofs.slot_of.Tie as tie
 
 find-requires : tie.Need-find-requires
 find-requires c κs = search needs
@@ -25,5 +25,5 @@ returns-2 : tie.Need-returns-2
 returns-2 c =
     record { place = Missing (c .enum-told .given .0 .0); placed = subst (Placed _ _) (c .enum-told .given .1) (c .before .before .find .ensures); is = refl }
 
-pub seat-of-spec : {M : Type 1} → statement M
-seat-of-spec = tie.close (tie.spec find-requires enum-known-at enum-told returns returns-2)
+pub slot-of-spec : {M : Type 1} → statement M
+slot-of-spec = tie.close (tie.spec find-requires enum-known-at enum-told returns returns-2)

@@ -1,7 +1,8 @@
-// Sums that stop at the largest number of their type.
+// Numbers: sums that stop at the largest of their type, and choices.
 ghost use mathlib.Core.Path.{_≡_};
+ghost use Prim.Native.Nat.{min};
 ghost use mathlib.Core.Bool.{cond};
 ghost use Rattle.types.specs.Limits.{sat64, sat32};
 
 // The sum, at most the largest number.
 pub fn saturating_add(a: u64, b: u64) -> u64
@@ -26,4 +27,18 @@ pub fn chosen(first: bool, a: u64, b: u64) -> u64
     ensures { λ r. ⌜ r ≡ cond first a b ⌝ }
 {
     if first { a } else { b }
+}
+
+// The shorter of two lengths.
+pub fn shorter(a: usize, b: usize) -> usize
+    ensures { λ r. ⌜ r ≡ min a b ⌝ }
+{
+    if a < b { a } else { b }
+}
+
+// A u32 as a u64.
+pub fn wide(x: u32) -> u64
+    ensures { λ r. ⌜ r ≡ x ⌝ }
+{
+    x as u64
 }
