@@ -208,11 +208,12 @@ impl Lease {
         ensures { λ r. ⌜ r ≡ shiftedBy delta self ⌝ }
     {
         let generation = self.generation;
+        let deliveries = self.deliveries;
         Lease {
             generation: generation,
             attempt_start: numbers::saturating_add(self.attempt_start, delta),
             deadline: numbers::saturating_add(self.deadline, delta),
-            deliveries: self.deliveries,
+            deliveries: deliveries,
         }
     }
 }
@@ -534,8 +535,7 @@ impl LeaseTable {
         let len = self.len;
         let slot = tables::slot_of(&self.offsets, len, token.offset.0);
         let at = slot.at;
-        let lease = self.leases[at];
-        let owned = lease.owned_by(slot.found, token.generation);
+        let owned = self.leases[at].owned_by(slot.found, token.generation);
         if !owned {
             return Acked {
                 outcome: AckOutcome::Fenced,
@@ -613,10 +613,10 @@ impl LeaseTable {
     {
         let slot = tables::slot_of(&self.offsets, self.len, token.offset.0);
         let at = slot.at;
-        let lease = self.leases[at];
         let fence = self.next_generation;
         let deadline = numbers::saturating_add(now, delay_nanos);
-        let requeue = lease.requeue(slot.found, token.generation, fence, deadline);
+        let requeue = self.leases[at]
+            .requeue(slot.found, token.generation, fence, deadline);
         let requeued = requeue.lease;
         self.leases[at] = requeued;
         self.next_generation.0 = requeue.next;

@@ -48,11 +48,11 @@ here c = look (slot c) .here (owned-found _ _ _ (owned c))
 slot-of-requires : tie.Need-slot-of-requires Inv-loop μ-loop
 slot-of-requires c κs = search needs
 
-mul-lease : tie.Need-mul-lease Inv-loop μ-loop
-mul-lease c = place-in-memory (look c .inside)
+mul-owned-by : tie.Need-mul-owned-by Inv-loop μ-loop
+mul-owned-by c = place-in-memory (look c .inside)
 
-element-copy-out-lease : tie.Need-element-copy-out-lease Inv-loop μ-loop
-element-copy-out-lease c = look c .inside
+element-copy-out-owned-by : tie.Need-element-copy-out-owned-by Inv-loop μ-loop
+element-copy-out-owned-by c = look c .inside
 
 owned-by-requires : tie.Need-owned-by-requires Inv-loop μ-loop
 owned-by-requires c κs = search needs
@@ -127,8 +127,8 @@ ack-spec =
     Inv-loop
     μ-loop
     slot-of-requires
-    mul-lease
-    element-copy-out-lease
+    mul-owned-by
+    element-copy-out-owned-by
     owned-by-requires
     returns
     add-j

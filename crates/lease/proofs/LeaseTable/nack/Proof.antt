@@ -18,14 +18,14 @@ look c = let s = c .before .before .before .before in looks (s .args .t1) (full 
 slot-of-requires : tie.Need-slot-of-requires
 slot-of-requires c κs = search needs
 
-mul-lease : tie.Need-mul-lease
-mul-lease c = place-in-memory (look c .inside)
-
-element-copy-out-lease : tie.Need-element-copy-out-lease
-element-copy-out-lease c = look c .inside
-
 saturating-add-requires : tie.Need-saturating-add-requires
 saturating-add-requires c κs = search needs
+
+mul-requeue : tie.Need-mul-requeue
+mul-requeue c = place-in-memory (look (c .before .before) .inside)
+
+element-copy-out-requeue : tie.Need-element-copy-out-requeue
+element-copy-out-requeue c = look (c .before .before) .inside
 
 requeue-requires : tie.Need-requeue-requires
 requeue-requires c κs = search needs
@@ -39,7 +39,7 @@ element-set-from-requeued c = look (c .before .before .before .before .before) .
 returns : tie.Need-returns
 returns c =
     let r = c .before .before .requeue in
-    let d = c .before .before .before .saturating-add in
+    let d = c .before .before .before .before .saturating-add in
     let p = c .before .before .before .before .before .before in
     let s = p .before .before .before .before in
     nacked-as (s .args .t1) (s .pre) (s .args .token .offset .0) (s .args .token .generation .0) (p .slot-of .result) (look p) (s .args .now) (s .args .delay-nanos) (d .result) (d .ensures)
@@ -50,9 +50,9 @@ nack-spec =
     tie.close
     (tie.spec
     slot-of-requires
-    mul-lease
-    element-copy-out-lease
     saturating-add-requires
+    mul-requeue
+    element-copy-out-requeue
     requeue-requires
     mul-requeued
     element-set-from-requeued
