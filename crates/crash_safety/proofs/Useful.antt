@@ -1,30 +1,32 @@
 -- Not useless: a checkpoint is made where there is room, after it no claim waits for another, and the waiting list is what the
 -- book and the leases say. Assumes nothing.
-use Prim.Native.Nat.{ℕ, suc, _+_, _≤_, _<_}
+use Prim.Native.Nat.{ℕ, _+_, _≤_, _<_}
 use native.Mathlib.Omega.{arith}
 use mathlib.Core.Path.{_≡_, refl, sym, ap, ap₂, _∙_}
-use mathlib.Core.Bool.{false, cond, not, _&&_, _||_, and-false}
+use mathlib.Core.Bool.{Bool, false, cond, not, _&&_, _||_, and-false}
 use mathlib.Core.List.{List, [], _∷_, _++_, append-nil}
 use mathlib.Core.Option.{Option, none, some}
-use lib.Dec.{ltb, leb, eqb}
-use borrow.Author.Tests.{ltb-true, ltb-false, eqb-true, eqb-false, ne-eqb, le-leb, lt-leb}
+use lib.Dec.{eqb}
+use borrow.Author.Tests.{eqb-false, ne-eqb, lt-leb}
 use Rattle.types.specs.Limits.{MAX}
 use Rattle.types.specs.Refusal.{Refusal, Result, refused, done, LastOffset, Settled, InFlight, Exhausted, CheckpointDue, Full, numbered}
 use Rattle.types.proofs.Cases.{split}
-use Rattle.types.specs.Keyed.{Entry, lookup, Rising}
+use Rattle.types.specs.Keyed.{lookup}
 use Rattle.types.specs.Table.{Passed}
+use Rattle.types.specs.Lists.{times}
 use Rattle.types.proofs.Table.{guarded-passed}
-use Rattle.types.proofs.Keyed.{lookup-under, lookup-all}
+use Rattle.types.proofs.Keyed.{lookup-all}
 use Rattle.cursor.specs.Cursor.{settled}
 use Rattle.lease.specs.declared.Lease.{Lease}
 use Rattle.lease.specs.State.{Counted}
-use Rattle.lease.specs.Operations.{leaseOf, running, handedOut}
-use Rattle.lease.specs.Rest.{dueOffsets}
+use Rattle.lease.specs.Operations.{leaseOf, isNone, running, handedOut}
+use Rattle.lease.specs.Rest.{overdue}
 use Rattle.consumer.specs.State.{Settings, State}
 use Rattle.consumer.specs.Calls.{HandOut, handOut, isFull, claimTable, claim, atCeiling, atThreshold}
-use Rattle.consumer.specs.Questions.{keysOf, waitingAt, countOf}
+use Rattle.consumer.specs.Questions.{waitingAt, countOf}
 use Rattle.consumer.specs.Valid.{Valid}
 use Rattle.consumer.proofs.Counts.{count-is, lease-count, carried-count}
+use Rattle.consumer.proofs.Questions.{waiting-once}
 use Rattle.checkpoint.specs.Checkpoint as checkpoints
 use Rattle.checkpoint.specs.Checkpoint.{bodies, flushed}
 use Rattle.machine.specs.Door.{Phase, idle, writing}
@@ -32,7 +34,7 @@ use Rattle.machine.specs.Calls.{step}
 use Rattle.crash_safety.specs.Book.{Page}
 use Rattle.crash_safety.specs.Runs.{call, World, world, run, ends, begins}
 use Rattle.crash_safety.specs.Recovery.{begun, HasRoom}
-use Rattle.crash_safety.specs.Useful.{AllWrote, checkpoint, Checkpointed, Claimable, waits, times, Useful, NotUseless}
+use Rattle.crash_safety.specs.Useful.{AllWrote, checkpoint, Checkpointed, Claimable, waits, Useful, NotUseless}
 use Rattle.crash_safety.proofs.Law.{Ledger}
 use Rattle.crash_safety.proofs.Invariant.{Agrees, Inv}
 use Rattle.crash_safety.proofs.Runs.{run-made, ends-made, ends-none}
@@ -77,52 +79,14 @@ module _ (s : State) (v : Valid s) where
       other r n q = let same : r ≡ CheckpointDue = cc in n (ap (λ (x : Refusal). numbered x .number) same)
 
 -- ## the waiting list
-times-append : (o : ℕ) (l m : List ℕ) → times o (l ++ m) ≡ times o l + times o m
-times-append o [] m = omega arith
-times-append o (x ∷ l) m = omega (arith, times-append o l m)
-
-abbrev once : {A : Type 0} → Option A → ℕ
-once none = 0
-once (some a) = 1
-
-abbrev onceDue : ℕ → Option Lease → ℕ
-onceDue now none = 0
-onceDue now (some l) = cond (leb (l .deadline) now) 1 0
-
--- a key of a sorted list stands in it once
-times-carried : (lo o : ℕ) (l : List (Entry ℕ)) → Rising lo l → times o (keysOf l) ≡ once (lookup o l)
-times-carried lo o [] r = refl
-times-carried lo o (e ∷ l) r =
-    split (eqb o (e .key))
-    (λ t. rw (t, times-carried (suc (e .key)) o l (r .1), lookup-under (suc (e .key)) o l (r .1) (omega (arith, eqb-true o (e .key) t))))
-    (λ t. rw (t, times-carried (suc (e .key)) o l (r .1)) (omega arith))
-
-times-due : (lo now o : ℕ) (l : List (Entry Lease)) → Rising lo l → times o (dueOffsets now l) ≡ onceDue now (lookup o l)
-times-due lo now o [] r = refl
-times-due lo now o (e ∷ l) r =
-    let rest = times-due (suc (e .key)) now o l (r .1) in
-    split (eqb o (e .key))
-    (λ t.
-    let gone : times o (dueOffsets now l) ≡ 0 = rest ∙ rw (lookup-under (suc (e .key)) o l (r .1) (omega (arith, eqb-true o (e .key) t))) in
-    split (leb (e .value .deadline) now) (λ d. rw (t, d, t, gone)) (λ d. rw (t, d, gone)))
-    (λ t. split (leb (e .value .deadline) now) (λ d. rw (t, d, t) (omega (arith, rest))) (λ d. rw (t, d) rest))
-
--- a lease that doesn't run is due
-due-unless-running : (d now : ℕ) → not (ltb now d) ≡ leb d now
-due-unless-running d now =
-    split (ltb now d)
-    (λ t. rw (t, lt-leb d now (ltb-true now d t)))
-    (λ t. rw (t, le-leb d now (ltb-false now d t)))
-
 module _ (s : State) (v : Valid s) (p : Page) (agrees : Agrees p s) (now o : ℕ) where
-  waiting-right : times o (waitingAt s now) ≡ cond (waits p s now o) 1 0
-  waiting-right =
-      times-append o (keysOf (s .table .carried)) (dueOffsets now (s .table .leases))
-      ∙ rw (times-carried 0 o (s .table .carried) (v .table .carried-rising), times-due 0 now o (s .table .leases) (v .table .rising))
-      (rw (← agrees .settles o, ← agrees .counts o) (go (leaseOf (s .table) o) refl (lookup o (s .table .carried)) refl))
+  -- what waits by the state waits by the book
+  waits-right : (not (isNone (lookup o (s .table .carried))) || overdue (leaseOf (s .table) o) now)
+      ≡ (not (settled (s .cursor) o) && not (eqb (countOf s o) 0) && not (running (leaseOf (s .table) o) now))
+  waits-right = go (leaseOf (s .table) o) refl (lookup o (s .table .carried)) refl
     where
       go : (x : Option Lease) → leaseOf (s .table) o ≡ x → (y : Option ℕ) → lookup o (s .table .carried) ≡ y
-          → once y + onceDue now x ≡ cond (not (settled (s .cursor) o) && not (eqb (countOf s o) 0) && not (running x now)) 1 0
+          → (not (isNone y) || overdue x now) ≡ (not (settled (s .cursor) o) && not (eqb (countOf s o) 0) && not (running x now))
       go none e none f =
           let zero : countOf s o ≡ 0 = count-is s v o ∙ ap₂ handedOut e f in
           rw (zero, and-false (not (settled (s .cursor) o)))
@@ -134,7 +98,9 @@ module _ (s : State) (v : Valid s) (p : Page) (agrees : Agrees p s) (now o : ℕ
           let fine = lookup-all (λ x l. Counted x (l .deliveries)) o k (s .table .leases) (v .table .counted) e in
           let no-count : y ≡ none = sym f ∙ own .alone in
           rw (no-count, own .unsettled, lease-count s v o k e, ne-eqb (k .deliveries) 0 (λ z. omega (arith, fine .once)))
-          (rw (due-unless-running (k .deadline) now) (omega arith))
+
+  waiting-right : times o (waitingAt s now) ≡ cond (waits p s now o) 1 0
+  waiting-right = waiting-once s v now o ∙ rw (← agrees .settles o, ← agrees .counts o) (ap (λ (b : Bool). cond b 1 0) waits-right)
 
 -- ## a checkpoint
 none-wrote : (c : Settings) (w : World) → AllWrote (run c w [])

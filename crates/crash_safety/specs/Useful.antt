@@ -1,13 +1,14 @@
 -- Not useless. After every list that leaves a state with room for one more group, begin and its steps are not refused; a claim
 -- then is granted, but for the last offset, a settled one, one that is held, when generations or room for it are used up. And
 -- the waiting list of every state holds each offset just once that the book has unsettled with a count, and that no lease holds.
-use Prim.Native.Nat.{ℕ, suc, _+_}
+use Prim.Native.Nat.{ℕ, suc}
 use mathlib.Core.Path.{_≡_}
 use mathlib.Core.Bool.{Bool, false, cond, not, _&&_}
 use mathlib.Core.List.{List, [], _∷_}
 use lib.Dec.{eqb}
 use Rattle.types.specs.Limits.{MAX}
 use Rattle.types.specs.Refusal.{refused, done, CheckpointDue}
+use Rattle.types.specs.Lists.{times}
 use Rattle.cursor.specs.Cursor.{settled}
 use Rattle.lease.specs.Operations.{leaseOf, running}
 use Rattle.consumer.specs.State.{Settings, State}
@@ -63,11 +64,6 @@ pub record Claimable (s : State) (o now : ℕ) : Type 0 where
 -- an offset that waits at a clock, by the book
 abbrev pub waits : Page → State → ℕ → ℕ → Bool
 waits p s now o = not (p .settled o) && not (eqb (p .count o) 0) && not (running (leaseOf (s .table) o) now)
-
--- how often an offset stands in a list
-abbrev pub times : ℕ → List ℕ → ℕ
-times o [] = 0
-times o (x ∷ l) = cond (eqb o x) 1 0 + times o l
 
 pub record Useful (c : Settings) (w : World) (s : State) (p : Page) : Type 0 where
   pub checkpoints : HasRoom s → Checkpointed c w s

@@ -21,10 +21,10 @@ use Rattle.types.proofs.Cases.{split}
 use Rattle.types.proofs.Keyed.{length-put-old, length-put-new}
 use Rattle.lease.specs.State.{Table, Valid, Sound, view, withCarried}
 use Rattle.lease.specs.Counts.{carry, carryAll, resumeAttempts}
-use Rattle.lease.specs.Helpers.{carryOnAll, resumedWith}
+use Rattle.lease.specs.Helpers.{resumedWith}
 use Rattle.lease.specs.Answers.{Answers}
 use Rattle.lease.specs.declared.LeaseTable.{LeaseTable}
-use Rattle.tables.specs.Carried.{heldIn, carriedIn, within, Tidy, CarriesPair}
+use Rattle.tables.specs.Carried.{heldIn, carriedIn, within, carryOn, Tidy, CarriesPair}
 use Rattle.tables.specs.declared.counts.Carried.{Carried}
 use Rattle.tables.proofs.Carried.{carry-rising}
 use Rattle.lease.proofs.Returns.{Shows, sound-as}
@@ -42,6 +42,11 @@ length-carry-all : (ps l : List (Entry ℕ)) → Rising 0 l → length l ≤ len
 length-carry-all [] l r = omega arith
 length-carry-all (p ∷ ps) l r =
     omega (arith, length-carry (p .key) (p .value) 0 l r, length-carry-all ps (carry (p .key) (p .value) l) (carry-rising (p .key) (p .value) l r))
+
+-- each pair of a list, one by one
+abbrev pub carryOnAll : List (Entry ℕ) → Option (List (Entry ℕ)) → Option (List (Entry ℕ))
+carryOnAll [] c = c
+carryOnAll (p ∷ ps) c = carryOnAll ps (carryOn p c)
 
 -- once there are too many, there are too many at the end
 pub carried-within : (ps l : List (Entry ℕ)) → Rising 0 l → length l ≤ CARRIED → carryOnAll ps (some l) ≡ within (carryAll ps l)

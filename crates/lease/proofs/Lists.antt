@@ -7,7 +7,7 @@ use mathlib.Core.Path.{_≡_, refl, sym, _∙_}
 use mathlib.Core.List.{List, [], _∷_, _++_, map, append-nil}
 use lib.ListN.{length, take, drop, getD, set, length-set, replicate, length-replicate}
 use lib.Seq.{take-suc-set, append-snoc}
-use borrow.Author.Tests.{le-leb, lt-leb}
+use borrow.Author.Tests.{le-ltb, lt-ltb}
 use Rattle.types.specs.Keyed.{entry, entries}
 use Rattle.types.proofs.Scan.{map-take}
 use Rattle.types.proofs.Loops.{rest-more}
@@ -52,7 +52,7 @@ module _ (t : LeaseTable) (full : Full t) (ok : Sound t) (now : ℕ) where
           inside = omega arith;
           few = omega (arith, inv .few);
           full-list = length-set offsets n (getD (t .offsets) i 0) ∙ inv .full-list;
-          is = rw (add-one n, take-suc-set offsets n (getD (t .offsets) i 0) k, append-snoc) (rw (head i h, le-leb _ _ d) at (inv .is));
+          is = rw (add-one n, take-suc-set offsets n (getD (t .offsets) i 0) k, append-snoc) (rw (head i h, le-ltb now _ d) at (inv .is));
           rest = rest-more n offsets (replicate 128 0) (getD (t .offsets) i 0) (inv .rest);
         }
 
@@ -62,7 +62,7 @@ module _ (t : LeaseTable) (full : Full t) (ok : Sound t) (now : ℕ) where
           inside = omega arith;
           few = omega (arith, inv .few);
           full-list = inv .full-list;
-          is = rw (head i h, lt-leb _ _ d) at (inv .is);
+          is = rw (head i h, lt-ltb now _ d) at (inv .is);
           rest = inv .rest;
         }
 

@@ -1,20 +1,23 @@
--- The lease and the carried count of every offset after each operation.
+-- The lease and the carried count of every offset after each operation, and which offsets are listed as run out.
 -- Assumes nothing.
-use Prim.Native.Nat.{ℕ}
+use Prim.Native.Nat.{ℕ, suc}
+use native.Mathlib.Omega.{arith}
 use mathlib.Core.Path.{_≡_, refl, ap, _∙_}
 use mathlib.Core.Bool.{cond}
 use mathlib.Core.List.{List, [], _∷_}
 use mathlib.Core.Option.{Option, none, some, Option·map}
 use lib.Dec.{ltb, eqb}
+use borrow.Author.Tests.{eqb-true}
 use Rattle.types.specs.Limits.{sat64}
 use Rattle.types.specs.Refusal.{Result, refused, done}
 use Rattle.types.specs.Table.{Answer}
-use Rattle.types.specs.Keyed.{Entry, lookup, update}
+use Rattle.types.specs.Keyed.{Entry, lookup, update, Rising}
+use Rattle.types.specs.Lists.{times}
 use Rattle.types.proofs.Cases.{split}
-use Rattle.types.proofs.Keyed.{lookup-put, lookup-delete, lookup-dropBelow, lookup-update, lookup-mapValues}
+use Rattle.types.proofs.Keyed.{lookup-under, lookup-put, lookup-delete, lookup-dropBelow, lookup-update, lookup-mapValues}
 use Rattle.lease.specs.State.{Table, withLeases}
 use Rattle.lease.specs.Operations.{lease, leaseOf, owns, deadlineFrom, nextCount, grant, claim, ack, dueAt, extended, extend, requeuedAs, requeue, nack}
-use Rattle.lease.specs.Rest.{releaseBelow, resealedAs, resealFromTo, overdue, deferRedelivery, shiftedBy, shiftDeadlines}
+use Rattle.lease.specs.Rest.{releaseBelow, resealedAs, resealFromTo, overdue, deferRedelivery, shiftedBy, shiftDeadlines, dueOffsets}
 use Rattle.lease.specs.Counts.{carry, carryAll}
 use Rattle.lease.specs.declared.Lease.{Lease}
 use Rattle.lease.proofs.Passed.{claim-cases, ack-cases, extend-cases, nack-cases}
@@ -84,6 +87,17 @@ module _ (t : Table) (j o : ℕ) where
 
   pub lease-after-shift : (delta : ℕ) → leaseOf (shiftDeadlines t delta) j ≡ Option·map (shiftedBy delta) (leaseOf t j)
   lease-after-shift delta = lookup-mapValues (shiftedBy delta) j (t .leases)
+
+-- ## the offsets whose leases have run out: each stands among them just once
+pub expired-once : (x now lo : ℕ) (l : List (Entry Lease)) → Rising lo l → times x (dueOffsets now l) ≡ cond (overdue (lookup x l) now) 1 0
+expired-once x now lo [] r = refl
+expired-once x now lo (e ∷ l) r =
+    let rest = expired-once x now (suc (e .key)) l (r .1) in
+    split (eqb x (e .key))
+    (λ q.
+    let gone : times x (dueOffsets now l) ≡ 0 = rest ∙ rw (lookup-under (suc (e .key)) x l (r .1) (omega (arith, eqb-true x (e .key) q))) in
+    split (ltb now (e .value .deadline)) (λ d. rw (q, d) gone) (λ d. rw (q, d, q, gone)))
+    (λ q. split (ltb now (e .value .deadline)) (λ d. rw (q, d) rest) (λ d. rw (q, d, q) (omega (arith, rest))))
 
 -- ## counts carried
 pub count-after-carry : (j o n : ℕ) (c : List (Entry ℕ)) → lookup j (carry o n c) ≡ cond (eqb n 0) (lookup j c) (cond (eqb j o) (some n) (lookup j c))

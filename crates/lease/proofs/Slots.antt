@@ -96,14 +96,14 @@ module _ (t : LeaseTable) (full : Full t) (ok : Sound t) where
     pub found-at : r ≡ Found at → getD (t .offsets) at 0 ≡ x
     found-at e = sym (getD-take (t .len) (t .offsets) at 0 (leased e .inside)) ∙ subst (Placed x (take (t .len) (t .offsets))) e p .1
 
-  seats : {x : ℕ} (p : Place) → Placed x (take (t .len) (t .offsets)) p → Looks t x (slotOf p)
-  seats (Found at) p =
+  slots : {x : ℕ} (p : Place) → Placed x (take (t .len) (t .offsets)) p → Looks t x (slotOf p)
+  slots (Found at) p =
       let h = leased p refl in
       record { inside = omega (arith, h .inside, ok .len); is = h .is; here = λ _. h }
-  seats (Missing at) p = record { inside = omega arith; is = free p refl .is; here = λ e. absurd (true≢false (sym e)) }
+  slots (Missing at) p = record { inside = omega arith; is = free p refl .is; here = λ e. absurd (true≢false (sym e)) }
 
   pub looks : {x : ℕ} {r : Slot} → SlotIs x (take (t .len) (t .offsets)) r → Looks t x r
-  looks s = rw (s .is) (seats (s .place) (s .placed))
+  looks s = rw (s .is) (slots (s .place) (s .placed))
 
   -- and among the offsets of the carried counts
   module _ {x at : ℕ} {r : Place} (p : Placed x (take (t .«carried_len») (t .«carried_offsets»)) r) where

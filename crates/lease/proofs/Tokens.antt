@@ -17,9 +17,9 @@ use Rattle.types.specs.Zipped.{removed}
 use Rattle.types.proofs.Keyed.{update-put}
 use Rattle.tables.specs.declared.Slot.{Slot}
 use Rattle.lease.specs.State.{Table, Sound, view, leasesOf, withLeases}
-use Rattle.lease.specs.Operations.{owns, tokenRow, ack, capFrom, deadlineFrom, dueAt, extendRows, extended, extend, nackRows, requeuedAs, requeue, nack}
+use Rattle.lease.specs.Operations.{owns, tokenRow, ack, capFrom, deadlineFrom, dueAt, extendRows, extended, extend, nackRows, requeuedAs, requeue, nack, extensionRows, requeueRows}
 use Rattle.lease.specs.Answers.{Answers}
-use Rattle.lease.specs.Helpers.{held, extensionRows, Extends, requeueRows, Requeues, rebuilt}
+use Rattle.lease.specs.Helpers.{held, Extends, Requeues, rebuilt}
 use Rattle.lease.specs.declared.LeaseConfig.{LeaseConfig}
 use Rattle.lease.specs.declared.Lease.{Lease}
 use Rattle.lease.specs.declared.LeaseTable.{LeaseTable}

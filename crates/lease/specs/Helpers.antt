@@ -1,20 +1,18 @@
 -- What the private helpers answer. No public contract cites this file.
 use Prim.Native.Nat.{ℕ, _+_, _-_}
 use mathlib.Core.Path.{_≡_}
-use mathlib.Core.Bool.{Bool, cond, not}
-use mathlib.Core.List.{List, [], _∷_}
+use mathlib.Core.Bool.{Bool, cond}
+use mathlib.Core.List.{List}
 use mathlib.Core.Option.{Option, none, some}
-use lib.Dec.{leb, eqb}
 use lib.ListN.{take}
-use Rattle.types.specs.Limits.{MAX}
 use Rattle.types.specs.Keyed.{Entry}
 use Rattle.types.specs.Zipped.{removed}
-use Rattle.types.specs.Refusal.{Result, refused, done, Fenced, Exhausted, CapReached, TooManyPairs}
-use Rattle.types.specs.Table.{Row, _⇒_, first, Passed, Answer, answer}
-use Rattle.tables.specs.Carried.{carriedIn, carryOn, Tidy}
+use Rattle.types.specs.Refusal.{Result, refused, done, TooManyPairs}
+use Rattle.types.specs.Table.{Row, first, Passed, Answer, answer}
+use Rattle.tables.specs.Carried.{carriedIn, Tidy}
 use Rattle.tables.specs.declared.counts.Carried.{Carried}
 use Rattle.lease.specs.State.{Table, carriedOf, withCarried}
-use Rattle.lease.specs.Operations.{owns, capFrom, deadlineFrom, startOf, requeuedAs}
+use Rattle.lease.specs.Operations.{deadlineFrom, extensionRows, requeuedAs, requeueRows}
 use Rattle.lease.specs.declared.LeaseConfig.{LeaseConfig}
 use Rattle.lease.specs.declared.Lease.{Lease}
 use Rattle.lease.specs.declared.LeaseTable.{LeaseTable}
@@ -28,13 +26,6 @@ held found l = cond found (some l) none
 abbrev pub Settles : {A B : Type 0} → List Row → A → B → B → Result A → B → Type 0
 Settles ws a old new (refused r) after = (first ws ≡ some r) × (after ≡ old)
 Settles ws a old new (done b) after = Passed ws × (b ≡ a) × (after ≡ new)
-
--- the rows of an extension and of a nack, over the lease: 24, 28 and 24, 25
-abbrev pub extensionRows : LeaseConfig → Option Lease → ℕ → ℕ → List Row
-extensionRows c l g now = not (owns l g) ⇒ Fenced ∷ leb (capFrom c (startOf l)) now ⇒ CapReached ∷ []
-
-abbrev pub requeueRows : Option Lease → ℕ → ℕ → List Row
-requeueRows l g next = not (owns l g) ⇒ Fenced ∷ eqb next MAX ⇒ Exhausted ∷ []
 
 -- an extension of the lease that was looked at, and a nack of it where the next generation is given
 abbrev pub Extends : LeaseConfig → Bool → Lease → ℕ → ℕ → Result ℕ → ℕ → Type 0
@@ -68,11 +59,6 @@ pub record Shorter (t : LeaseTable) (from to : ℕ) (r : LeaseTable) : Type 0 wh
   pub rest : r ≡ rebuilt t (r .offsets) (r .leases) (t .len - (to - from))
 
 -- ## pairs carried one by one
--- each of a list
-abbrev pub carryOnAll : List (Entry ℕ) → Option (List (Entry ℕ)) → Option (List (Entry ℕ))
-carryOnAll [] c = c
-carryOnAll (p ∷ ps) c = carryOnAll ps (carryOn p c)
-
 pub record CarriesFrom (t : LeaseTable) (c : Carried) : Type 0 where
   pub is : carriedIn c ≡ some (carriedOf t)
   pub tidy : Tidy c

@@ -99,9 +99,12 @@ unfoldable pub claim : Table → ℕ → ℕ → Answer Grant Table
 claim t o now = guarded (claimRows t o now) t (answer (done (granted t o)) (grant t o now))
 
 -- ## calls with a token, of offset o and generation g
--- the row that all of them begin with: 24
+-- the row that all of them begin with, over the lease of the offset: 24
+abbrev pub fencedRow : Option Lease → ℕ → Row
+fencedRow l g = not (owns l g) ⇒ Fenced
+
 abbrev pub tokenRow : Table → ℕ → ℕ → Row
-tokenRow t o g = not (owns (leaseOf t o) g) ⇒ Fenced
+tokenRow t o g = fencedRow (leaseOf t o) g
 
 -- an ack: the lease is gone
 unfoldable pub ack : Table → ℕ → ℕ → Answer (Unit {0}) Table
@@ -116,9 +119,12 @@ startOf (some l) = l .«attempt_start»
 abbrev pub dueAt : ℕ → Lease → Lease
 dueAt deadline l = lease (l .generation .0) (l .«attempt_start») deadline (l .deliveries)
 
--- 24, 28
+-- over the lease: 24, 28
+abbrev pub extensionRows : LeaseConfig → Option Lease → ℕ → ℕ → List Row
+extensionRows c l g now = fencedRow l g ∷ leb (capFrom c (startOf l)) now ⇒ CapReached ∷ []
+
 abbrev pub extendRows : Table → ℕ → ℕ → ℕ → List Row
-extendRows t o g now = tokenRow t o g ∷ leb (capFrom (t .config) (startOf (leaseOf t o))) now ⇒ CapReached ∷ []
+extendRows t o g now = extensionRows (t .config) (leaseOf t o) g now
 
 -- the deadline of an extended lease
 abbrev pub extended : Table → ℕ → ℕ → ℕ
@@ -145,9 +151,12 @@ requeue t o deadline =
       redeliveries = t .redeliveries;
     }
 
--- 24, 25
+-- over the lease and the next generation: 24, 25
+abbrev pub requeueRows : Option Lease → ℕ → ℕ → List Row
+requeueRows l g next = fencedRow l g ∷ eqb next MAX ⇒ Exhausted ∷ []
+
 abbrev pub nackRows : Table → ℕ → ℕ → List Row
-nackRows t o g = tokenRow t o g ∷ eqb (t .nextGeneration) MAX ⇒ Exhausted ∷ []
+nackRows t o g = requeueRows (leaseOf t o) g (t .nextGeneration)
 
 -- a nack, with the deadline as its answer, which no cap bounds
 unfoldable pub nack : Table → ℕ → ℕ → ℕ → ℕ → Answer ℕ Table

@@ -2,8 +2,7 @@
 use Prim.Native.Nat.{ℕ}
 use mathlib.Core.Bool.{Bool, true, false, cond, not, _&&_}
 use mathlib.Core.List.{List, [], _∷_}
-use mathlib.Core.Option.{Option, none, Option·map}
-use lib.Dec.{leb}
+use mathlib.Core.Option.{Option, none, some, Option·map}
 use lib.ListN.{length}
 use Rattle.types.specs.Limits.{sat64}
 use Rattle.types.specs.Refusal.{done}
@@ -82,7 +81,7 @@ pendingRedeliveryAttempt t o now = cond (overdue (leaseOf t o) now) (deliveriesO
 -- the offsets of due leases, in their order
 abbrev pub dueOffsets : ℕ → List (Entry Lease) → List ℕ
 dueOffsets now [] = []
-dueOffsets now (e ∷ l) = cond (leb (e .value .deadline) now) (e .key ∷ dueOffsets now l) (dueOffsets now l)
+dueOffsets now (e ∷ l) = cond (running (some (e .value)) now) (dueOffsets now l) (e .key ∷ dueOffsets now l)
 
 -- those of a table, rising
 abbrev pub expired : Table → ℕ → List ℕ

@@ -52,7 +52,7 @@ carriedOf t = entries (take (t .«carried_len») (t .«carried_offsets»)) (take
 abbrev pub view : LeaseTable → Table
 view t = record { config = t .config; leases = leasesOf t; carried = carriedOf t; nextGeneration = t .«next_generation» .0; redeliveries = t .«redeliveries_since_flush» }
 
--- what every contract requires and gives back
+-- what contracts require of a table that they are handed, and say of one that they give
 pub record Sound (t : LeaseTable) : Type 0 where
   pub len : t .len ≤ LEASES
   pub carried-len : t .«carried_len» ≤ CARRIED

@@ -266,7 +266,7 @@ pub struct LeaseTable {
     pub offsets: [u64; 64],
     pub leases: [Lease; 64],
     pub len: usize,
-    // The counts that a restart carried over, of offsets not claimed since: the first claim of one goes on from its count.
+    // The counts that a restart carried over: an offset's first lease takes its count over and goes on from it.
     pub carried_offsets: [u64; 128],
     pub carried_counts: [u32; 128],
     pub carried_len: usize,
@@ -313,6 +313,13 @@ impl LeaseTable {
         ensures { λ r. ⌜ Becomes r (startingAt config 0) ⌝ }
     {
         LeaseTable::starting_at(config, Generation(0))
+    }
+
+    // An empty table of the default configuration.
+    pub fn default() -> LeaseTable
+        ensures { λ r. ⌜ Becomes r (startingAt defaultConfig 0) ⌝ }
+    {
+        LeaseTable::new(LeaseConfig::default())
     }
 
     // An empty table whose first grant takes the given generation.

@@ -31,7 +31,7 @@ impl LeaseTable {
         LeaseAt::Some(self.leases[at])
     }
 
-    // The count that a restart carried over for an offset, until it is claimed.
+    // The count that a restart carried over for an offset, until a first lease takes it over.
     pub fn carried_count(self, offset: Offset) -> Attempts
         requires { ⌜ Sound self ⌝ }
         ensures { λ r. ⌜ attemptsOf r ≡ lookup (offset .0) (view self .carried) ⌝ }

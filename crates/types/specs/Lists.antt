@@ -1,9 +1,10 @@
 -- Lists that are answered into lent memory: 01, "A lent list is filled from its first place". And how the records of the code
 -- stand for what is listed.
-use Prim.Native.Nat.{ℕ, _≤_}
+use Prim.Native.Nat.{ℕ, _+_, _≤_}
 use mathlib.Core.Path.{_≡_}
+use mathlib.Core.Bool.{cond}
 use mathlib.Core.List.{List, [], _∷_, _++_, map}
-use lib.Dec.{ltb}
+use lib.Dec.{ltb, eqb}
 use lib.ListN.{length, take, drop, replicate}
 use Rattle.types.specs.Refusal.{Result, refused, done, OutTooShort}
 use Rattle.types.specs.Table.{_⇒_, Answer, answer, checked, guarded}
@@ -29,6 +30,11 @@ roomFor n room = checked (ltb room n ⇒ OutTooShort ∷ []) (done n)
 abbrev pub counted : Result ℕ → ℕ
 counted (refused r) = 0
 counted (done n) = n
+
+-- how often a number stands in a list
+abbrev pub times : ℕ → List ℕ → ℕ
+times x [] = 0
+times x (y ∷ l) = cond (eqb x y) 1 0 + times x l
 
 -- 01's answers for the cases of the enum
 abbrev pub listedOf : Listed → Result ℕ

@@ -54,7 +54,7 @@ use Rattle.lease.specs.State.{Sound, view, carriedOf}
 use Rattle.lease.specs.Counts.{resumeAttempts}
 use Rattle.lease.specs.Answers.{resumeOf, Answers}
 use Rattle.tables.specs.Carried.{carriedIn, Tidy, CarriesPair}
-use Rattle.lease.specs.Helpers.{carryOnAll, CarriesFrom, resumedWith}
+use Rattle.lease.specs.Helpers.{CarriesFrom, resumedWith}
 use Rattle.lease.specs.declared.LeaseTable.{LeaseTable}
 use Rattle.lease.specs.declared.Resumed.{Resumed}
 use Rattle.tables.specs.declared.counts.Carried.{Carried}
@@ -64,7 +64,7 @@ use Rattle.lease.proofs.Resumed as D
 use Rattle.lease.proofs.Resumed.Laws as D′
 use Rattle.tables.proofs.counts.Carried as B
 use Rattle.tables.proofs.counts.Carried.Laws as B′
-use Rattle.lease.proofs.Carried.{pair-more, pair-end, resumed-all}
+use Rattle.lease.proofs.Carried.{carryOnAll, pair-more, pair-end, resumed-all}
 use Rattle.lease.proofs.LeaseTable.carried_so_far as begin
 use Rattle.lease.proofs.LeaseTable.carried_so_far.Symbol as begin-def
 use Rattle.lease.proofs.LeaseTable.carried_so_far.Symbol.{name as #begin}
