@@ -1,6 +1,6 @@
 -- A begin keeps what holds of a state, and so does every step of what holds of a record; the last one gives a state back of which
 -- the invariant holds. Assumes nothing.
-use Prim.Native.Nat.{ℕ, _<_}
+use Prim.Native.Nat.{ℕ}
 use native.Mathlib.Omega.{arith}
 use mathlib.Core.Path.{_≡_}
 use mathlib.Core.List.{List}
@@ -10,9 +10,9 @@ use Rattle.types.specs.Table.{Answer}
 use Rattle.types.proofs.Cases.{split}
 use Rattle.types.proofs.Table.{guarded-cases}
 use Rattle.lease.proofs.Valid.{valid-flushed}
-use Rattle.consumer.specs.State.{State, blocksOf}
+use Rattle.consumer.specs.State.{State}
 use Rattle.consumer.specs.Valid.{Valid}
-use Rattle.checkpoint.specs.Checkpoint.{bodies, flushed, Writing, begin, isLast, nextPlace, going, leftBy, Wrote, Lent, lent, stepTable, step}
+use Rattle.checkpoint.specs.Checkpoint.{bodies, flushed, Writing, begin, isLast, going, leftBy, Wrote, Lent, lent, stepTable, step}
 use Rattle.checkpoint.specs.Valid.{ValidWriting, ValidLeft}
 use Rattle.checkpoint.proofs.Open.{BeginOpen, begin-says}
 
@@ -41,13 +41,6 @@ begin-valid s w e v =
     rw (← d .1) (record { state = v; room = d .0 .room; few = omega arith })
 
 module _ (w : Writing) (v : ValidWriting w) where
-  -- the block that is written lies in the area
-  pub next-inside : nextPlace w < blocksOf (w .state)
-  next-inside =
-      split (isLast w)
-      (λ e. rw e (omega (arith, v .room)))
-      (λ e. rw e (omega (arith, v .room, leb-false (bodies (w .state)) (w .written) e)))
-
   left-valid : ValidLeft (leftBy w)
   left-valid =
       split (isLast w)

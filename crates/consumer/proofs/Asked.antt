@@ -8,7 +8,7 @@ use native.Mathlib.Numerals.{add-one}
 use mathlib.Core.Path.{_≡_, refl, sym, ap, _∙_}
 use mathlib.Core.List.{List, [], _∷_, _++_, append-assoc, append-nil}
 use mathlib.Core.Option.{none}
-use lib.Dec.{leb}
+use lib.Dec.{ltb}
 use lib.ListN.{length, take, getD, set, length-set, length-take}
 use lib.Seq.{take-take, take-suc, take-suc-set}
 use Rattle.types.specs.Limits.{CARRIED}
@@ -39,10 +39,6 @@ entries-few [] vs = omega arith
 entries-few (k ∷ ks) [] = omega arith
 entries-few (k ∷ ks) (v ∷ vs) = omega (arith, entries-few ks vs)
 
-length-keys : (l : List (Entry ℕ)) → length (keysOf l) ≡ length l
-length-keys [] = refl
-length-keys (e ∷ l) = ap suc (length-keys l)
-
 module _ (t : LeaseTable) (n : ℕ) (size : n ≡ length (carriedOf t)) where
   pub carried-keys : keysOf (carriedOf t) ≡ take n (t .«carried_offsets»)
   carried-keys =
@@ -51,13 +47,10 @@ module _ (t : LeaseTable) (n : ℕ) (size : n ≡ length (carriedOf t)) where
       ∙ take-take (length (carriedOf t)) (t .«carried_len») (t .«carried_offsets») (omega (arith, few, length-take (t .«carried_len») (t .«carried_offsets»)))
       ∙ ap (λ (k : ℕ). take k (t .«carried_offsets»)) (sym size)
 
-  pub carried-number : length (keysOf (carriedOf t)) ≡ n
-  carried-number = length-keys (carriedOf t) ∙ sym size
-
 -- ## the due offsets behind them
 due-few : (now : ℕ) (l : List (Entry Lease)) → length (dueOffsets now l) ≤ length l
 due-few now [] = omega arith
-due-few now (e ∷ l) = split (leb (e .value .deadline) now) (λ q. rw q (omega (arith, due-few now l))) (λ q. rw q (omega (arith, due-few now l)))
+due-few now (e ∷ l) = split (ltb now (e .value .deadline)) (λ q. rw q (omega (arith, due-few now l))) (λ q. rw q (omega (arith, due-few now l)))
 
 -- both fit one array
 pub both-fit : (s : State) → Valid s → (now n m : ℕ) → n ≡ length (s .table .carried) → m ≡ length (dueOffsets now (s .table .leases)) → n + m ≤ CARRIED

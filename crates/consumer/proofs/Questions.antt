@@ -2,7 +2,7 @@
 -- Assumes nothing.
 use Prim.Native.Nat.{ℕ, suc, _+_}
 use native.Mathlib.Omega.{arith}
-use mathlib.Core.Path.{_≡_, refl, ap, _∙_}
+use mathlib.Core.Path.{_≡_, refl, _∙_}
 use mathlib.Core.Bool.{Bool, cond, not, _||_}
 use mathlib.Core.List.{List, [], _∷_}
 use mathlib.Core.Option.{Option, none, some}
@@ -29,8 +29,10 @@ module _ (x : ℕ) where
   times-carried lo (e ∷ l) r =
       let rest = times-carried (suc (e .key)) l (r .1) in
       split (eqb x (e .key))
-      (λ q. rw q (ap suc (rest ∙ rw (lookup-under (suc (e .key)) x l (r .1) (omega (arith, eqb-true x (e .key) q))))))
-      (λ q. rw q rest)
+      (λ q.
+      let gone : times x (keysOf l) ≡ 0 = rest ∙ rw (lookup-under (suc (e .key)) x l (r .1) (omega (arith, eqb-true x (e .key) q))) in
+      rw (q, gone))
+      (λ q. rw q (omega (arith, rest)))
 
 -- what waits at a clock
 abbrev pub waits : State → ℕ → ℕ → Bool

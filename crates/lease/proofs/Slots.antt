@@ -9,14 +9,13 @@ use mathlib.Core.List.{List}
 use lib.ListN.{length, take, getD}
 use lib.Seq.{getD-take}
 use Rattle.types.specs.Limits.{LEASES}
-use Rattle.types.specs.Sorted.{Ascending}
 use Rattle.types.proofs.Columns.{length-used}
 use Rattle.tables.specs.Search.{Placed, slotOf, SlotIs, Spans}
 use Rattle.tables.specs.declared.Place.{Place}
 use Rattle.tables.specs.declared.Place.the-variants.{Found, Missing}
 use Rattle.tables.specs.declared.Slot.{Slot}
 use Rattle.tables.specs.declared.counts.Span.{Span}
-use Rattle.tables.proofs.Places.{Stands, Lacks, Spanned, keys-ascend, stands, lacks, spanned}
+use Rattle.tables.proofs.Places.{Stands, Lacks, Spanned, stands, lacks, spanned}
 use Rattle.lease.specs.State.{Sound, view, leasesOf, carriedOf}
 use Rattle.lease.specs.Operations.{lease, leaseOf}
 use Rattle.lease.specs.Helpers.{held, rebuilt}
@@ -71,12 +70,6 @@ module _ (t : LeaseTable) (full : Full t) (ok : Sound t) where
 
   carried-fits′ : t .«carried_len» ≤ length (t .«carried_counts»)
   carried-fits′ = omega (arith, full .carried-counts, ok .carried-len)
-
-  pub ascending : Ascending 0 (take (t .len) (t .offsets))
-  ascending = keys-ascend nil (t .len) (t .offsets) (t .leases) fits fits′ (ok .valid .rising)
-
-  pub carried-ascending : Ascending 0 (take (t .«carried_len») (t .«carried_offsets»))
-  carried-ascending = keys-ascend 0 (t .«carried_len») (t .«carried_offsets») (t .«carried_counts») carried-fits carried-fits′ (ok .valid .carried-rising)
 
   pub in-flight : length (leasesOf t) ≡ t .len
   in-flight = length-used nil (t .len) (t .offsets) (t .leases) fits fits′
