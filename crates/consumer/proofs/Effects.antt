@@ -22,6 +22,7 @@ use Rattle.consumer.proofs.Open.{ClaimOpen, AckOpen, NackOpen, Progress
 use Rattle.consumer.proofs.Valid.{consumed-other, newLease, claimed-valid, acked-leased, acked-valid, nacked-valid, progressed-valid, committed-valid}
 use Rattle.consumer.proofs.Counts.{count-is, settled-count}
 
+-- ## claim: the count of its offset rises by 1
 pub claimed-count : (s : State) (o now : ℕ) → Valid s → ClaimOpen s o now → o ≤ MAX → (x : ℕ)
     → countOf (claimed s o now) x ≡ cond (eqb x o) (sat32 (countOf s x) 1) (countOf s x)
 claimed-count s o now v p fits x =
