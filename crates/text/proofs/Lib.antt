@@ -2,3 +2,4 @@ pub mod Parsing
 mod Taking
 pub mod Putting
 mod Digits
+mod Filling

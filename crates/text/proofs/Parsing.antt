@@ -13,7 +13,7 @@ use lib.Seq.{sets, drop-cons, drop-drop}
 use borrow.Author.Tests.{eq-eqb, ne-eqb, le-leb, lt-leb, leb-true, leb-false}
 use Rattle.types.specs.Limits.{MAX}
 use Rattle.types.proofs.Cases.{split}
-use Rattle.text.specs.Words.{SPACE, sameBytes, words, behindFirst, laterWords, lengthTo, firstWord, isDigit, allDigits, valueFrom, value, isNumber, number, withDigit, allNumbers, leading, Gathered}
+use Rattle.text.specs.Words.{sameBytes, parts, behindFirst, laterParts, lengthTo, firstPart, isDigit, allDigits, valueFrom, value, isNumber, number, withDigit, allNumbers, leading, Gathered}
 use Rattle.text.specs.declared.words.Numbers.the-variants.{Count, Bad}
 
 -- ---- one place on
@@ -137,43 +137,47 @@ pub is-none : (w : List ℕ) → number w ≡ none → isNumber w ≡ false
 is-none w e =
     split (isNumber w) (λ t. absurd (Option·none-ne-some (value w) (sym (rw t at e)))) (λ f. f)
 
--- ---- the words of a line
+-- ---- the parts of a text, between the bytes that are c
 
-pub words-first : (line : List ℕ) → words line ≡ firstWord line ∷ laterWords (drop (lengthTo SPACE line) line)
-unfolding words lengthTo
-words-first [] = refl
-words-first (c ∷ cs) =
-    split (eqb c SPACE) (λ t. rw (t, t)) (λ f. rw (f, words-first cs))
+module _ (c : ℕ) where
+  pub parts-first : (bs : List ℕ) → parts c bs ≡ firstPart c bs ∷ laterParts c (drop (lengthTo c bs) bs)
+  unfolding parts lengthTo
+  parts-first [] = refl
+  parts-first (b ∷ bs) =
+      split (eqb b c) (λ t. rw (t, t)) (λ f. rw (f, parts-first bs))
 
-pub later-past : (line : List ℕ) → laterWords line ≡ laterWords (drop (lengthTo SPACE line) line)
-later-past line = ap behindFirst (words-first line)
+  pub later-past : (bs : List ℕ) → laterParts c bs ≡ laterParts c (drop (lengthTo c bs) bs)
+  later-past bs = ap behindFirst (parts-first bs)
 
-module _ (line : List ℕ) (from to : ℕ) (e : to ≡ from + lengthTo SPACE (drop from line)) where
-  pub later-from : laterWords (drop from line) ≡ laterWords (drop to line)
-  later-from = later-past (drop from line) ∙ rw (e, ← drop-drop (lengthTo SPACE (drop from line)) from line)
+  module _ (bs : List ℕ) (from to : ℕ) (e : to ≡ from + lengthTo c (drop from bs)) where
+    pub later-from : laterParts c (drop from bs) ≡ laterParts c (drop to bs)
+    later-from = later-past (drop from bs) ∙ rw (e, ← drop-drop (lengthTo c (drop from bs)) from bs)
 
-  pub words-from : words (drop from line) ≡ take (to - from) (drop from line) ∷ laterWords (drop to line)
-  words-from =
-      let n : to - from ≡ lengthTo SPACE (drop from line) = omega arith in
-      words-first (drop from line) ∙ rw (n, e, ← drop-drop (lengthTo SPACE (drop from line)) from line)
+    pub first-from : firstPart c (drop from bs) ≡ take (to - from) (drop from bs)
+    first-from = let n : to - from ≡ lengthTo c (drop from bs) = omega arith in rw n
 
-pub later-end : (line : List ℕ) (at : ℕ) → length line ≤ at → laterWords (drop at line) ≡ []
-unfolding words
-later-end line at h = rw (drop-of-length-le line h)
+    pub parts-from : parts c (drop from bs) ≡ take (to - from) (drop from bs) ∷ laterParts c (drop to bs)
+    parts-from =
+        let n : to - from ≡ lengthTo c (drop from bs) = omega arith in
+        parts-first (drop from bs) ∙ rw (n, e, ← drop-drop (lengthTo c (drop from bs)) from bs)
 
-pub later-space : (line : List ℕ) (at : ℕ) → at < length line → lengthTo SPACE (drop at line) ≡ 0
-    → laterWords (drop at line) ≡ words (drop (at + 1) line)
-unfolding words lengthTo
-later-space line at h e =
-    split (eqb (getD line at 0) SPACE)
-    (λ t. rw (drop-next line at h, t))
-    (λ f. absurd (let z : _≡_ {A = ℕ} (suc (lengthTo SPACE (drop (at + 1) line))) 0 = rw (drop-next line at h, f) at e in omega arith))
+  pub later-end : (bs : List ℕ) (at : ℕ) → length bs ≤ at → laterParts c (drop at bs) ≡ []
+  unfolding parts
+  later-end bs at h = rw (drop-of-length-le bs h)
 
--- at a space: the word behind it, and the words behind that
-pub later-next : (line : List ℕ) (at to : ℕ) → at < length line → lengthTo SPACE (drop at line) ≡ 0
-    → to ≡ at + 1 + lengthTo SPACE (drop (at + 1) line)
-    → laterWords (drop at line) ≡ take (to - (at + 1)) (drop (at + 1) line) ∷ laterWords (drop to line)
-later-next line at to h z e = later-space line at h z ∙ words-from line (at + 1) to e
+  later-here : (bs : List ℕ) (at : ℕ) → at < length bs → lengthTo c (drop at bs) ≡ 0
+      → laterParts c (drop at bs) ≡ parts c (drop (at + 1) bs)
+  unfolding parts lengthTo
+  later-here bs at h e =
+      split (eqb (getD bs at 0) c)
+      (λ t. rw (drop-next bs at h, t))
+      (λ f. absurd (let z : _≡_ {A = ℕ} (suc (lengthTo c (drop (at + 1) bs))) 0 = rw (drop-next bs at h, f) at e in omega arith))
+
+  -- at a c: the part behind it, and the parts behind that
+  pub later-next : (bs : List ℕ) (at to : ℕ) → at < length bs → lengthTo c (drop at bs) ≡ 0
+      → to ≡ at + 1 + lengthTo c (drop (at + 1) bs)
+      → laterParts c (drop at bs) ≡ take (to - (at + 1)) (drop (at + 1) bs) ∷ laterParts c (drop to bs)
+  later-next bs at to h z e = later-here bs at h z ∙ parts-from bs (at + 1) to e
 
 -- ---- gathering numbers
 

@@ -29,26 +29,33 @@ abbrev pub grown : ℕ → List (List ℕ) → List (List ℕ)
 grown c [] = (c ∷ []) ∷ []
 grown c (w ∷ ws) = (c ∷ w) ∷ ws
 
--- what stands between the spaces
-unfoldable pub words : List ℕ → List (List ℕ)
-words [] = [] ∷ []
-words (c ∷ cs) = cond (eqb c SPACE) ([] ∷ words cs) (grown c (words cs))
+-- what stands between the bytes that are c
+unfoldable pub parts : ℕ → List ℕ → List (List ℕ)
+parts c [] = [] ∷ []
+parts c (b ∷ bs) = cond (eqb b c) ([] ∷ parts c bs) (grown b (parts c bs))
 
 abbrev pub behindFirst : List (List ℕ) → List (List ℕ)
 behindFirst [] = []
 behindFirst (w ∷ ws) = ws
 
--- the words behind the first
-abbrev pub laterWords : List ℕ → List (List ℕ)
-laterWords line = behindFirst (words line)
+-- the parts behind the first
+abbrev pub laterParts : ℕ → List ℕ → List (List ℕ)
+laterParts c bs = behindFirst (parts c bs)
 
 -- how many bytes stand in front of the first c
 unfoldable pub lengthTo : ℕ → List ℕ → ℕ
 lengthTo c [] = 0
 lengthTo c (b ∷ bs) = cond (eqb b c) 0 (suc (lengthTo c bs))
 
+abbrev pub firstPart : ℕ → List ℕ → List ℕ
+firstPart c bs = take (lengthTo c bs) bs
+
+-- the first word, and those behind it
 abbrev pub firstWord : List ℕ → List ℕ
-firstWord line = take (lengthTo SPACE line) line
+firstWord line = firstPart SPACE line
+
+abbrev pub laterWords : List ℕ → List (List ℕ)
+laterWords line = laterParts SPACE line
 
 -- the place of the first c from a place on, or the end
 pub record FoundAt (c from : ℕ) (bs : List ℕ) (r : ℕ) : Type 0 where

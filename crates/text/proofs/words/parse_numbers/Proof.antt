@@ -27,7 +27,7 @@ loop-holds c =
     let e = c .word-end .ensures .is in (
       omega arith,
       to-there-from SPACE (a .line .now) (a .from) (c .word-end .result) e,
-      rw (later-from (a .line .now) (a .from) (c .word-end .result) e) (gathering-none _ _),
+      rw (later-from SPACE (a .line .now) (a .from) (c .word-end .result) e) (gathering-none _ _),
     )
 
 add-start : tie.Need-add-start Inv-loop μ-loop
@@ -62,7 +62,7 @@ returns c =
     let l = c .before .before .before .before .before .before .loop in
     let line = c .before .before .before .before .before .before .before .before .before .before .args .line .now in
     let w = c .before .before .before .before .word-end2 in
-    let e = later-next line (l .at) (w .result) (c .before .before .before .before .before .loop-test .taken) (l .inv .1) (w .ensures .is) in
+    let e = later-next SPACE line (l .at) (w .result) (c .before .before .before .before .before .loop-test .taken) (l .inv .1) (w .ensures .is) in
     gathered-bad _ _ _ _ _ _ (rw e at (l .inv .2)) (sym (c .before .before .parse-number .ensures) ∙ ap numberOf (c .enum-told .given .1))
 
 store-requires : tie.Need-store-requires Inv-loop μ-loop
@@ -79,7 +79,7 @@ loop-again c =
     let l = c .before .before .before .before .before .before .before .before .before .before .before .loop in
     let line = c .before .before .before .before .before .before .before .before .before .before .before .before .before .before .before .args .line .now in
     let w = c .before .before .before .before .before .before .before .before .before .word-end2 in
-    let e = later-next line (l .at) (w .result) (c .before .before .before .before .before .before .before .before .before .before .loop-test .taken) (l .inv .1) (w .ensures .is) in (
+    let e = later-next SPACE line (l .at) (w .result) (c .before .before .before .before .before .before .before .before .before .before .loop-test .taken) (l .inv .1) (w .ensures .is) in (
       omega (arith, w .ensures .behind, l .inv .0),
       to-there-from SPACE line (l .at + 1) (w .result) (w .ensures .is),
       rw (c .before .before .store .ensures)
@@ -93,7 +93,7 @@ returns-2 : tie.Need-returns-2 Inv-loop μ-loop
 returns-2 c =
     let l = c .before .loop in
     let a = c .before .before .before .before .before .args in
-    gathered-all _ _ _ _ _ (later-end (a .line .now) (l .at) (c .loop-test .left)) (l .inv .2)
+    gathered-all _ _ _ _ _ (later-end SPACE (a .line .now) (l .at) (c .loop-test .left)) (l .inv .2)
 
 pub parse-numbers-spec : {M : Type 1} → statement M
 parse-numbers-spec =
