@@ -1,0 +1,103 @@
+-- Cases of the attempt snapshot's refusals: decoding 13 to 20, encoding 19 and 20.
+use Prim.Native.Nat.{ℕ}
+use mathlib.Core.Path.{_≡_, refl}
+use mathlib.Core.Bool.{xor}
+use mathlib.Core.List.{List, [], _∷_, _++_}
+use lib.ListN.{replicate}
+use Rattle.types.specs.Refusal.{Result, refused, done, AttemptTruncated, AttemptUnsupportedVersion, AttemptBadLength, CountMismatch}
+use Rattle.types.specs.Refusal.{AttemptBadCrc, NotSorted, TooManyPairs, OutTooShort}
+use Rattle.types.specs.Table.{checked}
+use Rattle.types.specs.Keyed.{Entry, entry}
+use Rattle.types.specs.Lists.{pair}
+use Rattle.crc.specs.Crc32c.{bits, unbits, polynomial, crc}
+use Rattle.crc.specs.Seal.{isSealed}
+use Rattle.attempt.specs.Snapshot.{encodeAttempts1, encodeInto, decodeAttempts, decodeInto, fill, pairsTable}
+use Rattle.attempt.specs.Codec.{encodeFirst}
+use Rattle.cases.specs.States.{countsFrom}
+
+-- ## decoding
+-- 13 under 9 bytes, and before 14
+pub attempts-truncated : decodeAttempts (replicate 8 2) ≡ refused AttemptTruncated
+unfolding decodeAttempts
+attempts-truncated = refl
+
+pub attempts-of-9-bytes : decodeAttempts (encodeAttempts1 []) ≡ done []
+unfolding decodeAttempts encodeAttempts1 isSealed bits unbits polynomial crc xor
+attempts-of-9-bytes = refl
+
+-- 14 before 15
+pub attempts-version-before-length : decodeAttempts (replicate 10 2) ≡ refused (AttemptUnsupportedVersion 2)
+unfolding decodeAttempts
+attempts-version-before-length = refl
+
+-- 15 before 16: there is room for no pair, and 257 are declared
+pub attempts-length-before-count : decodeAttempts (1 ∷ 1 ∷ 1 ∷ replicate 7 0) ≡ refused (AttemptBadLength 10)
+unfolding decodeAttempts
+attempts-length-before-count = refl
+
+-- 16 before 17
+pub attempts-count-before-crc : decodeAttempts (1 ∷ 1 ∷ 1 ∷ replicate 6 0) ≡ refused (CountMismatch 257 0)
+unfolding decodeAttempts
+attempts-count-before-crc = refl
+
+-- 17 before 18: both pairs are of offset 0
+pub attempts-crc-before-order : decodeAttempts (1 ∷ 2 ∷ replicate 31 0) ≡ refused AttemptBadCrc
+unfolding decodeAttempts isSealed bits unbits polynomial crc xor
+attempts-crc-before-order = refl
+
+-- 18 where an offset is that of the pair before; one further on it is accepted
+pub attempts-equal-offsets : decodeAttempts (encodeAttempts1 (entry 7 1 ∷ entry 7 2 ∷ [])) ≡ refused (NotSorted 7 7)
+unfolding decodeAttempts encodeAttempts1 isSealed bits unbits polynomial crc xor
+attempts-equal-offsets = refl
+
+pub attempts-rising : decodeAttempts (encodeAttempts1 (entry 0 1 ∷ entry 1 2 ∷ [])) ≡ done (entry 0 1 ∷ entry 1 2 ∷ [])
+unfolding decodeAttempts encodeAttempts1 isSealed bits unbits polynomial crc xor
+attempts-rising = refl
+
+-- 19 for 129 pairs, behind 18 of the last one; not for 128
+abbrev tested : List (Entry ℕ) → Result (List (Entry ℕ))
+tested l = checked (pairsTable l) (done l)
+
+pub too-many-pairs : tested (countsFrom 129 0) ≡ refused TooManyPairs
+too-many-pairs = refl
+
+pub as-many-pairs-as-fit : tested (countsFrom 128 0) ≡ done (countsFrom 128 0)
+as-many-pairs-as-fit = refl
+
+pub order-before-too-many : tested (countsFrom 128 0 ++ entry 127 1 ∷ []) ≡ refused (NotSorted 127 127)
+order-before-too-many = refl
+
+-- 20 where the lent list has a place less than there are pairs, and behind 18; one of the very length is filled
+pub attempts-list-too-short : decodeInto (encodeAttempts1 (entry 0 1 ∷ entry 1 2 ∷ [])) (entry 9 9 ∷ []) .outcome ≡ refused OutTooShort
+unfolding decodeAttempts encodeAttempts1 isSealed bits unbits polynomial crc xor
+attempts-list-too-short = refl
+
+pub attempts-list-fits : decodeInto (encodeAttempts1 (entry 0 1 ∷ entry 1 2 ∷ [])) (entry 9 9 ∷ entry 9 9 ∷ []) .outcome ≡ done 2
+unfolding decodeAttempts encodeAttempts1 isSealed bits unbits polynomial crc xor
+attempts-list-fits = refl
+
+pub order-before-too-short : decodeInto (encodeAttempts1 (entry 7 1 ∷ entry 7 2 ∷ [])) [] .outcome ≡ refused (NotSorted 7 7)
+unfolding decodeAttempts encodeAttempts1 isSealed bits unbits polynomial crc xor
+order-before-too-short = refl
+
+-- 19 before 20
+pub too-many-before-too-short : fill (tested (countsFrom 129 0)) [] .outcome ≡ refused TooManyPairs
+too-many-before-too-short = refl
+
+-- ## encoding
+-- 19 before 20
+pub encode-too-many-before-too-short : encodeInto (countsFrom 129 0) 0 [] .outcome ≡ refused TooManyPairs
+encode-too-many-before-too-short = refl
+
+-- 19 of an array of 128 of which 129 are to be encoded
+pub encode-more-than-there-are : encodeFirst 129 (replicate 128 (pair 0 1)) 0 [] .outcome ≡ refused TooManyPairs
+encode-more-than-there-are = refl
+
+-- 20 where a byte is missing behind the position; with it, the answer is the position behind the snapshot
+pub encode-too-short : encodeInto (countsFrom 128 0) 4 (replicate 1548 0) .outcome ≡ refused OutTooShort
+unfolding encodeAttempts1
+encode-too-short = refl
+
+pub encode-fits : encodeInto (countsFrom 128 0) 4 (replicate 1549 0) .outcome ≡ done 1549
+unfolding encodeAttempts1
+encode-fits = refl

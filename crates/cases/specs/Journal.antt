@@ -1,0 +1,189 @@
+-- Cases of the refusals around the journal: start 1 to 4; restart 4 and 5, then those of the snapshots; begin 31; step 4; and of the
+-- journal's own functions 4 and 20. proofs/Order.antt has more of a restart, and crates/examples restarts that are answered.
+use Prim.Native.Nat.{ℕ}
+use mathlib.Core.Path.{_≡_, refl}
+use mathlib.Core.Bool.{false, xor}
+use mathlib.Core.List.{List, [], _++_}
+use mathlib.Core.Option.{none}
+use lib.ListN.{replicate}
+use Rattle.types.specs.Refusal.{refused, done, UnlimitedDeliverNotAllowed, TooManySteps, ZeroThreshold, BadArea}
+use Rattle.types.specs.Refusal.{Damaged, CursorUnsupportedVersion, AttemptUnsupportedVersion, OutTooShort, JournalFull}
+use Rattle.crc.specs.Crc32c.{bits, unbits, polynomial, crc}
+use Rattle.crc.specs.Seal.{isSealed}
+use Rattle.cursor.specs.Cursor.{cursor}
+use Rattle.cursor.specs.Snapshot.{encodeCursor, decodeCursor}
+use Rattle.attempt.specs.Snapshot.{encodeAttempts1, decodeAttempts}
+use Rattle.delivery.specs.Policy.{policy}
+use Rattle.lease.specs.Counts.{allAttemptCounts}
+use Rattle.journal.specs.Area.{blockAt}
+use Rattle.journal.specs.Blocks.{headerBlock, bodyBlock}
+use Rattle.journal.specs.Sound.{isKind, formed, soundHeader, soundBody}
+use Rattle.journal.specs.Walks.{stop, groupAt, walkOver, walkFrom, payload}
+use Rattle.journal.specs.Answers.{fill, writeBlock, walkIn, readPayload}
+use Rattle.consumer.specs.State.{Settings, State, stateOf, seatAt}
+use Rattle.checkpoint.specs.Checkpoint.{begin, step, writing}
+use Rattle.starts.specs.Restart.{start, fresh, readGroup, fromWalk, restart}
+use Rattle.cases.specs.States.{rangesFrom, leaseConfig, tableOf}
+
+-- ## start
+-- a limit, without the opt-in; n backoffs; a flush threshold
+abbrev settings : ℕ → ℕ → ℕ → Settings
+settings m n threshold = record { policy = policy m false (replicate n 5) threshold; lease = leaseConfig }
+
+abbrev accepted : Settings
+accepted = settings 2 0 1
+
+-- 1 before 2, 3 and 4
+pub start-unlimited : start (settings 0 17 0) 0 ≡ refused UnlimitedDeliverNotAllowed
+unfolding start
+start-unlimited = refl
+
+-- 2 before 3 and 4
+pub start-too-many-steps : start (settings 2 17 0) 0 ≡ refused TooManySteps
+unfolding start
+start-too-many-steps = refl
+
+-- 3 before 4
+pub start-zero-threshold : start (settings 2 16 0) 0 ≡ refused ZeroThreshold
+unfolding start
+start-zero-threshold = refl
+
+-- 4 for no bytes, for parts of a block and for 129 blocks; from 1 to 128 blocks a start
+pub start-on-nothing : start accepted 0 ≡ refused BadArea
+unfolding start
+start-on-nothing = refl
+
+pub start-below-a-block : start accepted 511 ≡ refused BadArea
+unfolding start
+start-below-a-block = refl
+
+pub start-above-a-block : start accepted 513 ≡ refused BadArea
+unfolding start
+start-above-a-block = refl
+
+pub start-on-129-blocks : start accepted 66048 ≡ refused BadArea
+unfolding start
+start-on-129-blocks = refl
+
+pub start-on-a-block : start accepted 512 ≡ done (fresh accepted 512)
+unfolding start
+start-on-a-block = refl
+
+pub start-on-128-blocks : start accepted 65536 ≡ done (fresh accepted 65536)
+unfolding start
+start-on-128-blocks = refl
+
+-- ## restart
+-- a sound header of group 1 that counts two bodies, with what stands behind it
+abbrev headed : List ℕ → List ℕ
+headed behind = headerBlock 1 4096 493 9 ++ behind
+
+-- 4 before 5
+pub restart-bad-area-before-damaged : restart accepted (headed (replicate 1025 0)) ≡ refused BadArea
+unfolding restart headerBlock
+restart-bad-area-before-damaged = refl
+
+-- 5 with the first unsound body, counted from 0
+pub restart-first-body-damaged : restart accepted (headed (replicate 1024 0)) ≡ refused (Damaged 1)
+unfolding restart fromWalk walkFrom walkOver groupAt soundHeader formed soundBody isKind isSealed blockAt headerBlock crc bits unbits polynomial xor
+restart-first-body-damaged = refl
+
+pub restart-second-body-damaged : restart accepted (headed (bodyBlock 1 1 (replicate 500 7) ++ replicate 512 0)) ≡ refused (Damaged 2)
+unfolding restart fromWalk walkFrom walkOver groupAt soundHeader formed soundBody isKind isSealed blockAt headerBlock bodyBlock crc bits unbits polynomial xor
+restart-second-body-damaged = refl
+
+-- a header whose bodies the area has no room for is not sound, and what is no header damages nothing
+pub restart-header-without-room : restart accepted (headed (replicate 512 0)) ≡ done (fresh accepted 1024)
+unfolding restart fromWalk walkFrom walkOver groupAt soundHeader formed isKind isSealed blockAt headerBlock crc bits unbits polynomial xor
+restart-header-without-room = refl
+
+-- the header of group 1 with snapshots of 13 and 9 bytes, and the group with these bytes as its payload
+abbrev header : List ℕ
+header = headerBlock 1 4096 13 9
+
+abbrev groupWith : List ℕ → List ℕ
+groupWith bytes = header ++ bodyBlock 1 1 bytes
+
+-- behind 5, in the last group: the refusals of the cursor's snapshot, then those of the attempts'; here both are of version 0
+pub restart-cursor-before-attempts : readGroup accepted (groupWith (replicate 22 0)) 0 (seatAt 2 2) ≡ refused (CursorUnsupportedVersion 0)
+unfolding blockAt headerBlock bodyBlock payload decodeCursor
+restart-cursor-before-attempts = refl
+
+pub restart-attempts-behind-cursor : readGroup accepted (groupWith (encodeCursor (cursor 5 []) ++ replicate 9 0)) 0 (seatAt 2 2) ≡ refused (AttemptUnsupportedVersion 0)
+unfolding blockAt headerBlock bodyBlock payload encodeCursor decodeCursor decodeAttempts isSealed crc bits unbits polynomial xor
+restart-attempts-behind-cursor = refl
+
+-- ## begin
+-- 18 blocks of which so many are written, and so many ranges in the cursor
+abbrev written : ℕ → ℕ → State
+written block ranges =
+    stateOf (cursor 0 (rangesFrom ranges 1)) (tableOf [] [] 1 0) 4096 (seatAt 2 block) 9216 (accepted .policy)
+
+-- 31 where a block less is left than a header and its body need; with as many, a record
+pub begin-journal-full : begin (written 17 0) ≡ refused JournalFull
+unfolding begin encodeCursor encodeAttempts1 allAttemptCounts
+begin-journal-full = refl
+
+pub begin-in-the-last-two-blocks : begin (written 16 0) ≡ done (writing (written 16 0) 0)
+unfolding begin encodeCursor encodeAttempts1 allAttemptCounts
+begin-in-the-last-two-blocks = refl
+
+-- 29 ranges take 486 bytes with the counts and so one body; 30 take 502 and two
+pub begin-with-one-body : begin (written 16 29) ≡ done (writing (written 16 29) 0)
+unfolding begin encodeCursor encodeAttempts1 allAttemptCounts
+begin-with-one-body = refl
+
+pub begin-with-two-bodies : begin (written 16 30) ≡ refused JournalFull
+unfolding begin encodeCursor encodeAttempts1 allAttemptCounts
+begin-with-two-bodies = refl
+
+-- ## step
+-- 4 for an area of another length than the consumer's, though a consumer could be started on it
+pub step-on-another-area : step (writing (written 0 0) 0) (replicate 1024 0) .outcome ≡ refused BadArea
+unfolding step
+step-on-another-area = refl
+
+-- a body behind the header's place on its own area
+pub step-on-its-own-area : step (writing (fresh accepted 1024) 0) (replicate 1024 0) .outcome ≡ done (record { block = 1; last = false })
+unfolding step encodeCursor encodeAttempts1 allAttemptCounts
+step-on-its-own-area = refl
+
+-- ## blocks, as the journal itself has them
+-- 4 for a part of the area that is no block, and for a block behind the end
+pub fill-no-block : fill header (replicate 511 0) .outcome ≡ refused BadArea
+unfolding fill
+fill-no-block = refl
+
+pub fill-a-block : fill header (replicate 512 0) .outcome ≡ done tt
+unfolding fill
+fill-a-block = refl
+
+pub write-behind-the-end : writeBlock 2 header (replicate 1024 0) .outcome ≡ refused BadArea
+unfolding writeBlock
+write-behind-the-end = refl
+
+pub write-the-last-block : writeBlock 1 header (replicate 1024 0) .outcome ≡ done tt
+unfolding writeBlock
+write-the-last-block = refl
+
+-- 4 for a walk over no whole blocks; a walk over zeros ends where it begins
+pub walk-no-whole-blocks : walkIn 2 1 0 (replicate 1023 0) ≡ refused BadArea
+unfolding walkIn
+walk-no-whole-blocks = refl
+
+pub walk-whole-blocks : walkIn 2 1 0 (replicate 1024 0) ≡ stop none 1 0
+unfolding walkIn walkFrom walkOver groupAt soundHeader formed isKind blockAt
+walk-whole-blocks = refl
+
+-- 4 for a payload behind the end, before 20; 20 with a byte less than the payload has
+pub payload-behind-the-end : readPayload 0 header [] .outcome ≡ refused BadArea
+unfolding readPayload blockAt headerBlock
+payload-behind-the-end = refl
+
+pub payload-too-short : readPayload 0 (header ++ replicate 512 0) (replicate 21 0) .outcome ≡ refused OutTooShort
+unfolding readPayload blockAt headerBlock
+payload-too-short = refl
+
+pub payload-fits : readPayload 0 (header ++ replicate 512 0) (replicate 22 0) .outcome ≡ done 22
+unfolding readPayload blockAt headerBlock
+payload-fits = refl

@@ -1,0 +1,7 @@
+pub mod States
+pub mod Lease
+pub mod Cursor
+pub mod Attempts
+pub mod Delivery
+pub mod Consumer
+pub mod Journal

@@ -1,0 +1,1 @@
+// Cases of 01's refusals, computed on the definitions: see specs/ and proofs/.
