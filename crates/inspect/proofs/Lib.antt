@@ -1,1 +1,4 @@
-mod Reading
+pub mod Verdicts
+pub mod Sequence
+pub mod Ends
+mod Rows

@@ -1,25 +1,32 @@
 // Prints what a file has, for people: a journal's area, a cursor snapshot or an attempt snapshot, as the first argument says. The
 // file is opened for reading and never changed. What can't be read is said on standard error.
-ghost use lib.ListN.{length};
-ghost use Rattle.inspect.specs.Files.{Lies};
 use libc::STDERR_FILENO;
-use report::journals;
-use report::snapshots;
 use text::output;
 use text::words::same;
 
-// The kind of file that an argument names.
+mod faults;
+mod journals;
+mod listing;
+mod places;
+mod refusals;
+mod said;
+mod snapshots;
+
+// What a file is printed as: what the first argument names, and of a file that is longer than the buffer the first blocks where it
+// is to be a journal.
 enum Kind {
     Journal,
     Cursor,
     Attempts,
+    Oversized,
+    TooLong,
     None,
 }
 
-// How many bytes a file has, where the buffer holds them all.
-enum Loaded {
-    Bytes(usize),
-    TooLarge,
+// What stands behind the bytes that were read of a file.
+enum Behind {
+    Nothing,
+    More,
     Failed,
 }
 
@@ -30,7 +37,11 @@ fn usage() {
     );
 }
 
-fn kind_of(word: &[u8]) -> Kind {
+// What the first of two arguments names.
+fn kind_of(count: usize, word: &[u8]) -> Kind {
+    if count != 3 {
+        return Kind::None;
+    }
     if same(word, b"journal") {
         return Kind::Journal;
     }
@@ -43,48 +54,30 @@ fn kind_of(word: &[u8]) -> Kind {
     Kind::None
 }
 
-// Whether there is a byte more.
-fn behind(fd: i32, len: usize) -> Loaded
-    ensures { λ r. ⌜ Lies len r ⌝ }
-{
+// Reads on. There is more behind a full buffer only: else a read had failed before.
+fn read_on(fd: i32, full: bool) -> Behind {
     let mut one = [0u8; 1];
     let got = libc::read(fd, &mut one);
-    if got < 0 {
-        return Loaded::Failed;
-    }
     if got == 0 {
-        return Loaded::Bytes(len);
+        return Behind::Nothing;
     }
-    Loaded::TooLarge
-}
-
-// Reads once, and answers how many bytes came.
-fn read_some(fd: i32, buf: &mut [u8]) -> Loaded
-    ensures { λ r. ⌜ Lies (length (now (buf .entry))) r ⌝ }
-{
-    let got = libc::read(fd, buf);
     if got < 0 {
-        return Loaded::Failed;
+        return Behind::Failed;
     }
-    Loaded::Bytes(io::count(got, buf))
+    if full {
+        return Behind::More;
+    }
+    Behind::Failed
 }
 
-// Reads a file up to its end, as far as the buffer goes.
-fn load(fd: i32, buf: &mut [u8]) -> Loaded
-    ensures { λ r. ⌜ Lies (length (now (buf .exit))) r ⌝ }
-{
-    let mut len: usize = 0;
-    while len < buf.len() {
-        let some = read_some(fd, &mut buf[len..]);
-        let Loaded::Bytes(more) = some else {
-            return Loaded::Failed;
-        };
-        if more == 0 {
-            return Loaded::Bytes(len);
-        }
-        len += more;
+fn printed_as(kind: Kind, behind: Behind) -> Kind {
+    let Behind::More = behind else {
+        return kind;
+    };
+    if let Kind::Journal = kind {
+        return Kind::Oversized;
     }
-    behind(fd, len)
+    Kind::TooLong
 }
 
 fn report_of(kind: Kind, bytes: &[u8], out: &mut [u8]) -> usize {
@@ -92,31 +85,23 @@ fn report_of(kind: Kind, bytes: &[u8], out: &mut [u8]) -> usize {
         Kind::Journal => journals::journal(out, 0, bytes),
         Kind::Cursor => snapshots::cursor(out, 0, bytes),
         Kind::Attempts => snapshots::attempts(out, 0, bytes),
+        Kind::Oversized => journals::oversized(out, 0, bytes),
+        Kind::TooLong => output::put(out, 0, b"longer than 65536 bytes: no snapshot is\n"),
         Kind::None => 0,
     }
-}
-
-fn too_large(kind: Kind, bytes: &[u8], out: &mut [u8]) -> usize {
-    let Kind::Journal = kind else {
-        return output::put(out, 0, b"longer than 65536 bytes: no snapshot is\n");
-    };
-    journals::oversized(out, 0, bytes)
 }
 
 fn show(kind: Kind, path: &[u8], fd: i32) {
     let mut buf = io::large_buffer();
     let mut out = io::large_buffer();
-    match load(fd, &mut buf) {
-        Loaded::Bytes(len) => {
-            let at = report_of(kind, &buf[..len], &mut out);
-            output::flush(&out, at);
-        }
-        Loaded::TooLarge => {
-            let at = too_large(kind, &buf, &mut out);
-            output::flush(&out, at);
-        }
-        Loaded::Failed => os::fail(path),
+    let n = io::read_full(fd, &mut buf);
+    let rest = read_on(fd, n == 65536);
+    if let Behind::Failed = rest {
+        os::fail(path);
+        return;
     }
+    let at = report_of(printed_as(kind, rest), &buf[..n], &mut out);
+    output::flush(&out, at);
 }
 
 fn inspect(kind: Kind) {
@@ -138,11 +123,7 @@ fn inspect(kind: Kind) {
 fn main() {
     let mut word = [0u8; 16];
     let n = os::arg(1, &mut word);
-    let kind = kind_of(&word[..n]);
-    if os::arg_count() != 3 {
-        usage();
-        return;
-    }
+    let kind = kind_of(os::arg_count(), &word[..n]);
     if let Kind::None = kind {
         usage();
         return;

@@ -1,4 +1,0 @@
-pub mod Verdicts
-pub mod Sequence
-pub mod Ends
-mod Rows

@@ -1,0 +1,116 @@
+// A journal: its blocks, where the walk ends, and what a restart would find.
+use crate::listing::listed;
+use crate::refusals::refused;
+use crate::said::Said;
+use crate::said::says;
+use answers::Told;
+use consumer::Settings;
+use delivery::DeliveryConfig;
+use journal::LastGroup;
+use journal::Walked;
+use lease::LeaseConfig;
+use starts::StartAnswer;
+use text::output::put;
+use text::templates::fill;
+
+// Settings that every start accepts. What a restart finds doesn't depend on them.
+fn settings() -> Settings {
+    let lease = LeaseConfig::default();
+    Settings {
+        delivery: DeliveryConfig {
+            max_deliver: 1,
+            allow_unlimited: false,
+            backoff_nanos: [0; 16],
+            backoff_len: 0,
+            attempts_flush_redeliveries: 1,
+        },
+        lease: lease,
+    }
+}
+
+// How long the area is, and the bytes that are no whole block, where there are any.
+fn heading(out: &mut [u8], at: usize, len: usize) -> usize {
+    let rest = len % 512;
+    let mut template: usize = 0;
+    if rest != 0 {
+        template = 1;
+    }
+    fill(
+        out,
+        at,
+        b"journal of # bytes, whole blocks #\n|\
+        journal of # bytes, whole blocks #, bytes behind them #\n",
+        template,
+        [len as u64, (len / 512) as u64, rest as u64, 0],
+    )
+}
+
+// Where the walk ends.
+fn walk_said(walked: Walked) -> Said {
+    match walked {
+        Walked::Stopped {
+            last,
+            number,
+            block,
+        } => stop_said(last, number, block as u64),
+        Walked::BadArea => says(2, 0, 0),
+        Walked::Damaged(block) => says(3, block as u64, 0),
+    }
+}
+
+fn stop_said(last: LastGroup, number: u64, block: u64) -> Said {
+    match last {
+        LastGroup::At(header) => Said {
+            template: 0,
+            numbers: [block, number, header as u64, 0],
+        },
+        LastGroup::None => says(1, block, number),
+    }
+}
+
+fn walk(out: &mut [u8], at: usize, area: &[u8]) -> usize {
+    let end = walk_said(journal::walk(area, area.len() / 512, 1, 0));
+    let numbers = end.numbers;
+    fill(
+        out,
+        at,
+        b"the walk ends at block #, group # would come next; the last group has its header at block #\n|\
+        the walk ends at block #, group # would come next; there is no group\n|\
+        there is no walk over an area of this length\n|\
+        the walk meets an unsound body at block #\n",
+        end.template,
+        numbers,
+    )
+}
+
+// What a restart would find, or its refusal.
+fn restart(out: &mut [u8], at: usize, area: &[u8]) -> usize {
+    let started = starts::restart(settings(), area);
+    let answer = started.answer;
+    let StartAnswer::Started = answer else {
+        return no_restart(out, at, answers::of_start(answer));
+    };
+    let next = put(out, at, b"a restart finds\n");
+    shown::state(out, next, started.consumer)
+}
+
+fn no_restart(out: &mut [u8], at: usize, told: Told) -> usize {
+    let numbers = [told.number, 0, 0, 0];
+    let next = fill(out, at, b"a restart is refused: # ", 0, numbers);
+    refused(out, next, told)
+}
+
+// A journal of any length.
+pub fn journal(out: &mut [u8], at: usize, area: &[u8]) -> usize {
+    let mut next = heading(out, at, area.len());
+    next = listed(out, next, area);
+    next = walk(out, next, area);
+    restart(out, next, area)
+}
+
+// The first blocks of a file that is longer than any journal: a restart on it is 4.
+pub fn oversized(out: &mut [u8], at: usize, area: &[u8]) -> usize {
+    let mut next = put(out, at, b"longer than any journal; its first blocks:\n");
+    next = listed(out, next, area);
+    no_restart(out, next, answers::of_start(StartAnswer::BadArea))
+}

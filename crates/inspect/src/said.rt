@@ -1,0 +1,13 @@
+// What is printed: a template, by its number in a text of templates, and the numbers that it takes.
+pub struct Said {
+    pub template: usize,
+    pub numbers: [u64; 4],
+}
+
+// A template that takes at most two numbers.
+pub fn says(template: usize, first: u64, second: u64) -> Said {
+    Said {
+        template: template,
+        numbers: [first, second, 0, 0],
+    }
+}

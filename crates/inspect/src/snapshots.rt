@@ -1,0 +1,111 @@
+// The contents of a cursor snapshot and of an attempt snapshot, or the refusal, beside which no range and no pair stands.
+use crate::refusals::refused;
+use crate::said::Said;
+use crate::said::says;
+use answers::Told;
+use attempt::Decoded;
+use cursor::AckCursor;
+use cursor::Decode;
+use text::templates::fill;
+use types::numbers::shorter;
+use types::numbers::wide;
+
+// What a snapshot of `len` bytes begins with: two numbers of its contents, or the refusal's.
+fn heading_said(len: u64, refusal: u64, first: u64, second: u64) -> Said {
+    if refusal != 0 {
+        return says(1, len, refusal);
+    }
+    Said {
+        template: 0,
+        numbers: [len, first, second, 0],
+    }
+}
+
+// Its first lines, by the first template, or by the second, behind which the refusal stands.
+fn heading(
+    out: &mut [u8],
+    at: usize,
+    templates: &[u8],
+    len: u64,
+    told: Told,
+    first: u64,
+    second: u64,
+) -> usize {
+    let said = heading_said(len, told.number, first, second);
+    let numbers = said.numbers;
+    let next = fill(out, at, templates, said.template, numbers);
+    refused(out, next, told)
+}
+
+// A line for each range ahead of committed.
+fn ranges(out: &mut [u8], at: usize, cursor: AckCursor) -> usize {
+    let n = shorter(cursor.runs, 128);
+    let mut next = at;
+    let mut i: usize = 0;
+    while i < n {
+        let numbers = [cursor.starts[i], cursor.ends[i], 0, 0];
+        next = fill(out, next, b"range [#, #)\n", 0, numbers);
+        i += 1;
+    }
+    next
+}
+
+fn told_of(outcome: Decode) -> Told {
+    match outcome {
+        Decode::Restored => Told {
+            number: 0,
+            count: 0,
+            first: 0,
+            second: 0,
+        },
+        Decode::Refused(error) => answers::of_cursor(error),
+    }
+}
+
+// Which offsets are settled: those below committed, and those of each range, its end not among them.
+pub fn cursor(out: &mut [u8], at: usize, bytes: &[u8]) -> usize {
+    let decoded = AckCursor::decode_snapshot(bytes);
+    let outcome = decoded.outcome;
+    let next = heading(
+        out,
+        at,
+        b"cursor snapshot of # bytes\ncommitted #\nranges ahead #\n|\
+        cursor snapshot of # bytes\nrefused: # ",
+        bytes.len() as u64,
+        told_of(outcome),
+        decoded.cursor.committed,
+        decoded.cursor.runs as u64,
+    );
+    ranges(out, next, decoded.cursor)
+}
+
+// A line for each pair.
+fn pairs(out: &mut [u8], at: usize, decoded: Decoded) -> usize {
+    let n = shorter(decoded.count, 128);
+    let mut next = at;
+    let mut i: usize = 0;
+    while i < n {
+        let pair = decoded.pairs[i];
+        let numbers = [pair.offset, wide(pair.attempt), 0, 0];
+        next = fill(out, next, b"offset # attempt #\n", 0, numbers);
+        i += 1;
+    }
+    next
+}
+
+// How often each offset was handed out.
+pub fn attempts(out: &mut [u8], at: usize, bytes: &[u8]) -> usize {
+    let decoded = attempt::decode_pairs(bytes);
+    let outcome = decoded.outcome;
+    let next = heading(
+        out,
+        at,
+        b"attempt snapshot of # bytes\npairs #\n|\
+        attempt snapshot of # bytes\nrefused: # ",
+        bytes.len() as u64,
+        answers::of_attempts(outcome),
+        decoded.count as u64,
+        0,
+    );
+    pairs(out, next, decoded)
+}
