@@ -28,7 +28,8 @@ use Rattle.consumer.proofs.Effects.{claimed-count, acked-count, nacked-count, p
 use Rattle.consumer.proofs.Open.{ClaimOpen, claim-cases, AckOpen, ack-cases, nack-cases, progressed, progress-cases, commit-cases}
 use Rattle.machine.specs.Calls.{Ask, claim, ack, term, nack, progress, commit, look, fits, u64, Event, claimed, acked, termed, nacked, extended, committed}
 use Rattle.machine.specs.Door.{idle, asked}
-use Rattle.crash_safety.specs.Book.{turnedTo, handedOut, settle, only, below}
+use Rattle.crash_safety.specs.Effects.{only, below}
+use Rattle.crash_safety.specs.Book.{turnedTo, handedOut, settle}
 use Rattle.crash_safety.specs.Runs.{world}
 use Rattle.crash_safety.proofs.Law.{Ledger, ledger, noted, Law, Lawful}
 use Rattle.crash_safety.proofs.Runs.{Made, Answered}

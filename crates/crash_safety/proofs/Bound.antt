@@ -17,29 +17,24 @@ use Rattle.types.specs.Limits.{MAX32, sat32}
 use Rattle.types.specs.Refusal.{refused, done}
 use Rattle.types.proofs.Cases.{split, neither}
 use Rattle.delivery.specs.Policy.{Policy, disposition}
-use Rattle.consumer.specs.Calls.{HandOut}
-use Rattle.machine.specs.Calls.{Event, claimed, acked, termed, nacked, extended, committed, looked, begun, stepped, restarted, failed}
-use Rattle.crash_safety.specs.Book.{Page, Book, handedOut, settle, only, below, turnedTo, renewed, wentBack, note}
+use Rattle.machine.specs.Calls.{Event}
+use Rattle.crash_safety.specs.Effects.{Effect, handing, settling, requeuing, renewing, restarting, nothing, effectOf}
+use Rattle.crash_safety.specs.Book.{Page, Book, handedOut, settle, turnedTo, renewed, wentBack, note}
 use Rattle.crash_safety.specs.Demand3.{handed, forDelivery, delivers, counted, handOuts}
-use Rattle.crash_safety.proofs.Law.{Ledger, emptyLedger, noted, Lawful, HandsOut, Law, Along, since}
+use Rattle.crash_safety.proofs.Law.{Ledger, emptyLedger, noted, HandsOut, Law, Along, since}
 
 -- the restarts among the events
-abbrev pub isRestart : Event → ℕ
-isRestart (claimed o now a) = 0
-isRestart (acked o g a) = 0
-isRestart (termed o g a) = 0
-isRestart (nacked o g now d a) = 0
-isRestart (extended o g now a) = 0
-isRestart (committed bound a) = 0
-isRestart (looked q a) = 0
-isRestart (begun a) = 0
-isRestart (stepped a) = 0
-isRestart (restarted a) = 1
-isRestart (failed new) = 0
+abbrev pub isRestart : Effect → ℕ
+isRestart (handing o h) = 0
+isRestart (settling named) = 0
+isRestart (requeuing o) = 0
+isRestart renewing = 0
+isRestart (restarting a) = 1
+isRestart nothing = 0
 
 unfoldable pub restartsSeen : List Event → ℕ
 restartsSeen [] = 0
-restartsSeen (e ∷ es) = isRestart e + restartsSeen es
+restartsSeen (e ∷ es) = isRestart (effectOf e) + restartsSeen es
 
 -- ## pages
 -- what is unsettled on the second page is so on the first, with the same count
@@ -87,10 +82,10 @@ module _ (p : Policy) (limited : 0 < p .maxDeliver) (fires : p .maxDeliver < MAX
     same : Bounds b (λ o. D o + 0) (C + 0) r
     same = settles (b .page) (record { unsettled = λ o e. e; count = λ o e. refl })
 
-    renews : (r′ : ℕ) → r′ ≤ N → Bounds (renewed b) (λ o. D o + 0) (C + 0) r′
-    renews r′ h =
+    renews : Bounds (renewed b) (λ o. D o + 0) (C + 0) 0
+    renews =
         record {
-          low = h;
+          low = omega arith;
           always = λ o. omega (arith, k .always o);
           page = λ o d. omega (arith, k .page o d);
           copy = λ o d. omega (arith, k .page o d);
@@ -149,54 +144,31 @@ module _ (p : Policy) (limited : 0 < p .maxDeliver) (fires : p .maxDeliver < MAX
                 (λ q. rw q (omega (arith, k .copy x d)))));
           }
 
-  abbrev After : Ledger → (ℕ → ℕ) → ℕ → Event → Type 0
-  After l D C e = Bounds (note (l .book) e) (λ x. D x + counted (delivers x) (handed e)) (C + isRestart e) (since (l .redeliveries) e)
-
   module _ (l : Ledger) (D : ℕ → ℕ) (C : ℕ) (k : Bounds (l .book) D C (l .redeliveries)) where
-    lawful-hands : (o now : ℕ) (h : HandOut) → Lawful p l o h → After l D C (claimed o now (done h))
-    lawful-hands o now h w =
+    abbrev After : Effect → Type 0
+    After x = Bounds (note (l .book) x) (λ o. D o + counted (delivers o) (handed x)) (C + isRestart x) (since (l .redeliveries) x)
+
+    one : (x : Effect) → HandsOut p l x → After x
+    one (handing o h) w =
         rw (w .offset, w .destined, for-delivery (h .deliveries))
         (hands (l .book) D C (l .redeliveries) k o (h .deliveries) (w .unsettled) (w .counted) (w .under))
-
-    settled-more : (named : ℕ → Bool) → Bounds (turnedTo (l .book) (settle (l .book .page) named)) (λ x. D x + 0) (C + 0) (l .redeliveries)
-    settled-more named = settles (l .book) D C (l .redeliveries) k (settle (l .book .page) named) (fewer-settled (l .book .page) named)
-
-    unmoved : Bounds (l .book) (λ x. D x + 0) (C + 0) (l .redeliveries)
-    unmoved = same (l .book) D C (l .redeliveries) k
-
-    step-ends : (last : Bool) → Bounds (cond last (renewed (l .book)) (l .book)) (λ x. D x + 0) (C + 0) (cond last 0 (l .redeliveries))
-    step-ends true = renews (l .book) D C (l .redeliveries) k 0 (omega arith)
-    step-ends false = same (l .book) D C (l .redeliveries) k
-
-    cut-ends : (new : Bool) → Bounds (cond new (renewed (l .book)) (l .book)) (λ x. D x + 0) (C + 0) (l .redeliveries)
-    cut-ends true = renews (l .book) D C (l .redeliveries) k (l .redeliveries) (k .low)
-    cut-ends false = same (l .book) D C (l .redeliveries) k
-
-    one : (e : Event) → HandsOut p l e → After l D C e
-    one (claimed o now (refused r)) w = unmoved
-    one (claimed o now (done h)) w = lawful-hands o now h w
-    one (acked o g (refused r)) w = unmoved
-    one (acked o g (done u)) w = settled-more (only o)
-    one (termed o g (refused r)) w = unmoved
-    one (termed o g (done u)) w = settled-more (only o)
-    one (nacked o g now d a) w = unmoved
-    one (extended o g now a) w = unmoved
-    one (committed bound (refused r)) w = unmoved
-    one (committed bound (done moved)) w = settled-more (below bound)
-    one (looked q a) w = unmoved
-    one (begun a) w = unmoved
-    one (stepped (refused r)) w = unmoved
-    one (stepped (done x)) w = step-ends (x .last)
-    one (restarted (refused r)) w = refuses (l .book) D C (l .redeliveries) k
-    one (restarted (done s)) w = goes-back (l .book) D C (l .redeliveries) k
-    one (failed new) w = cut-ends new
+    one (settling named) w = settles (l .book) D C (l .redeliveries) k (settle (l .book .page) named) (fewer-settled (l .book .page) named)
+    one (requeuing o) w = same (l .book) D C (l .redeliveries) k
+    one renewing w = renews (l .book) D C (l .redeliveries) k
+    one (restarting (refused r)) w = refuses (l .book) D C (l .redeliveries) k
+    one (restarting (done s)) w = goes-back (l .book) D C (l .redeliveries) k
+    one nothing w = same (l .book) D C (l .redeliveries) k
 
   all : (es : List Event) (l : Ledger) (D : ℕ → ℕ) (C : ℕ) → Bounds (l .book) D C (l .redeliveries) → Along noted (Law p) l es
       → (o : ℕ) → D o + handOuts (delivers o) es ≤ M + (C + restartsSeen es) * (N + 1)
   unfolding Along handOuts restartsSeen
   all [] l D C k h o = omega (arith, k .always o)
   all (e ∷ es) l D C k h o =
-      omega (arith, all es (noted l e) (λ x. D x + counted (delivers x) (handed e)) (C + isRestart e) (one l D C k e (h .0 .2)) (h .1) o)
+      let x : Effect = effectOf e in
+      omega (
+        arith,
+        all es (noted l e) (λ y. D y + counted (delivers y) (handed x)) (C + isRestart x) (one l D C k x (h .0 .2)) (h .1) o,
+      )
 
   pub bounded : (es : List Event) → Along noted (Law p) emptyLedger es → (o : ℕ) → handOuts (delivers o) es ≤ M + restartsSeen es * (N + 1)
   bounded es h o = omega (arith, all es emptyLedger (λ x. 0) 0 nothing-yet h o)

@@ -18,7 +18,7 @@ use Rattle.machine.specs.Door.{idle, writing, Turn, door}
 use Rattle.crash_safety.specs.Runs.{Item, call, World, world, next, after, run, ends}
 use Rattle.crash_safety.specs.Recovery as recovery
 use Rattle.crash_safety.specs.Recovery.{HasRoom}
-use Rattle.crash_safety.specs.Useful.{Wrote, AllWrote}
+use Rattle.crash_safety.specs.Useful.{Wrote, began, steps, AllWrote}
 use Rattle.crash_safety.proofs.Law.{Ledger}
 use Rattle.crash_safety.proofs.Runs.{run-made, ends-made}
 use Rattle.crash_safety.proofs.Invariant.{Saved, Journal, Stands, Written}
@@ -117,7 +117,7 @@ module _ (c : Settings) (n : ℕ) (v : Saved) (l : Ledger) (s : State) (now : St
       record {
         area = rest .area;
         midway = rest .midway;
-        leads = leads-one c (at k a) (call step) (replicate m (call step)) (at e (rest .area)) _ (body-step k a mid more) tt (rest .leads);
+        leads = leads-one c (at k a) (call step) (replicate m (call step)) (at e (rest .area)) _ (body-step k a mid more) (steps _) (rest .leads);
       }
 
   -- ## from begin on
@@ -145,5 +145,5 @@ module _ (c : Settings) (n : ℕ) (v : Saved) (l : Ledger) (s : State) (now : St
         record {
           area = rest .area;
           midway = rest .midway;
-          leads = leads-one c (world (idle s) a) (call begin) (replicate k (call step)) (at k (rest .area)) _ begin-step tt (rest .leads);
+          leads = leads-one c (world (idle s) a) (call begin) (replicate k (call step)) (at k (rest .area)) _ begin-step (began _) (rest .leads);
         }

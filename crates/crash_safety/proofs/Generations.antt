@@ -10,6 +10,7 @@ use Rattle.types.proofs.Cases.{split}
 use Rattle.delivery.specs.Policy.{Policy}
 use Rattle.consumer.specs.Calls.{HandOut}
 use Rattle.machine.specs.Calls.{Event}
+use Rattle.crash_safety.specs.Effects.{effectOf}
 use Rattle.crash_safety.specs.Demand3.{handed, isUnder, counted, handOuts}
 use Rattle.crash_safety.proofs.Law.{Ledger, noted, AtLeast, Law, Along, above}
 
@@ -26,19 +27,19 @@ none-below : (p : Policy) (g : ℕ) (es : List Event) (l : Ledger) → g < l .fl
 unfolding Along handOuts
 none-below p g [] l b h = refl
 none-below p g (e ∷ es) l b h =
-    let f : AtLeast (l .floor) (handed e) = h .0 .1 in
+    let f : AtLeast (l .floor) (handed (effectOf e)) = h .0 .1 in
     omega (
       arith,
-      not-under g (l .floor) (handed e) b f,
-      none-below p g es (noted l e) (omega (arith, rises (l .floor) (handed e) f)) (h .1),
+      not-under g (l .floor) (handed (effectOf e)) b f,
+      none-below p g es (noted l e) (omega (arith, rises (l .floor) (handed (effectOf e)) f)) (h .1),
     )
 
 pub none-shared : (p : Policy) (es : List Event) (l : Ledger) → Along noted (Law p) l es → (g : ℕ) → handOuts (isUnder g) es ≤ 1
 unfolding Along handOuts
 none-shared p [] l h g = omega arith
-none-shared p (e ∷ es) l h g = go (handed e) refl (none-shared p es (noted l e) (h .1) g)
+none-shared p (e ∷ es) l h g = go (handed (effectOf e)) refl (none-shared p es (noted l e) (h .1) g)
   where
-    go : (x : Option HandOut) → handed e ≡ x → handOuts (isUnder g) es ≤ 1 → counted (isUnder g) x + handOuts (isUnder g) es ≤ 1
+    go : (x : Option HandOut) → handed (effectOf e) ≡ x → handOuts (isUnder g) es ≤ 1 → counted (isUnder g) x + handOuts (isUnder g) es ≤ 1
     go none q rest = omega arith
     go (some d) q rest =
         split (eqb g (d .generation))

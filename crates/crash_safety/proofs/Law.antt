@@ -13,27 +13,21 @@ use Rattle.types.specs.Limits.{sat32}
 use Rattle.types.specs.Refusal.{refused, done}
 use Rattle.delivery.specs.Policy.{Policy, disposition}
 use Rattle.consumer.specs.Calls.{HandOut}
-use Rattle.machine.specs.Calls.{Event, claimed, acked, termed, nacked, extended, committed, looked, begun, stepped, restarted, failed}
+use Rattle.machine.specs.Calls.{Event}
+use Rattle.crash_safety.specs.Effects.{Effect, handing, settling, requeuing, renewing, restarting, nothing, effectOf}
 use Rattle.crash_safety.specs.Book.{Book, emptyBook, note, bookAfter}
 use Rattle.crash_safety.specs.Demand3.{handed, Right, RestartsRight}
 
 -- ## what the events before tell
--- the redeliveries since the last flush, which a finished checkpoint and a restart make 0
-abbrev pub since : ℕ → Event → ℕ
-since n (claimed o now (refused r)) = n
-since n (claimed o now (done h)) = cond (leb 2 (h .deliveries)) (n + 1) n
-since n (acked o g a) = n
-since n (termed o g a) = n
-since n (nacked o g now d a) = n
-since n (extended o g now a) = n
-since n (committed bound a) = n
-since n (looked q a) = n
-since n (begun a) = n
-since n (stepped (refused r)) = n
-since n (stepped (done w)) = cond (w .last) 0 n
-since n (restarted (refused r)) = n
-since n (restarted (done s)) = 0
-since n (failed new) = n
+-- the redeliveries since the last flush, which a header wholly written and a restart make 0
+abbrev pub since : ℕ → Effect → ℕ
+since n (handing o h) = cond (leb 2 (h .deliveries)) (n + 1) n
+since n (settling named) = n
+since n (requeuing o) = n
+since n renewing = 0
+since n (restarting (refused r)) = n
+since n (restarting (done s)) = 0
+since n nothing = n
 
 -- a number above every generation handed out
 abbrev pub above : ℕ → Option HandOut → ℕ
@@ -50,7 +44,8 @@ abbrev pub ledger : Book → ℕ → ℕ → Ledger
 ledger b n g = record { book = b; redeliveries = n; floor = g }
 
 abbrev pub noted : Ledger → Event → Ledger
-noted l e = ledger (note (l .book) e) (since (l .redeliveries) e) (above (l .floor) (handed e))
+noted l e =
+    ledger (note (l .book) (effectOf e)) (since (l .redeliveries) (effectOf e)) (above (l .floor) (handed (effectOf e)))
 
 abbrev pub emptyLedger : Ledger
 emptyLedger = ledger emptyBook 0 0
@@ -64,19 +59,13 @@ pub record Lawful (p : Policy) (l : Ledger) (o : ℕ) (h : HandOut) : Type 0 whe
   pub destined : h .destination ≡ disposition p (h .deliveries)
   pub under : l .redeliveries < p .flushRedeliveries
 
-abbrev pub HandsOut : Policy → Ledger → Event → Type 0
-HandsOut p l (claimed o now (refused r)) = Unit {0}
-HandsOut p l (claimed o now (done h)) = Lawful p l o h
-HandsOut p l (acked o g a) = Unit {0}
-HandsOut p l (termed o g a) = Unit {0}
-HandsOut p l (nacked o g now d a) = Unit {0}
-HandsOut p l (extended o g now a) = Unit {0}
-HandsOut p l (committed bound a) = Unit {0}
-HandsOut p l (looked q a) = Unit {0}
-HandsOut p l (begun a) = Unit {0}
-HandsOut p l (stepped a) = Unit {0}
-HandsOut p l (restarted a) = Unit {0}
-HandsOut p l (failed new) = Unit {0}
+abbrev pub HandsOut : Policy → Ledger → Effect → Type 0
+HandsOut p l (handing o h) = Lawful p l o h
+HandsOut p l (settling named) = Unit {0}
+HandsOut p l (requeuing o) = Unit {0}
+HandsOut p l renewing = Unit {0}
+HandsOut p l (restarting a) = Unit {0}
+HandsOut p l nothing = Unit {0}
 
 -- what is handed out has a generation of at least g
 abbrev pub AtLeast : ℕ → Option HandOut → Type 0
@@ -85,7 +74,7 @@ AtLeast g (some h) = g ≤ h .generation
 
 -- what a restart finds, the generation and the rest of a hand-out
 abbrev pub Law : Policy → Ledger → Event → Type 0
-Law p l e = Right (l .book .copy) e × AtLeast (l .floor) (handed e) × HandsOut p l e
+Law p l e = Right (l .book .copy) (effectOf e) × AtLeast (l .floor) (handed (effectOf e)) × HandsOut p l (effectOf e)
 
 -- ## along a list of events
 -- P holds of each event, beside what `fold` makes of those before it

@@ -19,3 +19,4 @@ pub mod Settled
 pub mod Checkpoints
 pub mod Recovery
 pub mod Useful
+pub mod Ran

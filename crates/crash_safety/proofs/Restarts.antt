@@ -2,20 +2,25 @@
 use Prim.Native.Nat.{ℕ, _+_}
 use native.Mathlib.Omega.{arith}
 use mathlib.Core.Path.{_≡_, refl, sym, ap, _∙_}
+use mathlib.Core.Bool.{Bool, true, false}
 use mathlib.Core.List.{List, [], _∷_}
 use mathlib.Core.Option.{Option, none, some}
 use lib.Dec.{eqb}
 use lib.ListN.{length}
-use Rattle.types.specs.Refusal.{Result, refused, done}
+use Rattle.types.specs.Refusal.{Refusal, Result, refused, done}
 use Rattle.types.proofs.Cases.{split}
+use Rattle.types.specs.Table.{Answer}
 use Rattle.consumer.specs.State.{Settings, State}
+use Rattle.consumer.specs.Calls as consumer
+use Rattle.consumer.specs.Questions.{reply}
 use Rattle.checkpoint.specs.Checkpoint as checkpoint
-use Rattle.checkpoint.specs.Checkpoint.{Writing}
+use Rattle.checkpoint.specs.Checkpoint.{Writing, isLast, Wrote, Lent}
 use Rattle.starts.specs.Restart as restarts
-use Rattle.machine.specs.Calls.{Ask, claim, ack, term, nack, progress, commit, look}
-use Rattle.machine.specs.Door.{Phase, idle, writing, off, Turn, asked, beganAs, restartedAs}
+use Rattle.machine.specs.Calls.{Ask, claim, ack, term, nack, progress, commit, look, Event, claimed, acked, termed, nacked, extended, committed, looked, stepped, failed}
+use Rattle.machine.specs.Door.{Phase, idle, writing, off, Turn, asked, beganAs, steppedAs, restartedAs}
 use Rattle.power_cut.specs.Cut.{Cut, old, new, torn, isTorn, cutAt, cutOn}
 use Rattle.crash_safety.specs.Runs.{Item, World, next, after, run}
+use Rattle.crash_safety.specs.Effects.{effectOf}
 use Rattle.crash_safety.specs.Demand3.{restartIn, restartsIn}
 use Rattle.crash_safety.proofs.Bound.{isRestart, restartsSeen}
 use Rattle.crash_safety.proofs.Items.{Shown, next-cases}
@@ -23,7 +28,7 @@ use Rattle.crash_safety.proofs.Items.{Shown, next-cases}
 -- how many restarts an item makes
 abbrev made : Option Turn → ℕ
 made none = 0
-made (some t) = isRestart (t .event)
+made (some t) = isRestart (effectOf (t .event))
 
 abbrev Counted : Item → Option Turn → Type 0
 Counted i x = made x ≡ restartIn i
@@ -32,22 +37,40 @@ restarted-made : (p : Phase) (a : List ℕ) (r : Result State) → made (restart
 restarted-made p a (refused r) = refl
 restarted-made p a (done s) = refl
 
+-- no restart is seen of an answer to another call
+module _ {A : Type 0} (event : Result A → Event) (when-refused : (r : Refusal) → isRestart (effectOf (event (refused r))) ≡ 0)
+    (when-done : (x : A) → isRestart (effectOf (event (done x))) ≡ 0) where
+  answered-made : (a : Result A) → isRestart (effectOf (event a)) ≡ 0
+  answered-made (refused r) = when-refused r
+  answered-made (done x) = when-done x
+
 asked-made : (s : State) (a : List ℕ) (q : Ask) → made (asked s a q) ≡ 0
-asked-made s a (claim o now) = refl
-asked-made s a (ack o g) = refl
-asked-made s a (term o g) = refl
-asked-made s a (nack o g now d) = refl
-asked-made s a (progress o g now) = refl
-asked-made s a (commit bound) = refl
-asked-made s a (look q) = refl
+asked-made s a (claim o now) = answered-made (claimed o now) (λ r. refl) (λ h. refl) (consumer.claim s o now .outcome)
+asked-made s a (ack o g) = answered-made (acked o g) (λ r. refl) (λ u. refl) (consumer.ack s o g .outcome)
+asked-made s a (term o g) = answered-made (termed o g) (λ r. refl) (λ u. refl) (consumer.ack s o g .outcome)
+asked-made s a (nack o g now d) = answered-made (nacked o g now d) (λ r. refl) (λ e. refl) (consumer.nack s o g now d .outcome)
+asked-made s a (progress o g now) = answered-made (extended o g now) (λ r. refl) (λ e. refl) (consumer.progress s o g now .outcome)
+asked-made s a (commit bound) = answered-made (committed bound) (λ r. refl) (λ m. refl) (consumer.commit s bound .outcome)
+asked-made s a (look x) = answered-made (looked x) (λ r. refl) (λ l. refl) (reply s x)
 
 began-made : (s : State) (a : List ℕ) (r : Result Writing) → made (beganAs s a r) ≡ 0
 began-made s a (refused r) = refl
 began-made s a (done w) = refl
 
+-- nor of a block write, the header's or not
+write-made : (event : Bool → Event) → isRestart (effectOf (event true)) ≡ 0 → isRestart (effectOf (event false)) ≡ 0 → (last : Bool)
+    → isRestart (effectOf (event last)) ≡ 0
+write-made event header body true = header
+write-made event header body false = body
+
+step-made : (r : Answer Wrote Lent) → made (steppedAs r) ≡ 0
+step-made r =
+    answered-made stepped (λ f. refl)
+    (λ w. write-made (λ last. stepped (done (record { block = w .block; last = last }))) refl refl (w .last)) (r .outcome)
+
 cut-made : (w : Writing) (a : List ℕ) (k : Cut) → made (cutAt w a k) ≡ 0
 cut-made w a old = refl
-cut-made w a new = refl
+cut-made w a new = write-made failed refl refl (isLast w)
 cut-made w a (torn b) = split (isTorn b) (λ t. rw t) (λ t. rw t)
 
 cut-on-made : (w : Writing) (a : List ℕ) (k : Cut) → made (cutOn w a k) ≡ 0
@@ -55,7 +78,7 @@ cut-on-made w a k = split (eqb (length a) (w .state .size)) (λ t. rw t (cut-mad
 
 counted : (p : Phase) (a : List ℕ) → Shown Counted a p
 counted (idle s) a = (λ q t. asked-made s a q, began-made s a (checkpoint.begin s))
-counted (writing w) a = (refl, λ b t. refl, cut-on-made w a)
+counted (writing w) a = (step-made (checkpoint.step w a), λ b t. step-made (checkpoint.step w b), cut-on-made w a)
 counted off a = tt
 
 next-made : (c : Settings) (w : World) (i : Item) → made (next c w i) ≡ restartIn i

@@ -2,15 +2,16 @@
 -- with the book. Assumes nothing.
 use Prim.Native.Nat.{ℕ}
 use mathlib.Core.Path.{_≡_, refl, sym, _∙_}
-use mathlib.Core.Bool.{Bool, true, false, cond, _||_, or-true}
+use mathlib.Core.Bool.{Bool, true, false, _||_, or-true}
 use mathlib.Core.List.{List, [], _∷_}
 use mathlib.Core.Option.{some, Option·none-ne-some}
 use Rattle.types.specs.Refusal.{refused, done}
 use Rattle.cursor.specs.Cursor.{settled}
 use Rattle.consumer.specs.State.{Settings, State}
-use Rattle.machine.specs.Calls.{Event, claimed, acked, termed, nacked, extended, committed, looked, begun, stepped, restarted, failed}
+use Rattle.machine.specs.Calls.{Event}
 use Rattle.machine.specs.Door.{Phase, idle, writing, off}
-use Rattle.crash_safety.specs.Book.{Book, emptyBook, note, bookAfter, settle, only, below, turnedTo, renewed}
+use Rattle.crash_safety.specs.Effects.{Effect, handing, settling, requeuing, renewing, restarting, nothing, effectOf}
+use Rattle.crash_safety.specs.Book.{Book, emptyBook, note, bookAfter}
 use Rattle.crash_safety.specs.Runs.{world, begins, run, ends}
 use Rattle.crash_safety.specs.Settled.{settles, settledIn, stateIn, NothingForgotten}
 use Rattle.crash_safety.proofs.Law.{Ledger}
@@ -31,37 +32,22 @@ module _ (o : ℕ) where
   either true q r f e = refl
   either false q r f e = f e
 
-  renews : (seen : Bool) (b : Book) (x : Bool) → Seen seen b → Seen seen (cond x (renewed b) b)
-  renews seen b true k = record { page = k .page; copy = k .page }
-  renews seen b false k = k
-
-  settled-more : (seen : Bool) (b : Book) (named : ℕ → Bool) → Seen seen b → Seen (named o || seen) (turnedTo b (settle (b .page) named))
-  settled-more seen b named k =
+  one : (seen : Bool) (b : Book) (x : Effect) → Seen seen b → Seen (settles x o || seen) (note b x)
+  one seen b (handing x h) k = record { page = k .page; copy = k .copy }
+  one seen b (settling named) k =
       record { page = either (named o) (b .page .settled o) seen (k .page); copy = λ e. later (named o) seen (k .copy e) }
-
-  one : (seen : Bool) (b : Book) (e : Event) → Seen seen b → Seen (settles e o || seen) (note b e)
-  one seen b (claimed x now (refused r)) k = k
-  one seen b (claimed x now (done h)) k = record { page = k .page; copy = k .copy }
-  one seen b (acked x g (refused r)) k = k
-  one seen b (acked x g (done u)) k = settled-more seen b (only x) k
-  one seen b (termed x g (refused r)) k = k
-  one seen b (termed x g (done u)) k = settled-more seen b (only x) k
-  one seen b (nacked x g now d a) k = k
-  one seen b (extended x g now a) k = k
-  one seen b (committed bound (refused r)) k = k
-  one seen b (committed bound (done moved)) k = settled-more seen b (below bound) k
-  one seen b (looked q a) k = k
-  one seen b (begun a) k = k
-  one seen b (stepped (refused r)) k = k
-  one seen b (stepped (done w)) k = renews seen b (w .last) k
-  one seen b (restarted (refused r)) k = k
-  one seen b (restarted (done s)) k = record { page = k .copy; copy = k .copy }
-  one seen b (failed new) k = renews seen b new k
+  one seen b (requeuing x) k = k
+  one seen b renewing k = record { page = k .page; copy = k .page }
+  one seen b (restarting (refused r)) k = k
+  one seen b (restarting (done s)) k = record { page = k .copy; copy = k .copy }
+  one seen b nothing k = k
 
   all : (es : List Event) (seen : Bool) (b : Book) → Seen seen b → bookAfter b es .page .settled o ≡ true → (seen || settledIn es o) ≡ true
   unfolding bookAfter settledIn
   all [] seen b k e = rw (k .page e)
-  all (x ∷ es) seen b k e = moved (settles x o) seen (settledIn es o) (all es (settles x o || seen) (note b x) (one seen b x k) e)
+  all (e ∷ es) seen b k h =
+      let x : Effect = effectOf e in
+      moved (settles x o) seen (settledIn es o) (all es (settles x o || seen) (note b x) (one seen b x k) h)
     where
       moved : (p q r : Bool) → (p || q || r) ≡ true → (q || (p || r)) ≡ true
       moved true q r h = or-true q

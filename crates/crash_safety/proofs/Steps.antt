@@ -150,7 +150,7 @@ module _ (c : Settings) (n : ℕ) (l : Ledger) (a : List ℕ) where
             };
           }
 
-      left-new : Inv c n (ledger (renewed (l .book)) (l .redeliveries) (l .floor)) (world off full)
+      left-new : Inv c n (ledger (renewed (l .book)) 0 (l .floor)) (world off full)
       left-new =
           record {
             saved = stored s;

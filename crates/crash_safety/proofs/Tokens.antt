@@ -33,7 +33,7 @@ use Rattle.machine.specs.Calls.{Ask, claim, ack, term, nack, progress, commit, 
 use Rattle.machine.specs.Door.{Phase, idle, writing, off, Turn, asked, beganAs, steppedAs, restartedAs}
 use Rattle.power_cut.specs.Cut.{Cut, old, new, torn, isTorn, cutAt, cutOn}
 use Rattle.crash_safety.specs.Runs.{Item, keepsJournal, World, world, next, run, begins}
-use Rattle.crash_safety.specs.Book.{only, below}
+use Rattle.crash_safety.specs.Effects.{only, below, effectOf}
 use Rattle.crash_safety.specs.Tokens.{Tokens, noTokens, givesOut, givesUp, losesAll, tokensAfter, StaleRefused, TokenRight, TokensRight, NoStaleToken}
 use Rattle.crash_safety.proofs.Law.{Ledger, emptyLedger, noted, Law, Along}
 use Rattle.crash_safety.proofs.Runs.{Answered, along, foldBoth, SaysBoth, KeepsBoth, Second, beside}
@@ -158,13 +158,17 @@ nothing-given floor leases =
       held-lease = λ o l q d. absurd (true≢false (sym d));
     }
 
+-- what an event tells of tokens
+abbrev told : Tokens → Event → Tokens
+told t e = tokensAfter t (effectOf e)
+
 -- ## each call
 abbrev Knows : Ledger → Tokens → World → Type 0
 Knows l t w = Known t (l .floor) (leasesOf (w .phase))
 
 module _ (c : Settings) (n : ℕ) (l : Ledger) (t : Tokens) where
   abbrev Next : Option Turn → Type 0
-  Next = Second noted tokensAfter TokenRight Knows (l, t)
+  Next = Second noted told TokenRight Knows (l, t)
 
   module _ (s : State) (a : List ℕ) (inv : Inv c n l (world (idle s) a)) (k : Known t (l .floor) (s .table .leases)) where
     abbrev Kept : {A : Type 0} → (Result A → Event) → Answer A State → Type 0
@@ -189,7 +193,7 @@ module _ (c : Settings) (n : ℕ) (l : Ledger) (t : Tokens) where
 
     -- what is known after an answer
     abbrev After : {A : Type 0} → (Result A → Event) → Answer A State → Type 0
-    After event r = Known (tokensAfter t (event (r .outcome))) (l .floor) (r .state .table .leases)
+    After event r = Knows (noted l (event (r .outcome))) (told t (event (r .outcome))) (world (idle (r .state)) a)
 
     stale : {A : Type 0} (o g : ℕ) (x : Result A) → (owns (leaseOf (s .table) o) g ≡ false → x ≡ refused Fenced) → StaleRefused t o g x
     stale o g = stale-refused t (l .floor) here k o g
@@ -292,7 +296,10 @@ module _ (c : Settings) (n : ℕ) (l : Ledger) (t : Tokens) where
 
     cut-at-knows : (x : Cut) → Next (cutAt w a x)
     cut-at-knows old = record { says = tt; keeps = none-leased t (l .floor) (w .state .table .leases) k }
-    cut-at-knows new = record { says = tt; keeps = none-leased t (l .floor) (w .state .table .leases) k }
+    cut-at-knows new =
+        split (isLast w)
+        (λ e. rw e (record { says = tt; keeps = none-leased t (l .floor) (w .state .table .leases) k }))
+        (λ e. rw e (record { says = tt; keeps = none-leased t (l .floor) (w .state .table .leases) k }))
     cut-at-knows (torn b) =
         split (isTorn b)
         (λ e. rw e (record { says = tt; keeps = none-leased t (l .floor) (w .state .table .leases) k }))
@@ -327,7 +334,7 @@ module _ (c : Settings) (n : ℕ) (l : Ledger) (t : Tokens) where
 -- ## every list
 module _ (c : Settings) (n : ℕ) (accepted : Passed (startTable c n)) where
   abbrev fold : Ledger × Tokens → Event → Ledger × Tokens
-  fold = foldBoth noted tokensAfter
+  fold = foldBoth noted told
 
   abbrev Says : Ledger × Tokens → Event → Type 0
   Says = SaysBoth (Law (c .policy)) TokenRight
@@ -337,7 +344,7 @@ module _ (c : Settings) (n : ℕ) (accepted : Passed (startTable c n)) where
 
   each : (b : Ledger × Tokens) (w : World) (i : Item) → Keeps b w → Answered fold Says Keeps b (next c w i)
   each b w i h =
-      beside noted tokensAfter (Law (c .policy)) TokenRight (Inv c n) Knows b (next c w i)
+      beside noted told (Law (c .policy)) TokenRight (Inv c n) Knows b (next c w i)
       (item-kept c n accepted (b .0) w i (h .0))
       (item-knows c n (b .0) (b .1) accepted w i (h .0) (h .1))
 
@@ -347,7 +354,7 @@ module _ (c : Settings) (n : ℕ) (accepted : Passed (startTable c n)) where
   tokens-right : (es : List Event) (l : Ledger) (t : Tokens) → Along fold Says (l, t) es → TokensRight t es
   unfolding Along TokensRight
   tokens-right [] l t h = tt
-  tokens-right (e ∷ es) l t h = (h .0 .1, tokens-right es (noted l e) (tokensAfter t e) (h .1))
+  tokens-right (e ∷ es) l t h = (h .0 .1, tokens-right es (noted l e) (told t e) (h .1))
 
 pub no-stale-token : NoStaleToken
 unfolding NoStaleToken

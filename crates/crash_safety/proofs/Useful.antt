@@ -34,7 +34,7 @@ use Rattle.machine.specs.Calls.{step}
 use Rattle.crash_safety.specs.Book.{Page}
 use Rattle.crash_safety.specs.Runs.{call, World, world, run, ends, begins}
 use Rattle.crash_safety.specs.Recovery.{begun, HasRoom}
-use Rattle.crash_safety.specs.Useful.{AllWrote, checkpoint, Checkpointed, Claimable, waits, Useful, NotUseless}
+use Rattle.crash_safety.specs.Useful.{steps, AllWrote, checkpoint, Checkpointed, Claimable, waits, Useful, NotUseless}
 use Rattle.crash_safety.proofs.Law.{Ledger}
 use Rattle.crash_safety.proofs.Invariant.{Agrees, Inv}
 use Rattle.crash_safety.proofs.Runs.{run-made, ends-made, ends-none}
@@ -119,7 +119,7 @@ module _ (c : Settings) (n : ℕ) (l : Ledger) (s : State) (a : List ℕ) (inv :
       let mid : World = world (writing (checkpoints.writing s k)) (b .area) in
       let items : checkpoint s ≡ begun k ++ call step ∷ [] = sym (append-nil (checkpoint s)) ∙ begun-more k [] in
       record {
-        wrote = rw items (b .leads .wrote (call step ∷ []) (rw (run-made c mid (call step) [] _ last) (tt, none-wrote c _)));
+        wrote = rw items (b .leads .wrote (call step ∷ []) (rw (run-made c mid (call step) [] _ last) (steps _, none-wrote c _)));
         leaves = rw items (ap (λ (u : World). u .phase)
             (b .leads .ends-there (call step ∷ []) ∙ ends-made c mid (call step) [] _ last ∙ ends-none c _));
       }

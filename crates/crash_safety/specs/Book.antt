@@ -1,12 +1,15 @@
 -- Demand 3's book, as 01 keeps it: settled offsets, counts by offset and a copy of both. It is a function of what is seen: the
 -- calls with their arguments and answers, and whether a power failure left a header block new.
 use Prim.Native.Nat.{ℕ}
+use mathlib.Core.Path.{_≡_, refl}
 use mathlib.Core.Bool.{Bool, false, cond, _||_}
 use mathlib.Core.List.{List, [], _∷_}
-use lib.Dec.{ltb, eqb}
+use lib.Dec.{eqb}
 use Rattle.types.specs.Limits.{sat32}
 use Rattle.types.specs.Refusal.{refused, done}
-use Rattle.machine.specs.Calls.{Event, claimed, acked, termed, nacked, extended, committed, looked, begun, stepped, restarted, failed}
+use Rattle.consumer.specs.State.{State}
+use Rattle.machine.specs.Calls.{Event, restarted}
+use Rattle.crash_safety.specs.Effects.{Effect, handing, settling, requeuing, renewing, restarting, nothing, effectOf}
 
 -- which offsets are settled, and the count of each
 pub record Page : Type 0 where
@@ -29,15 +32,9 @@ emptyBook = record { page = blank; copy = blank }
 abbrev pub handedOut : Page → ℕ → Page
 handedOut p o = record { settled = p .settled; count = λ x. cond (eqb x o) (sat32 (p .count x) 1) (p .count x) }
 
--- offsets that a test names are settled, which drops their counts: one alone, or all below a bound
+-- offsets that a test names are settled, which drops their counts
 abbrev pub settle : Page → (ℕ → Bool) → Page
 settle p named = record { settled = λ x. named x || p .settled x; count = λ x. cond (named x) 0 (p .count x) }
-
-abbrev pub only : ℕ → ℕ → Bool
-only o x = eqb x o
-
-abbrev pub below : ℕ → ℕ → Bool
-below bound x = ltb x bound
 
 -- another page beside the same copy
 abbrev pub turnedTo : Book → Page → Book
@@ -51,27 +48,21 @@ renewed b = record { page = b .page; copy = b .page }
 abbrev pub wentBack : Book → Book
 wentBack b = record { page = b .copy; copy = b .copy }
 
--- what the book makes of an event; refusals, and all that is not named here, change nothing
-abbrev pub note : Book → Event → Book
-note b (claimed o now (refused r)) = b
-note b (claimed o now (done h)) = turnedTo b (handedOut (b .page) o)
-note b (acked o g (refused r)) = b
-note b (acked o g (done u)) = turnedTo b (settle (b .page) (only o))
-note b (termed o g (refused r)) = b
-note b (termed o g (done u)) = turnedTo b (settle (b .page) (only o))
-note b (nacked o g now d a) = b
-note b (extended o g now a) = b
-note b (committed bound (refused r)) = b
-note b (committed bound (done moved)) = turnedTo b (settle (b .page) (below bound))
-note b (looked q a) = b
-note b (begun a) = b
-note b (stepped (refused r)) = b
-note b (stepped (done w)) = cond (w .last) (renewed b) b
-note b (restarted (refused r)) = b
-note b (restarted (done s)) = wentBack b
-note b (failed new) = cond new (renewed b) b
+-- what the book makes of an effect; all that is not named here changes nothing
+abbrev pub note : Book → Effect → Book
+note b (handing o h) = turnedTo b (handedOut (b .page) o)
+note b (settling named) = turnedTo b (settle (b .page) named)
+note b (requeuing o) = b
+note b renewing = renewed b
+note b (restarting (refused r)) = b
+note b (restarting (done s)) = wentBack b
+note b nothing = b
+
+-- the state that a restart answers is not looked at
+pub restart-unread : (b : Book) (s t : State) → note b (effectOf (restarted (done s))) ≡ note b (effectOf (restarted (done t)))
+restart-unread b s t = refl
 
 -- the book after events
 unfoldable pub bookAfter : Book → List Event → Book
 bookAfter b [] = b
-bookAfter b (e ∷ es) = bookAfter (note b e) es
+bookAfter b (e ∷ es) = bookAfter (note b (effectOf e)) es

@@ -14,25 +14,20 @@ use Rattle.consumer.specs.State.{Settings, State, countOr0}
 use Rattle.consumer.specs.Calls.{HandOut}
 use Rattle.consumer.specs.Valid.{Fits}
 use Rattle.starts.specs.Restart.{start}
-use Rattle.machine.specs.Calls.{ask, begin, step, restart, Event, claimed, acked, termed, nacked, extended, committed, looked, begun, stepped, restarted, failed}
+use Rattle.machine.specs.Calls.{ask, begin, step, restart, Event}
 use Rattle.crash_safety.specs.Runs.{Item, call, stepOn, cut, run, begins}
+use Rattle.crash_safety.specs.Effects.{Effect, handing, settling, requeuing, renewing, restarting, nothing, effectOf}
 use Rattle.crash_safety.specs.Book.{Page, Book, emptyBook, note}
 
 -- ## hand-outs
--- what an event handed out
-abbrev pub handed : Event → Option HandOut
-handed (claimed o now (refused r)) = none
-handed (claimed o now (done h)) = some h
-handed (acked o g a) = none
-handed (termed o g a) = none
-handed (nacked o g now d a) = none
-handed (extended o g now a) = none
-handed (committed bound a) = none
-handed (looked q a) = none
-handed (begun a) = none
-handed (stepped a) = none
-handed (restarted a) = none
-handed (failed new) = none
+-- what is handed out
+abbrev pub handed : Effect → Option HandOut
+handed (handing o h) = some h
+handed (settling named) = none
+handed (requeuing o) = none
+handed renewing = none
+handed (restarting a) = none
+handed nothing = none
 
 abbrev pub forDelivery : Destination → Bool
 forDelivery Deliver = true
@@ -52,7 +47,7 @@ counted named (some h) = cond (named h) 1 0
 
 unfoldable pub handOuts : (HandOut → Bool) → List Event → ℕ
 handOuts named [] = 0
-handOuts named (e ∷ es) = counted named (handed e) + handOuts named es
+handOuts named (e ∷ es) = counted named (handed (effectOf e)) + handOuts named es
 
 -- ## restarts
 -- what a restart finds: the settled offsets and the carried counts of the state that it answers
@@ -61,24 +56,19 @@ pub record Finds (p : Page) (s : State) : Type 0 where
   pub counts : (o : ℕ) → countOr0 (lookup o (s .table .carried)) ≡ p .count o
 
 -- a restart is not refused and finds the copy
-abbrev pub Right : Page → Event → Type 0
-Right p (claimed o now a) = Unit {0}
-Right p (acked o g a) = Unit {0}
-Right p (termed o g a) = Unit {0}
-Right p (nacked o g now d a) = Unit {0}
-Right p (extended o g now a) = Unit {0}
-Right p (committed bound a) = Unit {0}
-Right p (looked q a) = Unit {0}
-Right p (begun a) = Unit {0}
-Right p (stepped a) = Unit {0}
-Right p (restarted (refused r)) = ⊥
-Right p (restarted (done s)) = Finds p s
-Right p (failed new) = Unit {0}
+abbrev pub Right : Page → Effect → Type 0
+Right p (handing o h) = Unit {0}
+Right p (settling named) = Unit {0}
+Right p (requeuing o) = Unit {0}
+Right p renewing = Unit {0}
+Right p (restarting (refused r)) = ⊥
+Right p (restarting (done s)) = Finds p s
+Right p nothing = Unit {0}
 
 -- so of each restart among events that begin with this book
 unfoldable pub RestartsRight : Book → List Event → Type 0
 RestartsRight b [] = Unit {0}
-RestartsRight b (e ∷ es) = Right (b .copy) e × RestartsRight (note b e) es
+RestartsRight b (e ∷ es) = Right (b .copy) (effectOf e) × RestartsRight (note b (effectOf e)) es
 
 -- the restarts in a list
 abbrev pub restartIn : Item → ℕ

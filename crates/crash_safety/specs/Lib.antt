@@ -1,7 +1,9 @@
 pub mod Runs
+pub mod Effects
 pub mod Book
 pub mod Demand3
 pub mod Tokens
 pub mod Settled
 pub mod Recovery
 pub mod Useful
+pub mod Ran

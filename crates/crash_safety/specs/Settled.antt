@@ -5,36 +5,28 @@ use mathlib.Core.Path.{_≡_}
 use mathlib.Core.Bool.{Bool, true, false, _||_}
 use mathlib.Core.List.{List, [], _∷_}
 use mathlib.Core.Option.{Option, none, some}
-use Rattle.types.specs.Refusal.{refused, done}
+use Rattle.types.specs.Refusal.{done}
 use Rattle.cursor.specs.Cursor.{settled}
 use Rattle.consumer.specs.State.{Settings, State}
 use Rattle.consumer.specs.Valid.{Fits}
 use Rattle.starts.specs.Restart.{start}
-use Rattle.machine.specs.Calls.{Event, claimed, acked, termed, nacked, extended, committed, looked, begun, stepped, restarted, failed}
+use Rattle.machine.specs.Calls.{Event}
 use Rattle.machine.specs.Door.{Phase, idle, writing, off}
-use Rattle.crash_safety.specs.Book.{only, below}
+use Rattle.crash_safety.specs.Effects.{Effect, handing, settling, requeuing, renewing, restarting, nothing, effectOf}
 use Rattle.crash_safety.specs.Runs.{Item, run, ends, begins}
 
 -- an Ack or a Term of the offset, or a Commit above it, that is not refused
-abbrev pub settles : Event → ℕ → Bool
-settles (claimed o now a) x = false
-settles (acked o g (refused r)) x = false
-settles (acked o g (done u)) x = only o x
-settles (termed o g (refused r)) x = false
-settles (termed o g (done u)) x = only o x
-settles (nacked o g now d a) x = false
-settles (extended o g now a) x = false
-settles (committed bound (refused r)) x = false
-settles (committed bound (done moved)) x = below bound x
-settles (looked q a) x = false
-settles (begun a) x = false
-settles (stepped a) x = false
-settles (restarted a) x = false
-settles (failed new) x = false
+abbrev pub settles : Effect → ℕ → Bool
+settles (handing o h) x = false
+settles (settling named) x = named x
+settles (requeuing o) x = false
+settles renewing x = false
+settles (restarting a) x = false
+settles nothing x = false
 
 unfoldable pub settledIn : List Event → ℕ → Bool
 settledIn [] x = false
-settledIn (e ∷ es) x = settles e x || settledIn es x
+settledIn (e ∷ es) x = settles (effectOf e) x || settledIn es x
 
 -- the consumer's state, in hand or in a writing record
 abbrev pub stateIn : Phase → Option State

@@ -14,7 +14,7 @@ use Rattle.consumer.specs.Calls.{HandOut}
 use Rattle.consumer.specs.Valid.{Fits}
 use Rattle.starts.specs.Restart.{start}
 use Rattle.machine.specs.Calls.{Event, claimed, acked, termed, nacked, extended, committed, looked, begun, stepped, restarted, failed}
-use Rattle.crash_safety.specs.Book.{only, below}
+use Rattle.crash_safety.specs.Effects.{Effect, handing, settling, requeuing, renewing, restarting, nothing, only, effectOf}
 use Rattle.crash_safety.specs.Runs.{Item, run, begins}
 
 -- what the events tell of tokens, each an offset and a generation
@@ -46,24 +46,14 @@ givesUp t named = record { given = t .given; lost = t .lost; held = λ x. cond (
 abbrev pub losesAll : Tokens → Tokens
 losesAll t = record { given = t .given; lost = t .given; held = λ x. none }
 
-abbrev pub tokensAfter : Tokens → Event → Tokens
-tokensAfter t (claimed o now (refused r)) = t
-tokensAfter t (claimed o now (done h)) = givesOut t h
-tokensAfter t (acked o g (refused r)) = t
-tokensAfter t (acked o g (done u)) = givesUp t (only o)
-tokensAfter t (termed o g (refused r)) = t
-tokensAfter t (termed o g (done u)) = givesUp t (only o)
-tokensAfter t (nacked o g now d (refused r)) = t
-tokensAfter t (nacked o g now d (done deadline)) = givesUp t (only o)
-tokensAfter t (extended o g now a) = t
-tokensAfter t (committed bound (refused r)) = t
-tokensAfter t (committed bound (done moved)) = givesUp t (below bound)
-tokensAfter t (looked q a) = t
-tokensAfter t (begun a) = t
-tokensAfter t (stepped a) = t
-tokensAfter t (restarted (refused r)) = t
-tokensAfter t (restarted (done s)) = losesAll t
-tokensAfter t (failed new) = t
+abbrev pub tokensAfter : Tokens → Effect → Tokens
+tokensAfter t (handing o h) = givesOut t h
+tokensAfter t (settling named) = givesUp t named
+tokensAfter t (requeuing o) = givesUp t (only o)
+tokensAfter t renewing = t
+tokensAfter t (restarting (refused r)) = t
+tokensAfter t (restarting (done s)) = losesAll t
+tokensAfter t nothing = t
 
 -- the answer to a call with the token (o, g)
 pub record StaleRefused {A : Type 0} (t : Tokens) (o g : ℕ) (a : Result A) : Type 0 where
@@ -86,7 +76,7 @@ TokenRight t (failed new) = Unit {0}
 
 unfoldable pub TokensRight : Tokens → List Event → Type 0
 TokensRight t [] = Unit {0}
-TokensRight t (e ∷ es) = TokenRight t e × TokensRight (tokensAfter t e) es
+TokensRight t (e ∷ es) = TokenRight t e × TokensRight (tokensAfter t (effectOf e)) es
 
 -- every list, from every fresh consumer on a zeroed journal
 unfoldable pub NoStaleToken : Type 0

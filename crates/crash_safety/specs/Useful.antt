@@ -15,9 +15,10 @@ use Rattle.consumer.specs.State.{Settings, State}
 use Rattle.consumer.specs.Calls.{isFull, handOut, claim}
 use Rattle.consumer.specs.Questions.{waitingAt}
 use Rattle.consumer.specs.Valid.{Fits}
+use Rattle.checkpoint.specs.Checkpoint as checkpoints
 use Rattle.checkpoint.specs.Checkpoint.{bodies, flushed}
 use Rattle.starts.specs.Restart.{start}
-use Rattle.machine.specs.Calls.{Event, claimed, acked, termed, nacked, extended, committed, looked, begun, stepped, restarted, failed}
+use Rattle.machine.specs.Calls.{Event, begun, stepped}
 use Rattle.machine.specs.Door.{idle}
 use Rattle.crash_safety.specs.Book.{Page, emptyBook, bookAfter}
 use Rattle.crash_safety.specs.Runs.{Item, World, run, ends, begins}
@@ -25,20 +26,9 @@ use Rattle.crash_safety.specs.Recovery as recovery
 use Rattle.crash_safety.specs.Recovery.{HasRoom}
 
 -- a begin or a step that is not refused
-abbrev pub Wrote : Event → Type 0
-Wrote (claimed o now a) = ⊥
-Wrote (acked o g a) = ⊥
-Wrote (termed o g a) = ⊥
-Wrote (nacked o g now d a) = ⊥
-Wrote (extended o g now a) = ⊥
-Wrote (committed bound a) = ⊥
-Wrote (looked q a) = ⊥
-Wrote (begun (refused r)) = ⊥
-Wrote (begun (done k)) = Unit {0}
-Wrote (stepped (refused r)) = ⊥
-Wrote (stepped (done w)) = Unit {0}
-Wrote (restarted a) = ⊥
-Wrote (failed new) = ⊥
+pub data Wrote : Event → Type 0 where
+  began : (writes : ℕ) → Wrote (begun (done writes))
+  steps : (w : checkpoints.Wrote) → Wrote (stepped (done w))
 
 unfoldable pub AllWrote : List Event → Type 0
 AllWrote [] = Unit {0}

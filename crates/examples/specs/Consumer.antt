@@ -79,9 +79,11 @@ example-13 = record { started = refl; always = λ c size now. refl }
 
 -- checkpoint; claims of 0 at 0, 10, 20 give Deliver 1, Deliver 2, refusal 26; checkpoint, restart, checkpoint; claim gives
 -- DeadLetter 3, generation 4098
+abbrev pub acts14 : List Act
+acts14 = checkpoints ∷ claims 0 ∷ claims 10 ∷ claims 20 ∷ checkpoints ∷ restarts ∷ checkpoints ∷ claims 30 ∷ []
+
 pub record Example14 : Type 0 where
-  pub answered : fromStart (checkpoints ∷ claims 0 ∷ claims 10 ∷ claims 20 ∷ checkpoints ∷ restarts ∷ checkpoints ∷ claims 30 ∷ [])
-      ≡ handedOut 0 1 Deliver ∷ handedOut 1 2 Deliver ∷ refused CheckpointDue ∷ handedOut 4098 3 DeadLetter ∷ []
+  pub answered : fromStart acts14 ≡ handedOut 0 1 Deliver ∷ handedOut 1 2 Deliver ∷ refused CheckpointDue ∷ handedOut 4098 3 DeadLetter ∷ []
 
 pub example-14 : Example14
 unfolding start claim begin step restart fromWalk allAttemptCounts encodeCursor decodeCursor encodeAttempts1 decodeAttempts blockAt writeAt headerBlock bodyBlock isKind formed soundHeader soundBody groupAt walkOver walkFrom payload isSealed bits unbits polynomial crc xor

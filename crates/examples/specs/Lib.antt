@@ -1,3 +1,4 @@
 pub mod Journal
 pub mod Consumer
 pub mod BoundMet
+pub mod SettledExamples

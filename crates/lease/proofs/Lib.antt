@@ -4,7 +4,6 @@ pub mod Lookups
 pub mod Generations
 pub mod Counts
 pub mod Slots
-pub mod Examples
 mod Bounds
 mod Returns
 mod Claims

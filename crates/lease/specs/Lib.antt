@@ -6,3 +6,4 @@ pub mod Rest
 pub mod Answers
 pub mod Helpers
 pub mod Lookup
+pub mod Examples

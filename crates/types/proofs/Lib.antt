@@ -1,4 +1,5 @@
 pub mod Cases
+pub mod Refusal
 pub mod Table
 pub mod Keyed
 pub mod Zipped

@@ -1,7 +1,9 @@
 -- The refusals of document 01, "Refused, in checking order", each with its number and its values, and what a call
 -- answers: a refusal, or an outcome of its own, which has number 0.
 use Prim.Native.Nat.{ℕ}
+use mathlib.Core.Path.{_≡_}
 use mathlib.Core.List.{List, [], _∷_}
+use lib.ListN.{length}
 
 pub data Refusal : Type 0 where
   UnlimitedDeliverNotAllowed : Refusal
@@ -85,6 +87,15 @@ numbered CapReached = told 28 []
 numbered Shed = told 29 []
 numbered Held = told 30 []
 numbered JournalFull = told 31 []
+
+-- refusals of one number differ in their values alone: they have as many, and with the same ones they are the same
+pub record OneKind (r q : Refusal) : Type 0 where
+  pub as-many : length (numbered r .values) ≡ length (numbered q .values)
+  pub same : numbered r .values ≡ numbered q .values → r ≡ q
+
+-- different refusals have different numbers
+unfoldable pub NumberedApart : Type 0
+NumberedApart = (r q : Refusal) → numbered r .number ≡ numbered q .number → OneKind r q
 
 -- what a call answers
 pub data Result (A : Type 0) : Type 0 where

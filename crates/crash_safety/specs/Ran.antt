@@ -1,0 +1,94 @@
+-- Demand 3 of machines, journals and answers as the code has them: what a program does through `Machine::start`, `Machine::off`,
+-- `call` and `cut`, one behind the other, in the words of their contracts.
+use Prim.Native.Nat.{ℕ}
+use mathlib.Core.Path.{_≡_}
+use mathlib.Core.Bool.{false}
+use mathlib.Core.List.{List, [], _∷_}
+use mathlib.Core.Option.{Option, none, some}
+use lib.Dec.{eqb}
+use lib.ListN.{length, replicate}
+use Rattle.types.specs.Limits.{MAX32}
+use Rattle.types.specs.Refusal.{Refusal}
+use Rattle.consumer.specs.declared.Settings.{Settings}
+use Rattle.starts.specs.Starting.{settingsOf, startFault}
+use Rattle.starts.specs.declared.StartAnswer.{StartAnswer}
+use Rattle.starts.specs.declared.StartAnswer.the-variants as start
+use Rattle.machine.specs.Calls.{step, restart, Event}
+use Rattle.machine.specs.Door.{Turn}
+use Rattle.machine.specs.Answers.{callOf}
+use Rattle.machine.specs.View.{phaseOf, Sound, StartedIs, OffIs, turnOf, CalledIs}
+use Rattle.machine.specs.declared.calls.Call.{Call}
+use Rattle.machine.specs.declared.calls.CallAnswer.the-variants as answer
+use Rattle.machine.specs.declared.Machine.{Machine}
+use Rattle.machine.specs.declared.Called.{Called}
+use Rattle.machine.specs.declared.Started.{Started}
+use Rattle.power_cut.specs.View as power
+use Rattle.power_cut.specs.View.{cutOf, CutIs}
+use Rattle.power_cut.specs.declared.Kind.{Kind}
+use Rattle.power_cut.specs.declared.Failed.{Failed}
+use Rattle.crash_safety.specs.Runs.{Item, call, stepOn, cut, world, run, ends}
+use Rattle.crash_safety.specs.Demand3.{Holds}
+
+-- what is seen, in front of what is seen after it; of a call answered NotNow nothing is
+abbrev pub seen : Option Turn → List Event → List Event
+seen none es = es
+seen (some t) es = t .event ∷ es
+
+-- from a machine and its journal to what a program leaves of both, over the items that it makes and the events that it sees. What
+-- a contract requires stands in front of what it says
+pub data Ran : Machine → List ℕ → List Item → List Event → Machine → List ℕ → Type 0 where
+  rests : {m : Machine} {a : List ℕ} → Ran m a [] [] m a
+  -- a call, lent the journal and a list
+  calls : {m last : Machine} {a end : List ℕ} {is : List Item} {es : List Event}
+      (q : Call) (out : List ℕ) (r : Called) (a′ out′ : List ℕ)
+      → (Sound m → CalledIs m (callOf (length out) q) a out r a′ out′)
+      → Ran (r .machine) a′ is es last end
+      → Ran m a (call (callOf (length out) q) ∷ is) (seen (turnOf (callOf (length out) q) (r .answer) (r .machine) a′ out′) es) last end
+  -- a step, lent memory of another length than the journal's
+  strays : {m last : Machine} {a end : List ℕ} {is : List Item} {es : List Event}
+      (b out : List ℕ) (r : Called) (b′ out′ : List ℕ) → eqb (length b) (length a) ≡ false
+      → (Sound m → CalledIs m step b out r b′ out′)
+      → Ran (r .machine) a is es last end
+      → Ran m a (stepOn b ∷ is) (seen (turnOf step (r .answer) (r .machine) b′ out′) es) last end
+  -- a power failure in a step, lent the journal
+  cuts : {m last : Machine} {a end : List ℕ} {is : List Item} {es : List Event}
+      (k : Kind) (bytes : List ℕ) (r : Failed) (a′ : List ℕ)
+      → (Sound m → CutIs m (cutOf k bytes) a r a′)
+      → Ran (r .machine) a′ is es last end
+      → Ran m a (cut (cutOf k bytes) ∷ is) (seen (power.turnOf (r .answer) (r .machine) a′) es) last end
+  -- the program ends at any point and is started anew: a machine that is off, with the same settings, goes on from the journal
+  reopens : {m last : Machine} {a end : List ℕ} {is : List Item} {es : List Event}
+      (m′ : Machine) (out : List ℕ) (r : Called) (a′ out′ : List ℕ) → OffIs (m .settings) m′
+      → (Sound m′ → CalledIs m′ restart a out r a′ out′) → r .answer ≡ answer.Restarted start.Started
+      → Ran (r .machine) a′ is es last end
+      → Ran m a (call restart ∷ is) (seen (turnOf restart (r .answer) (r .machine) a′ out′) es) last end
+
+-- ## it is the run
+pub record IsRun (m : Machine) (a : List ℕ) (is : List Item) (es : List Event) (last : Machine) (end : List ℕ) : Type 0 where
+  -- what the program saw is what is seen of the list, and it leaves who can be called then, and the journal
+  pub sees : run (settingsOf (m .settings)) (world (phaseOf m) a) is ≡ es
+  pub leaves : ends (settingsOf (m .settings)) (world (phaseOf m) a) is ≡ world (phaseOf last) end
+  pub settings : last .settings ≡ m .settings
+  -- the next contract can be used too
+  pub sound : Sound last
+
+unfoldable pub RanIsRun : Type 0
+RanIsRun =
+    (m : Machine) (a : List ℕ) (is : List Item) (es : List Event) (last : Machine) (end : List ℕ) → Sound m → Ran m a is es last end
+    → IsRun m a is es last end
+
+-- ## so demand 3 holds of it
+pub record HoldsRan (s : Settings) (is : List Item) (es : List Event) (last : Machine) (end : List ℕ) : Type 0 where
+  pub holds : Holds (settingsOf s) is es
+  -- and no machine that is off is refused to go on from the journal
+  pub reopened : (m : Machine) (out : List ℕ) (r : Called) (a′ out′ : List ℕ) → OffIs s m
+      → (Sound m → CalledIs m restart end out r a′ out′)
+      → (x : StartAnswer) (f : Refusal) → r .answer ≡ answer.Restarted x → startFault x ≡ some f → ⊥
+
+-- every program, from every machine that a start gave, on a zeroed journal, with a limit that is neither 0 nor 4294967295
+unfoldable pub Demand3Ran : Type 0
+Demand3Ran =
+    (s : Settings) (size : ℕ) (r : Started) → StartedIs s size r → r .answer ≡ start.Started
+    → (settingsOf s .policy .maxDeliver ≡ 0 → ⊥) → (settingsOf s .policy .maxDeliver ≡ MAX32 → ⊥)
+    → (is : List Item) (es : List Event) (last : Machine) (end : List ℕ) → Ran (r .machine) (replicate size 0) is es last end
+    → HoldsRan s is es last end
