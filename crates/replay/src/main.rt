@@ -1,9 +1,15 @@
 // Runs a script of calls, with power failures, against a consumer and its journal. It reads lines from standard input and writes
-// an answer line for each; the crate `script` has the lines, README.md how to use it.
-ghost use mathlib.Core.Path.{_≡_};
+// an answer line for each; `script` has the lines, `printing` the answers, README.md how to use it.
+mod blocks;
+mod printing;
+mod script;
+mod session;
+
 ghost use lib.ListN.{length};
-ghost use Rattle.replay.specs.Running.{Going};
+ghost use Rattle.text.specs.Lines.{Within, Lies};
+ghost use Rattle.replay.specs.Running.{Ready, Going};
 use libc::STDIN_FILENO;
+use script::Line;
 use session::Session;
 use text::lines;
 use text::lines::Found;
@@ -18,23 +24,60 @@ struct State {
     ended: bool,
 }
 
-fn next(input: Input, at: usize, session: Session, ended: bool) -> State
-    ensures { λ r. ⌜ (r .input ≡ input) × (r .session ≡ session) ⌝ }
+// What a line leaves, and how many bytes of answers wait.
+struct Done {
+    session: Session,
+    at: usize,
+}
+
+// The line that was found; nothing, where more is to be read first or the input has ended.
+fn line_in(buf: &[u8], found: Found) -> Line
+    requires { ⌜ Lies (length (now buf)) found ⌝ }
 {
-    State {
-        input: input,
-        at: at,
-        session: session,
-        ended: ended,
+    match found {
+        Found::Line { from, to } => script::parse(&buf[from..to]),
+        Found::TooLong { first } => script::too_long(first),
+        _ => script::plain(script::NOTHING),
     }
 }
 
-// A line that was too long: no answer where it is a comment.
-fn too_long(out: &mut [u8], at: usize, first: u8) -> usize {
-    if first == 35 {
-        return at;
+fn is_line(found: Found) -> bool {
+    match found {
+        Found::More | Found::End => false,
+        _ => true,
     }
-    output::put(out, at, b"bad line\n")
+}
+
+// What there is to take once more is read, unless the input has ended.
+fn more(buf: &mut [u8], input: Input) -> Input
+    requires { ⌜ Within (length (now buf)) input ⌝ }
+    ensures { λ r. ⌜ Within (length (now (buf .entry))) r ⌝ }
+{
+    if input.ended {
+        return input;
+    }
+    lines::refill(STDIN_FILENO, buf, input)
+}
+
+// Does what a line asks, and puts its answer.
+fn answer<'a>(
+    line: Line,
+    session: Session,
+    area: &'a mut [u8],
+    out: &'a mut [u8],
+    at: usize,
+) -> Done
+    requires { ⌜ Ready (length (now area)) session ⌝ }
+    ensures { λ r. ⌜ Ready (length (now (area .entry))) (r .session) ⌝ }
+{
+    let mut list = [0u64; 192];
+    let acted = session::act(session, line, area, &mut list);
+    let said = acted.said;
+    let after = acted.session;
+    Done {
+        session: after,
+        at: printing::print(out, at, said, &list, area, after),
+    }
 }
 
 // Answers the next line. Before more is read, all answers are written out, so that whoever waits for them gets them.
@@ -48,27 +91,33 @@ fn turn<'a>(buf: &'a mut [u8], out: &'a mut [u8], area: &'a mut [u8], state: Sta
     let taken = lines::take_line(buf, before);
     let input = taken.input;
     let found = taken.found;
-    match found {
-        Found::Line { from, to } => {
-            let done = commands::answer(&buf[from..to], session, area, out, at);
-            let after = done.session;
-            next(input, done.at, after, false)
-        }
-        Found::TooLong { first } => next(input, too_long(out, at, first), session, false),
-        Found::More => {
-            output::flush(out, at);
-            next(lines::refill(STDIN_FILENO, buf, input), 0, session, false)
-        }
-        Found::End => {
-            output::flush(out, at);
-            next(input, 0, session, true)
-        }
+    if is_line(found) {
+        let done = answer(line_in(buf, found), session, area, out, at);
+        let after = done.session;
+        return State {
+            input: input,
+            at: done.at,
+            session: after,
+            ended: false,
+        };
+    }
+    output::flush(out, at);
+    State {
+        input: more(buf, input),
+        at: 0,
+        session: session,
+        ended: input.ended,
     }
 }
 
 // Line by line up to the end. A proved loop has to end, so it counts its turns down from a number that no run uses up.
 fn run<'a>(buf: &'a mut [u8], out: &'a mut [u8], area: &'a mut [u8]) {
-    let mut state = next(lines::nothing_read(), 0, session::nothing_started(), false);
+    let mut state = State {
+        input: lines::nothing_read(),
+        at: 0,
+        session: session::nothing_started(),
+        ended: false,
+    };
     let mut turns = u64::MAX;
     while 0 < turns {
         state = turn(buf, out, area, state);

@@ -5,7 +5,6 @@ use mathlib.Core.Path.{_≡_, refl}
 use lib.ListN.{length}
 use borrow.Author.Needs.{needs}
 use Rattle.replay.specs.Running.{Going}
-use Rattle.replay.proofs.Keeping.{going}
 use Rattle.replay.proofs.run.Statement.{statement}
 use Rattle.replay.proofs.run.Tie as tie
 
@@ -23,15 +22,12 @@ nothing-read-requires c κs = search needs
 nothing-started-requires : tie.Need-nothing-started-requires Inv-loop μ-loop
 nothing-started-requires c κs = search needs
 
-next-requires : tie.Need-next-requires Inv-loop μ-loop
-next-requires c κs = search needs
-
 loop-holds : tie.Need-loop-holds Inv-loop μ-loop
 loop-holds c = (
   refl,
   refl,
   refl,
-  going (c .next .ensures) (rw (c .before .before .nothing-read .ensures) (record { ordered = omega arith; inside = omega arith })) (c .before .nothing-started .ensures _),
+  record { input = rw (c .before .nothing-read .ensures) (record { ordered = omega arith; inside = omega arith }); session = c .nothing-started .ensures _ },
 )
 
 turn-requires : tie.Need-turn-requires Inv-loop μ-loop
@@ -80,7 +76,6 @@ run-spec =
     μ-loop
     nothing-read-requires
     nothing-started-requires
-    next-requires
     loop-holds
     turn-requires
     same-length

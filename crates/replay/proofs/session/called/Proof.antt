@@ -1,0 +1,62 @@
+-- `called` keeps what is ready. Assumes nothing.
+use native.Mathlib.Omega.{arith}
+use mathlib.Core.Path.{sym}
+use lib.Seq.{length-take-le}
+use borrow.Author.Needs.{needs}
+use Rattle.replay.proofs.session.called.Statement.{statement}
+use Rattle.replay.proofs.session.called.Tie as tie
+
+lent-to-requires : tie.Need-lent-to-requires
+lent-to-requires c κs = search needs
+
+plain-requires : tie.Need-plain-requires
+plain-requires c κs = search needs
+
+returns : tie.Need-returns
+returns c = search needs
+
+slice-relend-prefix-call : tie.Need-slice-relend-prefix-call
+slice-relend-prefix-call c = search needs
+
+slice-aggregate-call : tie.Need-slice-aggregate-call
+slice-aggregate-call c =
+    let b = c .before .before .before .before .before .before in
+    sym (length-take-le (c .before .before .before .lent-to .result) (b .args .area .now) (omega (arith, b .pre .inside)))
+
+call-requires : tie.Need-call-requires
+call-requires c κs = search needs
+
+of-call-requires : tie.Need-of-call-requires
+of-call-requires c κs = search needs
+
+behind-requires : tie.Need-behind-requires
+behind-requires c κs = search needs
+
+same-length : tie.Need-same-length
+same-length c = search needs
+
+same-length-2 : tie.Need-same-length-2
+same-length-2 c = search needs
+
+returns-2 : tie.Need-returns-2
+returns-2 c =
+    record {
+      machine = c .behind .ensures .machine;
+      inside = omega (arith, c .behind .ensures .inside, c .before .before .before .before .before .before .before .before .before .before .before .before .before .before .before .before .pre .inside);
+    }
+
+pub called-spec : {M : Type 1} → statement M
+called-spec =
+    tie.close
+    (tie.spec
+    lent-to-requires
+    plain-requires
+    returns
+    slice-relend-prefix-call
+    slice-aggregate-call
+    call-requires
+    of-call-requires
+    behind-requires
+    same-length
+    same-length-2
+    returns-2)

@@ -1,0 +1,168 @@
+// The answer lines: which template each answer has, with which numbers, and their print.
+use crate::script;
+use crate::session::Session;
+use text::output;
+use text::templates;
+use wire::numbers::Numbers;
+
+// The templates, by their places among them. The lines of a refusal with one value and with two stand behind that of one with none.
+pub const SILENT: usize = 0;
+
+pub const BAD_LINE: usize = 1;
+
+pub const NOT_NOW: usize = 2;
+
+const REFUSED: usize = 3;
+
+pub const STARTED: usize = 6;
+
+const DELIVER: usize = 7;
+
+const DEADLETTER: usize = 8;
+
+const SETTLED: usize = 9;
+
+const REQUEUED: usize = 10;
+
+const EXTENDED: usize = 11;
+
+const COMMITTED: usize = 12;
+
+const UNCHANGED: usize = 13;
+
+const WAITING: usize = 14;
+
+const BEGUN: usize = 15;
+
+const WROTE: usize = 16;
+
+const DONE: usize = 17;
+
+const RESTARTED: usize = 18;
+
+pub const CUT: usize = 19;
+
+pub const POKED: usize = 20;
+
+pub const BLOCK: usize = 21;
+
+pub const STATE: usize = 22;
+
+// An answer: a template and its numbers. Behind those of a waiting list, a block and the state stand their entries.
+pub struct Said {
+    pub template: usize,
+    pub numbers: [u64; 4],
+}
+
+fn says(template: usize, a: u64, b: u64, c: u64) -> Said {
+    Said {
+        template: template,
+        numbers: [a, b, c, 0],
+    }
+}
+
+pub fn plain(template: usize) -> Said {
+    says(template, 0, 0, 0)
+}
+
+pub fn with(template: usize, n: u64) -> Said {
+    says(template, n, 0, 0)
+}
+
+// A refusal: 01's number and values. 255 is none of 01's: the call can't be made where it stands.
+pub fn refusal(told: Numbers) -> Said {
+    if told.0 == 255 {
+        return plain(NOT_NOW);
+    }
+    let count = told.1;
+    match count {
+        0 => says(REFUSED, told.0, 0, 0),
+        1 => says(REFUSED + 1, told.0, told.2, 0),
+        _ => says(REFUSED + 2, told.0, told.2, told.3),
+    }
+}
+
+// One of two templates, by a bit.
+fn either(bit: u64, zero: usize, one: usize) -> usize {
+    if bit == 0 {
+        return zero;
+    }
+    one
+}
+
+// What a call of a form answered, in numbers; `offset` is the one that was claimed.
+pub fn answered(form: usize, offset: u64, told: Numbers) -> Said {
+    if told.0 != 0 {
+        return refusal(told);
+    }
+    match form {
+        script::CLAIM => says(either(told.4, DELIVER, DEADLETTER), offset, told.2, told.3),
+        script::ACK | script::TERM => plain(SETTLED),
+        script::NACK | script::NACK_AFTER => with(REQUEUED, told.2),
+        script::PROGRESS => with(EXTENDED, told.2),
+        script::COMMIT => plain(either(told.2, UNCHANGED, COMMITTED)),
+        script::WAITING => with(WAITING, told.1),
+        script::BEGIN => with(BEGUN, told.2),
+        script::STEP | script::STEP_ON => with(either(told.3, WROTE, DONE), told.2),
+        _ => plain(RESTARTED),
+    }
+}
+
+// The first n entries of a list, and the line's end.
+fn waiting(out: &mut [u8], at: usize, list: &[u64], n: usize) -> usize {
+    let mut next = at;
+    let mut i: usize = 0;
+    while i < list.len() {
+        if n <= i {
+            break;
+        }
+        next = shown::with(out, next, b" ", list[i]);
+        i += 1;
+    }
+    output::put(out, next, b"\n")
+}
+
+// The hexadecimal digits of the block that begins at a place, and the line's end.
+fn block(out: &mut [u8], at: usize, area: &[u8], from: usize) -> usize {
+    let mut next = at;
+    let mut i: usize = from;
+    let mut left: usize = 512;
+    while 0 < left {
+        if area.len() <= i {
+            break;
+        }
+        next = output::put_hex(out, next, area[i]);
+        i += 1;
+        left -= 1;
+    }
+    output::put(out, next, b"\n")
+}
+
+// An answer; `list` has the waiting list.
+pub fn print<'a>(
+    out: &'a mut [u8],
+    at: usize,
+    said: Said,
+    list: &'a [u64],
+    area: &'a [u8],
+    session: Session,
+) -> usize {
+    let machine = session.machine;
+    let writing = machine.writing;
+    let consumer = writing.consumer;
+    let template = said.template;
+    let numbers = said.numbers;
+    let next = templates::fill(
+        out,
+        at,
+        b"|bad line\n|not now\n|refused #\n|refused # #\n|refused # # #\n|started\n|deliver # # #\n|deadletter # # #\n|settled\n|requeued #\n|extended #\n|committed\n|unchanged\n|waiting|begun #\n|wrote #\n|done #\n|restarted\n|cut #\n|poked\n|block |",
+        template,
+        numbers,
+    );
+    match template {
+        WAITING => waiting(out, next, list, numbers[0] as usize),
+        BLOCK => block(out, next, area, numbers[0] as usize),
+        STATE => shown::state(out, next, consumer),
+        _ => next,
+    }
+}

@@ -1,0 +1,307 @@
+// What is being run by a script: a machine with its journal in a lent area, its start, its calls, and the answer to each line.
+ghost use Prim.Native.Nat.{ℕ, _≤_};
+ghost use lib.ListN.{length};
+ghost use Rattle.machine.specs.View.{Sound};
+ghost use Rattle.replay.specs.Running.{Ready};
+use crate::blocks;
+use crate::printing;
+use crate::printing::Said;
+use crate::script;
+use crate::script::Line;
+use consumer::Settings;
+use delivery::DeliveryConfig;
+use lease::LeaseConfig;
+use machine::Machine;
+use machine::calls::Call;
+use power_cut::Kind;
+use starts::StartAnswer;
+use wire::kinds;
+use wire::kinds::Calling;
+use wire::numbers;
+use wire::numbers::Numbers;
+
+// The machine, and how many bytes of the lent area are its journal: none before the first start.
+pub struct Session {
+    pub machine: Machine,
+    pub len: usize,
+}
+
+// What a line leaves, and its answer.
+pub struct Acted {
+    pub session: Session,
+    pub said: Said,
+}
+
+// A power failure, or another line.
+enum Cutting {
+    Cut(Kind),
+    Other,
+}
+
+// ---- what a line asks
+
+// The number that `wire` gives the call of a form; of a form that is none, one that no call has.
+fn kind_of(form: usize) -> u64 {
+    match form {
+        script::CLAIM..=script::WAITING => form as u64,
+        script::BEGIN => 15,
+        script::STEP | script::STEP_ON => 16,
+        script::RESTART | script::RESTART_ON => 17,
+        _ => u64::MAX,
+    }
+}
+
+fn call_of(line: Line) -> Calling {
+    let v = line.numbers;
+    kinds::call_of(kind_of(line.form), v[0], v[1], v[2], v[3])
+}
+
+fn cut_of(form: usize) -> Cutting {
+    match form {
+        script::CUT_OLD => Cutting::Cut(Kind::Old),
+        script::CUT_NEW => Cutting::Cut(Kind::New),
+        script::CUT_TORN => Cutting::Cut(Kind::Torn),
+        _ => Cutting::Other,
+    }
+}
+
+// How much of the area a call is lent: the journal, where the line doesn't say; more than there is before the first start.
+fn lent_to(line: Line, len: usize) -> usize {
+    let form = line.form;
+    if len == 0 {
+        return usize::MAX;
+    }
+    match form {
+        script::STEP_ON | script::RESTART_ON => line.numbers[0] as usize,
+        _ => len,
+    }
+}
+
+// ---- a start
+
+// Whether the numbers of a start are in range: the first and the third u32, the second 0 or 1.
+fn in_range(v: [u64; 24]) -> bool {
+    if 4294967295 < v[0] {
+        return false;
+    }
+    if 1 < v[1] {
+        return false;
+    }
+    v[2] <= 4294967295
+}
+
+// The low 32 bits of a number, which are all of one in range.
+fn short(n: u64) -> u32 {
+    (n % 4294967296) as u32
+}
+
+// The backoffs among a start's numbers, which are the last of them, and how many they are.
+fn backoffs_of(v: [u64; 24]) -> [u64; 16] {
+    let mut backoffs = [0u64; 16];
+    let mut i: usize = 0;
+    while i < 16 {
+        backoffs[i] = v[i + 6];
+        i += 1;
+    }
+    backoffs
+}
+
+fn backoff_len(count: usize) -> usize {
+    if count < 6 {
+        return 0;
+    }
+    count - 6
+}
+
+// The settings that a start's numbers are.
+fn settings_of(v: [u64; 24], count: usize) -> Settings {
+    Settings {
+        delivery: DeliveryConfig {
+            max_deliver: short(v[0]),
+            allow_unlimited: v[1] == 1,
+            backoff_nanos: backoffs_of(v),
+            backoff_len: backoff_len(count),
+            attempts_flush_redeliveries: short(v[2]),
+        },
+        lease: LeaseConfig {
+            visibility_nanos: v[3],
+            hard_cap_nanos: v[4],
+        },
+    }
+}
+
+// Before the first start.
+pub fn nothing_started() -> Session
+    ensures { λ r. ⌜ ((n : ℕ) → Ready n r) ⌝ }
+{
+    let settings = settings_of([0; 24], 0);
+    Session {
+        machine: Machine::off(settings),
+        len: 0,
+    }
+}
+
+// What a start answers and leaves, in an area of so many bytes, of which it is to have the first `len`.
+fn started(session: Session, settings: Settings, len: usize, most: usize) -> Acted
+    requires { ⌜ Ready most session ⌝ }
+    ensures { λ r. ⌜ Ready most (r .session) ⌝ }
+{
+    let started = Machine::start(settings, len);
+    let answer = started.answer;
+    let told = numbers::of_start(answer);
+    if told.0 != 0 {
+        return Acted {
+            session: session,
+            said: printing::refusal(told),
+        };
+    }
+    if most < len {
+        return Acted {
+            session: session,
+            said: printing::refusal(numbers::of_start(StartAnswer::BadArea)),
+        };
+    }
+    let machine = started.machine;
+    Acted {
+        session: Session {
+            machine: machine,
+            len: len,
+        },
+        said: printing::plain(printing::STARTED),
+    }
+}
+
+// A start on the first bytes of the area, which are zeroed; refused, it leaves what was there.
+fn start(session: Session, line: Line, area: &mut [u8]) -> Acted
+    requires { ⌜ Ready (length (now area)) session ⌝ }
+    ensures { λ r. ⌜ Ready (length (now (area .entry))) (r .session) ⌝ }
+{
+    let v = line.numbers;
+    if !in_range(v) {
+        return Acted {
+            session: session,
+            said: printing::plain(printing::BAD_LINE),
+        };
+    }
+    let settings = settings_of(v, line.count);
+    let acted = started(session, settings, v[5] as usize, area.len());
+    if acted.said.template == printing::STARTED {
+        let len = acted.session.len;
+        raw::clear(&mut area[..len]);
+    }
+    acted
+}
+
+// ---- calls
+
+// How much of the area is the journal behind a call that was lent so much: a restart that isn't refused keeps what it was lent.
+fn len_after(form: usize, told: Numbers, len: usize, lent: usize) -> usize
+    requires { ⌜ lent ≤ len ⌝ }
+    ensures { λ r. ⌜ r ≤ len ⌝ }
+{
+    if told.0 != 0 {
+        return len;
+    }
+    match form {
+        script::RESTART | script::RESTART_ON => lent,
+        _ => len,
+    }
+}
+
+// What a call leaves that was lent so much, with its answer in numbers.
+fn behind(machine: Machine, line: Line, told: Numbers, len: usize, lent: usize) -> Acted
+    requires { ⌜ (Sound machine) × (lent ≤ len) ⌝ }
+    ensures { λ r. ⌜ Ready len (r .session) ⌝ }
+{
+    let form = line.form;
+    Acted {
+        session: Session {
+            machine: machine,
+            len: len_after(form, told, len, lent),
+        },
+        said: printing::answered(form, line.numbers[0], told),
+    }
+}
+
+// A call that is lent the first bytes of the area.
+fn called(session: Session, call: Call, line: Line, area: &mut [u8], list: &mut [u64]) -> Acted
+    requires { ⌜ Ready (length (now area)) session ⌝ }
+    ensures { λ r. ⌜ Ready (length (now (area .entry))) (r .session) ⌝ }
+{
+    let len = session.len;
+    let lent = lent_to(line, len);
+    if len < lent {
+        return Acted {
+            session: session,
+            said: printing::plain(printing::NOT_NOW),
+        };
+    }
+    let before = session.machine;
+    let called = machine::call(before, call, &mut area[..lent], list);
+    let answer = called.answer;
+    let after = called.machine;
+    behind(after, line, numbers::of_call(answer, list), len, lent)
+}
+
+// The power fails in the step that is next.
+fn cut(session: Session, kind: Kind, area: &mut [u8]) -> Acted
+    requires { ⌜ Ready (length (now area)) session ⌝ }
+    ensures { λ r. ⌜ Ready (length (now (area .entry))) (r .session) ⌝ }
+{
+    let len = session.len;
+    let before = session.machine;
+    let cut = blocks::cut(before, kind, &mut area[..len]);
+    let machine = cut.machine;
+    let said = cut.said;
+    Acted {
+        session: Session {
+            machine: machine,
+            len: len,
+        },
+        said: said,
+    }
+}
+
+// ---- lines
+
+// The state, where it can be called.
+fn state(machine: Machine) -> Said {
+    if machine.phase == 0 {
+        return printing::plain(printing::STATE);
+    }
+    printing::plain(printing::NOT_NOW)
+}
+
+// The answer to a line that leaves the session as it is.
+fn seen(session: Session, line: Line, area: &mut [u8]) -> Said {
+    let form = line.form;
+    let v = line.numbers;
+    match form {
+        script::NOTHING => printing::plain(printing::SILENT),
+        script::STATE => state(session.machine),
+        script::PEEK => blocks::peek(session.len, v[0]),
+        script::POKE => blocks::poke(session.len, v[0], v[1], v[2], area),
+        _ => printing::plain(printing::BAD_LINE),
+    }
+}
+
+// What a line does, and its answer; `list` has the waiting list.
+pub fn act(session: Session, line: Line, area: &mut [u8], list: &mut [u64]) -> Acted
+    requires { ⌜ Ready (length (now area)) session ⌝ }
+    ensures { λ r. ⌜ Ready (length (now (area .entry))) (r .session) ⌝ }
+{
+    let form = line.form;
+    if let Calling::Call(call) = call_of(line) {
+        return called(session, call, line, area, list);
+    }
+    if let Cutting::Cut(kind) = cut_of(form) {
+        return cut(session, kind, area);
+    }
+    if form == script::START {
+        return start(session, line, area);
+    }
+    Acted {
+        session: session,
+        said: seen(session, line, area),
+    }
+}
