@@ -1,180 +1,232 @@
-// The lines that `modules` reads. Every line is an operation with its numbers, a line that asks for nothing, or a bad one.
-ghost use mathlib.Core.Path.{_≡_};
-ghost use Prim.Native.Nat.{_+_};
-ghost use lib.Dec.{eqb};
-ghost use Rattle.text.specs.Words.{laterWords};
-ghost use Rattle.operations.specs.Lines.{isNothing, moduleOf, isNamed, placeAmong, placeOf, ReadAs};
-use text::words;
-use text::words::Numbers;
+// Lists of operations on a cursor, a lease table, a delivery config, a list of entries and bytes, in numbers: docs/ORACLE.md has
+// them. For the comparison with the original, and for the program `modules`.
+ghost use Prim.Native.Nat.{_≤_, _+_};
+ghost use lib.ListN.{length};
+ghost use Rattle.cursor.specs.View as cursors;
+ghost use Rattle.lease.specs.State as tables;
+ghost use Rattle.delivery.specs.Config as configs;
+ghost use Rattle.operations.specs.State.{ListReady, BytesReady, Ready};
+use answer::Answer;
+use cursor::AckCursor;
+use state::Op;
+use state::State;
+use types::Offset;
 
-// What a line's first word names.
-pub enum Module {
-    List,
-    Bytes,
-    Offset,
-    Cursor,
-    Attempt,
-    Lease,
-    Delivery,
-    Other,
+mod answer;
+mod digest;
+mod on_bytes;
+mod on_config;
+mod on_cursor;
+mod on_list;
+mod on_table;
+mod questions;
+mod state;
+
+// What an operation leaves and answers.
+struct Done {
+    state: State,
+    answer: Answer,
 }
 
-// A line. An operation is named by its place among those of its module, which `place` lists.
-pub enum Line {
-    Nothing,
-    Bad,
-    Operation { module: Module, place: usize },
-}
-
-// A line, and the first four of its numbers, 0 where it has fewer.
-pub struct Parsed {
-    pub line: Line,
-    pub numbers: [u64; 4],
-}
-
-// Whether a line asks for nothing: it is empty, or begins with #.
-fn is_nothing(line: &[u8]) -> bool
-    ensures { λ r. ⌜ r ≡ isNothing (now (line .entry)) ⌝ }
+// The operations that change the list.
+fn list(op: Op, state: State) -> on_list::Done
+    requires { ⌜ Ready state ⌝ }
+    ensures { λ r. ⌜ ListReady (r .list) ⌝ }
 {
-    if line.len() == 0 {
-        return true;
+    let number = op.number;
+    let list = state.list;
+    let table = state.table;
+    match number {
+        1 => on_list::left(state::empty(), answer::plain(0)),
+        2 => on_list::add(list, op.w, op.x),
+        3 => on_list::ranges(state.cursor, op.w, list),
+        4 => on_list::decode(op, state.bytes, list),
+        5 => on_list::counts(table.lease_counts()),
+        6 => on_list::counts(table.all_counts()),
+        7 => on_list::offsets(table.due(op.w), op.x, list),
+        _ => on_list::left(list, answer::bad()),
     }
-    line[0] == 35
 }
 
-fn module_of(word: &[u8]) -> Module
-    ensures { λ r. ⌜ r ≡ moduleOf (now (word .entry)) ⌝ }
+// The operations that change the cursor.
+fn cursor(op: Op, state: State) -> on_cursor::Done
+    requires { ⌜ Ready state ⌝ }
+    ensures { λ r. ⌜ cursors.Sound (r .cursor) ⌝ }
 {
-    if words::same(word, b"list") {
-        return Module::List;
+    let number = op.number;
+    let cursor = state.cursor;
+    let offset = Offset(op.w);
+    match number {
+        21 => on_cursor::made(AckCursor::new()),
+        22 => on_cursor::made(AckCursor::resume(offset)),
+        23 => on_cursor::with(cursor, op.w, state.list),
+        24 => on_cursor::acked(cursor.ack(offset)),
+        25 => on_cursor::acked(cursor.ack_bounded(offset, op.x as usize)),
+        26 => on_cursor::commit(cursor, op.w),
+        27 => on_cursor::decode(cursor, op.w, op.x, state.bytes),
+        _ => on_cursor::left(cursor, answer::bad()),
     }
-    if words::same(word, b"bytes") {
-        return Module::Bytes;
-    }
-    if words::same(word, b"offset") {
-        return Module::Offset;
-    }
-    if words::same(word, b"cursor") {
-        return Module::Cursor;
-    }
-    if words::same(word, b"attempt") {
-        return Module::Attempt;
-    }
-    if words::same(word, b"lease") {
-        return Module::Lease;
-    }
-    if words::same(word, b"delivery") {
-        return Module::Delivery;
-    }
-    Module::Other
 }
 
-// Whether a byte is the decimal digit of a number.
-fn digit_is(c: u8, n: usize) -> bool
-    ensures { λ r. ⌜ r ≡ eqb c (n + 48) ⌝ }
+// The operations that change the delivery config.
+fn config(op: Op, state: State) -> on_config::Done
+    requires { ⌜ Ready state ⌝ }
+    ensures { λ r. ⌜ configs.Sound (r .config) ⌝ }
 {
-    if c < 48 {
-        return false;
+    let number = op.number;
+    let config = state.config;
+    match number {
+        51 => on_config::new(config, op.w, op.x, state.list),
+        52 => on_config::flush(config, op.w),
+        _ => on_config::left(config, answer::bad()),
     }
-    (c - 48) as usize == n
 }
 
-// Whether an entry, such as `ack/1`, is an operation's word with so many numbers.
-fn is_named(entry: &[u8], word: &[u8], n: usize) -> bool
-    ensures { λ r. ⌜ r ≡ isNamed (now (word .entry)) n (now (entry .entry)) ⌝ }
+fn with_list(state: State, done: on_list::Done) -> Done
+    requires { ⌜ Ready state × ListReady (done .list) ⌝ }
+    ensures { λ r. ⌜ Ready (r .state) ⌝ }
 {
-    let len = entry.len();
-    if len < 2 {
-        return false;
+    let mut next = state;
+    let list = done.list;
+    next.list = list;
+    let answer = done.answer;
+    Done {
+        state: next,
+        answer: answer,
     }
-    let end = len - 2;
-    let last = len - 1;
-    if words::same(&entry[..end], word) {
-        return digit_is(entry[last], n);
-    }
-    false
 }
 
-// The place of a word with so many numbers among the entries behind the first word, or how many they are.
-fn place_in(entries: &[u8], word: &[u8], n: usize) -> usize
-    ensures { λ r. ⌜ r ≡ placeAmong (now (word .entry)) n (laterWords (now (entries .entry))) ⌝ }
+fn with_bytes(state: State, done: on_bytes::Done) -> Done
+    requires { ⌜ Ready state × BytesReady (done .bytes) ⌝ }
+    ensures { λ r. ⌜ Ready (r .state) ⌝ }
 {
-    let len = entries.len();
-    let mut place: usize = 0;
-    let mut at = words::word_end(entries, 0);
-    while at < len {
-        let start = at + 1;
-        let end = words::word_end(entries, start);
-        if is_named(&entries[start..end], word, n) {
-            return place;
-        }
-        place += 1;
-        at = end;
+    let mut next = state;
+    let bytes = done.bytes;
+    next.bytes = bytes;
+    let answer = done.answer;
+    Done {
+        state: next,
+        answer: answer,
     }
-    place
 }
 
-// The operations, each a word and how many numbers it takes.
-fn place(module: Module, word: &[u8], n: usize) -> usize
-    ensures { λ r. ⌜ r ≡ placeOf «module» (now (word .entry)) n ⌝ }
+fn with_cursor(state: State, done: on_cursor::Done) -> Done
+    requires { ⌜ Ready state × cursors.Sound (done .cursor) ⌝ }
+    ensures { λ r. ⌜ Ready (r .state) ⌝ }
 {
-    match module {
-        Module::List => place_in(b"list new/0 add/2", word, n),
-        Module::Bytes => place_in(b"bytes new/2 set/2 seal/2 crc/2", word, n),
-        Module::Offset => place_in(b"offset next/1", word, n),
-        Module::Cursor => place_in(
-            b"cursor new/0 resume/1 ack/1 bounded/2 commit/1 acked/1 committed/0 len/0 runs/0 with/1 ranges/1 encode/1 decode/2",
-            word,
-            n,
+    let mut next = state;
+    let cursor = done.cursor;
+    next.cursor = cursor;
+    let answer = done.answer;
+    Done {
+        state: next,
+        answer: answer,
+    }
+}
+
+fn with_table(state: State, done: on_table::Done) -> Done
+    requires { ⌜ Ready state × tables.Sound (done .table) ⌝ }
+    ensures { λ r. ⌜ Ready (r .state) ⌝ }
+{
+    let mut next = state;
+    let table = done.table;
+    next.table = table;
+    let answer = done.answer;
+    Done {
+        state: next,
+        answer: answer,
+    }
+}
+
+fn with_config(state: State, done: on_config::Done) -> Done
+    requires { ⌜ Ready state × configs.Sound (done .config) ⌝ }
+    ensures { λ r. ⌜ Ready (r .state) ⌝ }
+{
+    let mut next = state;
+    let config = done.config;
+    next.config = config;
+    let answer = done.answer;
+    Done {
+        state: next,
+        answer: answer,
+    }
+}
+
+// An operation, by the ten that its number is of: what it changes.
+fn step(op: Op, state: State) -> Done
+    requires { ⌜ Ready state ⌝ }
+    ensures { λ r. ⌜ Ready (r .state) ⌝ }
+{
+    let ten = op.number / 10;
+    match ten {
+        0 => with_list(state, list(op, state)),
+        1 => with_bytes(
+            state,
+            on_bytes::change(op, state.cursor, state.list, state.bytes),
         ),
-        Module::Attempt => place_in(b"attempt encode/1 decode/3", word, n),
-        Module::Lease => place_in(
-            b"lease new/2 millis/2 default/0 at/3 flushed/0 release/1 shift/1 reseal/3 defer/3 claim/2 ack/2 extend/3 nack/4 redeliveries/0 inflight/0 claimable/2 deliveries/2 holds/3 pending/2 resume/0 counts/0 all/0 expired/2",
-            word,
-            n,
-        ),
-        Module::Delivery => place_in(
-            b"delivery new/2 flush/1 threshold/0 limit/0 unlimited/0 disposition/1 backoff/1 delay/1 explicit/2",
-            word,
-            n,
-        ),
-        Module::Other => 0,
-    }
-}
-
-// A line with its numbers.
-pub fn parse(line: &[u8]) -> Parsed
-    ensures { λ r. ⌜ ReadAs (now (line .entry)) r ⌝ }
-{
-    let mut numbers = [0u64; 4];
-    if is_nothing(line) {
-        return Parsed {
-            line: Line::Nothing,
-            numbers: numbers,
-        };
-    }
-    let first = words::word_end(line, 0);
-    if line.len() <= first {
-        return Parsed {
-            line: Line::Bad,
-            numbers: numbers,
-        };
-    }
-    let from = first + 1;
-    let gathered = words::parse_numbers(line, from, &mut numbers);
-    let Numbers::Count(n) = gathered else {
-        return Parsed {
-            line: Line::Bad,
-            numbers: numbers,
-        };
-    };
-    let end = words::word_end(line, from);
-    let module = module_of(&line[..first]);
-    Parsed {
-        line: Line::Operation {
-            module: module,
-            place: place(module, &line[from..end], n),
+        2 => with_cursor(state, cursor(op, state)),
+        3..=4 => with_table(state, on_table::change(op, state.table, state.list)),
+        5 => with_config(state, config(op, state)),
+        _ => Done {
+            state: state,
+            answer: questions::answer(op, state),
         },
-        numbers: numbers,
     }
+}
+
+// The operation of five numbers.
+fn op_at(ops: &[u64], at: usize) -> Op
+    requires { ⌜ at + 5 ≤ length (now ops) ⌝ }
+{
+    Op {
+        number: ops[at],
+        w: ops[at + 1],
+        x: ops[at + 2],
+        y: ops[at + 3],
+        z: ops[at + 4],
+    }
+}
+
+// A number at a place, where there is one.
+fn store(out: &mut [u64], at: usize, n: u64) {
+    if at < out.len() {
+        out[at] = n;
+    }
+}
+
+// The six numbers of an answer.
+fn put(out: &mut [u64], at: usize, answer: Answer, digest: u64)
+    requires { ⌜ at + 6 ≤ length (now out) ⌝ }
+{
+    store(out, at, answer.count);
+    store(out, at + 1, answer.number);
+    store(out, at + 2, answer.first);
+    store(out, at + 3, answer.second);
+    store(out, at + 4, answer.third);
+    store(out, at + 5, digest);
+}
+
+// Runs a list from a fresh state: five numbers an operation, six an answer, as far as both go. Answers how many numbers of `out` were
+// written.
+#[no_mangle]
+pub extern "C" fn ninotskev_operations(ops: &[u64], out: &mut [u64]) -> usize
+    ensures { λ r. ⌜ r ≤ length (now (out .entry)) ⌝ }
+{
+    let mut state = state::fresh();
+    let mut from: usize = 0;
+    let mut to: usize = 0;
+    while 5 <= ops.len() - from {
+        if out.len() - to < 6 {
+            return to;
+        }
+        let op = op_at(ops, from);
+        let at = to;
+        from += 5;
+        to += 6;
+        let done = step(op, state);
+        state = done.state;
+        let answer = done.answer;
+        put(out, at, answer, digest::digest(state) as u64);
+    }
+    to
 }

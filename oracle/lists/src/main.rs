@@ -1,56 +1,53 @@
-//! Lists of operations on cursor, lease table, delivery policy and codecs: made anew, run on the original, and compared with
-//! what another program answers. docs/ORACLE.md has the format.
+//! Lists of operations on cursor, lease table, delivery policy and codecs: made anew, run on the original, and compared with what
+//! the port answers. docs/ORACLE.md has the format.
 //!
-//!     lists make SEED ROUNDS              print a list
-//!     lists run                           run the list on standard input on the original and print its answers
-//!     lists compare PROGRAM SEED.. ROUNDS run PROGRAM and the original on the lists of seeds 1 to SEED, and stop where they differ
+//!     lists make SEED ROUNDS      print a list
+//!     lists run                   run the list on standard input on the original and print its answers
+//!     lists compare SEEDS ROUNDS  run the original and the port on the lists of seeds 1 to SEEDS, and stop where they differ
+mod port;
+
 use lists::make;
+use lists::operations::{line_of, read, written, ANSWER};
 use lists::state::State;
 use std::io::{Read, Write};
-use std::process::{exit, Command, Stdio};
+use std::process::exit;
 
-/// The original's answer to each line, with the line.
-fn answers(lines: &[String]) -> Vec<(&str, String)> {
+/// How many lines are shown before a difference.
+const BEFORE: usize = 12;
+
+/// The original's answers to a list.
+fn answers(lines: &[String]) -> Vec<[u64; ANSWER]> {
     let mut state = State::fresh();
-    lines
-        .iter()
-        .filter_map(|line| Some((line.as_str(), state.run_line(line)?)))
+    lines.iter().map(|line| state.answer(line)).collect()
+}
+
+/// The lines of a list that was written down.
+fn lines_of(text: &str) -> Vec<String> {
+    let asking = text.lines().filter(|line| !line.is_empty() && !line.starts_with('#'));
+    asking
+        .map(|line| read(line).unwrap_or_else(|| panic!("no operation: {line}")))
         .collect()
 }
 
-/// What a program writes when it is given a text.
-fn output_of(program: &str, input: String) -> String {
-    let mut child = Command::new(program)
-        .stdin(Stdio::piped())
-        .stdout(Stdio::piped())
-        .spawn()
-        .expect(program);
-    let mut stdin = child.stdin.take().unwrap();
-    let feeding = std::thread::spawn(move || stdin.write_all(input.as_bytes()));
-    let output = child.wait_with_output().unwrap();
-    feeding.join().unwrap().expect("the program left input unread");
-    assert!(output.status.success(), "{program}: {}", output.status);
-    String::from_utf8(output.stdout).unwrap()
-}
-
 /// Runs one list on both sides, and says where they first differ.
-fn compare(program: &str, seed: u64, rounds: u64) -> usize {
+fn compare(seed: u64, rounds: u64) -> usize {
     let lines = make::list(seed, rounds);
-    let right = answers(&lines);
-    let output = output_of(program, lines.join("\n") + "\n");
-    let mut given = output.lines();
-    for (i, (line, answer)) in right.iter().enumerate() {
-        let got = given.next().unwrap_or("nothing");
-        if got != answer {
-            println!(
-                "seed {seed}, operation {}: {line}\n  the original: {answer}\n  {program}: {got}",
-                i + 1
-            );
-            exit(1);
+    let original = answers(&lines);
+    let port = port::answers(&lines);
+    if let Some(i) = (0..lines.len()).find(|&i| original[i] != port[i]) {
+        println!("seed {seed}, operation {}, and those before it:", i + 1);
+        for (line, answer) in lines.iter().zip(&original).take(i).skip(i.saturating_sub(BEFORE)) {
+            println!("  {line}: {}", line_of(answer));
         }
+        println!("  {}", lines[i]);
+        println!(
+            "    the original: {}\n    the port: {}",
+            line_of(&original[i]),
+            line_of(&port[i])
+        );
+        exit(1);
     }
-    assert!(given.next().is_none(), "{program} answers more than was asked");
-    right.len()
+    lines.len()
 }
 
 fn main() {
@@ -60,24 +57,23 @@ fn main() {
     match arguments[..] {
         ["make", seed, rounds] => {
             for line in make::list(number(seed), number(rounds)) {
-                println!("{line}");
+                println!("{}", written(&line));
             }
         }
         ["run"] => {
             let mut text = String::new();
             std::io::stdin().read_to_string(&mut text).unwrap();
-            let lines: Vec<String> = text.lines().map(str::to_string).collect();
             let mut out = std::io::stdout().lock();
-            for (_, answer) in answers(&lines) {
-                writeln!(out, "{answer}").unwrap();
+            for answer in answers(&lines_of(&text)) {
+                writeln!(out, "{}", line_of(&answer)).unwrap();
             }
         }
-        ["compare", program, seeds, rounds] => {
-            let total: usize = (1..=number(seeds)).map(|seed| compare(program, seed, number(rounds))).sum();
+        ["compare", seeds, rounds] => {
+            let total: usize = (1..=number(seeds)).map(|seed| compare(seed, number(rounds))).sum();
             println!("lists: {total} operations of {seeds} lists, all answered as the original answers them");
         }
         _ => {
-            eprintln!("usage: lists make SEED ROUNDS | lists run | lists compare PROGRAM SEEDS ROUNDS");
+            eprintln!("usage: lists make SEED ROUNDS | lists run | lists compare SEEDS ROUNDS");
             exit(2);
         }
     }
@@ -85,23 +81,28 @@ fn main() {
 
 #[cfg(test)]
 mod tests {
-    use super::answers;
+    use super::{answers, lines_of};
     use lists::make;
+    use lists::operations::{numbers, written, OPERATIONS};
     use std::collections::BTreeSet;
 
     /// The recorded list has every operation, and every refusal that these modules have.
     #[test]
     fn the_recorded_list_has_everything() {
         let lines = make::list(1, 3);
-        let mut operations = BTreeSet::new();
-        let mut refusals = BTreeSet::new();
-        for (line, answer) in answers(&lines) {
-            let words: Vec<&str> = line.split(' ').take(2).collect();
-            operations.insert(words.join(" "));
-            refusals.insert(answer.split(' ').next().unwrap().parse::<u64>().unwrap());
-        }
-        assert_eq!(operations.len(), 54);
+        let operations: BTreeSet<u64> = lines.iter().map(|line| numbers(line)[0]).collect();
+        assert_eq!(operations, OPERATIONS.iter().map(|&(_, number)| number).collect());
+        assert_eq!(operations.len(), OPERATIONS.len());
+        let refusals: BTreeSet<u64> = answers(&lines).iter().map(|answer| answer[1]).collect();
         let expected = [0, 1, 2].into_iter().chain(6..=20).chain([23, 24, 25, 27, 28, 29]);
         assert_eq!(refusals, expected.collect());
+    }
+
+    /// A list is read as it was written down.
+    #[test]
+    fn a_written_list_is_read_back() {
+        let lines = make::list(2, 1);
+        let text: Vec<String> = lines.iter().map(|line| written(line)).collect();
+        assert_eq!(lines_of(&text.join("\n")), lines);
     }
 }

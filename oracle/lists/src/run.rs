@@ -4,6 +4,7 @@
 use crate::codecs::{
     decode_attempts, decode_cursor, encode_attempts, encode_cursor, resume_with_ahead, Told, OUT_TOO_SHORT, RANGES, TOO_MANY_PAIRS,
 };
+use crate::operations::{answer, ANSWER};
 use crate::state::{read_table, starting_at, State, BYTES, ENTRIES};
 use ironbus::cursor::{AckCursor, BoundedAck};
 use ironbus::delivery::{DeliveryConfig, Disposition};
@@ -43,17 +44,10 @@ fn token(offset: u64, generation: u64) -> LeaseToken {
 }
 
 impl State {
-    /// The answer line of an operation, `bad` where it is none, or nothing for an empty line and a comment.
-    pub fn run_line(&mut self, line: &str) -> Option<String> {
-        if line.is_empty() || line.starts_with('#') {
-            return None;
-        }
-        let Some(told) = self.run(line) else {
-            return Some("bad".to_string());
-        };
-        let mut words: Vec<String> = told.iter().map(u64::to_string).collect();
-        words.push(self.digest().to_string());
-        Some(words.join(" "))
+    /// The answer to an operation, and the digest of what it leaves; none of its numbers where it is none.
+    pub fn answer(&mut self, line: &str) -> [u64; ANSWER] {
+        let told = self.run(line).unwrap_or_default();
+        answer(&told, self.digest())
     }
 
     pub fn run(&mut self, line: &str) -> Option<Told> {

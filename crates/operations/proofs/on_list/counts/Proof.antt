@@ -1,0 +1,80 @@
+-- `counts` is safe and ends. Assumes nothing.
+use Prim.Native.Nat.{_-_}
+use native.Mathlib.Omega.{arith}
+use Rattle.operations.specs.State.{ListReady}
+use borrow.Author.Needs.{needs}
+use Rattle.operations.proofs.on_list.counts.Statement.{statement}
+use Rattle.operations.proofs.on_list.counts.Tie as tie
+
+abbrev Inv-loop : tie.InvT-loop
+Inv-loop counts n list₀ i₀ list i = ListReady list
+
+abbrev μ-loop : tie.MeasureT-loop
+μ-loop counts n list₀ i₀ list i = 192 - i
+
+empty-requires : tie.Need-empty-requires Inv-loop μ-loop
+empty-requires c κs = search needs
+
+loop-holds : tie.Need-loop-holds Inv-loop μ-loop
+loop-holds c = search needs
+
+filled-requires : tie.Need-filled-requires Inv-loop μ-loop
+filled-requires c κs = search needs
+
+returns : tie.Need-returns Inv-loop μ-loop
+returns c = search needs
+
+mul-added : tie.Need-mul-added Inv-loop μ-loop
+mul-added c = omega arith
+
+element-copy-out-added : tie.Need-element-copy-out-added Inv-loop μ-loop
+element-copy-out-added c = omega arith
+
+mul-wide : tie.Need-mul-wide Inv-loop μ-loop
+mul-wide c = omega arith
+
+element-copy-out-wide : tie.Need-element-copy-out-wide Inv-loop μ-loop
+element-copy-out-wide c = omega arith
+
+wide-requires : tie.Need-wide-requires Inv-loop μ-loop
+wide-requires c κs = search needs
+
+added-requires : tie.Need-added-requires Inv-loop μ-loop
+added-requires c κs = search needs
+
+add-i : tie.Need-add-i Inv-loop μ-loop
+add-i c = omega arith
+
+loop-less : tie.Need-loop-less Inv-loop μ-loop
+loop-less c = omega arith
+
+loop-again : tie.Need-loop-again Inv-loop μ-loop
+loop-again c = search needs
+
+filled-requires-2 : tie.Need-filled-requires-2 Inv-loop μ-loop
+filled-requires-2 c κs = search needs
+
+returns-2 : tie.Need-returns-2 Inv-loop μ-loop
+returns-2 c = search needs
+
+pub counts-spec : {M : Type 1} → statement M
+counts-spec =
+    tie.close
+    (tie.spec
+    Inv-loop
+    μ-loop
+    empty-requires
+    loop-holds
+    filled-requires
+    returns
+    mul-added
+    element-copy-out-added
+    mul-wide
+    element-copy-out-wide
+    wide-requires
+    added-requires
+    add-i
+    loop-less
+    loop-again
+    filled-requires-2
+    returns-2)
