@@ -8,19 +8,20 @@ use std::path::Path;
 use std::time::Instant;
 
 use ironbus_delivery_state::{
-    CheckpointError, Consumer, HandOut, Journal, LeaseToken, NewJournal, Offset, Refusal, Settings,
+    CheckpointError, Configuration, Consumer, HandOut, Journal, LeaseToken, NewJournal, Offset,
+    Refusal,
 };
 
 /// The journal's consumer: restarted where there is a journal, else started on a new one.
-fn open(path: &Path, settings: &Settings) -> Result<Consumer, Box<dyn Error>> {
+fn open(path: &Path, configuration: &Configuration) -> Result<Consumer, Box<dyn Error>> {
     if path.exists() {
         let journal = Journal::open(path)?;
         println!("restarting from {journal:?}");
-        return Ok(Consumer::restart(settings, journal).map_err(|(refusal, _)| refusal)?);
+        return Ok(Consumer::restart(configuration, journal).map_err(|(refusal, _)| refusal)?);
     }
     println!("a new journal");
     let journal = NewJournal::create(path, 128)?;
-    Ok(Consumer::start(settings, journal).map_err(|(refusal, _)| refusal)?)
+    Ok(Consumer::start(configuration, journal).map_err(|(refusal, _)| refusal)?)
 }
 
 /// Whether a job can be done: every third one fails once.
@@ -56,8 +57,8 @@ fn main() -> Result<(), Box<dyn Error>> {
     let path = path
         .as_deref()
         .map_or(Path::new("recipes.journal"), Path::new);
-    let settings = Settings::default();
-    let mut consumer = open(path, &settings)?;
+    let configuration = Configuration::default();
+    let mut consumer = open(path, &configuration)?;
     let clock = Instant::now();
     let end = consumer.committed().get() + 20;
     loop {
@@ -76,7 +77,8 @@ fn main() -> Result<(), Box<dyn Error>> {
                     Err(CheckpointError::Failed(failed)) => {
                         eprintln!("{failed}; restarting");
                         let journal = failed.reopen()?;
-                        Consumer::restart(&settings, journal).map_err(|(refusal, _)| refusal)?
+                        Consumer::restart(&configuration, journal)
+                            .map_err(|(refusal, _)| refusal)?
                     }
                 };
             }

@@ -2,10 +2,10 @@
 
 use std::fmt;
 
+use crate::configuration::Configuration;
 use crate::ffi::{Ask, Machine};
 use crate::journal::{Failed, Journal, JournalFile, NewJournal, Storage};
 use crate::refusal::Refusal;
-use crate::settings::Settings;
 use crate::types::{Due, Generation, HandOut, Lease, LeaseToken, Offset};
 
 /// The delivery state of one consumer: which messages are settled, who holds which until when, and how often each was handed out.
@@ -35,10 +35,10 @@ impl<S: Storage> Consumer<S> {
     /// # Errors
     /// Refusals 1 to 4, with the journal.
     pub fn start(
-        settings: &Settings,
+        configuration: &Configuration,
         journal: NewJournal<S>,
     ) -> Result<Consumer<S>, (Refusal, NewJournal<S>)> {
-        match Machine::start(settings, journal.journal.area.len()) {
+        match Machine::start(configuration, journal.journal.area.len()) {
             Ok(machine) => Ok(Consumer {
                 machine,
                 journal: journal.journal,
@@ -54,10 +54,10 @@ impl<S: Storage> Consumer<S> {
     /// Refusals 1 to 19, with the journal. None of 4 to 19 comes on a journal that only consumers have written, whenever the
     /// power failed.
     pub fn restart(
-        settings: &Settings,
+        configuration: &Configuration,
         mut journal: Journal<S>,
     ) -> Result<Consumer<S>, (Refusal, Journal<S>)> {
-        match Machine::restart(settings, &mut journal.area) {
+        match Machine::restart(configuration, &mut journal.area) {
             Ok(machine) => Ok(Consumer { machine, journal }),
             Err(refusal) => Err((refusal, journal)),
         }

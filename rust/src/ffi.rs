@@ -5,8 +5,8 @@
 //! made here by a start or a restart alone, nothing outside this file sees its fields, and the structs below are laid out as
 //! the library's, field by field, which `tests` at the end compares.
 
+use crate::configuration::{Configuration, LeaseConfig, Settings};
 use crate::refusal::Refusal;
-use crate::settings::{DeliveryConfig, LeaseConfig, Settings};
 use crate::types::Offset;
 
 // cursor: AckCursor
@@ -57,7 +57,7 @@ struct Consumer {
     ceiling: u64,
     seat: Seat,
     area_len: usize,
-    delivery: DeliveryConfig,
+    settings: Settings,
 }
 
 // checkpoint: Writing
@@ -73,7 +73,7 @@ struct Writing {
 /// The state: the consumer, or the record of a checkpoint that is being written.
 #[repr(C)]
 pub(crate) struct Machine {
-    settings: Settings,
+    configuration: Configuration,
     phase: u64,
     writing: Writing,
 }
@@ -121,10 +121,10 @@ extern "C" {
     fn ninotskev_start(
         machine: *mut Machine,
         numbers: *mut Numbers,
-        settings: *const Settings,
+        configuration: *const Configuration,
         area_len: usize,
     );
-    fn ninotskev_off(machine: *mut Machine, settings: *const Settings);
+    fn ninotskev_off(machine: *mut Machine, configuration: *const Configuration);
     fn ninotskev_call(
         machine: *mut Machine,
         numbers: *mut Numbers,
@@ -180,21 +180,27 @@ impl Machine {
     }
 
     /// A fresh machine for so many zeroed bytes: 1 to 4.
-    pub(crate) fn start(settings: &Settings, area_len: usize) -> Result<Box<Machine>, Refusal> {
+    pub(crate) fn start(
+        configuration: &Configuration,
+        area_len: usize,
+    ) -> Result<Box<Machine>, Refusal> {
         let mut machine = Machine::blank();
         let mut numbers = Numbers::default();
         // SAFETY: three references to values of the library's layout, of which nothing is required.
-        unsafe { ninotskev_start(&mut *machine, &mut numbers, settings, area_len) };
+        unsafe { ninotskev_start(&mut *machine, &mut numbers, configuration, area_len) };
         numbers.read()?;
         Ok(machine)
     }
 
     /// The machine of what a journal has: 1 to 19. The area is as it was.
-    pub(crate) fn restart(settings: &Settings, area: &mut [u8]) -> Result<Box<Machine>, Refusal> {
+    pub(crate) fn restart(
+        configuration: &Configuration,
+        area: &mut [u8],
+    ) -> Result<Box<Machine>, Refusal> {
         let mut machine = Machine::blank();
         // SAFETY: two references to values of the library's layout, of which nothing is required. The machine that it leaves can
         // be called.
-        unsafe { ninotskev_off(&mut *machine, settings) };
+        unsafe { ninotskev_off(&mut *machine, configuration) };
         machine.call(RESTART, area).read()?;
         Ok(machine)
     }
@@ -296,6 +302,7 @@ impl Machine {
 #[cfg(test)]
 mod tests {
     use super::*;
+    use crate::configuration::DeliveryConfig;
     use std::mem::{offset_of, size_of};
 
     // A machine with bytes behind it that nobody may touch.
@@ -316,9 +323,16 @@ mod tests {
             guarded
         }
 
-        fn start(&mut self, settings: &Settings, area_len: usize) {
+        fn start(&mut self, configuration: &Configuration, area_len: usize) {
             // SAFETY: as for `Machine::start`.
-            unsafe { ninotskev_start(&mut self.machine, &mut self.numbers, settings, area_len) };
+            unsafe {
+                ninotskev_start(
+                    &mut self.machine,
+                    &mut self.numbers,
+                    configuration,
+                    area_len,
+                )
+            };
             self.untouched();
         }
 
@@ -358,7 +372,7 @@ mod tests {
 
     #[test]
     fn sizes_are_those_of_the_fields() {
-        assert_eq!(size_of::<Settings>(), 152 + 16);
+        assert_eq!(size_of::<Configuration>(), 152 + 16);
         assert_eq!(size_of::<AckCursor>(), 8 + 1024 + 1024 + 8);
         assert_eq!(size_of::<Lease>(), 32);
         assert_eq!(
@@ -373,8 +387,11 @@ mod tests {
     // the machine, `attempt_len`, is where the library puts it.
     #[test]
     fn the_layout_is_the_librarys() {
-        let settings = Settings {
-            delivery: DeliveryConfig::new(3, true, &[11, 12]).with_attempts_flush_redeliveries(7),
+        let configuration = Configuration {
+            settings: Settings {
+                delivery: DeliveryConfig::new(3, true, &[11, 12])
+                    .with_attempts_flush_redeliveries(7),
+            },
             lease: LeaseConfig {
                 visibility_nanos: 100,
                 hard_cap_nanos: 1000,
@@ -383,14 +400,17 @@ mod tests {
         let mut guarded = Guarded::new();
         let mut area = [0; 512 * 20];
         let mut out = [0; 4];
-        guarded.start(&settings, area.len());
+        guarded.start(&configuration, area.len());
         assert_eq!(guarded.numbers, told(0, 0, [0; 4]));
-        assert_eq!(guarded.machine.settings, settings);
+        assert_eq!(guarded.machine.configuration, configuration);
         assert_eq!(guarded.machine.phase, 0);
-        assert_eq!(guarded.machine.writing.consumer.delivery, settings.delivery);
+        assert_eq!(
+            guarded.machine.writing.consumer.settings,
+            configuration.settings
+        );
         assert_eq!(
             guarded.machine.writing.consumer.table.config,
-            settings.lease
+            configuration.lease
         );
         assert_eq!(guarded.machine.writing.consumer.area_len, area.len());
         assert_eq!(guarded.machine.writing.consumer.seat.number, 1);
@@ -447,7 +467,7 @@ mod tests {
         let mut part = Guarded::new();
         let mut area = [0; 512 * 20];
         for guarded in [&mut whole, &mut part] {
-            guarded.start(&Settings::default(), area.len());
+            guarded.start(&Configuration::default(), area.len());
             guarded.call(BEGIN, [0; 4], &mut [], &mut []);
             guarded.call(STEP, [0; 4], &mut area, &mut []);
             guarded.call(STEP, [0; 4], &mut area, &mut []);
@@ -485,7 +505,7 @@ mod tests {
     #[test]
     fn a_number_that_is_no_call_is_refused() {
         let mut guarded = Guarded::new();
-        guarded.start(&Settings::default(), 512 * 20);
+        guarded.start(&Configuration::default(), 512 * 20);
         for kind in [STEP, 18, u64::MAX] {
             guarded.call(kind, [0; 4], &mut [0; 512], &mut []);
             assert_eq!(guarded.numbers, told(255, 0, [0; 4]));
@@ -495,7 +515,7 @@ mod tests {
     #[test]
     fn a_consumer_is_not_asked_while_a_record_is_out() {
         let mut guarded = Guarded::new();
-        guarded.start(&Settings::default(), 512 * 20);
+        guarded.start(&Configuration::default(), 512 * 20);
         guarded.call(BEGIN, [0; 4], &mut [], &mut []);
         let mut list = [7; 2];
         for ask in [Ask::Claim, Ask::Commit, Ask::Waiting, Ask::Committed] {
@@ -518,10 +538,10 @@ mod tests {
     #[test]
     fn a_refused_start_keeps_the_machine() {
         let mut guarded = Guarded::new();
-        guarded.start(&Settings::default(), 512 * 20);
+        guarded.start(&Configuration::default(), 512 * 20);
         guarded.call(BEGIN, [0; 4], &mut [], &mut []);
         assert_eq!(guarded.numbers, told(0, 1, [2, 0, 0, 0]));
-        guarded.start(&Settings::default(), 511);
+        guarded.start(&Configuration::default(), 511);
         assert_eq!(guarded.numbers, told(4, 0, [0; 4]));
         assert_eq!(guarded.machine.phase, 1);
         // What was begun goes on.

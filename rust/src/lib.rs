@@ -8,15 +8,15 @@
 //!
 //! The proof that no message is handed out too often, and that no token from before a restart is ever taken, has one premise
 //! about the caller: each call gets what the one before left, and nobody else writes the journal. Here the types say so. What they
-//! can't say is that each restart is handed the settings of the start: those are the server's to keep.
+//! can't say is that each restart is handed the configuration of the start: that is the server's to keep.
 //!
 //! ```
-//! use ironbus_delivery_state::{Consumer, HandOut, NewJournal, Offset, Refusal, Settings};
+//! use ironbus_delivery_state::{Configuration, Consumer, HandOut, NewJournal, Offset, Refusal};
 //! # let path = std::env::temp_dir().join(format!("ironbus-doc-{}", std::process::id()));
 //! # let _ = std::fs::remove_file(&path);
 //!
 //! let journal = NewJournal::create(&path, 128)?;
-//! let consumer = Consumer::start(&Settings::default(), journal).map_err(|(refusal, _)| refusal)?;
+//! let consumer = Consumer::start(&Configuration::default(), journal).map_err(|(refusal, _)| refusal)?;
 //! let mut consumer = consumer.checkpoint()?;
 //! let HandOut::Deliver { token, .. } = consumer.claim(Offset::new(0), 0)? else { unreachable!() };
 //! consumer.ack(token)?;
@@ -58,18 +58,18 @@
 //! After an error of the disk there is no state left to call, and a restart needs the journal read again:
 //!
 //! ```compile_fail,E0308
-//! # use ironbus_delivery_state::{Consumer, Failed, Settings};
+//! # use ironbus_delivery_state::{Configuration, Consumer, Failed};
 //! fn go_on(failed: Failed) {
-//!     let _ = Consumer::restart(&Settings::default(), failed);
+//!     let _ = Consumer::restart(&Configuration::default(), failed);
 //! }
 //! ```
 //!
 //! A journal that was used can't be started on:
 //!
 //! ```compile_fail,E0308
-//! # use ironbus_delivery_state::{Consumer, Journal, Settings};
+//! # use ironbus_delivery_state::{Configuration, Consumer, Journal};
 //! fn from_nothing(journal: Journal) {
-//!     let _ = Consumer::start(&Settings::default(), journal);
+//!     let _ = Consumer::start(&Configuration::default(), journal);
 //! }
 //! ```
 //!
@@ -86,18 +86,18 @@
 #![deny(unsafe_code)]
 #![deny(missing_docs)]
 
+mod configuration;
 mod consumer;
 #[allow(unsafe_code)]
 mod ffi;
 mod journal;
 mod refusal;
-mod settings;
 mod types;
 
+pub use configuration::{Configuration, DeliveryConfig, LeaseConfig, Settings};
 pub use consumer::{CheckpointError, Consumer, Step, Writing};
 pub use journal::{
     Failed, Journal, JournalError, JournalFile, NewJournal, Storage, BLOCK, MAX_BLOCKS,
 };
 pub use refusal::Refusal;
-pub use settings::{DeliveryConfig, LeaseConfig, Settings};
 pub use types::{Due, Generation, HandOut, Lease, LeaseToken, Offset};

@@ -7,24 +7,25 @@ use std::io::{BufRead, BufReader};
 use std::path::Path;
 use std::process::{Child, Command, Stdio};
 
-use common::{fresh_path, settings};
+use common::{configuration, fresh_path};
 use ironbus_delivery_state::{
-    Consumer, HandOut, Journal, JournalError, NewJournal, Offset, Refusal, Settings, Step, BLOCK,
+    Configuration, Consumer, HandOut, Journal, JournalError, NewJournal, Offset, Refusal, Step,
+    BLOCK,
 };
 
 const SECOND: u64 = 1_000_000_000;
 
-fn restart(path: &Path, settings: &Settings) -> Consumer {
-    Consumer::restart(settings, Journal::open(path).unwrap()).unwrap()
+fn restart(path: &Path, configuration: &Configuration) -> Consumer {
+    Consumer::restart(configuration, Journal::open(path).unwrap()).unwrap()
 }
 
 #[test]
 fn a_worker_that_slept_through_a_restart_is_refused() {
     let path = fresh_path("incident");
-    let settings = settings(5, 2, 30 * SECOND, 300 * SECOND);
+    let configuration = configuration(5, 2, 30 * SECOND, 300 * SECOND);
     let recipe = Offset::new(0);
     let journal = NewJournal::create(&path, 64).unwrap();
-    let consumer = Consumer::start(&settings, journal).unwrap();
+    let consumer = Consumer::start(&configuration, journal).unwrap();
     let mut server = consumer.checkpoint().unwrap();
     let HandOut::Deliver {
         token: sleeper,
@@ -35,7 +36,7 @@ fn a_worker_that_slept_through_a_restart_is_refused() {
     };
     // The server goes down while the worker sleeps, and the recipe goes to another.
     drop(server);
-    let mut server = restart(&path, &settings).checkpoint().unwrap();
+    let mut server = restart(&path, &configuration).checkpoint().unwrap();
     let other = server.claim(recipe, SECOND).unwrap().token();
     assert_ne!(sleeper.generation, other.generation);
     // The sleeper wakes: its token is refused in every way, and the recipe isn't done.
@@ -50,7 +51,7 @@ fn a_worker_that_slept_through_a_restart_is_refused() {
     let third = server.claim(recipe, again).unwrap().token();
     server.ack(third).unwrap();
     drop(server.checkpoint().unwrap());
-    let mut server = restart(&path, &settings);
+    let mut server = restart(&path, &configuration);
     assert!(server.is_settled(recipe));
     assert_eq!(server.ack(sleeper), Err(Refusal::Fenced));
 }
@@ -58,9 +59,9 @@ fn a_worker_that_slept_through_a_restart_is_refused() {
 #[test]
 fn the_fourteenth_example() {
     let path = fresh_path("fourteenth");
-    let settings = settings(2, 1, 10, 25);
+    let configuration = configuration(2, 1, 10, 25);
     let job = Offset::new(0);
-    let consumer = Consumer::start(&settings, NewJournal::create(&path, 18).unwrap()).unwrap();
+    let consumer = Consumer::start(&configuration, NewJournal::create(&path, 18).unwrap()).unwrap();
     let mut consumer = consumer.checkpoint().unwrap();
     let first = consumer.claim(job, 0).unwrap();
     assert!(matches!(first, HandOut::Deliver { deliveries: 1, .. }));
@@ -70,7 +71,7 @@ fn the_fourteenth_example() {
     assert_eq!(consumer.claim(job, 20), Err(Refusal::CheckpointDue));
     assert!(consumer.is_due().threshold && !consumer.is_due().ceiling);
     drop(consumer.checkpoint().unwrap());
-    let mut consumer = restart(&path, &settings).checkpoint().unwrap();
+    let mut consumer = restart(&path, &configuration).checkpoint().unwrap();
     let HandOut::DeadLetter {
         token,
         deliveries: 3,
@@ -97,8 +98,8 @@ fn the_fourteenth_example() {
 #[test]
 fn calls_give_01s_answers() {
     let path = fresh_path("answers");
-    let settings = settings(3, 9, 10, 25);
-    let consumer = Consumer::start(&settings, NewJournal::create(&path, 18).unwrap()).unwrap();
+    let configuration = configuration(3, 9, 10, 25);
+    let consumer = Consumer::start(&configuration, NewJournal::create(&path, 18).unwrap()).unwrap();
     let mut consumer = consumer.checkpoint().unwrap();
     assert_eq!(
         consumer.claim(Offset::new(u64::MAX), 0),
@@ -132,8 +133,8 @@ fn calls_give_01s_answers() {
 #[test]
 fn a_checkpoint_goes_block_by_block() {
     let path = fresh_path("steps");
-    let settings = settings(3, 9, 10, 25);
-    let consumer = Consumer::start(&settings, NewJournal::create(&path, 4).unwrap()).unwrap();
+    let configuration = configuration(3, 9, 10, 25);
+    let consumer = Consumer::start(&configuration, NewJournal::create(&path, 4).unwrap()).unwrap();
     let writing = consumer.begin().unwrap();
     assert_eq!(writing.writes_left(), 2);
     let Step::Wrote { block: 1, writing } = writing.step().unwrap() else {
@@ -156,28 +157,28 @@ fn a_checkpoint_goes_block_by_block() {
 }
 
 #[test]
-fn settings_are_refused_by_01s_numbers() {
-    let path = fresh_path("settings");
+fn configurations_are_refused_by_01s_numbers() {
+    let path = fresh_path("configuration");
     let mut journal = NewJournal::create(&path, 2).unwrap();
-    let mut one = settings(0, 1, 10, 25);
-    let refused = |journal, settings: &Settings| {
-        let (refusal, journal) = Consumer::start(settings, journal).unwrap_err();
+    let mut one = configuration(0, 1, 10, 25);
+    let refused = |journal, configuration: &Configuration| {
+        let (refusal, journal) = Consumer::start(configuration, journal).unwrap_err();
         (refusal.number(), journal)
     };
     let number;
     (number, journal) = refused(journal, &one);
     assert_eq!(number, 1);
-    one.delivery = ironbus_delivery_state::DeliveryConfig::new(3, false, &[1; 17]);
+    one.settings.delivery = ironbus_delivery_state::DeliveryConfig::new(3, false, &[1; 17]);
     let number;
     (number, journal) = refused(journal, &one);
     assert_eq!(number, 2);
-    let (number, journal) = refused(journal, &settings(3, 0, 10, 25));
+    let (number, journal) = refused(journal, &configuration(3, 0, 10, 25));
     assert_eq!(number, 3);
-    Consumer::start(&settings(3, 1, 10, 25), journal).unwrap();
+    Consumer::start(&configuration(3, 1, 10, 25), journal).unwrap();
     // A file that is no journal.
     fs::write(&path, [1; 100]).unwrap();
     let journal = Journal::open(&path).unwrap();
-    let (refusal, _) = Consumer::restart(&settings(3, 1, 10, 25), journal).unwrap_err();
+    let (refusal, _) = Consumer::restart(&configuration(3, 1, 10, 25), journal).unwrap_err();
     assert_eq!(refusal, Refusal::BadArea);
 }
 
@@ -193,8 +194,8 @@ fn a_journal_that_is_there_can_only_be_opened() {
         Err(JournalError::BadBlocks(129))
     ));
     assert!(matches!(Journal::open(&path), Err(JournalError::Io(_))));
-    let settings = settings(3, 1, 10, 25);
-    let consumer = Consumer::start(&settings, NewJournal::create(&path, 18).unwrap()).unwrap();
+    let configuration = configuration(3, 1, 10, 25);
+    let consumer = Consumer::start(&configuration, NewJournal::create(&path, 18).unwrap()).unwrap();
     let journal = consumer.checkpoint().unwrap().into_journal();
     assert_eq!(journal.bytes(), fs::read(&path).unwrap());
     let storage = journal.into_storage();
@@ -215,14 +216,14 @@ fn a_journal_that_is_there_can_only_be_opened() {
 #[test]
 fn a_damaged_journal_is_refused() {
     let path = fresh_path("damaged");
-    let settings = settings(3, 1, 10, 25);
-    let consumer = Consumer::start(&settings, NewJournal::create(&path, 18).unwrap()).unwrap();
+    let configuration = configuration(3, 1, 10, 25);
+    let consumer = Consumer::start(&configuration, NewJournal::create(&path, 18).unwrap()).unwrap();
     drop(consumer.checkpoint().unwrap());
     let mut bytes = fs::read(&path).unwrap();
     bytes[BLOCK + 20] ^= 1;
     fs::write(&path, &bytes).unwrap();
     let (refusal, journal) =
-        Consumer::restart(&settings, Journal::open(&path).unwrap()).unwrap_err();
+        Consumer::restart(&configuration, Journal::open(&path).unwrap()).unwrap_err();
     assert_eq!(refusal, Refusal::Damaged { block: 1 });
     assert_eq!(
         refusal.to_string(),
@@ -278,8 +279,8 @@ fn role() {
 #[test]
 fn a_second_process_is_refused() {
     let path = fresh_path("two-processes");
-    let settings = settings(3, 1, 10, 25);
-    let consumer = Consumer::start(&settings, NewJournal::create(&path, 18).unwrap()).unwrap();
+    let configuration = configuration(3, 1, 10, 25);
+    let consumer = Consumer::start(&configuration, NewJournal::create(&path, 18).unwrap()).unwrap();
     let mut second = other("look", &path);
     assert_eq!(says(&mut second), "the journal is in use");
     second.wait().unwrap();
@@ -295,12 +296,12 @@ fn a_second_process_is_refused() {
 #[test]
 fn a_process_that_was_killed_leaves_the_journal() {
     let path = fresh_path("killed");
-    let settings = settings(3, 1, 10, 25);
-    drop(Consumer::start(&settings, NewJournal::create(&path, 18).unwrap()).unwrap());
+    let configuration = configuration(3, 1, 10, 25);
+    drop(Consumer::start(&configuration, NewJournal::create(&path, 18).unwrap()).unwrap());
     let mut holder = other("hold", &path);
     assert_eq!(says(&mut holder), "open");
     assert!(matches!(Journal::open(&path), Err(JournalError::Locked)));
     holder.kill().unwrap();
     holder.wait().unwrap();
-    restart(&path, &settings).checkpoint().unwrap();
+    restart(&path, &configuration).checkpoint().unwrap();
 }

@@ -3,10 +3,10 @@
 
 mod common;
 
-use common::{fresh_path, settings, Book, Cut, Cuttable, Power, Random};
+use common::{configuration, fresh_path, Book, Cut, Cuttable, Power, Random};
 use ironbus_delivery_state::{
-    CheckpointError, Consumer, HandOut, Journal, LeaseToken, NewJournal, Offset, Refusal, Settings,
-    Writing,
+    CheckpointError, Configuration, Consumer, HandOut, Journal, LeaseToken, NewJournal, Offset,
+    Refusal, Writing,
 };
 use std::cell::RefCell;
 use std::path::Path;
@@ -15,7 +15,7 @@ use std::rc::Rc;
 /// A list of calls on one journal, and what is known of it.
 struct Run {
     random: Random,
-    settings: Settings,
+    configuration: Configuration,
     offsets: Vec<u64>,
     book: Book,
     power: Rc<RefCell<Power>>,
@@ -32,12 +32,13 @@ impl Run {
         let mut random = Random(seed);
         let limit = 1 + random.below(3) as u32;
         let threshold = 1 + random.below(3) as u32;
-        let settings = settings(limit, threshold, 4 + random.below(8), 12 + random.below(8));
+        let configuration =
+            configuration(limit, threshold, 4 + random.below(8), 12 + random.below(8));
         let mut offsets: Vec<u64> = (0..3 + random.below(9)).collect();
         offsets.extend([40, 41, 1000, u64::MAX - 1, u64::MAX]);
         Run {
             random,
-            settings,
+            configuration,
             offsets,
             book: Book::default(),
             power: Rc::default(),
@@ -51,7 +52,7 @@ impl Run {
 
     fn restart(&mut self, journal: Journal<Cuttable>) -> Consumer<Cuttable> {
         let mut consumer =
-            Consumer::restart(&self.settings, journal).expect("no restart is refused");
+            Consumer::restart(&self.configuration, journal).expect("no restart is refused");
         self.stale.append(&mut self.tokens);
         self.book.restarted(&mut consumer, &self.offsets);
         consumer
@@ -183,7 +184,7 @@ fn random_list(path: &Path, seed: u64, calls: usize) -> u64 {
     let mut run = Run::new(seed);
     let blocks = 2 + run.random.below(127) as usize;
     let journal = NewJournal::on(Cuttable::new(path, blocks, &run.power)).unwrap();
-    let mut consumer = Consumer::start(&run.settings, journal).unwrap();
+    let mut consumer = Consumer::start(&run.configuration, journal).unwrap();
     for _ in 0..calls {
         if run.power.borrow().cut.is_none() && run.random.below(6) == 0 {
             let cut = cut_of(&mut run.random);
@@ -192,7 +193,7 @@ fn random_list(path: &Path, seed: u64, calls: usize) -> u64 {
         }
         consumer = run.call(consumer);
     }
-    run.book.holds_the_bound(&run.settings);
+    run.book.holds_the_bound(&run.configuration);
     run.cuts
 }
 
@@ -211,14 +212,14 @@ fn fixed_list(path: &Path, cut: Option<(usize, Cut)>) -> usize {
     let mut run = Run::new(7);
     run.power.borrow_mut().cut = cut;
     let journal = NewJournal::on(Cuttable::new(path, 128, &run.power)).unwrap();
-    let mut consumer = Consumer::start(&run.settings, journal).unwrap();
+    let mut consumer = Consumer::start(&run.configuration, journal).unwrap();
     for turn in 0..40 {
         if turn % 4 == 0 {
             consumer = run.checkpoint(consumer);
         }
         consumer = run.call(consumer);
     }
-    run.book.holds_the_bound(&run.settings);
+    run.book.holds_the_bound(&run.configuration);
     drop(consumer);
     let writes = run.power.borrow().writes;
     writes
@@ -252,7 +253,7 @@ fn after_an_error_only_a_restart_is_left() {
         ..Power::default()
     }));
     let journal = NewJournal::on(Cuttable::new(&path, 128, &power)).unwrap();
-    let consumer = Consumer::start(&settings(2, 1, 10, 25), journal).unwrap();
+    let consumer = Consumer::start(&configuration(2, 1, 10, 25), journal).unwrap();
     let mut consumer = consumer.checkpoint().unwrap();
     let token = consumer.claim(Offset::new(0), 0).unwrap().token();
     let Err(CheckpointError::Failed(failed)) = consumer.checkpoint() else {
@@ -260,7 +261,7 @@ fn after_an_error_only_a_restart_is_left() {
     };
     assert_eq!(failed.error().to_string(), "the power failed");
     let journal = failed.reopen().unwrap();
-    let mut consumer = Consumer::restart(&settings(2, 1, 10, 25), journal).unwrap();
+    let mut consumer = Consumer::restart(&configuration(2, 1, 10, 25), journal).unwrap();
     assert_eq!(consumer.ack(token), Err(Refusal::Fenced));
     assert_eq!(consumer.count_of(Offset::new(0)), 0);
 }

@@ -15,7 +15,7 @@ use Rattle.attempt.specs.Snapshot.{decodeAttempts, pairsIn, pairsTable}
 use Rattle.attempt.specs.Snapshot as attempt
 use Rattle.journal.specs.Area.{blocks}
 use Rattle.journal.specs.Walks.{groupAt, group, unsound, walkOver, walkFrom, walk, damaged}
-use Rattle.consumer.specs.State.{Settings}
+use Rattle.consumer.specs.State.{Configuration}
 use Rattle.starts.specs.Restart.{startTable, start, fresh, fromWalk, restart}
 
 -- behind 6 to 9 the ranges are tested as those of a resumption: 10 and 11 range by range, then 12
@@ -32,7 +32,7 @@ unfolding decodeAttempts
 attempts-behind-their-frame b e = rw (first-none-before (attempt.frameTable b) (pairsTable (pairsIn b)) e)
 
 -- 1 to 4 of a restart are those of a start, and come before anything that is in the area
-pub restart-refused-as-a-start : (c : Settings) (a : List ℕ) (r : Refusal) → start c (length a) ≡ refused r → restart c a ≡ refused r
+pub restart-refused-as-a-start : (c : Configuration) (a : List ℕ) (r : Refusal) → start c (length a) ≡ refused r → restart c a ≡ refused r
 unfolding start restart
 restart-refused-as-a-start c a r e =
     checked-refused (startTable c (length a)) (fresh c (length a)) (fromWalk c a (walk a (blocks a) 1 0)) r e

@@ -20,7 +20,7 @@ use Rattle.cases.specs.States.{countsFrom, leasesFrom, rangesFrom, table
 
 -- limit 2, threshold 3, backoff 7, one group written
 abbrev consumer : Cursor → Table → ℕ → State
-consumer c t ceiling = stateOf c t ceiling (seatAt 2 2) 9216 (policy 2 false (7 ∷ []) 3)
+consumer c t ceiling = stateOf c t ceiling (seatAt 2 2) 9216 (record { policy = policy 2 false (7 ∷ []) 3 })
 
 -- offsets 0 to 4 and offset 8 are settled
 abbrev five : Cursor

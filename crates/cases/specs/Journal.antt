@@ -20,31 +20,32 @@ use Rattle.journal.specs.Blocks.{headerBlock, bodyBlock}
 use Rattle.journal.specs.Sound.{isKind, formed, soundHeader, soundBody}
 use Rattle.journal.specs.Walks.{stop, groupAt, walkOver, walkFrom, payload}
 use Rattle.journal.specs.Answers.{fill, writeBlock, walkIn, readPayload}
-use Rattle.consumer.specs.State.{Settings, State, stateOf, seatAt}
+use Rattle.consumer.specs.State.{Configuration, State, stateOf, seatAt}
 use Rattle.checkpoint.specs.Checkpoint.{begin, step, writing}
 use Rattle.starts.specs.Restart.{start, fresh, readGroup, fromWalk, restart}
 use Rattle.cases.specs.States.{rangesFrom, leaseConfig, tableOf}
 
 -- ## start
 -- a limit, without the opt-in; n backoffs; a flush threshold
-abbrev settings : ℕ → ℕ → ℕ → Settings
-settings m n threshold = record { policy = policy m false (replicate n 5) threshold; lease = leaseConfig }
+abbrev configuration : ℕ → ℕ → ℕ → Configuration
+configuration m n threshold =
+    record { settings = record { policy = policy m false (replicate n 5) threshold }; lease = leaseConfig }
 
-abbrev accepted : Settings
-accepted = settings 2 0 1
+abbrev accepted : Configuration
+accepted = configuration 2 0 1
 
 -- 1 before 2, 3 and 4
-pub start-unlimited : start (settings 0 17 0) 0 ≡ refused UnlimitedDeliverNotAllowed
+pub start-unlimited : start (configuration 0 17 0) 0 ≡ refused UnlimitedDeliverNotAllowed
 unfolding start
 start-unlimited = refl
 
 -- 2 before 3 and 4
-pub start-too-many-steps : start (settings 2 17 0) 0 ≡ refused TooManySteps
+pub start-too-many-steps : start (configuration 2 17 0) 0 ≡ refused TooManySteps
 unfolding start
 start-too-many-steps = refl
 
 -- 3 before 4
-pub start-zero-threshold : start (settings 2 16 0) 0 ≡ refused ZeroThreshold
+pub start-zero-threshold : start (configuration 2 16 0) 0 ≡ refused ZeroThreshold
 unfolding start
 start-zero-threshold = refl
 
@@ -117,7 +118,7 @@ restart-attempts-behind-cursor = refl
 -- 18 blocks of which so many are written, and so many ranges in the cursor
 abbrev written : ℕ → ℕ → State
 written block ranges =
-    stateOf (cursor 0 (rangesFrom ranges 1)) (tableOf [] [] 1 0) 4096 (seatAt 2 block) 9216 (accepted .policy)
+    stateOf (cursor 0 (rangesFrom ranges 1)) (tableOf [] [] 1 0) 4096 (seatAt 2 block) 9216 (accepted .settings)
 
 -- 31 where a block less is left than a header and its body need; with as many, a record
 pub begin-journal-full : begin (written 17 0) ≡ refused JournalFull

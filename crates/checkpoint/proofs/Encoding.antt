@@ -25,8 +25,10 @@ use Rattle.consumer.specs.State.{State, blocksOf}
 use Rattle.consumer.specs.Valid.{Valid}
 use Rattle.consumer.specs.View.{view, Sound}
 use Rattle.consumer.specs.declared.Consumer.{Consumer}
+use Rattle.consumer.proofs.Area.{area-taken}
 use Rattle.consumer.proofs.Counts.{counts-few}
 use Rattle.checkpoint.specs.Checkpoint.{cursorBytes, attemptBytes, payloadOf, bodies, begin}
+use Rattle.checkpoint.specs.Checkpoint as checkpoint
 use Rattle.checkpoint.specs.Writing.{SoundWriting, Encoded, EncodedIs, BegunIs}
 use Rattle.checkpoint.specs.declared.Writing.{Writing}
 use Rattle.checkpoint.specs.declared.BeginAnswer.the-variants.{Begun, JournalFull}
@@ -120,7 +122,7 @@ module _ (c : Consumer) (s : Sound c) (w : Writing) (e : EncodedIs c w) where
     pub cursor-len : w .«cursor_len» ≤ 2061
     pub attempt-len : w .«attempt_len» ≤ 1545
     pub block : c .seat .block ≤ 128
-    pub count : writes ≡ suc (bodies (view c))
+    pub count : writes ≡ checkpoint.writes (view c)
 
   pub lengths : Lengths
   lengths =
@@ -128,7 +130,7 @@ module _ (c : Consumer) (s : Sound c) (w : Writing) (e : EncodedIs c w) where
       record {
         cursor-len = omega (arith, e .encoded .cursor-len, p .cursor-high);
         attempt-len = omega (arith, e .encoded .attempt-len, p .attempt-high);
-        block = omega (arith, s .valid .within, whole-says (c .«area_len») (s .valid .area) .most);
+        block = omega (arith, s .valid .within, whole-says (c .«area_len») (area-taken (c .«area_len») (s .valid .area)) .most);
         count = rw (add-one, p .total, e .encoded .cursor-len, e .encoded .attempt-len);
       }
 

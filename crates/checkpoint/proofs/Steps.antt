@@ -15,14 +15,14 @@ use Rattle.journal.specs.Answers.{writeBlock}
 use Rattle.journal.specs.declared.Block.the-variants as block
 use Rattle.journal.proofs.Area.{whole-says}
 use Rattle.cursor.specs.View as cursor
-use Rattle.delivery.specs.Config as delivery
 use Rattle.lease.specs.State as lease
 use Rattle.lease.specs.Rest.{attemptsFlushed}
 use Rattle.lease.specs.Answers.{Becomes}
 use Rattle.lease.specs.declared.LeaseTable.{LeaseTable}
 use Rattle.consumer.specs.State.{stateOf, seatAt}
-use Rattle.consumer.specs.View.{view}
+use Rattle.consumer.specs.View.{settingsOf, view}
 use Rattle.consumer.specs.declared.Consumer.{Consumer}
+use Rattle.consumer.proofs.Area.{area-taken}
 use Rattle.checkpoint.specs.Checkpoint.{bodies, newCeiling, bodyOf, headerOf, flushed, step}
 use Rattle.checkpoint.specs.Writing.{SoundWriting, SteppedIs, Into, HeaderIs, Fitting, FlushedIs}
 use Rattle.checkpoint.specs.declared.Writing.{Writing}
@@ -44,7 +44,7 @@ pub small : (w : Writing) → SoundWriting w → Small w
 small w s =
     let v = s .valid .state in
     let fits = payload-fits (view (w .consumer)) v in
-    let area = whole-says (w .consumer .«area_len») (v .area) in
+    let area = whole-says (w .consumer .«area_len») (area-taken (w .consumer .«area_len») (v .area)) in
     record {
       number = omega (arith, v .numbered, v .within, area .most);
       block = omega (arith, v .within, area .most);
@@ -66,7 +66,7 @@ header-of w s ceiling e = record { is = λ payload. rw (e, s .encoded .cursor-le
 
 -- ## A block is written
 pub into-inside : (w : Writing) (a : List ℕ) (i : ℕ) → Into w a i → outside (length a) i ≡ false
-into-inside w a i h = rw (h .area, h .sound .valid .state .area) (lt-leb (w .consumer .«area_len» / 512) i (h .inside))
+into-inside w a i h = rw (h .area, area-taken (w .consumer .«area_len») (h .sound .valid .state .area)) (lt-leb (w .consumer .«area_len» / 512) i (h .inside))
 
 pub block-written : (a after b : List ℕ) (i : ℕ) (o : Result (Unit {0})) → outside (length a) i ≡ false
     → answer o after ≡ writeBlock i b a → after ≡ writeAt a i b
@@ -89,7 +89,7 @@ pub flushed-is : (c : Consumer) (n : ℕ) → Fitting c n → (t : LeaseTable) �
       ceiling = record { 0 = ceiling };
       seat = record { number = c .seat .number + 1; block = c .seat .block + (n + 1) };
       «area_len» = c .«area_len»;
-      delivery = c .delivery;
+      settings = c .settings;
     })
 flushed-is c n f t b ceiling e =
     record {
@@ -98,12 +98,12 @@ flushed-is c n f t b ceiling e =
           record {
             cursor = f .sound .cursor;
             table = b .sound;
-            delivery = f .sound .delivery;
+            settings = f .sound .settings;
             valid = rw is (flushed-valid (view c) (record { room = rw (← f .count) (f .room) }) (f .sound .valid));
           };
     }
   where
-    is : stateOf (cursor.view (c .cursor)) (lease.view t) ceiling (seatAt (c .seat .number + 1) (c .seat .block + (n + 1))) (c .«area_len») (delivery.view (c .delivery))
+    is : stateOf (cursor.view (c .cursor)) (lease.view t) ceiling (seatAt (c .seat .number + 1) (c .seat .block + (n + 1))) (c .«area_len») (settingsOf (c .settings))
         ≡ flushed (view c)
     is = rw (b .is, e, add-one n, f .count)
 

@@ -31,6 +31,10 @@ payloadOf s = cursorBytes s ++ attemptBytes s
 abbrev pub bodies : State → ℕ
 bodies s = bodiesFor (length (payloadOf s))
 
+-- the block writes that a checkpoint makes: its bodies and its header
+abbrev pub writes : State → ℕ
+writes s = suc (bodies s)
+
 -- the next generation and 4,096, at most MAX
 abbrev pub newCeiling : State → ℕ
 newCeiling s = sat64 (s .table .nextGeneration) 4096
@@ -46,7 +50,7 @@ headerOf s = headerBlock (s .seat .number) (newCeiling s) (length (cursorBytes s
 abbrev pub flushed : State → State
 flushed s =
     stateOf (s .cursor) (attemptsFlushed (s .table)) (newCeiling s)
-    (seatAt (s .seat .number + 1) (s .seat .block + suc (bodies s))) (s .size) (s .policy)
+    (seatAt (s .seat .number + 1) (s .seat .block + suc (bodies s))) (s .size) (s .settings)
 
 -- ## begin
 -- the record: the state, and how many blocks are written

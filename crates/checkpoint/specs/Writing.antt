@@ -13,7 +13,7 @@ use Rattle.journal.specs.declared.Block.{Block}
 use Rattle.consumer.specs.State.{State, blocksOf}
 use Rattle.consumer.specs.View.{view, Sound}
 use Rattle.consumer.specs.declared.Consumer.{Consumer}
-use Rattle.checkpoint.specs.Checkpoint.{cursorBytes, attemptBytes, payloadOf, bodies, headerOf, flushed, writing, begin, Left, going, finished, Wrote, lent, step}
+use Rattle.checkpoint.specs.Checkpoint.{cursorBytes, attemptBytes, payloadOf, bodies, writes, headerOf, flushed, writing, begin, Left, going, finished, Wrote, lent, step}
 use Rattle.checkpoint.specs.Checkpoint as checkpoint
 use Rattle.checkpoint.specs.Valid.{ValidWriting}
 use Rattle.checkpoint.specs.declared.Writing.{Writing}
@@ -40,12 +40,12 @@ pub record SoundWriting (w : Writing) : Type 0 where
 
 -- ## begin
 abbrev pub beginOf : BeginAnswer → Writing → Result checkpoint.Writing
-beginOf (begins.Begun writes) w = done (viewWriting w)
+beginOf (begins.Begun n) w = done (viewWriting w)
 beginOf begins.JournalFull w = refused refusal.JournalFull
 
 -- a record that is begun is sound, and has as many block writes before it as its answer says
 abbrev pub SoundBegun : BeginAnswer → Writing → Type 0
-SoundBegun (begins.Begun writes) w = SoundWriting w × (writes ≡ suc (bodies (view (w .consumer))))
+SoundBegun (begins.Begun n) w = SoundWriting w × (n ≡ writes (view (w .consumer)))
 SoundBegun begins.JournalFull w = Unit {0}
 
 -- begin: answer and record are the definition's, and the record has the very consumer, begun or refused

@@ -13,25 +13,24 @@ use Rattle.types.specs.Limits.{MAX, LEASES, CARRIED}
 use Rattle.types.specs.Refusal.{Refusal, Result, refused, done, LastOffset, Settled, InFlight, Exhausted, CheckpointDue, Full}
 use Rattle.types.specs.Table.{Row, first, Passed, Answer, answer}
 use Rattle.types.specs.Keyed.{lookup}
-use Rattle.types.proofs.Table.{first-none, guarded-passed}
+use Rattle.types.proofs.Table.{first-none, passed-none, guarded-passed, first-none-before, passed-append}
 use Rattle.cursor.specs.Cursor.{settled}
 use Rattle.delivery.specs.Policy.{Policy, Destination, disposition}
-use Rattle.delivery.specs.Config as delivery
 use Rattle.lease.specs.declared.Lease.{Lease}
 use Rattle.lease.specs.declared.LeaseTable.{LeaseTable}
 use Rattle.lease.specs.declared.LeaseToken.{LeaseToken}
 use Rattle.lease.specs.declared.Claim.{Claim}
 use Rattle.lease.specs.declared.Claim.the-variants.{Granted}
 use Rattle.lease.specs.State.{Table}
-use Rattle.lease.specs.Operations.{Grant, granted, grant, leaseOf, isNone, running, claimRows}
+use Rattle.lease.specs.Operations.{Grant, granted, grant, leaseOf, isNone, running}
 use Rattle.lease.specs.Operations as leases
 use Rattle.lease.specs.Answers as answers
 use Rattle.consumer.specs.State.{State, withTable}
-use Rattle.consumer.specs.Calls.{HandOut, handOut, isFull, claimTable, claim, claimed}
+use Rattle.consumer.specs.Calls.{callRows, HandOut, handOut, isFull, claimRows, claimTable, claim, claimed}
 use Rattle.consumer.specs.View.{view, Sound, Answers, holding, handOutOf, claimOf, asResult}
 use Rattle.consumer.specs.declared.Consumer.{Consumer}
 use Rattle.consumer.specs.declared.calls.ClaimAnswer.{ClaimAnswer}
-use Rattle.consumer.proofs.Open.{claim-open}
+use Rattle.consumer.proofs.Open.{call-passed, claim-open}
 use Rattle.consumer.proofs.Valid.{claimed-valid}
 use Rattle.consumer.proofs.CallsReturns.{sound-with, refuses, takes-effect}
 
@@ -66,8 +65,12 @@ module _ (s : State) (o now : ℕ) where
   abbrev pub Refuses : Refusal → Type 0
   Refuses r = _≡_ {A = Option (Result HandOut)} (some (refused r)) (asResult (first (claimTable s o now)))
 
-  refuses-with : (r : Refusal) → first (claimTable s o now) ≡ some r → Refuses r
-  refuses-with r e = sym (ap asResult e)
+  -- the rows in front are passed
+  its-own : first (claimTable s o now) ≡ first (claimRows s o now)
+  its-own = first-none-before (callRows s) (claimRows s o now) (passed-none (callRows s) (call-passed s))
+
+  refuses-with : (r : Refusal) → first (claimRows s o now) ≡ some r → Refuses r
+  refuses-with r e = sym (ap asResult (its-own ∙ e))
 
   pub is-last : o ≡ MAX → Refuses LastOffset
   is-last h = refuses-with LastOffset (rw (eq-eqb o MAX h))
@@ -92,20 +95,20 @@ module _ (s : State) (o now : ℕ) where
               (rw (ne-eqb o MAX last, unsettled, due, ne-eqb (s .table .nextGeneration) MAX left, le-leb (s .ceiling) (s .table .nextGeneration) h))
 
           module _ (below : s .table .nextGeneration < s .ceiling) where
-            pub is-at-threshold : s .policy .flushRedeliveries ≤ s .table .redeliveries → Refuses CheckpointDue
+            pub is-at-threshold : s .settings .policy .flushRedeliveries ≤ s .table .redeliveries → Refuses CheckpointDue
             is-at-threshold h =
                 refuses-with CheckpointDue
-                (rw (ne-eqb o MAX last, unsettled, due, ne-eqb (s .table .nextGeneration) MAX left, lt-leb (s .ceiling) (s .table .nextGeneration) below, le-leb (s .policy .flushRedeliveries) (s .table .redeliveries) h))
+                (rw (ne-eqb o MAX last, unsettled, due, ne-eqb (s .table .nextGeneration) MAX left, lt-leb (s .ceiling) (s .table .nextGeneration) below, le-leb (s .settings .policy .flushRedeliveries) (s .table .redeliveries) h))
 
-            module _ (few : s .table .redeliveries < s .policy .flushRedeliveries) where
+            module _ (few : s .table .redeliveries < s .settings .policy .flushRedeliveries) where
               pub is-full : isFull (s .table) o ≡ true → Refuses Full
               is-full h =
                   refuses-with Full
-                  (rw (ne-eqb o MAX last, unsettled, due, ne-eqb (s .table .nextGeneration) MAX left, lt-leb (s .ceiling) (s .table .nextGeneration) below, lt-leb (s .policy .flushRedeliveries) (s .table .redeliveries) few) (rw h))
+                  (rw (ne-eqb o MAX last, unsettled, due, ne-eqb (s .table .nextGeneration) MAX left, lt-leb (s .ceiling) (s .table .nextGeneration) below, lt-leb (s .settings .policy .flushRedeliveries) (s .table .redeliveries) few) (rw h))
 
               pub is-open : isFull (s .table) o ≡ false → _≡_ {A = Option (Result HandOut)} none (asResult (first (claimTable s o now)))
               is-open h =
-                  rw (ne-eqb o MAX last, unsettled, due, ne-eqb (s .table .nextGeneration) MAX left, lt-leb (s .ceiling) (s .table .nextGeneration) below, lt-leb (s .policy .flushRedeliveries) (s .table .redeliveries) few) (rw h)
+                  rw (its-own, ne-eqb o MAX last, unsettled, due, ne-eqb (s .table .nextGeneration) MAX left, lt-leb (s .ceiling) (s .table .nextGeneration) below, lt-leb (s .settings .policy .flushRedeliveries) (s .table .redeliveries) few) (rw h)
 
 -- ## what the whole test says
 pub open-passed : (ws : List Row) → none ≡ asResult (first ws) → Passed ws
@@ -147,16 +150,19 @@ module _ (c : Consumer) (ok : Sound c) (o now : ℕ) (fits : o ≤ MAX) (p : Pas
   t = view c .table
 
   -- the table's own tests failed too
-  table-passed : Passed (claimRows t o now)
-  table-passed = (p .1 .1 .0, (p .1 .1 .1 .0, (room (leaseOf t o) refl, tt)))
+  table-passed : Passed (leases.claimRows t o now)
+  table-passed = (own .1 .1 .0, (own .1 .1 .1 .0, (room (leaseOf t o) refl, tt)))
     where
+      own : Passed (claimRows (view c) o now)
+      own = passed-append (callRows (view c)) (claimRows (view c) o now) p .1
+
       room : (x : Option Lease) → leaseOf t o ≡ x → (isNone x && leb LEASES (length (t .leases))) ≡ false
       room none e = lt-leb LEASES (length (t .leases)) (claim-open (view c) o now p .lease-room e)
       room (some l) e = refl
 
   table-granted : leases.claim t o now ≡ answer (done (granted t o)) (grant t o now)
   unfolding leases.claim
-  table-granted = guarded-passed (claimRows t o now) t _ table-passed
+  table-granted = guarded-passed (leases.claimRows t o now) t _ table-passed
 
   module _ (outcome : Claim) (after : LeaseTable) (e : answers.Answers (answers.claimOf outcome) (c .table) after (leases.claim t o now)) where
     outcome-is : answers.claimOf outcome ≡ done (granted t o)
@@ -167,7 +173,7 @@ module _ (c : Consumer) (ok : Sound c) (o now : ℕ) (fits : o ≤ MAX) (p : Pas
     not-refused r q = let w : refused r ≡ done (granted t o) = sym q ∙ outcome-is in let z : _≡_ {A = ℕ} 0 1 = cc in omega arith
 
     pub claim-granted : (token : LeaseToken) (n : ℕ) → outcome ≡ Granted token n
-        → (a : ClaimAnswer) → claimOf a ≡ done (handOutOf token n (disposition (delivery.view (c .delivery)) n))
+        → (a : ClaimAnswer) → claimOf a ≡ done (handOutOf token n (disposition (view c .settings .policy) n))
         → (b : Consumer) → b ≡ holding c after → Answers (claimOf a) c b (claim (view c) o now)
     unfolding claim
     claim-granted token n q a f b made =
@@ -176,6 +182,6 @@ module _ (c : Consumer) (ok : Sound c) (o now : ℕ) (fits : o ≤ MAX) (p : Pas
         let same : record { offset = token .offset .0; generation = token .generation .0; deliveries = n } ≡ granted t o = cc in
         let shows : view (holding c after) ≡ claimed (view c) o now =
         ap (λ (x : Answer Grant Table). withTable (view c) (x .state)) (e .is ∙ table-granted) in
-        rw (f ∙ ap (λ (x : Grant). done (handedOut (delivery.view (c .delivery)) x)) same, made)
+        rw (f ∙ ap (λ (x : Grant). done (handedOut (view c .settings .policy) x)) same, made)
         (takes-effect c ok (claimTable (view c) o now) (handOut (view c) o) p shows
         (sound-with c ok (ok .cursor) (e .sound) shows (claimed-valid (view c) o now (ok .valid) (claim-open (view c) o now p) fits)))

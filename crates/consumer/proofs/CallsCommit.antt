@@ -6,7 +6,8 @@ use mathlib.Core.Bool.{Bool, true, false}
 use borrow.Author.Tests.{le-leb, lt-leb}
 use Rattle.types.specs.Limits.{MAX}
 use Rattle.types.specs.Refusal.{Refusal, Result, refused, done, Held}
-use Rattle.types.specs.Table.{Answer}
+use Rattle.types.specs.Table.{Answer, guarded}
+use Rattle.types.proofs.Table.{guarded-passed}
 use Rattle.types.specs.Keyed.{anyBelow}
 use Rattle.cursor.specs.Cursor.{Cursor, commitUpTo}
 use Rattle.cursor.specs.Answers as cursor
@@ -16,9 +17,10 @@ use Rattle.lease.specs.State as state
 use Rattle.lease.specs.Rest.{releaseBelow}
 use Rattle.lease.specs.Answers as answers
 use Rattle.consumer.specs.State.{State, withBoth}
-use Rattle.consumer.specs.Calls.{commitTable, committedTo, commit}
+use Rattle.consumer.specs.Calls.{callRows, commitTable, committedTo, commit}
 use Rattle.consumer.specs.View.{view, Sound, Answers, Commits, holdingBoth}
 use Rattle.consumer.specs.declared.Consumer.{Consumer}
+use Rattle.consumer.proofs.Open.{call-passed}
 use Rattle.consumer.proofs.Valid.{committed-valid}
 use Rattle.consumer.proofs.CallsReturns.{sound-with, refuses, takes-effect}
 
@@ -31,15 +33,20 @@ module _ {before after : Consumer} {right : Answer Bool State} where
   moves a = record { is = a .is; sound = a .sound; kept = tt }
 
 module _ (c : Consumer) (ok : Sound c) (bound : ℕ) where
+  -- the rows in front are passed
+  in-front : (a : Answer Bool State) → guarded (callRows (view c)) (view c) a ≡ a
+  in-front a = guarded-passed (callRows (view c)) (view c) a (call-passed (view c))
+
   pub commit-unchanged : bound ≤ view c .cursor .committed → Commits (done false) c c (commit (view c) bound)
   unfolding commit
-  commit-unchanged h = record { is = rw (le-leb bound (view c .cursor .committed) h); sound = ok; kept = refl }
+  commit-unchanged h =
+      rw (in-front _, le-leb bound (view c .cursor .committed) h) (record { is = refl; sound = ok; kept = refl })
 
   module _ (above : view c .cursor .committed < bound) where
     pub commit-held : anyBelow bound (view c .table .leases) ≡ true → Commits (refused Held) c c (commit (view c) bound)
     unfolding commit
     commit-held h =
-        rw (lt-leb bound (view c .cursor .committed) above) (refuses-commit (refuses c ok (commitTable (view c) bound) Held _ (rw h)))
+        rw (in-front _, lt-leb bound (view c .cursor .committed) above) (refuses-commit (refuses c ok (commitTable (view c) bound) Held _ (rw h)))
 
     module _ (free : anyBelow bound (view c .table .leases) ≡ false) (fits : bound ≤ MAX) (moved : Result Bool) (k : AckCursor)
         (u : cursor.Updated (c .cursor) moved k (commitUpTo (view c .cursor) bound)) (t : LeaseTable)
@@ -50,7 +57,7 @@ module _ (c : Consumer) (ok : Sound c) (bound : ℕ) where
           let shows : view (holdingBoth c k t) ≡ committedTo (view c) bound =
           ap (λ (a : Answer Bool Cursor). withBoth (view c) (a .state) (state.view t)) (u .is)
           ∙ ap (withBoth (view c) (commitUpTo (view c .cursor) bound .state)) (e .is) in
-          rw (made, lt-leb bound (view c .cursor .committed) above)
+          rw (made, in-front _, lt-leb bound (view c .cursor .committed) above)
           (moves
           (takes-effect c ok (commitTable (view c) bound) true (free, tt) shows
           (sound-with c ok (u .sound) (e .sound) shows (committed-valid (view c) bound (ok .valid) fits))))

@@ -19,7 +19,7 @@ use Rattle.consumer.specs.declared.Consumer.{Consumer}
 -- a consumer with another cursor and another table, which shows a state of which all holds
 pub sound-with : (c : Consumer) → Sound c → {k : AckCursor} {t : LeaseTable} {s : State} → cursor.Sound k → lease.Sound t → view (holdingBoth c k t) ≡ s
     → Valid s → Sound (holdingBoth c k t)
-sound-with c ok p q e v = record { cursor = p; table = q; delivery = ok .delivery; valid = subst Valid (sym e) v }
+sound-with c ok p q e v = record { cursor = p; table = q; settings = ok .settings; valid = subst Valid (sym e) v }
 
 module _ {A : Type 0} (c : Consumer) (ok : Sound c) (ws : List Row) where
   pub refuses : (r : Refusal) (right : Answer A State) → first ws ≡ some r → Answers (refused r) c c (guarded ws (view c) right)

@@ -9,10 +9,10 @@ use mathlib.Core.Option.{Option, none, some, Option·none-ne-some}
 use borrow.Author.Tests.{eq-eqb, ne-eqb, le-leb, lt-leb}
 use Rattle.types.specs.Limits.{MAX, RANGES, sat64}
 use Rattle.types.specs.Refusal.{Refusal, Result, refused, done, Fenced, Exhausted, CheckpointDue, Shed}
-use Rattle.types.specs.Table.{Passed, Answer, answer, Kept}
+use Rattle.types.specs.Table.{first, Passed, Answer, answer, unlessKept, Kept}
 use Rattle.types.specs.Keyed.{delete}
 use Rattle.types.proofs.Cases.{split}
-use Rattle.types.proofs.Table.{guarded-passed, guarded-refused}
+use Rattle.types.proofs.Table.{passed-none, first-met, guarded-passed, guarded-refused, first-met-before, first-none-before, passed-append, append-passed}
 use Rattle.cursor.specs.Cursor.{Cursor, ackBounded}
 use Rattle.cursor.specs.Answers as cursor
 use Rattle.cursor.specs.declared.AckCursor.{AckCursor}
@@ -21,15 +21,15 @@ use Rattle.lease.specs.declared.Lease.{Lease}
 use Rattle.lease.specs.declared.LeaseTable.{LeaseTable}
 use Rattle.lease.specs.State.{Table, withLeases}
 use Rattle.lease.specs.State as state
-use Rattle.lease.specs.Operations.{leaseOf, owns, tokenRow, nackRows, requeue}
+use Rattle.lease.specs.Operations.{leaseOf, owns, tokenRow, extendRows, extended, requeue}
 use Rattle.lease.specs.Operations as leases
 use Rattle.lease.specs.Rest.{deliveriesOf, deliveries}
 use Rattle.lease.specs.Answers as answers
 use Rattle.consumer.specs.State.{State, withTable, withBoth, countOr0}
-use Rattle.consumer.specs.Calls.{isShed, ackTable, acked, ack, attemptOf, nackDeadline, nackTable, nacked, nack, onTable, progress}
+use Rattle.consumer.specs.Calls.{tokenRows, isShed, ackRows, ackTable, acked, ack, attemptOf, nackDeadline, nackRows, nackTable, nacked, nack, progressRows, progressTable, progressed, progress}
 use Rattle.consumer.specs.View.{view, Sound, Answers, holding, holdingBoth}
 use Rattle.consumer.specs.declared.Consumer.{Consumer}
-use Rattle.consumer.proofs.Open.{ack-open, nack-open}
+use Rattle.consumer.proofs.Open.{token-refused, token-passed, token-held, ack-open, nack-open}
 use Rattle.consumer.proofs.Valid.{acked-valid, nacked-valid, progress-valid}
 use Rattle.consumer.proofs.CallsReturns.{sound-with, refuses, takes-effect}
 
@@ -59,7 +59,7 @@ module _ (c : Consumer) (ok : Sound c) (o g : ℕ) where
     unfolding ack
     ack-fenced h =
         split (tokenRow t o g .test)
-        (λ q. refuses c ok (ackTable (view c) o g) Fenced _ (rw q))
+        (λ q. refuses c ok (ackTable (view c) o g) Fenced _ (first-met-before (tokenRows (view c) o g) (ackRows (view c) o) Fenced (token-refused (view c) o g q)))
         (λ q. absurd (apart Fenced tt (sym h ∙ outcome-is ∙ ap (λ (a : Answer (Unit {0}) Table). a .outcome) (table-acked q))))
 
     module _ (h : outcome ≡ done tt) where
@@ -75,12 +75,15 @@ module _ (c : Consumer) (ok : Sound c) (o g : ℕ) where
 
         pub ack-shed : isShed noted ≡ true → Answers (refused Shed) c c (ack (view c) o g)
         unfolding ack
-        ack-shed s = refuses c ok (ackTable (view c) o g) Shed _ (rw (owns-lease, sym shed-is ∙ s))
+        ack-shed s =
+            refuses c ok (ackTable (view c) o g) Shed _
+            (first-met (tokenRows (view c) o g) [] _ (token-passed (view c) o g owns-lease) (sym shed-is ∙ s))
 
         pub ack-settled : isShed noted ≡ false → (b : Consumer) → b ≡ holdingBoth c k after → Answers (done tt) c b (ack (view c) o g)
         unfolding ack
         ack-settled s b made =
-            let p : Passed (ackTable (view c) o g) = (owns-lease, (sym shed-is ∙ s, tt)) in
+            let p : Passed (ackTable (view c) o g) =
+            append-passed (tokenRows (view c) o g) (ackRows (view c) o) (token-passed (view c) o g owns-lease) (sym shed-is ∙ s, tt) in
             let shows : view (holdingBoth c k after) ≡ acked (view c) o =
             ap (λ (a : Answer Bool Cursor). withBoth (view c) (a .state) (state.view after)) (u .is)
             ∙ ap (λ (a : Answer (Unit {0}) Table). withBoth (view c) (ackBounded (view c .cursor) o RANGES .state) (a .state)) (e .is ∙ table-acked owns-lease) in
@@ -104,41 +107,49 @@ its-count x g n e =
 module _ (c : Consumer) (ok : Sound c) (o g now : ℕ) (explicit : Option ℕ) where
   pub nack-fenced : none ≡ deliveries (view c .table) o g → Answers (refused Fenced) c c (nack (view c) o g now explicit)
   unfolding nack
-  nack-fenced e = refuses c ok (nackTable (view c) o g) Fenced _ (rw (not-owned (leaseOf (view c .table) o) g e))
+  nack-fenced e =
+      refuses c ok (nackTable (view c) o g) Fenced _
+      (first-met-before (tokenRows (view c) o g) (nackRows (view c)) Fenced (token-refused (view c) o g (not-owned (leaseOf (view c .table) o) g e)))
 
   module _ (n : ℕ) (e : some n ≡ deliveries (view c .table) o g) where
-    held : tokenRow (view c .table) o g .test ≡ false
-    held = is-owned (leaseOf (view c .table) o) g n e
+    held : Passed (tokenRows (view c) o g)
+    held = token-passed (view c) o g (is-owned (leaseOf (view c .table) o) g n e)
+
+    -- the token's rows are passed, so the first of the nack's own that is met is answered
+    its-own : first (nackTable (view c) o g) ≡ first (nackRows (view c))
+    its-own = first-none-before (tokenRows (view c) o g) (nackRows (view c)) (passed-none (tokenRows (view c) o g) held)
 
     pub attempt-is : n ≡ attemptOf (view c) o
     attempt-is = its-count (leaseOf (view c .table) o) g n e
 
     pub nack-exhausted : view c .table .nextGeneration ≡ MAX → Answers (refused Exhausted) c c (nack (view c) o g now explicit)
     unfolding nack
-    nack-exhausted h = refuses c ok (nackTable (view c) o g) Exhausted _ (rw (held, eq-eqb (view c .table .nextGeneration) MAX h))
+    nack-exhausted h =
+        refuses c ok (nackTable (view c) o g) Exhausted _ (its-own ∙ rw (eq-eqb (view c .table .nextGeneration) MAX h))
 
     module _ (left : view c .table .nextGeneration ≡ MAX → ⊥) where
       pub nack-due : view c .ceiling ≤ view c .table .nextGeneration → Answers (refused CheckpointDue) c c (nack (view c) o g now explicit)
       unfolding nack
       nack-due h =
           refuses c ok (nackTable (view c) o g) CheckpointDue _
-          (rw (held, ne-eqb (view c .table .nextGeneration) MAX left, le-leb (view c .ceiling) (view c .table .nextGeneration) h))
+          (its-own ∙ rw (ne-eqb (view c .table .nextGeneration) MAX left, le-leb (view c .ceiling) (view c .table .nextGeneration) h))
 
       pub nack-passed : view c .table .nextGeneration < view c .ceiling → Passed (nackTable (view c) o g)
-      nack-passed h = (
-        held,
-        (ne-eqb (view c .table .nextGeneration) MAX left, (lt-leb (view c .ceiling) (view c .table .nextGeneration) h, tt)),
-      )
+      nack-passed h =
+          append-passed (tokenRows (view c) o g) (nackRows (view c)) held
+          (ne-eqb (view c .table .nextGeneration) MAX left, (lt-leb (view c .ceiling) (view c .table .nextGeneration) h, tt))
 
 module _ (c : Consumer) (ok : Sound c) (o g now attempt : ℕ) (explicit : Option ℕ) (p : Passed (nackTable (view c) o g)) (count : attempt ≡ attemptOf (view c) o)
-    (delay : ℕ) (waits : delay ≡ effectiveNackDelay (view c .policy) attempt explicit) where
+    (delay : ℕ) (waits : delay ≡ effectiveNackDelay (view c .settings .policy) attempt explicit) where
   -- the table's own tests failed too
   table-nacked : leases.nack (view c .table) o g now delay ≡ answer (done (sat64 now delay)) (requeue (view c .table) o (sat64 now delay))
   unfolding leases.nack
-  table-nacked = guarded-passed (nackRows (view c .table) o g) (view c .table) _ (p .0, (p .1 .0, tt))
+  table-nacked =
+      let rows = passed-append (tokenRows (view c) o g) (nackRows (view c)) p in
+      guarded-passed (leases.nackRows (view c .table) o g) (view c .table) _ (token-held (view c) o g (rows .0), (rows .1 .0, tt))
 
   deadline-is : sat64 now delay ≡ nackDeadline (view c) o now explicit
-  deadline-is = ap (sat64 now) (waits ∙ ap (λ (n : ℕ). effectiveNackDelay (view c .policy) n explicit) count)
+  deadline-is = ap (sat64 now) (waits ∙ ap (λ (n : ℕ). effectiveNackDelay (view c .settings .policy) n explicit) count)
 
   module _ (outcome : Result ℕ) (after : LeaseTable) (e : answers.Answers outcome (c .table) after (leases.nack (view c .table) o g now delay)) where
     nacked-is : outcome ≡ done (sat64 now delay)
@@ -160,22 +171,42 @@ module _ (c : Consumer) (ok : Sound c) (o g now attempt : ℕ) (explicit : Optio
         (nacked-valid (view c) o g (nackDeadline (view c) o now explicit) (ok .valid) (nack-open (view c) o g p))))
 
 -- ## Progress
+-- what a call on the table alone leaves of the state
+abbrev onTable : State → Answer ℕ Table → Answer ℕ State
+onTable s a = answer (a .outcome) (withTable s (a .state))
+
+-- it refuses what the table refuses, and does what the table does
+module _ (s : State) (o g now : ℕ) where
+  same-refusal : first (progressTable s o g now) ≡ first (extendRows (s .table) o g now)
+  same-refusal =
+      split (tokenRow (s .table) o g .test)
+      (λ q. first-met-before (tokenRows s o g) (progressRows s o now) Fenced (token-refused s o g q) ∙ rw q)
+      (λ q. first-none-before (tokenRows s o g) (progressRows s o now) (passed-none (tokenRows s o g) (token-passed s o g q)) ∙ rw q)
+
+  as-table : onTable s (leases.extend (s .table) o g now) ≡ progress s o g now
+  unfolding progress leases.extend
+  as-table = rw same-refusal (go (first (extendRows (s .table) o g now)))
+    where
+      go : (x : Option Refusal)
+          → onTable s (unlessKept x (s .table) (answer (done (extended (s .table) o now)) (progressed s o (extended (s .table) o now) .table)))
+          ≡ unlessKept x s (answer (done (extended (s .table) o now)) (progressed s o (extended (s .table) o now)))
+      go none = refl
+      go (some r) = refl
+
 module _ (c : Consumer) (ok : Sound c) (o g now : ℕ) (outcome : Result ℕ) (after : LeaseTable)
     (e : answers.Answers outcome (c .table) after (leases.extend (view c .table) o g now)) where
   pub progress-refused : (r : Refusal) → outcome ≡ refused r → Answers (refused r) c c (progress (view c) o g now)
-  unfolding progress
   progress-refused r q =
       let same : after ≡ c .table = subst (λ (x : Result ℕ). Kept x (c .table) after) q (e .kept) in
       record {
-        is = ap (onTable (view c)) (rw (q, same) at (e .is));
+        is = ap (onTable (view c)) (rw (q, same) at (e .is)) ∙ as-table (view c) o g now;
         sound = ok;
         kept = refl;
       }
 
   pub progress-done : (d : ℕ) → outcome ≡ done d → (b : Consumer) → b ≡ holding c after → Answers (done d) c b (progress (view c) o g now)
-  unfolding progress
   progress-done d q b made =
-      let is : answer (done d) (view (holding c after)) ≡ onTable (view c) (leases.extend (view c .table) o g now) = ap (onTable (view c)) (rw q at (e .is)) in
+      let is : answer (done d) (view (holding c after)) ≡ progress (view c) o g now = ap (onTable (view c)) (rw q at (e .is)) ∙ as-table (view c) o g now in
       rw made (record {
         is = is;
         sound =

@@ -15,10 +15,10 @@ use Rattle.cursor.specs.Cursor.{settled}
 use Rattle.lease.specs.declared.Lease.{Lease}
 use Rattle.lease.specs.Operations.{leaseOf, handedOut, dueAt, requeuedAs}
 use Rattle.consumer.specs.State.{State}
-use Rattle.consumer.specs.Calls.{claimed, acked, nacked, committedTo}
+use Rattle.consumer.specs.Calls.{claimed, acked, nacked, progressed, committedTo}
 use Rattle.consumer.specs.Questions.{countOf}
 use Rattle.consumer.specs.Valid.{Valid}
-use Rattle.consumer.proofs.Open.{ClaimOpen, AckOpen, NackOpen, ProgressOpen, progressed}
+use Rattle.consumer.proofs.Open.{ClaimOpen, AckOpen, NackOpen, ProgressOpen}
 use Rattle.consumer.proofs.Valid.{consumed-other, newLease, claimed-valid, acked-leased, acked-valid, nacked-valid, progressed-valid, committed-valid}
 use Rattle.consumer.proofs.Counts.{count-is, settled-count}
 

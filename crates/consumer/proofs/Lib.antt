@@ -1,3 +1,4 @@
+pub mod Area
 pub mod Updates
 pub mod Open
 pub mod Valid

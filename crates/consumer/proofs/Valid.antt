@@ -26,9 +26,9 @@ use Rattle.lease.specs.State as leases
 use Rattle.lease.specs.Operations.{lease, deadlineFrom, leaseOf, isNone, nextCount, consumed, afterGrant, grant, dueAt, requeuedAs, extended}
 use Rattle.lease.proofs.Valid.{valid-grant, valid-ack, valid-requeue, valid-update, valid-release}
 use Rattle.consumer.specs.State.{State, withBoth}
-use Rattle.consumer.specs.Calls.{HandOut, claimed, claim, isShed, acked, ack, nackDeadline, nacked, nack, progress, committedTo, commit}
+use Rattle.consumer.specs.Calls.{HandOut, claimed, claim, isShed, acked, ack, nackDeadline, nacked, nack, progressed, progress, committedTo, commit}
 use Rattle.consumer.specs.Valid.{Leased, Valid}
-use Rattle.consumer.proofs.Open.{ClaimOpen, claim-cases, AckOpen, ack-cases, NackOpen, nack-cases, ProgressOpen, progressed, progress-cases, commit-cases}
+use Rattle.consumer.proofs.Open.{ClaimOpen, claim-cases, AckOpen, ack-cases, NackOpen, nack-cases, ProgressOpen, progress-cases, commit-cases}
 
 -- ## A state with another cursor and another table
 module _ (s : State) (c : Cursor) (t : Table) where
@@ -40,7 +40,7 @@ module _ (s : State) (c : Cursor) (t : Table) where
     leased : (o : ℕ) (l : Lease) → lookup o (t .leases) ≡ some l → Leased c (t .carried) o
     carried : (o n : ℕ) → lookup o (t .carried) ≡ some n → settled c o ≡ false
     under-ceiling : t .nextGeneration ≤ s .ceiling
-    counter : t .redeliveries ≤ s .policy .flushRedeliveries
+    counter : t .redeliveries ≤ s .settings .policy .flushRedeliveries
 
   changed : Valid s → Changed → Valid (withBoth s c t)
   changed v h =
@@ -53,7 +53,8 @@ module _ (s : State) (c : Cursor) (t : Table) where
         under-ceiling = h .under-ceiling;
         ceiling-fits = v .ceiling-fits;
         counter = h .counter;
-        policy = v .policy;
+        fits = v .fits;
+        accepted = v .accepted;
         area = v .area;
         within = v .within;
         numbered = v .numbered;
@@ -94,7 +95,7 @@ module _ (s : State) (o now : ℕ) (v : Valid s) (p : ClaimOpen s o now) where
   counts-together none (some n) e f =
       omega (arith, v .together, length-put o new (t .leases), length-delete-old o n (t .carried) f)
 
-  counted : afterGrant (t .redeliveries) (nextCount t o) ≤ s .policy .flushRedeliveries
+  counted : afterGrant (t .redeliveries) (nextCount t o) ≤ s .settings .policy .flushRedeliveries
   counted =
       split (leb 2 (nextCount t o))
       (λ q. rw q (omega (arith, p .below-threshold)))

@@ -2,20 +2,29 @@
 -- is a refusal table in 01's order and an effect.
 use Prim.Native.Nat.{ℕ, _+_}
 use mathlib.Core.Bool.{Bool, true, false, cond, _&&_, _||_}
-use mathlib.Core.List.{List, [], _∷_}
+use mathlib.Core.List.{List, [], _∷_, _++_}
 use mathlib.Core.Option.{Option}
 use lib.Dec.{leb, eqb}
 use lib.ListN.{length}
 use Rattle.types.specs.Limits.{MAX, LEASES, CARRIED, RANGES, sat64}
-use Rattle.types.specs.Refusal.{Result, refused, done, LastOffset, Settled, InFlight, Exhausted, CheckpointDue, Full, Shed, Held}
+use Rattle.types.specs.Refusal.{Result, refused, done, LastOffset, Settled, InFlight, Exhausted, CheckpointDue, Full, CapReached, Shed, Held}
 use Rattle.types.specs.Table.{Row, _⇒_, Answer, answer, guarded}
-use Rattle.types.specs.Keyed.{lookup, delete, anyBelow}
+use Rattle.types.specs.Keyed.{lookup, update, delete, anyBelow}
 use Rattle.cursor.specs.Cursor.{settled, ackBounded, commitUpTo}
 use Rattle.delivery.specs.Policy.{Destination, disposition, effectiveNackDelay}
 use Rattle.lease.specs.State.{Table, withLeases}
-use Rattle.lease.specs.Operations.{leaseOf, isNone, running, nextCount, grant, tokenRow, requeue, extend}
+use Rattle.lease.specs.Operations.{leaseOf, isNone, running, capFrom, nextCount, grant, tokenRow, startOf, dueAt, extended, requeue}
 use Rattle.lease.specs.Rest.{releaseBelow, deliveriesOf}
 use Rattle.consumer.specs.State.{State, withTable, withBoth, countOr0}
+
+-- ## rows that several tables begin with
+-- in front of all that a call could answer or refuse: nothing
+abbrev pub callRows : State → List Row
+callRows s = []
+
+-- in front of what a call with a token could answer or refuse, of offset o and generation g: 24
+abbrev pub tokenRows : State → ℕ → ℕ → List Row
+tokenRows s o g = callRows s ++ (tokenRow (s .table) o g ∷ [])
 
 -- ## claim
 -- a hand-out: the token, the count with this hand-out in it, and whether it is for delivery or for the dead letters
@@ -32,7 +41,7 @@ handOut s o =
       offset = o;
       generation = s .table .nextGeneration;
       deliveries = nextCount (s .table) o;
-      destination = disposition (s .policy) (nextCount (s .table) o);
+      destination = disposition (s .settings .policy) (nextCount (s .table) o);
     }
 
 -- no generation below the ceiling is left
@@ -41,7 +50,7 @@ atCeiling s = leb (s .ceiling) (s .table .nextGeneration)
 
 -- redeliveries since the last flush have reached the threshold
 abbrev pub atThreshold : State → Bool
-atThreshold s = leb (s .policy .flushRedeliveries) (s .table .redeliveries)
+atThreshold s = leb (s .settings .policy .flushRedeliveries) (s .table .redeliveries)
 
 -- the offset has no lease and there are 64, or it has no count either and leases and counts together are 128
 abbrev pub isFull : Table → ℕ → Bool
@@ -51,8 +60,8 @@ isFull t o =
     || (isNone (lookup o (t .carried)) && leb CARRIED (length (t .leases) + length (t .carried))))
 
 -- 21, 22, 23, 25, 26 with both of its conditions, 27
-abbrev pub claimTable : State → ℕ → ℕ → List Row
-claimTable s o now =
+abbrev pub claimRows : State → ℕ → ℕ → List Row
+claimRows s o now =
     eqb o MAX ⇒ LastOffset
     ∷ settled (s .cursor) o ⇒ Settled
     ∷ running (leaseOf (s .table) o) now ⇒ InFlight
@@ -60,6 +69,9 @@ claimTable s o now =
     ∷ (atCeiling s || atThreshold s) ⇒ CheckpointDue
     ∷ isFull (s .table) o ⇒ Full
     ∷ []
+
+abbrev pub claimTable : State → ℕ → ℕ → List Row
+claimTable s o now = callRows s ++ claimRows s o now
 
 -- the offset is leased under the next generation, with its carried count if it had one
 abbrev pub claimed : State → ℕ → ℕ → State
@@ -74,9 +86,12 @@ abbrev pub isShed : Result Bool → Bool
 isShed (refused r) = true
 isShed (done b) = false
 
--- 24, 29
+-- 29
+abbrev pub ackRows : State → ℕ → List Row
+ackRows s o = isShed (ackBounded (s .cursor) o RANGES .outcome) ⇒ Shed ∷ []
+
 abbrev pub ackTable : State → ℕ → ℕ → List Row
-ackTable s o g = tokenRow (s .table) o g ∷ isShed (ackBounded (s .cursor) o RANGES .outcome) ⇒ Shed ∷ []
+ackTable s o g = tokenRows s o g ++ ackRows s o
 
 -- Ack and Term: the lease goes and the offset is settled
 abbrev pub acked : State → ℕ → State
@@ -92,15 +107,14 @@ attemptOf s o = countOr0 (deliveriesOf (leaseOf (s .table) o))
 
 -- when a nacked offset can be claimed again
 abbrev pub nackDeadline : State → ℕ → ℕ → Option ℕ → ℕ
-nackDeadline s o now explicit = sat64 now (effectiveNackDelay (s .policy) (attemptOf s o) explicit)
+nackDeadline s o now explicit = sat64 now (effectiveNackDelay (s .settings .policy) (attemptOf s o) explicit)
 
--- 24, 25, 26 for the ceiling alone
+-- 25, 26 for the ceiling alone
+abbrev pub nackRows : State → List Row
+nackRows s = eqb (s .table .nextGeneration) MAX ⇒ Exhausted ∷ atCeiling s ⇒ CheckpointDue ∷ []
+
 abbrev pub nackTable : State → ℕ → ℕ → List Row
-nackTable s o g =
-    tokenRow (s .table) o g
-    ∷ eqb (s .table .nextGeneration) MAX ⇒ Exhausted
-    ∷ atCeiling s ⇒ CheckpointDue
-    ∷ []
+nackTable s o g = tokenRows s o g ++ nackRows s
 
 -- Nack: the lease goes on under the next generation until a deadline, which is the answer
 abbrev pub nacked : State → ℕ → ℕ → State
@@ -111,13 +125,25 @@ nack s o g now explicit =
     guarded (nackTable s o g) s
     (answer (done (nackDeadline s o now explicit)) (nacked s o (nackDeadline s o now explicit)))
 
--- what a call on the table alone leaves of the state
-abbrev pub onTable : {A : Type 0} → State → Answer A Table → Answer A State
-onTable s a = answer (a .outcome) (withTable s (a .state))
+-- the end of the attempt has come, beyond which no lease is extended
+abbrev pub atCap : State → ℕ → ℕ → Bool
+atCap s o now = leb (capFrom (s .table .config) (startOf (leaseOf (s .table) o))) now
 
--- Progress: the lease is extended, with 24 and 28 as the table has them; the answer is its deadline
+-- 28
+abbrev pub progressRows : State → ℕ → ℕ → List Row
+progressRows s o now = atCap s o now ⇒ CapReached ∷ []
+
+abbrev pub progressTable : State → ℕ → ℕ → ℕ → List Row
+progressTable s o g now = tokenRows s o g ++ progressRows s o now
+
+-- Progress: the lease has a new deadline, which is the answer
+abbrev pub progressed : State → ℕ → ℕ → State
+progressed s o deadline = withTable s (withLeases (s .table) (update o (dueAt deadline) (s .table .leases)))
+
 unfoldable pub progress : State → ℕ → ℕ → ℕ → Answer ℕ State
-progress s o g now = onTable s (extend (s .table) o g now)
+progress s o g now =
+    guarded (progressTable s o g now) s
+    (answer (done (extended (s .table) o now)) (progressed s o (extended (s .table) o now)))
 
 -- ## commit
 -- 30
@@ -128,8 +154,9 @@ commitTable s bound = anyBelow bound (s .table .leases) ⇒ Held ∷ []
 abbrev pub committedTo : State → ℕ → State
 committedTo s bound = withBoth s (commitUpTo (s .cursor) bound .state) (releaseBelow (s .table) bound)
 
--- false, which is Unchanged, where the bound is not above committed; that comes before 30
+-- behind the rows of every call: false, which is Unchanged, where the bound is not above committed; then 30
 unfoldable pub commit : State → ℕ → Answer Bool State
 commit s bound =
-    cond (leb bound (s .cursor .committed)) (answer (done false) s)
-    (guarded (commitTable s bound) s (answer (done true) (committedTo s bound)))
+    guarded (callRows s) s
+    (cond (leb bound (s .cursor .committed)) (answer (done false) s)
+    (guarded (commitTable s bound) s (answer (done true) (committedTo s bound))))

@@ -1,18 +1,24 @@
--- The consumer's state, as document 01 lists it under "consumer", and the settings that it is started with.
+-- The consumer's state, as document 01 lists it under "consumer", and the configuration that it is started with.
 use Prim.Native.Nat.{ℕ, _/_}
+use mathlib.Core.Bool.{Bool}
 use mathlib.Core.Option.{Option, Option·getD}
 use Rattle.cursor.specs.Cursor.{Cursor}
 use Rattle.lease.specs.declared.LeaseConfig.{LeaseConfig}
 use Rattle.lease.specs.State.{Table}
 use Rattle.delivery.specs.Policy.{Policy}
+use Rattle.journal.specs.Area.{badLength}
 
 -- a count that may be missing
 abbrev pub countOr0 : Option ℕ → ℕ
 countOr0 n = Option·getD n 0
 
--- what a consumer is started with
+-- what a consumer keeps of its configuration, beside what its lease table keeps
 pub record Settings : Type 0 where
   pub policy : Policy
+
+-- the configuration: what a consumer is started with
+pub record Configuration : Type 0 where
+  pub settings : Settings
   pub lease : LeaseConfig
 
 -- where the next checkpoint goes: its group number, and the block of its header
@@ -31,18 +37,22 @@ pub record State : Type 0 where
   pub ceiling : ℕ
   pub seat : Seat
   pub size : ℕ
-  pub policy : Policy
+  pub settings : Settings
 
-abbrev pub stateOf : Cursor → Table → ℕ → Seat → ℕ → Policy → State
-stateOf c t ceiling seat size p =
-    record { cursor = c; table = t; ceiling = ceiling; seat = seat; size = size; policy = p }
+abbrev pub stateOf : Cursor → Table → ℕ → Seat → ℕ → Settings → State
+stateOf c t ceiling seat size settings =
+    record { cursor = c; table = t; ceiling = ceiling; seat = seat; size = size; settings = settings }
 
 -- the state with another table, and with another cursor and another table
 abbrev pub withTable : State → Table → State
-withTable s t = stateOf (s .cursor) t (s .ceiling) (s .seat) (s .size) (s .policy)
+withTable s t = stateOf (s .cursor) t (s .ceiling) (s .seat) (s .size) (s .settings)
 
 abbrev pub withBoth : State → Cursor → Table → State
-withBoth s c t = stateOf c t (s .ceiling) (s .seat) (s .size) (s .policy)
+withBoth s c t = stateOf c t (s .ceiling) (s .seat) (s .size) (s .settings)
+
+-- no consumer is started on an area of so many bytes: 4
+unfoldable pub badArea : ℕ → Bool
+badArea n = badLength n
 
 -- the blocks of the area
 abbrev pub blocksOf : State → ℕ

@@ -10,23 +10,21 @@ use Rattle.types.specs.Limits.{MAX, MAX32, CARRIED, STEPS}
 use Rattle.types.specs.Keyed.{Entry, lookup}
 use Rattle.cursor.specs.Cursor.{Cursor, settled}
 use Rattle.cursor.specs.Cursor as cursor
-use Rattle.delivery.specs.Policy.{Policy, unlimited}
+use Rattle.delivery.specs.Policy.{unlimited}
 use Rattle.lease.specs.declared.Lease.{Lease}
 use Rattle.lease.specs.State as lease
-use Rattle.journal.specs.Area.{badLength}
-use Rattle.consumer.specs.State.{State, blocksOf}
+use Rattle.consumer.specs.State.{Settings, State, badArea, blocksOf}
 
--- a policy whose numbers are of their types
-pub record Fits (p : Policy) : Type 0 where
-  pub limit-fits : p .maxDeliver ≤ MAX32
-  pub threshold-fits : p .flushRedeliveries ≤ MAX32
+-- settings whose numbers are of their types
+pub record Fits (s : Settings) : Type 0 where
+  pub limit-fits : s .policy .maxDeliver ≤ MAX32
+  pub threshold-fits : s .policy .flushRedeliveries ≤ MAX32
 
--- such a policy that a start accepts: 1, 2 and 3
-pub record Accepted (p : Policy) : Type 0 where
-  pub fits : Fits p
-  pub allowed : (unlimited (p .maxDeliver) && not (p .allowUnlimited)) ≡ false
-  pub few-steps : length (p .backoff) ≤ STEPS
-  pub some-threshold : 0 < p .flushRedeliveries
+-- settings that a start accepts: 1, 2 and 3
+pub record Accepted (s : Settings) : Type 0 where
+  pub limited : (unlimited (s .policy .maxDeliver) && not (s .policy .allowUnlimited)) ≡ false
+  pub few-steps : length (s .policy .backoff) ≤ STEPS
+  pub some-threshold : 0 < s .policy .flushRedeliveries
 
 -- an offset with a lease, beside a cursor and carried counts: it is below MAX, unsettled, and has no carried count
 pub record Leased (c : Cursor) (carried : List (Entry ℕ)) (o : ℕ) : Type 0 where
@@ -43,8 +41,9 @@ pub record Valid (s : State) : Type 0 where
   pub carried : (o n : ℕ) → lookup o (s .table .carried) ≡ some n → settled (s .cursor) o ≡ false
   pub under-ceiling : s .table .nextGeneration ≤ s .ceiling
   pub ceiling-fits : s .ceiling ≤ MAX
-  pub counter : s .table .redeliveries ≤ s .policy .flushRedeliveries
-  pub policy : Accepted (s .policy)
-  pub area : badLength (s .size) ≡ false
+  pub counter : s .table .redeliveries ≤ s .settings .policy .flushRedeliveries
+  pub fits : Fits (s .settings)
+  pub accepted : Accepted (s .settings)
+  pub area : badArea (s .size) ≡ false
   pub within : s .seat .block ≤ blocksOf s
   pub numbered : s .seat .number ≤ suc (s .seat .block)

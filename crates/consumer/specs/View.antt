@@ -14,8 +14,10 @@ use Rattle.lease.specs.State as lease
 use Rattle.lease.specs.declared.LeaseTable.{LeaseTable}
 use Rattle.lease.specs.declared.LeaseToken.{LeaseToken}
 use Rattle.consumer.specs.State.{State, stateOf, seatAt}
+use Rattle.consumer.specs.State as state
 use Rattle.consumer.specs.Calls.{HandOut}
 use Rattle.consumer.specs.Valid.{Valid}
+use Rattle.consumer.specs.declared.Settings.{Settings}
 use Rattle.consumer.specs.declared.Consumer.{Consumer}
 use Rattle.consumer.specs.declared.calls.ClaimAnswer.{ClaimAnswer}
 use Rattle.consumer.specs.declared.calls.ClaimAnswer.the-variants as claim
@@ -30,15 +32,22 @@ use Rattle.consumer.specs.declared.calls.ProgressAnswer.the-variants as 
 use Rattle.consumer.specs.declared.calls.CommitAnswer.{CommitAnswer}
 use Rattle.consumer.specs.declared.calls.CommitAnswer.the-variants as commit
 
+abbrev pub settingsOf : Settings → state.Settings
+settingsOf s = record { policy = delivery.view (s .delivery) }
+
 abbrev pub view : Consumer → State
 view c =
     stateOf (cursor.view (c .cursor)) (lease.view (c .table)) (c .ceiling .0) (seatAt (c .seat .number) (c .seat .block))
-    (c .«area_len») (delivery.view (c .delivery))
+    (c .«area_len») (settingsOf (c .settings))
+
+-- the arrays of the settings have room for what they count
+pub record SoundSettings (s : Settings) : Type 0 where
+  pub delivery : delivery.Sound (s .delivery)
 
 pub record Sound (c : Consumer) : Type 0 where
   pub cursor : cursor.Sound (c .cursor)
   pub table : lease.Sound (c .table)
-  pub delivery : delivery.Sound (c .delivery)
+  pub settings : SoundSettings (c .settings)
   pub valid : Valid (view c)
 
 -- a call: answer and state are the definition's, and a refusal gives back the very struct
@@ -67,7 +76,7 @@ holdingBoth c cursor table =
       ceiling = c .ceiling;
       seat = c .seat;
       «area_len» = c .«area_len»;
-      delivery = c .delivery;
+      settings = c .settings;
     }
 
 abbrev pub holding : Consumer → LeaseTable → Consumer

@@ -140,14 +140,14 @@ impl Consumer {
         let cursor = self.cursor;
         let ceiling = self.ceiling;
         let seat = self.seat;
-        let delivery = self.delivery;
+        let settings = self.settings;
         Consumer {
             cursor,
             table,
             ceiling,
             seat,
             area_len: self.area_len,
-            delivery,
+            settings,
         }
     }
 
@@ -157,14 +157,14 @@ impl Consumer {
     {
         let ceiling = self.ceiling;
         let seat = self.seat;
-        let delivery = self.delivery;
+        let settings = self.settings;
         Consumer {
             cursor,
             table,
             ceiling,
             seat,
             area_len: self.area_len,
-            delivery,
+            settings,
         }
     }
 
@@ -207,7 +207,9 @@ impl Consumer {
         if self.ceiling.0 <= next {
             return ClaimTest::Refused(ClaimAnswer::CheckpointDue);
         }
-        if self.delivery.attempts_flush_redeliveries <= self.table.redeliveries_since_flush {
+        if self.settings.delivery.attempts_flush_redeliveries
+            <= self.table.redeliveries_since_flush
+        {
             return ClaimTest::Refused(ClaimAnswer::CheckpointDue);
         }
         if self.is_full(offset) {
@@ -226,7 +228,7 @@ impl Consumer {
         let table = claimed.table;
         match outcome {
             Claim::Granted { token, deliveries } => Granted {
-                answer: handed_out(self.delivery, token, deliveries),
+                answer: handed_out(self.settings.delivery, token, deliveries),
                 table,
             },
             // The table refuses nothing that the test lets through.
@@ -333,7 +335,7 @@ impl Consumer {
         requires { ⌜ Sound self × Passed (nackTable (view self) (token .offset .0) (token .generation .0)) × (attempt ≡ attemptOf (view self) (token .offset .0)) ⌝ }
         ensures { λ r. ⌜ Answers (nackOf (r .answer)) self (r .consumer) (nack (view self) (token .offset .0) (token .generation .0) now (delayOf delay)) ⌝ }
     {
-        let delay_nanos = self.delivery.effective_nack_delay(attempt, delay);
+        let delay_nanos = self.settings.delivery.effective_nack_delay(attempt, delay);
         let nacked = self.table.nack(token, now, delay_nanos);
         let outcome = nacked.outcome;
         match outcome {

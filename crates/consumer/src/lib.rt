@@ -10,10 +10,16 @@ use types::Generation;
 pub mod calls;
 pub mod queries;
 
-// What a consumer is started with.
+// What a consumer keeps of its configuration, beside what its lease table keeps.
 #[repr(C)]
 pub struct Settings {
     pub delivery: DeliveryConfig,
+}
+
+// The configuration: what a consumer is started with.
+#[repr(C)]
+pub struct Configuration {
+    pub settings: Settings,
     pub lease: LeaseConfig,
 }
 
@@ -32,5 +38,5 @@ pub struct Consumer {
     pub ceiling: Generation,
     pub seat: Seat,
     pub area_len: usize,
-    pub delivery: DeliveryConfig,
+    pub settings: Settings,
 }

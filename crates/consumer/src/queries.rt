@@ -74,7 +74,7 @@ impl Consumer {
     {
         Due {
             ceiling: self.ceiling.0 <= self.table.next_generation.0,
-            threshold: self.delivery.attempts_flush_redeliveries
+            threshold: self.settings.delivery.attempts_flush_redeliveries
                 <= self.table.redeliveries_since_flush,
         }
     }

@@ -17,15 +17,15 @@ use Rattle.delivery.specs.Policy.{disposition}
 use Rattle.lease.specs.State.{Table}
 use Rattle.lease.specs.Operations as lease
 use Rattle.lease.specs.Operations.{nextCount, afterGrant}
-use Rattle.consumer.specs.State.{Settings, State, withBoth}
+use Rattle.consumer.specs.State.{Configuration, State, withBoth}
 use Rattle.consumer.specs.Calls as consumer
-use Rattle.consumer.specs.Calls.{handOut, nackDeadline, committedTo}
+use Rattle.consumer.specs.Calls.{handOut, nackDeadline, progressed, committedTo}
 use Rattle.consumer.specs.Questions.{countOf}
 use Rattle.consumer.specs.Valid.{Valid}
 use Rattle.consumer.proofs.Valid.{claimed-valid, acked-settled, acked-valid, nacked-valid, progressed-valid, committed-settled, committed-valid}
 use Rattle.consumer.proofs.Counts.{next-count}
 use Rattle.consumer.proofs.Effects.{claimed-count, acked-count, nacked-count, progressed-count, committed-count, unchanged-settled, unchanged-count}
-use Rattle.consumer.proofs.Open.{ClaimOpen, claim-cases, AckOpen, ack-cases, nack-cases, progressed, progress-cases, commit-cases}
+use Rattle.consumer.proofs.Open.{ClaimOpen, claim-cases, AckOpen, ack-cases, nack-cases, progress-cases, commit-cases}
 use Rattle.machine.specs.Calls.{Ask, claim, ack, term, nack, progress, commit, look, fits, u64, Event, claimed, acked, termed, nacked, extended, committed}
 use Rattle.machine.specs.Door.{idle, asked}
 use Rattle.crash_safety.specs.Effects.{only, below}
@@ -35,11 +35,11 @@ use Rattle.crash_safety.proofs.Law.{Ledger, ledger, noted, Law, Lawful}
 use Rattle.crash_safety.proofs.Runs.{Made, Answered}
 use Rattle.crash_safety.proofs.Invariant.{Agrees, Stands, Inv}
 
-module _ (c : Settings) (n : ℕ) (l : Ledger) (s : State) (a : List ℕ) (inv : Inv c n l (world (idle s) a)) where
+module _ (c : Configuration) (n : ℕ) (l : Ledger) (s : State) (a : List ℕ) (inv : Inv c n l (world (idle s) a)) where
   -- what an answer says and leaves
   abbrev Kept : {A : Type 0} → (Result A → Event) → Answer A State → Type 0
   Kept event r =
-      Made noted (Law (c .policy)) (Inv c n) l (record { event = event (r .outcome); phase = idle (r .state); area = a })
+      Made noted (Law (c .settings .policy)) (Inv c n) l (record { event = event (r .outcome); phase = idle (r .state); area = a })
 
   abbrev now : Stands c n (inv .saved) l s
   now = inv .callable
@@ -56,7 +56,7 @@ module _ (c : Settings) (n : ℕ) (l : Ledger) (s : State) (a : List ℕ) (inv :
         callable = record {
           valid = v;
           size = now .size;
-          policy = now .policy;
+          settings = now .settings;
           ceiling = now .ceiling;
           seat = now .seat;
           agrees = agrees;
@@ -67,14 +67,14 @@ module _ (c : Settings) (n : ℕ) (l : Ledger) (s : State) (a : List ℕ) (inv :
 
   -- ## claim
   module _ (o clock : ℕ) (m : o ≤ MAX) (p : ClaimOpen s o clock) where
-    lawful : Lawful (c .policy) l o (handOut s o)
+    lawful : Lawful (c .settings .policy) l o (handOut s o)
     lawful =
         record {
           offset = refl;
           unsettled = sym (now .agrees .settles o) ∙ p .unsettled;
           counted = next-count s (now .valid) o ∙ ap (λ k. sat32 k 1) (now .agrees .counts o);
-          destined = ap (λ q. disposition q (nextCount (s .table) o)) (now .policy);
-          under = omega (arith, p .below-threshold, now .redeliveries, ap (λ q. q .flushRedeliveries) (now .policy));
+          destined = ap (λ q. disposition (q .policy) (nextCount (s .table) o)) (now .settings);
+          under = omega (arith, p .below-threshold, now .redeliveries, ap (λ q. q .policy .flushRedeliveries) (now .settings));
         }
 
     counts-after : (x : ℕ) → countOf (consumer.claimed s o clock) x ≡ handedOut (l .book .page) o .count x
@@ -84,7 +84,7 @@ module _ (c : Settings) (n : ℕ) (l : Ledger) (s : State) (a : List ℕ) (inv :
         ≡ cond (leb 2 (nextCount (s .table) o)) (l .redeliveries + 1) (l .redeliveries)
     raised =
         split (leb 2 (nextCount (s .table) o))
-        (λ t. rw t (omega (arith, p .below-threshold, now .valid .policy .fits .threshold-fits, now .redeliveries)))
+        (λ t. rw t (omega (arith, p .below-threshold, now .valid .fits .threshold-fits, now .redeliveries)))
         (λ t. rw t (now .redeliveries))
 
     handed-out : Inv c n (noted l (claimed o clock (done (handOut s o)))) (world (idle (consumer.claimed s o clock)) a)
@@ -190,7 +190,7 @@ module _ (c : Settings) (n : ℕ) (l : Ledger) (s : State) (a : List ℕ) (inv :
         (λ p. record { says = (tt, tt, tt); keeps = moved m })
 
   -- ## all of them; a question changes nothing
-  pub ask-kept : (q : Ask) → fits q ≡ true → Answered noted (Law (c .policy)) (Inv c n) l (asked s a q)
+  pub ask-kept : (q : Ask) → fits q ≡ true → Answered noted (Law (c .settings .policy)) (Inv c n) l (asked s a q)
   ask-kept (claim o clock) f = claim-kept o clock (leb-true o MAX (both (u64 o) (u64 clock) f .0))
   ask-kept (ack o g) f = ack-kept o g
   ask-kept (term o g) f = term-kept o g

@@ -10,9 +10,9 @@ use lib.ListN.{length, replicate}
 use borrow.Author.Tests.{eq-eqb, le-ltb, lt-leb, le-leb}
 use Rattle.types.specs.Refusal.{done}
 use Rattle.journal.specs.Area.{writeAt}
-use Rattle.consumer.specs.State.{Settings, State, blocksOf}
+use Rattle.consumer.specs.State.{Configuration, State, blocksOf}
 use Rattle.checkpoint.specs.Checkpoint as checkpoint
-use Rattle.checkpoint.specs.Checkpoint.{bodies, bodyOf, headerOf, flushed}
+use Rattle.checkpoint.specs.Checkpoint.{bodies, writes, bodyOf, headerOf, flushed}
 use Rattle.machine.specs.Calls.{begin, step, begun, stepped}
 use Rattle.machine.specs.Door.{idle, writing, Turn, door}
 use Rattle.crash_safety.specs.Runs.{Item, call, World, world, next, after, run, ends}
@@ -27,14 +27,14 @@ use Rattle.crash_safety.proofs.Writes.{none-written, body-journal, body
 
 -- ## items that write
 -- the items lead from the one world to the other, and none of them is refused
-pub record Leads (c : Settings) (w : World) (items : List Item) (v : World) : Type 0 where
+pub record Leads (c : Configuration) (w : World) (items : List Item) (v : World) : Type 0 where
   pub ends-there : (is : List Item) → ends c w (items ++ is) ≡ ends c v is
   pub wrote : (is : List Item) → AllWrote (run c v is) → AllWrote (run c w (items ++ is))
 
-leads-none : (c : Settings) (w : World) → Leads c w [] w
+leads-none : (c : Configuration) (w : World) → Leads c w [] w
 leads-none c w = record { ends-there = λ is. refl; wrote = λ is h. h }
 
-leads-one : (c : Settings) (w : World) (i : Item) (items : List Item) (v : World) (t : Turn) → next c w i ≡ some t → Wrote (t .event)
+leads-one : (c : Configuration) (w : World) (i : Item) (items : List Item) (v : World) (t : Turn) → next c w i ≡ some t → Wrote (t .event)
     → Leads c (after t) items v → Leads c w (i ∷ items) v
 unfolding AllWrote
 leads-one c w i items v t e h l =
@@ -52,7 +52,7 @@ begun-more k is = ap (λ (l : List Item). call begin ∷ l) (go k)
     go (suc m) = ap (λ (l : List Item). call step ∷ l) (go m)
 
 -- ## a checkpoint under way
-module _ (c : Settings) (n : ℕ) (v : Saved) (l : Ledger) (s : State) (now : Stands c n v l s) where
+module _ (c : Configuration) (n : ℕ) (v : Saved) (l : Ledger) (s : State) (now : Stands c n v l s) where
   -- so many of its bodies are written, and the journal holds what it held
   pub record Midway (k : ℕ) (a : List ℕ) : Type 0 where
     pub journal : Journal c n a v
@@ -123,7 +123,7 @@ module _ (c : Settings) (n : ℕ) (v : Saved) (l : Ledger) (s : State) (now : St
   -- ## from begin on
   module _ (room : HasRoom s) (a : List ℕ) (journal : Journal c n a v) where
     begin-step : next c (world (idle s) a) (call begin) ≡ some (record {
-      event = begun (done (suc (bodies s)));
+      event = begun (done (writes s));
       phase = writing (checkpoint.writing s 0);
       area = a;
     })

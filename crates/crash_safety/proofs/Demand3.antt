@@ -6,7 +6,7 @@ use mathlib.Core.Path.{_≡_}
 use mathlib.Core.List.{List}
 use Rattle.types.specs.Limits.{MAX32}
 use Rattle.types.specs.Refusal.{done}
-use Rattle.consumer.specs.State.{Settings, State}
+use Rattle.consumer.specs.State.{Configuration, State}
 use Rattle.consumer.specs.Valid.{Fits}
 use Rattle.starts.specs.Restart.{start}
 use Rattle.crash_safety.specs.Runs.{Item, run, begins}
@@ -21,15 +21,15 @@ use Rattle.crash_safety.proofs.Kept.{item-kept}
 use Rattle.crash_safety.proofs.Start.{begins-well}
 
 -- M lies strictly between 0 and the largest u32, so that counts pass it before they stop
-limits : (c : Settings) → Premises c → (0 < c .policy .maxDeliver) × (c .policy .maxDeliver < MAX32)
+limits : (c : Configuration) → Premises c → (0 < c .settings .policy .maxDeliver) × (c .settings .policy .maxDeliver < MAX32)
 limits c p = omega (arith, p .limit-not-0, p .limit-not-max, p .fits .limit-fits)
 
 -- the events of every list obey the law
-lawfully : (c : Settings) (n : ℕ) (s : State) (items : List Item) → Fits (c .policy) → start c n ≡ done s
-    → Along noted (Law (c .policy)) emptyLedger (run c (begins s n) items)
+lawfully : (c : Configuration) (n : ℕ) (s : State) (items : List Item) → Fits (c .settings) → start c n ≡ done s
+    → Along noted (Law (c .settings .policy)) emptyLedger (run c (begins s n) items)
 lawfully c n s items f e =
     let b = begins-well c n s f e in
-    along noted (Law (c .policy)) (Inv c n) c (item-kept c n (b .accepted)) items emptyLedger (begins s n) (b .inv)
+    along noted (Law (c .settings .policy)) (Inv c n) c (item-kept c n (b .accepted)) items emptyLedger (begins s n) (b .inv)
 
 pub demand-3 : Demand3
 unfolding Demand3
@@ -38,8 +38,8 @@ demand-3 c n s items p e =
     record {
       bound = λ o. omega (
         arith,
-        rw (all-made c items (begins s n)) at (bounded (c .policy) (limits c p .0) (limits c p .1) (run c (begins s n) items) obeyed o),
+        rw (all-made c items (begins s n)) at (bounded (c .settings .policy) (limits c p .0) (limits c p .1) (run c (begins s n) items) obeyed o),
       );
-      generations = none-shared (c .policy) (run c (begins s n) items) emptyLedger obeyed;
-      found = restarts-right (c .policy) (run c (begins s n) items) emptyLedger obeyed;
+      generations = none-shared (c .settings .policy) (run c (begins s n) items) emptyLedger obeyed;
+      found = restarts-right (c .settings .policy) (run c (begins s n) items) emptyLedger obeyed;
     }

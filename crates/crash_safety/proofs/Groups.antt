@@ -19,7 +19,7 @@ use Rattle.journal.proofs.Blocks.{header-length}
 use Rattle.journal.proofs.Sound.{headless}
 use Rattle.journal.proofs.Group.{Written, group-written, payload-written, payload-same}
 use Rattle.journal.proofs.Walks.{LastIs, at-once, behind, nothing-says, past-end, walk-ended, walk-write, walk-longer}
-use Rattle.consumer.specs.State.{Settings, Seat, seatAt}
+use Rattle.consumer.specs.State.{Configuration, Seat, seatAt}
 use Rattle.starts.specs.Restart.{lastGroup}
 use Rattle.crash_safety.proofs.Invariant.{Groups}
 
@@ -31,7 +31,7 @@ pub record OneMore (a : List ℕ) (hi k₀ lo i : ℕ) (seat : Seat) (header p :
 
 module _ (a : List ℕ) (hi k₀ lo : ℕ) (last : Option ℕ) (seat : Seat) (g : Groups a hi k₀ lo last seat) where
   -- ## the last group reads the same where its blocks are the same
-  module _ (c : Settings) (a′ : List ℕ) (size : length a′ ≡ length a) (same : Same a a′ lo (seat .block)) where
+  module _ (c : Configuration) (a′ : List ℕ) (size : length a′ ≡ length a) (same : Same a a′ lo (seat .block)) where
     pub read-same : lastGroup c a′ last seat ≡ lastGroup c a last seat
     read-same = go last refl (walk-ended a hi none k₀ lo last (seat .number) (seat .block) (g .walks) .last-is)
       where

@@ -14,7 +14,7 @@ use Rattle.cursor.specs.Cursor.{Cursor, settled}
 use Rattle.journal.specs.Area.{blockAt}
 use Rattle.journal.specs.Sound.{heads}
 use Rattle.journal.specs.Walks.{stop, walk}
-use Rattle.consumer.specs.State.{Settings, State, Seat}
+use Rattle.consumer.specs.State.{Configuration, State, Seat}
 use Rattle.consumer.specs.Questions.{countOf}
 use Rattle.consumer.specs.Valid.{Valid}
 use Rattle.checkpoint.specs.Checkpoint.{Writing, bodyOf}
@@ -41,10 +41,10 @@ pub record Saved : Type 0 where
   pub seat : Seat
 
 -- the state that a restart makes of it on an area of n bytes
-abbrev pub restored : Settings → ℕ → Saved → State
+abbrev pub restored : Configuration → ℕ → Saved → State
 restored c n v = resumed c n (v .cursor) (v .counts) (v .ceiling) (v .seat)
 
-pub record Journal (c : Settings) (n : ℕ) (a : List ℕ) (v : Saved) : Type 0 where
+pub record Journal (c : Configuration) (n : ℕ) (a : List ℕ) (v : Saved) : Type 0 where
   pub size : length a ≡ n
   pub last : Option ℕ
   pub groups : Groups a (n / 512) (origin a .number) (origin a .block) last (v .seat)
@@ -58,10 +58,10 @@ pub record Agrees (p : Page) (s : State) : Type 0 where
   pub counts : (o : ℕ) → countOf s o ≡ p .count o
 
 -- a state whose next checkpoint goes behind the groups
-pub record Stands (c : Settings) (n : ℕ) (v : Saved) (l : Ledger) (s : State) : Type 0 where
+pub record Stands (c : Configuration) (n : ℕ) (v : Saved) (l : Ledger) (s : State) : Type 0 where
   pub valid : Valid s
   pub size : s .size ≡ n
-  pub policy : s .policy ≡ c .policy
+  pub settings : s .settings ≡ c .settings
   pub ceiling : s .ceiling ≡ v .ceiling
   pub seat : s .seat ≡ v .seat
   pub agrees : Agrees (l .book .page) s
@@ -74,13 +74,13 @@ pub record Written (a : List ℕ) (w : Writing) : Type 0 where
   pub behind : (j : ℕ) → j < w .written → blockAt a (w .state .seat .block + suc j) ≡ bodyOf (w .state) (suc j)
 
 -- the state, a record, or nobody: then no generation was handed out that a restart's first one is not above
-abbrev pub Callable : Settings → ℕ → Saved → Ledger → List ℕ → Phase → Type 0
+abbrev pub Callable : Configuration → ℕ → Saved → Ledger → List ℕ → Phase → Type 0
 Callable c n v l a (idle s) = Stands c n v l s
 Callable c n v l a (writing w) = Stands c n v l (w .state) × Written a w
 Callable c n v l a off = l .floor ≤ v .ceiling
 
 -- ## all of it
-pub record Inv (c : Settings) (n : ℕ) (l : Ledger) (w : World) : Type 0 where
+pub record Inv (c : Configuration) (n : ℕ) (l : Ledger) (w : World) : Type 0 where
   pub saved : Saved
   pub journal : Journal c n (w .journal) saved
   pub finds : Finds (l .book .copy) (restored c n saved)

@@ -7,7 +7,7 @@ use mathlib.Core.Option.{Option, none}
 use lib.Dec.{eqb}
 use lib.ListN.{length}
 use Rattle.types.proofs.Cases.{split}
-use Rattle.consumer.specs.State.{Settings}
+use Rattle.consumer.specs.State.{Configuration}
 use Rattle.checkpoint.specs.Checkpoint as checkpoint
 use Rattle.starts.specs.Restart as restarts
 use Rattle.machine.specs.Calls.{Ask, ask, begin, step, restart, fits}
@@ -26,7 +26,7 @@ Shown N a (writing w) =
     ((k : Cut) → N (cut k) (cutOn w a k))
 Shown N a off = Unit {0}
 
-module _ (c : Settings) (N : Item → Option Turn → Type 0) (skip : (i : Item) → restartIn i ≡ 0 → N i none) where
+module _ (c : Configuration) (N : Item → Option Turn → Type 0) (skip : (i : Item) → restartIn i ≡ 0 → N i none) where
   pub next-cases : (p : Phase) (a : List ℕ) → N (call restart) (restartedAs p a (restarts.restart c a)) → Shown N a p
       → (i : Item) → N i (next c (world p a) i)
   unfolding next door

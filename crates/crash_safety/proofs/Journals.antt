@@ -21,8 +21,9 @@ use Rattle.journal.specs.Walks.{walk, payload}
 use Rattle.journal.specs.Blocks.{cursorLength, attemptLength, ceilingOf}
 use Rattle.journal.proofs.Area.{whole-says, write-length}
 use Rattle.journal.proofs.Blocks.{header-length, header-ceiling, header-cursor, header-attempt}
-use Rattle.consumer.specs.State.{Settings, State}
-use Rattle.consumer.specs.Valid.{Accepted, Valid}
+use Rattle.consumer.specs.State.{Configuration, State}
+use Rattle.consumer.specs.Valid.{Valid}
+use Rattle.consumer.proofs.Area.{area-taken}
 use Rattle.consumer.proofs.Counts.{counts-rising, counts-few, counts-counted, counts-unsettled}
 use Rattle.checkpoint.specs.Checkpoint.{cursorBytes, attemptBytes, payloadOf, bodies, newCeiling, bodyOf, headerOf, flushed}
 use Rattle.checkpoint.proofs.Payload.{counts-fit, PayloadFits, payload-fits}
@@ -33,7 +34,7 @@ use Rattle.crash_safety.proofs.Invariant.{Groups, Saved, restored, Jour
 use Rattle.crash_safety.proofs.Groups.{read-same, write-outside, groups-kept, one-more}
 
 -- ## a restart
-pub restart-finds : (c : Settings) (n : ℕ) (a : List ℕ) (v : Saved) → Passed (startTable c n) → Journal c n a v
+pub restart-finds : (c : Configuration) (n : ℕ) (a : List ℕ) (v : Saved) → Passed (startTable c n) → Journal c n a v
     → restart c a ≡ done (restored c n v)
 unfolding restart fromWalk
 restart-finds c n a v accepted j =
@@ -41,7 +42,7 @@ restart-finds c n a v accepted j =
     (checked-passed (startTable c n) (fromWalk c a (walk a (n / 512) 1 0)) accepted ∙ rw (j .groups .walks) (j .reads))
 
 -- ## a block that is no header, behind the groups
-module _ (c : Settings) (n : ℕ) (a : List ℕ) (w : Saved) (j : Journal c n a w) (i : ℕ) (b : List ℕ)
+module _ (c : Configuration) (n : ℕ) (a : List ℕ) (w : Saved) (j : Journal c n a w) (i : ℕ) (b : List ℕ)
     (from : w .seat .block ≤ i) (to : i < n / 512) (whole : length b ≡ 512) where
   inside : 512 * i + 512 ≤ length a
   inside = omega (arith, j .size)
@@ -81,7 +82,7 @@ module _ (s : State) (v : Valid s) where
   sizes = payload-fits s v
 
   -- the header's group reads as the state
-  module _ (c : Settings) (a : List ℕ) (i : ℕ) (header : blockAt a i ≡ headerOf s) (content : payload a i ≡ payloadOf s) where
+  module _ (c : Configuration) (a : List ℕ) (i : ℕ) (header : blockAt a i ≡ headerOf s) (content : payload a i ≡ payloadOf s) where
     reads-stored : readGroup c a i (flushed s .seat) ≡ done (restored c (length a) (stored s))
     reads-stored =
         let k : ℕ = s .seat .number in
@@ -102,14 +103,13 @@ module _ (s : State) (v : Valid s) where
         )
 
   -- the journal with the header
-  module _ (c : Settings) (n : ℕ) (size : s .size ≡ n) (policy : s .policy ≡ c .policy)
+  module _ (c : Configuration) (n : ℕ) (size : s .size ≡ n) (settings : s .settings ≡ c .settings)
       (room : s .seat .block + suc (bodies s) ≤ n / 512) where
     stored-valid : Valid (restored c n (stored s))
     stored-valid =
-        let p : Accepted (c .policy) = rw policy at (v .policy) in
         resumed-valid c n
-        (record { allowed = p .allowed; few-steps = p .few-steps; some-threshold = p .some-threshold; area = rw size at (v .area) })
-        (p .fits)
+        (record { settings = rw settings at (v .accepted); area = rw size at (v .area) })
+        (rw settings at (v .fits))
         (s .cursor)
         (allAttemptCounts (s .table))
         (newCeiling s)
@@ -125,7 +125,7 @@ module _ (s : State) (v : Valid s) where
       groups = rw seat (j .groups)
 
       small : s .seat .number < 256 ^ 4
-      small = omega (arith, v .numbered, v .within, whole-says (s .size) (v .area) .most)
+      small = omega (arith, v .numbered, v .within, whole-says (s .size) (area-taken (s .size) (v .area)) .most)
 
       within : 512 * (n / 512) ≤ length a
       within = omega (arith, j .size)

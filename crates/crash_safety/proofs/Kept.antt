@@ -3,7 +3,7 @@ use Prim.Native.Nat.{ℕ}
 use mathlib.Core.List.{List}
 use mathlib.Core.Option.{Option}
 use Rattle.types.specs.Table.{Passed}
-use Rattle.consumer.specs.State.{Settings}
+use Rattle.consumer.specs.State.{Configuration}
 use Rattle.starts.specs.Restart.{startTable}
 use Rattle.machine.specs.Door.{Phase, idle, writing, off, Turn}
 use Rattle.crash_safety.specs.Runs.{Item, World, world, next}
@@ -14,9 +14,9 @@ use Rattle.crash_safety.proofs.Invariant.{Inv}
 use Rattle.crash_safety.proofs.Asks.{ask-kept}
 use Rattle.crash_safety.proofs.Steps.{restart-kept, begin-kept, step-kept, elsewhere-kept, cut-kept}
 
-module _ (c : Settings) (n : ℕ) (accepted : Passed (startTable c n)) (l : Ledger) where
+module _ (c : Configuration) (n : ℕ) (accepted : Passed (startTable c n)) (l : Ledger) where
   abbrev Kept : Item → Option Turn → Type 0
-  Kept i = Answered noted (Law (c .policy)) (Inv c n) l
+  Kept i = Answered noted (Law (c .settings .policy)) (Inv c n) l
 
   kept : (p : Phase) (a : List ℕ) → Inv c n l (world p a) → Shown Kept a p
   kept (idle s) a inv = (ask-kept c n l s a inv, begin-kept c n l a s inv)

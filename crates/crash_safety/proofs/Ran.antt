@@ -11,10 +11,10 @@ use Rattle.types.proofs.Table.{checked-done}
 use Rattle.consumer.specs.State.{State}
 use Rattle.consumer.specs.State as state
 use Rattle.consumer.specs.View.{view}
-use Rattle.consumer.specs.declared.Settings.{Settings}
+use Rattle.consumer.specs.declared.Configuration.{Configuration}
 use Rattle.consumer.specs.Valid.{Fits}
 use Rattle.checkpoint.specs.declared.Writing.{Writing}
-use Rattle.starts.specs.Starting.{settingsOf, startFault}
+use Rattle.starts.specs.Starting.{configurationOf, startFault}
 use Rattle.starts.specs.Restart as restarts
 use Rattle.starts.specs.Restart.{startTable, fresh, start}
 use Rattle.starts.specs.declared.StartAnswer.{StartAnswer}
@@ -44,7 +44,7 @@ abbrev Leaves : World → Option Turn → World → Type 0
 Leaves w none v = v ≡ w
 Leaves w (some t) v = v ≡ after t
 
-module _ (c : state.Settings) (w v : World) (i : Item) (is : List Item) where
+module _ (c : state.Configuration) (w v : World) (i : Item) (is : List Item) where
   sees-more : (es : List Event) (x : Option Turn) → next c w i ≡ x → Leaves w x v → run c v is ≡ es → run c w (i ∷ is) ≡ seen x es
   unfolding run
   sees-more es none e l h = rw (e, run, ← l) h
@@ -92,13 +92,13 @@ module _ (m m′ : Machine) (a a′ : List ℕ) (i : Item) (is : List Item) (es 
   abbrev there : World
   there = world (phaseOf m′) a′
 
-  linked : (x : Option Turn) → next (settingsOf (m .settings)) here i ≡ x → Leaves here x there → m′ .settings ≡ m .settings
+  linked : (x : Option Turn) → next (configurationOf (m .configuration)) here i ≡ x → Leaves here x there → m′ .configuration ≡ m .configuration
       → IsRun m′ a′ is es last end → IsRun m a (i ∷ is) (seen x es) last end
   linked x e l c h =
       record {
-        sees = sees-more (settingsOf (m .settings)) here there i is es x e l (rw (← c) (h .sees));
-        leaves = leaves-more (settingsOf (m .settings)) here there i is x e l ∙ rw (← c) (h .leaves);
-        settings = h .settings ∙ c;
+        sees = sees-more (configurationOf (m .configuration)) here there i is es x e l (rw (← c) (h .sees));
+        leaves = leaves-more (configurationOf (m .configuration)) here there i is x e l ∙ rw (← c) (h .leaves);
+        configuration = h .configuration ∙ c;
         sound = h .sound;
       }
 
@@ -119,30 +119,30 @@ restarts-alike p q p′ a a′ v (done s) e = sym e
 runs : {m last : Machine} {a end : List ℕ} {is : List Item} {es : List Event} → Sound m → Ran m a is es last end
     → IsRun m a is es last end
 unfolding run ends next door
-runs s rests = record { sees = refl; leaves = refl; settings = refl; sound = s }
+runs s rests = record { sees = refl; leaves = refl; configuration = refl; sound = s }
 runs {m} {last} {a} {end} s (calls {is = is} {es = es} q out r a′ out′ h rest) =
     let k = h s in
     linked m (r .machine) a a′ _ is es last end _ (sym (k .is))
-    (called-leaves m (r .machine) a _ a′ out′ (r .answer) (k .kept)) (k .settings) (runs (k .sound) rest)
+    (called-leaves m (r .machine) a _ a′ out′ (r .answer) (k .kept)) (k .configuration) (runs (k .sound) rest)
 runs {m} {last} {a} {end} s (strays {is = is} {es = es} b out r b′ out′ other h rest) =
     let k = h s in
     let x : Option Turn = turnOf step (r .answer) (r .machine) b′ out′ in
     rw (← seen-kept a x es)
     (linked m (r .machine) a a (stepOn b) is es last end (keepsJournal a x) (rw other (ap (keepsJournal a) (sym (k .is))))
-    (stray-leaves m (r .machine) a step b b′ out′ (r .answer) (k .kept)) (k .settings) (runs (k .sound) rest))
+    (stray-leaves m (r .machine) a step b b′ out′ (r .answer) (k .kept)) (k .configuration) (runs (k .sound) rest))
 runs {m} {last} {a} {end} s (cuts {is = is} {es = es} kind bytes r a′ h rest) =
     let k = h s in
     linked m (r .machine) a a′ _ is es last end _ (sym (k .is))
-    (cut-leaves m (r .machine) a a′ (r .answer) (k .kept)) (k .settings) (runs (k .sound) rest)
+    (cut-leaves m (r .machine) a a′ (r .answer) (k .kept)) (k .configuration) (runs (k .sound) rest)
 runs {m} {last} {a} {end} s (reopens {is = is} {es = es} m′ out r a′ out′ off h started rest) =
     let k = h (off .sound) in
-    let c : m′ .settings ≡ m .settings = off .settings in
+    let c : m′ .configuration ≡ m .configuration = off .configuration in
     let v : State = view (r .machine .writing .consumer) in
     let e = rw (c, started) at (k .is) in
     rw started
     (linked m (r .machine) a a′ (call restart) is es last end _
-    (restarts-alike (phaseOf m) (phaseOf m′) (phaseOf (r .machine)) a a′ v (restarts.restart (settingsOf (m .settings)) a) e)
-    refl (k .settings ∙ c) (runs (k .sound) rest))
+    (restarts-alike (phaseOf m) (phaseOf m′) (phaseOf (r .machine)) a a′ v (restarts.restart (configurationOf (m .configuration)) a) e)
+    refl (k .configuration ∙ c) (runs (k .sound) rest))
 
 pub ran-is-run : RanIsRun
 unfolding RanIsRun
@@ -150,24 +150,24 @@ ran-is-run m a is es last end s r = runs s r
 
 -- ## from a start
 -- a state that can be called is valid, so its policy's numbers are of their types
-idle-fits : (n : ℕ) (w : Writing) (s : State) → phaseAt n w ≡ idle s → SoundAt n w → Fits (s .policy)
+idle-fits : (n : ℕ) (w : Writing) (s : State) → phaseAt n w ≡ idle s → SoundAt n w → Fits (s .settings .policy)
 idle-fits zero w s e h = let same : view (w .consumer) ≡ s = cc in rw (← same) (h .valid .policy .fits)
 idle-fits (suc zero) w s e h = absurd (let z : _≡_ {A = ℕ} 0 1 = cc in omega arith)
 idle-fits (suc (suc n)) w s e h = absurd (let z : _≡_ {A = ℕ} 0 1 = cc in omega arith)
 
 -- what an accepted start gives
-record Fresh (s : Settings) (size : ℕ) (m : Machine) : Type 0 where
+record Fresh (s : Configuration) (size : ℕ) (m : Machine) : Type 0 where
   state : State
-  is : start (settingsOf s) size ≡ done state
+  is : start (configurationOf s) size ≡ done state
   phase : phaseOf m ≡ idle state
-  fits : Fits (settingsOf s .policy)
+  fits : Fits (configurationOf s .settings .policy)
 
-fresh-from : (s : Settings) (size : ℕ) (r : Started) → StartedIs s size r → r .answer ≡ answers.Started → Fresh s size (r .machine)
+fresh-from : (s : Configuration) (size : ℕ) (r : Started) → StartedIs s size r → r .answer ≡ answers.Started → Fresh s size (r .machine)
 unfolding start
 fresh-from s size r h e =
     let w : Writing = r .machine .writing in
     let v : State = view (w .consumer) in
-    let c = settingsOf s in
+    let c = configurationOf s in
     let is : start c size ≡ done v = sym (h .is) ∙ rw e in
     let phase : phaseOf (r .machine) ≡ idle v = h .phase ∙ rw is in
     let same = checked-done (startTable c size) (fresh c size) v is .1 in
@@ -175,11 +175,11 @@ fresh-from s size r h e =
       state = v;
       is = is;
       phase = phase;
-      fits = rw (ap (λ (x : State). x .policy) same) (idle-fits (r .machine .phase) w v phase (h .sound));
+      fits = rw (ap (λ (x : State). x .settings .policy) same) (idle-fits (r .machine .phase) w v phase (h .sound));
     }
 
 -- a restart of a machine that is off is not refused where the journal can be read
-not-refused : (c : state.Settings) (m m′ : Machine) (a a′ out : List ℕ) (s : State) (x : StartAnswer) (f : Refusal)
+not-refused : (c : state.Configuration) (m m′ : Machine) (a a′ out : List ℕ) (s : State) (x : StartAnswer) (f : Refusal)
     → restarts.restart c a ≡ done s → turnOf restart (answer.Restarted x) m′ a′ out ≡ door c (phaseOf m) a restart → startFault x ≡ some f → ⊥
 unfolding door
 not-refused c m m′ a a′ out s x f reads e g =
@@ -189,15 +189,15 @@ pub demand-3-ran : Demand3Ran
 unfolding Demand3Ran Demand3
 demand-3-ran s size r h e not-0 not-max is es last end p =
     let f = fresh-from s size r h e in
-    let c : state.Settings = settingsOf s in
+    let c : state.Configuration = configurationOf s in
     let ran = runs (h .sound) p in
-    let sees : run c (begins (f .state) size) is ≡ es = rw (h .settings, f .phase) at (ran .sees) in
-    let leaves : ends c (begins (f .state) size) is ≡ world (phaseOf last) end = rw (h .settings, f .phase) at (ran .leaves) in
+    let sees : run c (begins (f .state) size) is ≡ es = rw (h .configuration, f .phase) at (ran .sees) in
+    let leaves : ends c (begins (f .state) size) is ≡ world (phaseOf last) end = rw (h .configuration, f .phase) at (ran .leaves) in
     let there = reached c size (f .state) is (f .fits) (f .is) in
     let inv : Inv c size (there .ledger) (world (phaseOf last) end) = rw leaves at (there .inv) in
     record {
       holds = rw (← sees) (demand-3 c size (f .state) is (record { limit-not-0 = not-0; limit-not-max = not-max; fits = f .fits }) (f .is));
       reopened = λ m out u a′ out′ off k x g ans fault.
           not-refused c m (u .machine) end a′ out′ _ x g (restart-finds c size end (inv .saved) (there .accepted) (inv .journal))
-          (rw (off .settings, ans) at (k (off .sound) .is)) fault;
+          (rw (off .configuration, ans) at (k (off .sound) .is)) fault;
     }

@@ -12,7 +12,7 @@ use borrow.Author.Tests.{eq-eqb, lt-leb, le-leb}
 use Rattle.types.specs.Refusal.{Result, refused, done}
 use Rattle.types.specs.Table.{Passed}
 use Rattle.journal.specs.Area.{writeAt}
-use Rattle.consumer.specs.State.{Settings, State}
+use Rattle.consumer.specs.State.{Configuration, State}
 use Rattle.checkpoint.specs.Checkpoint as checkpoint
 use Rattle.checkpoint.specs.Checkpoint.{bodies, headerOf, bodyOf, flushed, Writing, nextPlace}
 use Rattle.starts.specs.Restart as restarts
@@ -43,7 +43,7 @@ restarted-again : (p : Phase) (a : List ℕ) (r : Result State) → restartedAs 
 restarted-again p a (refused r) = refl
 restarted-again p a (done s) = refl
 
-module _ (c : Settings) (w : World) where
+module _ (c : Configuration) (w : World) where
   abbrev answer : Result State
   answer = restarts.restart c (w .journal)
 
@@ -60,7 +60,7 @@ module _ (c : Settings) (w : World) where
   restart-ends : (is : List Item) → ends c w (call restart ∷ is) ≡ ends c next-world is
   restart-ends is = ends-made c w (call restart) is (again (w .phase) (w .journal) answer) restart-made
 
-restart-alone : (c : Settings) (w : World) → run c w (call restart ∷ []) ≡ restarted (restarts.restart c (w .journal)) ∷ []
+restart-alone : (c : Configuration) (w : World) → run c w (call restart ∷ []) ≡ restarted (restarts.restart c (w .journal)) ∷ []
 restart-alone c w = restart-run c w [] ∙ rw (run-none c (world (called (w .phase) (restarts.restart c (w .journal))) (w .journal)))
 
 pub deterministic-recovery : DeterministicRecovery
@@ -75,12 +75,12 @@ deterministic-recovery c w =
 
 -- ## a checkpoint
 -- a restart gives the consumer that the journal holds
-restart-gives : (c : Settings) (n : ℕ) → Passed (startTable c n) → (w : World) (v : Saved) → Journal c n (w .journal) v
+restart-gives : (c : Configuration) (n : ℕ) → Passed (startTable c n) → (w : World) (v : Saved) → Journal c n (w .journal) v
     → ends c w (call restart ∷ []) .phase ≡ idle (restored c n v)
 restart-gives c n accepted w v j =
     ap (λ (u : World). u .phase) (restart-ends c w [] ∙ ends-none c _) ∙ rw (restart-finds c n (w .journal) v accepted j)
 
-module _ (c : Settings) (n : ℕ) (accepted : Passed (startTable c n)) (v : Saved) (l : Ledger) (s : State) (now : Stands c n v l s)
+module _ (c : Configuration) (n : ℕ) (accepted : Passed (startTable c n)) (v : Saved) (l : Ledger) (s : State) (now : Stands c n v l s)
     (room : HasRoom s)
     (a : List ℕ)
     (journal : Journal c n a v) where
@@ -154,14 +154,16 @@ module _ (c : Settings) (n : ℕ) (accepted : Passed (startTable c n)) (v : Save
       ∙ ends-made c (mid k h new) (call step) (call restart ∷ []) _ (last-step c n v l s now k (b .area) (b .midway) h))
       ∙ restart-gives c n accepted (world (idle (flushed s)) full) (stored s) j)
 
-writes-count : (c : Settings) (n : ℕ) → Passed (startTable c n) → (l : Ledger) (p : Phase) (a : List ℕ) (left : State) → p ≡ idle left
+writes-count : (c : Configuration) (n : ℕ) → Passed (startTable c n) → (l : Ledger) (p : Phase) (a : List ℕ) (left : State) → p ≡ idle left
     → HasRoom left → Inv c n l (world p a) → WritesCount c (world p a) left
 writes-count c n accepted l p a left e room =
     rw e (λ inv. record {
-      left-old = cut-old c n accepted (inv .saved) l left (inv .callable) room a (inv .journal);
-      left-torn = cut-torn c n accepted (inv .saved) l left (inv .callable) room a (inv .journal);
-      body-new = cut-body c n accepted (inv .saved) l left (inv .callable) room a (inv .journal);
-      left-new = cut-new c n accepted (inv .saved) l left (inv .callable) room a (inv .journal);
+      left-old = λ k h. cut-old c n accepted (inv .saved) l left (inv .callable) room a (inv .journal) k (omega arith);
+      left-torn = λ k b h. cut-torn c n accepted (inv .saved) l left (inv .callable) room a (inv .journal) k b (omega arith);
+      body-new = λ k h. cut-body c n accepted (inv .saved) l left (inv .callable) room a (inv .journal) k (omega arith);
+      left-new = λ k h.
+          let same : k ≡ bodies left = omega arith in
+          rw same (cut-new c n accepted (inv .saved) l left (inv .callable) room a (inv .journal));
     })
 
 pub every-write-counts : EveryWriteCounts
@@ -172,7 +174,7 @@ every-write-counts c n s items f e left here room =
     writes-count c n (r .accepted) (r .ledger) (w .phase) (w .journal) left here room (r .inv)
 
 -- ## cuts
-cut-made : (c : Settings) (n : ℕ) (l : Ledger) (p : Phase) (a : List ℕ) (w : Writing) → p ≡ writing w → Inv c n l (world p a)
+cut-made : (c : Configuration) (n : ℕ) (l : Ledger) (p : Phase) (a : List ℕ) (w : Writing) → p ≡ writing w → Inv c n l (world p a)
     → (k : Cut) → next c (world p a) (cut k) ≡ cutAt w a k
 unfolding next
 cut-made c n l p a w e =

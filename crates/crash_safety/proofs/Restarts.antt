@@ -10,7 +10,7 @@ use lib.ListN.{length}
 use Rattle.types.specs.Refusal.{Refusal, Result, refused, done}
 use Rattle.types.proofs.Cases.{split}
 use Rattle.types.specs.Table.{Answer}
-use Rattle.consumer.specs.State.{Settings, State}
+use Rattle.consumer.specs.State.{Configuration, State}
 use Rattle.consumer.specs.Calls as consumer
 use Rattle.consumer.specs.Questions.{reply}
 use Rattle.checkpoint.specs.Checkpoint as checkpoint
@@ -81,13 +81,13 @@ counted (idle s) a = (λ q t. asked-made s a q, began-made s a (checkpoint.begin
 counted (writing w) a = (step-made (checkpoint.step w a), λ b t. step-made (checkpoint.step w b), cut-on-made w a)
 counted off a = tt
 
-next-made : (c : Settings) (w : World) (i : Item) → made (next c w i) ≡ restartIn i
+next-made : (c : Configuration) (w : World) (i : Item) → made (next c w i) ≡ restartIn i
 next-made c w i =
     next-cases c Counted (λ j e. sym e) (w .phase) (w .journal)
     (restarted-made (w .phase) (w .journal) (restarts.restart c (w .journal)))
     (counted (w .phase) (w .journal)) i
 
-pub all-made : (c : Settings) (items : List Item) (w : World) → restartsSeen (run c w items) ≡ restartsIn items
+pub all-made : (c : Configuration) (items : List Item) (w : World) → restartsSeen (run c w items) ≡ restartsIn items
 unfolding run restartsSeen restartsIn
 all-made c [] w = refl
 all-made c (i ∷ is) w = go (next c w i) refl (all-made c is w) (λ t. all-made c is (after t))

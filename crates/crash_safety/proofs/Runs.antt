@@ -3,7 +3,7 @@
 use mathlib.Core.Path.{_≡_, refl}
 use mathlib.Core.List.{List, [], _∷_}
 use mathlib.Core.Option.{Option, none, some}
-use Rattle.consumer.specs.State.{Settings}
+use Rattle.consumer.specs.State.{Configuration}
 use Rattle.machine.specs.Calls.{Event}
 use Rattle.machine.specs.Door.{Turn}
 use Rattle.crash_safety.specs.Runs.{Item, World, next, after, run, ends}
@@ -19,7 +19,7 @@ module _ {G : Type 0} (fold : G → Event → G) (P : G → Event → Type 0) (I
   Answered g none = Unit {0}
   Answered g (some t) = Made g t
 
-  module _ (c : Settings) (each : (g : G) (w : World) (i : Item) → I g w → Answered g (next c w i)) where
+  module _ (c : Configuration) (each : (g : G) (w : World) (i : Item) → I g w → Answered g (next c w i)) where
     pub along : (items : List Item) (g : G) (w : World) → I g w → Along fold P g (run c w items)
     unfolding Along run
     along [] g w inv = tt
@@ -48,7 +48,7 @@ module _ {G : Type 0} (fold : G → Event → G) (P : G → Event → Type 0) (I
             rw (e, run, ends) (rest (fold g (t .event)) t (made .keeps))
 
 -- ## items one after another
-module _ (c : Settings) (w : World) (i : Item) (is : List Item) (t : Turn) (e : next c w i ≡ some t) where
+module _ (c : Configuration) (w : World) (i : Item) (is : List Item) (t : Turn) (e : next c w i ≡ some t) where
   pub run-made : run c w (i ∷ is) ≡ t .event ∷ run c (after t) is
   unfolding run
   run-made = rw (e, run)
@@ -57,11 +57,11 @@ module _ (c : Settings) (w : World) (i : Item) (is : List Item) (t : Turn) (e : 
   unfolding ends
   ends-made = rw (e, ends)
 
-pub run-none : (c : Settings) (w : World) → run c w [] ≡ []
+pub run-none : (c : Configuration) (w : World) → run c w [] ≡ []
 unfolding run
 run-none c w = refl
 
-pub ends-none : (c : Settings) (w : World) → ends c w [] ≡ w
+pub ends-none : (c : Configuration) (w : World) → ends c w [] ≡ w
 unfolding ends
 ends-none c w = refl
 

@@ -7,7 +7,7 @@ use mathlib.Core.List.{List, [], _∷_}
 use mathlib.Core.Option.{some, Option·none-ne-some}
 use Rattle.types.specs.Refusal.{refused, done}
 use Rattle.cursor.specs.Cursor.{settled}
-use Rattle.consumer.specs.State.{Settings, State}
+use Rattle.consumer.specs.State.{Configuration, State}
 use Rattle.machine.specs.Calls.{Event}
 use Rattle.machine.specs.Door.{Phase, idle, writing, off}
 use Rattle.crash_safety.specs.Effects.{Effect, handing, settling, requeuing, renewing, restarting, nothing, effectOf}
@@ -54,7 +54,7 @@ module _ (o : ℕ) where
       moved false q r h = h
 
 -- ## every list
-state-settled : (c : Settings) (n : ℕ) (l : Ledger) (p : Phase) (a : List ℕ) (s : State) → Inv c n l (world p a) → stateIn p ≡ some s
+state-settled : (c : Configuration) (n : ℕ) (l : Ledger) (p : Phase) (a : List ℕ) (s : State) → Inv c n l (world p a) → stateIn p ≡ some s
     → (o : ℕ) → settled (s .cursor) o ≡ l .book .page .settled o
 state-settled c n l (idle x) a s inv e o = let q : x ≡ s = cc in rw (← q) (inv .callable .agrees .settles o)
 state-settled c n l (writing w) a s inv e o = let q : w .state ≡ s = cc in rw (← q) (inv .callable .0 .agrees .settles o)

@@ -18,7 +18,7 @@ use Rattle.journal.specs.Area.{blockAt}
 use Rattle.journal.specs.Blocks.{kindOf}
 use Rattle.journal.specs.Sound.{heads}
 use Rattle.journal.proofs.Sound.{other-kind}
-use Rattle.consumer.specs.State.{Settings, State, seatAt}
+use Rattle.consumer.specs.State.{Configuration, State, seatAt}
 use Rattle.consumer.specs.Valid.{Fits, Valid}
 use Rattle.starts.specs.Restart.{startTable, fresh, start}
 use Rattle.starts.proofs.Open.{start-open}
@@ -45,7 +45,7 @@ zeroed-kind n j h =
 zeroed-clear : (n j : ℕ) → 512 * j + 512 ≤ n → heads (blockAt (replicate n 0) j) ≡ false
 zeroed-clear n j h = other-kind 1 (blockAt (replicate n 0) j) (λ q. omega (arith, zeroed-kind n j h))
 
-module _ (c : Settings) (n : ℕ) (v : Valid (fresh c n)) where
+module _ (c : Configuration) (n : ℕ) (v : Valid (fresh c n)) where
   zeroed-journal : Journal c n (replicate n 0) nothing
   zeroed-journal =
       record {
@@ -65,7 +65,7 @@ module _ (c : Settings) (n : ℕ) (v : Valid (fresh c n)) where
         callable = record {
           valid = v;
           size = refl;
-          policy = refl;
+          settings = refl;
           ceiling = refl;
           seat = refl;
           agrees = restored-agrees c n nothing blank finds;
@@ -81,11 +81,11 @@ module _ (c : Settings) (n : ℕ) (v : Valid (fresh c n)) where
       finds = record { settles = none-settled; counts = λ o. refl }
 
 -- what an accepted start gives: its tests passed, and the invariant holds
-pub record Begins (c : Settings) (n : ℕ) (s : State) : Type 0 where
+pub record Begins (c : Configuration) (n : ℕ) (s : State) : Type 0 where
   pub accepted : Passed (startTable c n)
   pub inv : Inv c n emptyLedger (begins s n)
 
-pub begins-well : (c : Settings) (n : ℕ) (s : State) → Fits (c .policy) → start c n ≡ done s → Begins c n s
+pub begins-well : (c : Configuration) (n : ℕ) (s : State) → Fits (c .settings) → start c n ≡ done s → Begins c n s
 unfolding start
 begins-well c n s f e =
     let d = checked-done (startTable c n) (fresh c n) s e in

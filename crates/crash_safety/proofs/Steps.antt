@@ -14,7 +14,7 @@ use Rattle.types.specs.Table.{Passed}
 use Rattle.types.proofs.Cases.{split}
 use Rattle.lease.specs.Counts.{allAttemptCounts}
 use Rattle.journal.specs.Area.{writeAt}
-use Rattle.consumer.specs.State.{Settings, State}
+use Rattle.consumer.specs.State.{Configuration, State}
 use Rattle.checkpoint.specs.Checkpoint.{bodies, bodyOf, headerOf, flushed, Writing, isLast, nextPlace, step}
 use Rattle.checkpoint.specs.Checkpoint as checkpoint
 use Rattle.checkpoint.proofs.Open.{begin-says}
@@ -33,21 +33,21 @@ use Rattle.crash_safety.proofs.Journals.{restart-finds, stored}
 use Rattle.crash_safety.proofs.Writes.{none-written, body-journal, body-written, header-journal, torn-journal}
 
 -- a state without leases has the counts that it carries
-pub restored-agrees : (c : Settings) (n : ℕ) (v : Saved) (p : Page) → Finds p (restored c n v) → Agrees p (restored c n v)
+pub restored-agrees : (c : Configuration) (n : ℕ) (v : Saved) (p : Page) → Finds p (restored c n v) → Agrees p (restored c n v)
 unfolding allAttemptCounts
 restored-agrees c n v p f = record { settles = f .settles; counts = f .counts }
 
 -- what a checkpoint stores of a state is found again
-stored-found : (c : Settings) (n : ℕ) (s : State) (p : Page) → Agrees p s → Finds p (restored c n (stored s))
+stored-found : (c : Configuration) (n : ℕ) (s : State) (p : Page) → Agrees p s → Finds p (restored c n (stored s))
 stored-found c n s p g = record { settles = g .settles; counts = g .counts }
 
 flushed-agrees : (s : State) (p : Page) → Agrees p s → Agrees p (flushed s)
 unfolding allAttemptCounts
 flushed-agrees s p g = record { settles = g .settles; counts = g .counts }
 
-module _ (c : Settings) (n : ℕ) (l : Ledger) (a : List ℕ) where
+module _ (c : Configuration) (n : ℕ) (l : Ledger) (a : List ℕ) where
   abbrev Kept : Option Turn → Type 0
-  Kept = Answered noted (Law (c .policy)) (Inv c n) l
+  Kept = Answered noted (Law (c .settings .policy)) (Inv c n) l
 
   -- every generation handed out lies below the ceiling that a restart would begin at
   below-ceiling : (p : Phase) (inv : Inv c n l (world p a)) → l .floor ≤ inv .saved .ceiling
@@ -68,7 +68,7 @@ module _ (c : Settings) (n : ℕ) (l : Ledger) (a : List ℕ) where
             callable = record {
               valid = inv .journal .valid;
               size = refl;
-              policy = refl;
+              settings = refl;
               ceiling = refl;
               seat = refl;
               agrees = restored-agrees c n (inv .saved) (l .book .copy) (inv .finds);
@@ -141,7 +141,7 @@ module _ (c : Settings) (n : ℕ) (l : Ledger) (a : List ℕ) where
             callable = record {
               valid = flushed-valid s (record { room = so-far .valid .room }) (now .valid);
               size = now .size;
-              policy = now .policy;
+              settings = now .settings;
               ceiling = refl;
               seat = refl;
               agrees = flushed-agrees s (l .book .page) (now .agrees);

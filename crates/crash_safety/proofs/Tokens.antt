@@ -20,7 +20,7 @@ use Rattle.cursor.specs.Cursor.{settled}
 use Rattle.lease.specs.declared.Lease.{Lease}
 use Rattle.lease.specs.Operations as lease
 use Rattle.lease.specs.Operations.{leaseOf, owns, dueAt, requeuedAs, extend}
-use Rattle.consumer.specs.State.{Settings, State}
+use Rattle.consumer.specs.State.{Configuration, State}
 use Rattle.consumer.specs.Calls as consumer
 use Rattle.consumer.specs.Calls.{HandOut, handOut, nackDeadline}
 use Rattle.consumer.proofs.Open.{claim-cases, ack-cases, Owned, nack-cases, progress-cases, commit-cases}
@@ -166,7 +166,7 @@ told t e = tokensAfter t (effectOf e)
 abbrev Knows : Ledger → Tokens → World → Type 0
 Knows l t w = Known t (l .floor) (leasesOf (w .phase))
 
-module _ (c : Settings) (n : ℕ) (l : Ledger) (t : Tokens) where
+module _ (c : Configuration) (n : ℕ) (l : Ledger) (t : Tokens) where
   abbrev Next : Option Turn → Type 0
   Next = Second noted told TokenRight Knows (l, t)
 
@@ -332,19 +332,19 @@ module _ (c : Settings) (n : ℕ) (l : Ledger) (t : Tokens) where
       (knows (w .phase) (w .journal) inv k) i
 
 -- ## every list
-module _ (c : Settings) (n : ℕ) (accepted : Passed (startTable c n)) where
+module _ (c : Configuration) (n : ℕ) (accepted : Passed (startTable c n)) where
   abbrev fold : Ledger × Tokens → Event → Ledger × Tokens
   fold = foldBoth noted told
 
   abbrev Says : Ledger × Tokens → Event → Type 0
-  Says = SaysBoth (Law (c .policy)) TokenRight
+  Says = SaysBoth (Law (c .settings .policy)) TokenRight
 
   abbrev Keeps : Ledger × Tokens → World → Type 0
   Keeps = KeepsBoth (Inv c n) Knows
 
   each : (b : Ledger × Tokens) (w : World) (i : Item) → Keeps b w → Answered fold Says Keeps b (next c w i)
   each b w i h =
-      beside noted told (Law (c .policy)) TokenRight (Inv c n) Knows b (next c w i)
+      beside noted told (Law (c .settings .policy)) TokenRight (Inv c n) Knows b (next c w i)
       (item-kept c n accepted (b .0) w i (h .0))
       (item-knows c n (b .0) (b .1) accepted w i (h .0) (h .1))
 

@@ -14,17 +14,18 @@ use Rattle.types.proofs.Cases.{split}
 use Rattle.types.specs.Keyed.{lookup}
 use Rattle.types.specs.Table.{Passed}
 use Rattle.types.specs.Lists.{times}
-use Rattle.types.proofs.Table.{guarded-passed}
+use Rattle.types.proofs.Table.{guarded-passed, append-passed}
 use Rattle.types.proofs.Keyed.{lookup-all}
 use Rattle.cursor.specs.Cursor.{settled}
 use Rattle.lease.specs.declared.Lease.{Lease}
 use Rattle.lease.specs.State.{Counted}
 use Rattle.lease.specs.Operations.{leaseOf, isNone, running, handedOut}
 use Rattle.lease.specs.Rest.{overdue}
-use Rattle.consumer.specs.State.{Settings, State}
-use Rattle.consumer.specs.Calls.{HandOut, handOut, isFull, claimTable, claim, atCeiling, atThreshold}
+use Rattle.consumer.specs.State.{Configuration, State}
+use Rattle.consumer.specs.Calls.{callRows, HandOut, handOut, isFull, claimRows, claimTable, claim, atCeiling, atThreshold}
 use Rattle.consumer.specs.Questions.{waitingAt, countOf}
 use Rattle.consumer.specs.Valid.{Valid}
+use Rattle.consumer.proofs.Open.{call-passed}
 use Rattle.consumer.proofs.Counts.{count-is, lease-count, carried-count}
 use Rattle.consumer.proofs.Questions.{waiting-once}
 use Rattle.checkpoint.specs.Checkpoint as checkpoints
@@ -48,12 +49,14 @@ module _ (s : State) (v : Valid s) where
   nothing-due g =
       let left : s .table .nextGeneration < flushed s .ceiling = omega (arith, eqb-false (s .table .nextGeneration) MAX g, v .table .generation-fits) in
       rw (lt-leb (flushed s .ceiling) (s .table .nextGeneration) left)
-      (lt-leb (s .policy .flushRedeliveries) 0 (v .policy .some-threshold))
+      (lt-leb (s .settings .policy .flushRedeliveries) 0 (v .accepted .some-threshold))
 
   claims-granted : (o now : ℕ) → Claimable s o now → claim (flushed s) o now .outcome ≡ done (handOut (flushed s) o)
   unfolding claim
   claims-granted o now p =
-      let passed : Passed (claimTable (flushed s) o now) = (p .not-last, (p .unsettled, (p .not-held, (p .generations, (nothing-due (p .generations), (p .room, tt)))))) in
+      let passed : Passed (claimTable (flushed s) o now) =
+      append-passed (callRows (flushed s)) (claimRows (flushed s) o now) (call-passed (flushed s))
+      (p .not-last, (p .unsettled, (p .not-held, (p .generations, (nothing-due (p .generations), (p .room, tt)))))) in
       rw (guarded-passed (claimTable (flushed s) o now) (flushed s) _ passed)
 
   -- 25 stands in front of 26, so that what is due after a checkpoint is never told
@@ -103,11 +106,11 @@ module _ (s : State) (v : Valid s) (p : Page) (agrees : Agrees p s) (now o : ℕ
   waiting-right = waiting-once s v now o ∙ rw (← agrees .settles o, ← agrees .counts o) (ap (λ (b : Bool). cond b 1 0) waits-right)
 
 -- ## a checkpoint
-none-wrote : (c : Settings) (w : World) → AllWrote (run c w [])
+none-wrote : (c : Configuration) (w : World) → AllWrote (run c w [])
 unfolding run AllWrote
 none-wrote c w = tt
 
-module _ (c : Settings) (n : ℕ) (l : Ledger) (s : State) (a : List ℕ) (inv : Inv c n l (world (idle s) a)) where
+module _ (c : Configuration) (n : ℕ) (l : Ledger) (s : State) (a : List ℕ) (inv : Inv c n l (world (idle s) a)) where
   checkpointed : HasRoom s → Checkpointed c (world (idle s) a) s
   unfolding AllWrote
   checkpointed room =
@@ -133,7 +136,7 @@ module _ (c : Settings) (n : ℕ) (l : Ledger) (s : State) (a : List ℕ) (inv :
         waiting = λ now o. waiting-right s (inv .callable .valid) p (rw (← e) (inv .callable .agrees)) now o;
       }
 
-useful-after : (c : Settings) (n : ℕ) (l : Ledger) (q : Phase) (a : List ℕ) (left : State) (p : Page) → q ≡ idle left → l .book .page ≡ p
+useful-after : (c : Configuration) (n : ℕ) (l : Ledger) (q : Phase) (a : List ℕ) (left : State) (p : Page) → q ≡ idle left → l .book .page ≡ p
     → Inv c n l (world q a) → Useful c (world q a) left p
 useful-after c n l q a left p e f = rw e (λ inv. useful c n l left a inv p f)
 

@@ -17,7 +17,7 @@ use Rattle.journal.proofs.Area.{write-same, write-other}
 use Rattle.journal.proofs.Blocks.{body-length}
 use Rattle.journal.proofs.Sound.{unchecked, body-heads}
 use Rattle.journal.proofs.Group.{chunk-few}
-use Rattle.consumer.specs.State.{Settings, State, blocksOf}
+use Rattle.consumer.specs.State.{Configuration, State, blocksOf}
 use Rattle.consumer.specs.Valid.{Valid}
 use Rattle.checkpoint.specs.Checkpoint.{payloadOf, bodies, bodyOf, headerOf, Writing, writing, isLast, nextPlace}
 use Rattle.power_cut.specs.Cut.{isTorn}
@@ -36,7 +36,7 @@ pub none-written : (s : State) (a : List ℕ) → Valid s → s .seat .block + s
 none-written s a v room =
     record { valid = record { state = v; room = room; few = omega arith }; behind = λ j h. absurd (omega arith) }
 
-module _ (c : Settings) (n : ℕ) (v : Saved) (l : Ledger) (a : List ℕ) (w : Writing) (journal : Journal c n a v)
+module _ (c : Configuration) (n : ℕ) (v : Saved) (l : Ledger) (a : List ℕ) (w : Writing) (journal : Journal c n a v)
     (now : Stands c n v l (w .state))
     (so-far : Written a w) where
   abbrev s : State
@@ -81,7 +81,7 @@ module _ (c : Settings) (n : ℕ) (v : Saved) (l : Ledger) (a : List ℕ) (w : W
   -- ## the header
   pub header-journal : bodies s ≤ w .written → Journal c n (writeAt a (s .seat .block) (headerOf s)) (stored s)
   header-journal all =
-      header-kept s (now .valid) c n (now .size) (now .policy) room a v journal (now .seat) (λ j h. so-far .behind j (omega arith))
+      header-kept s (now .valid) c n (now .size) (now .settings) room a v journal (now .seat) (λ j h. so-far .behind j (omega arith))
 
   -- ## a torn block
   place : (s .seat .block ≤ nextPlace w) × (nextPlace w < n / 512)

@@ -10,7 +10,7 @@ use Rattle.types.specs.Refusal.{refused, done}
 use Rattle.types.specs.Keyed.{lookup}
 use Rattle.cursor.specs.Cursor.{settled}
 use Rattle.delivery.specs.Policy.{Destination, Deliver, DeadLetter}
-use Rattle.consumer.specs.State.{Settings, State, countOr0}
+use Rattle.consumer.specs.State.{Configuration, State, countOr0}
 use Rattle.consumer.specs.Calls.{HandOut}
 use Rattle.consumer.specs.Valid.{Fits}
 use Rattle.starts.specs.Restart.{start}
@@ -85,14 +85,14 @@ restartsIn (i ∷ is) = restartIn i + restartsIn is
 
 -- ## the demand
 -- M is neither 0 nor 4294967295; that it and the threshold are u32 is what their types say
-pub record Premises (c : Settings) : Type 0 where
-  pub limit-not-0 : c .policy .maxDeliver ≡ 0 → ⊥
-  pub limit-not-max : c .policy .maxDeliver ≡ MAX32 → ⊥
-  pub fits : Fits (c .policy)
+pub record Premises (c : Configuration) : Type 0 where
+  pub limit-not-0 : c .settings .policy .maxDeliver ≡ 0 → ⊥
+  pub limit-not-max : c .settings .policy .maxDeliver ≡ MAX32 → ⊥
+  pub fits : Fits (c .settings)
 
-pub record Holds (c : Settings) (items : List Item) (es : List Event) : Type 0 where
+pub record Holds (c : Configuration) (items : List Item) (es : List Event) : Type 0 where
   -- each offset was handed out for delivery at most M + C × (N + 1) times
-  pub bound : (o : ℕ) → handOuts (delivers o) es ≤ c .policy .maxDeliver + restartsIn items * (c .policy .flushRedeliveries + 1)
+  pub bound : (o : ℕ) → handOuts (delivers o) es ≤ c .settings .policy .maxDeliver + restartsIn items * (c .settings .policy .flushRedeliveries + 1)
   -- no two hand-outs share a generation
   pub generations : (g : ℕ) → handOuts (isUnder g) es ≤ 1
   -- no restart was refused, and each found the book's copy
@@ -101,5 +101,5 @@ pub record Holds (c : Settings) (items : List Item) (es : List Event) : Type 0 w
 -- every list, from every fresh consumer on a zeroed journal
 unfoldable pub Demand3 : Type 0
 Demand3 =
-    (c : Settings) (size : ℕ) (s : State) (items : List Item) → Premises c → start c size ≡ done s
+    (c : Configuration) (size : ℕ) (s : State) (items : List Item) → Premises c → start c size ≡ done s
     → Holds c items (run c (begins s size) items)

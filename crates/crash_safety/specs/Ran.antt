@@ -9,8 +9,8 @@ use lib.Dec.{eqb}
 use lib.ListN.{length, replicate}
 use Rattle.types.specs.Limits.{MAX32}
 use Rattle.types.specs.Refusal.{Refusal}
-use Rattle.consumer.specs.declared.Settings.{Settings}
-use Rattle.starts.specs.Starting.{settingsOf, startFault}
+use Rattle.consumer.specs.declared.Configuration.{Configuration}
+use Rattle.starts.specs.Starting.{configurationOf, startFault}
 use Rattle.starts.specs.declared.StartAnswer.{StartAnswer}
 use Rattle.starts.specs.declared.StartAnswer.the-variants as start
 use Rattle.machine.specs.Calls.{step, restart, Event}
@@ -56,9 +56,9 @@ pub data Ran : Machine → List ℕ → List Item → List Event → Machine →
       → (Sound m → CutIs m (cutOf k bytes) a r a′)
       → Ran (r .machine) a′ is es last end
       → Ran m a (cut (cutOf k bytes) ∷ is) (seen (power.turnOf (r .answer) (r .machine) a′) es) last end
-  -- the program ends at any point and is started anew: a machine that is off, with the same settings, goes on from the journal
+  -- the program ends at any point and is started anew: a machine that is off, with the same configuration, goes on from the journal
   reopens : {m last : Machine} {a end : List ℕ} {is : List Item} {es : List Event}
-      (m′ : Machine) (out : List ℕ) (r : Called) (a′ out′ : List ℕ) → OffIs (m .settings) m′
+      (m′ : Machine) (out : List ℕ) (r : Called) (a′ out′ : List ℕ) → OffIs (m .configuration) m′
       → (Sound m′ → CalledIs m′ restart a out r a′ out′) → r .answer ≡ answer.Restarted start.Started
       → Ran (r .machine) a′ is es last end
       → Ran m a (call restart ∷ is) (seen (turnOf restart (r .answer) (r .machine) a′ out′) es) last end
@@ -66,9 +66,9 @@ pub data Ran : Machine → List ℕ → List Item → List Event → Machine →
 -- ## it is the run
 pub record IsRun (m : Machine) (a : List ℕ) (is : List Item) (es : List Event) (last : Machine) (end : List ℕ) : Type 0 where
   -- what the program saw is what is seen of the list, and it leaves who can be called then, and the journal
-  pub sees : run (settingsOf (m .settings)) (world (phaseOf m) a) is ≡ es
-  pub leaves : ends (settingsOf (m .settings)) (world (phaseOf m) a) is ≡ world (phaseOf last) end
-  pub settings : last .settings ≡ m .settings
+  pub sees : run (configurationOf (m .configuration)) (world (phaseOf m) a) is ≡ es
+  pub leaves : ends (configurationOf (m .configuration)) (world (phaseOf m) a) is ≡ world (phaseOf last) end
+  pub configuration : last .configuration ≡ m .configuration
   -- the next contract can be used too
   pub sound : Sound last
 
@@ -78,8 +78,8 @@ RanIsRun =
     → IsRun m a is es last end
 
 -- ## so demand 3 holds of it
-pub record HoldsRan (s : Settings) (is : List Item) (es : List Event) (last : Machine) (end : List ℕ) : Type 0 where
-  pub holds : Holds (settingsOf s) is es
+pub record HoldsRan (s : Configuration) (is : List Item) (es : List Event) (last : Machine) (end : List ℕ) : Type 0 where
+  pub holds : Holds (configurationOf s) is es
   -- and no machine that is off is refused to go on from the journal
   pub reopened : (m : Machine) (out : List ℕ) (r : Called) (a′ out′ : List ℕ) → OffIs s m
       → (Sound m → CalledIs m restart end out r a′ out′)
@@ -88,7 +88,7 @@ pub record HoldsRan (s : Settings) (is : List Item) (es : List Event) (last : Ma
 -- every program, from every machine that a start gave, on a zeroed journal, with a limit that is neither 0 nor 4294967295
 unfoldable pub Demand3Ran : Type 0
 Demand3Ran =
-    (s : Settings) (size : ℕ) (r : Started) → StartedIs s size r → r .answer ≡ start.Started
-    → (settingsOf s .policy .maxDeliver ≡ 0 → ⊥) → (settingsOf s .policy .maxDeliver ≡ MAX32 → ⊥)
+    (s : Configuration) (size : ℕ) (r : Started) → StartedIs s size r → r .answer ≡ start.Started
+    → (configurationOf s .settings .policy .maxDeliver ≡ 0 → ⊥) → (configurationOf s .settings .policy .maxDeliver ≡ MAX32 → ⊥)
     → (is : List Item) (es : List Event) (last : Machine) (end : List ℕ) → Ran (r .machine) (replicate size 0) is es last end
     → HoldsRan s is es last end

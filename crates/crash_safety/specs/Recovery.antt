@@ -1,4 +1,4 @@
--- Recovery. A restart depends on the settings and the journal alone, changes no byte, and made twice answers the same twice. A
+-- Recovery. A restart depends on the configuration and the journal alone, changes no byte, and made twice answers the same twice. A
 -- checkpoint counts by its header: with the power failing in any of its steps, unless that leaves the header wholly written, a
 -- restart gives the consumer that a restart would have given in place of the checkpoint; with the header wholly written it gives
 -- the one that a restart gives after the finished checkpoint. And whatever list came before, a step can be cut in each of its ways.
@@ -8,9 +8,9 @@ use mathlib.Core.Bool.{true}
 use mathlib.Core.List.{List, [], _∷_, _++_}
 use lib.ListN.{replicate}
 use Rattle.types.specs.Refusal.{done}
-use Rattle.consumer.specs.State.{Settings, State, blocksOf}
+use Rattle.consumer.specs.State.{Configuration, State, blocksOf}
 use Rattle.consumer.specs.Valid.{Fits}
-use Rattle.checkpoint.specs.Checkpoint.{bodies, Writing}
+use Rattle.checkpoint.specs.Checkpoint.{bodies, writes, Writing}
 use Rattle.starts.specs.Restart.{start}
 use Rattle.machine.specs.Calls.{begin, step, restart}
 use Rattle.machine.specs.Door.{idle, writing}
@@ -18,7 +18,7 @@ use Rattle.power_cut.specs.Cut.{Cut, old, new, torn, isTorn, cutAt}
 use Rattle.crash_safety.specs.Runs.{Item, call, cut, World, next, run, ends, begins}
 
 -- ## a restart
-pub record Deterministic (c : Settings) (w : World) : Type 0 where
+pub record Deterministic (c : Configuration) (w : World) : Type 0 where
   -- the same journal, the same answer
   pub same : (v : World) → v .journal ≡ w .journal → run c v (call restart ∷ []) ≡ run c w (call restart ∷ [])
   pub twice : run c w (call restart ∷ call restart ∷ []) ≡ run c w (call restart ∷ []) ++ run c w (call restart ∷ [])
@@ -26,7 +26,7 @@ pub record Deterministic (c : Settings) (w : World) : Type 0 where
 
 -- whoever can be called, on whatever journal
 unfoldable pub DeterministicRecovery : Type 0
-DeterministicRecovery = (c : Settings) (w : World) → Deterministic c w
+DeterministicRecovery = (c : Configuration) (w : World) → Deterministic c w
 
 -- ## a checkpoint
 -- begin, and so many steps
@@ -41,17 +41,18 @@ thenCut k = cut k ∷ call restart ∷ []
 abbrev pub HasRoom : State → Type 0
 HasRoom s = s .seat .block + suc (bodies s) ≤ blocksOf s
 
-pub record WritesCount (c : Settings) (w : World) (s : State) : Type 0 where
-  pub left-old : (k : ℕ) → k ≤ bodies s → ends c w (begun k ++ thenCut old) .phase ≡ ends c w (call restart ∷ []) .phase
-  pub left-torn : (k : ℕ) (b : List ℕ) → k ≤ bodies s → isTorn b ≡ true
+pub record WritesCount (c : Configuration) (w : World) (s : State) : Type 0 where
+  pub left-old : (k : ℕ) → k < writes s → ends c w (begun k ++ thenCut old) .phase ≡ ends c w (call restart ∷ []) .phase
+  pub left-torn : (k : ℕ) (b : List ℕ) → k < writes s → isTorn b ≡ true
       → ends c w (begun k ++ thenCut (torn b)) .phase ≡ ends c w (call restart ∷ []) .phase
-  pub body-new : (k : ℕ) → k < bodies s → ends c w (begun k ++ thenCut new) .phase ≡ ends c w (call restart ∷ []) .phase
-  pub left-new : ends c w (begun (bodies s) ++ thenCut new) .phase ≡ ends c w (begun (suc (bodies s)) ++ call restart ∷ []) .phase
+  pub body-new : (k : ℕ) → suc k < writes s → ends c w (begun k ++ thenCut new) .phase ≡ ends c w (call restart ∷ []) .phase
+  pub left-new : (k : ℕ) → suc k ≡ writes s
+      → ends c w (begun k ++ thenCut new) .phase ≡ ends c w (begun (writes s) ++ call restart ∷ []) .phase
 
 -- after every list that leaves a state with room for one more group
 unfoldable pub EveryWriteCounts : Type 0
 EveryWriteCounts =
-    (c : Settings) (size : ℕ) (s : State) (items : List Item) → Fits (c .policy) → start c size ≡ done s
+    (c : Configuration) (size : ℕ) (s : State) (items : List Item) → Fits (c .settings) → start c size ≡ done s
     → (left : State) → ends c (begins s size) items .phase ≡ idle left → HasRoom left
     → WritesCount c (ends c (begins s size) items) left
 
@@ -59,6 +60,6 @@ EveryWriteCounts =
 -- the journal of a list always has the consumer's length, so that every step can be cut in each of its ways
 unfoldable pub EveryCutMade : Type 0
 EveryCutMade =
-    (c : Settings) (size : ℕ) (s : State) (items : List Item) → Fits (c .policy) → start c size ≡ done s
+    (c : Configuration) (size : ℕ) (s : State) (items : List Item) → Fits (c .settings) → start c size ≡ done s
     → (w : Writing) → ends c (begins s size) items .phase ≡ writing w
     → (k : Cut) → next c (ends c (begins s size) items) (cut k) ≡ cutAt w (ends c (begins s size) items .journal) k

@@ -6,7 +6,7 @@ use mathlib.Core.List.{List, [], _∷_}
 use mathlib.Core.Option.{Option, none, some}
 use lib.Dec.{eqb}
 use lib.ListN.{length, replicate}
-use Rattle.consumer.specs.State.{Settings, State}
+use Rattle.consumer.specs.State.{Configuration, State}
 use Rattle.machine.specs.Calls.{Call, step, Event}
 use Rattle.machine.specs.Door.{Phase, idle, Turn, turn, door}
 use Rattle.power_cut.specs.Cut.{Cut, powerCut}
@@ -32,12 +32,12 @@ abbrev pub keepsJournal : List ℕ → Option Turn → Option Turn
 keepsJournal a none = none
 keepsJournal a (some t) = turn (t .event) (t .phase) a
 
-abbrev pub stepElsewhere : Settings → World → List ℕ → Option Turn
+abbrev pub stepElsewhere : Configuration → World → List ℕ → Option Turn
 stepElsewhere c w b =
     cond (eqb (length b) (length (w .journal))) none (keepsJournal (w .journal) (door c (w .phase) b step))
 
 -- one item; `none`: it can't be made where it stands
-unfoldable pub next : Settings → World → Item → Option Turn
+unfoldable pub next : Configuration → World → Item → Option Turn
 next c w (call q) = door c (w .phase) (w .journal) q
 next c w (stepOn b) = stepElsewhere c w b
 next c w (cut k) = powerCut (w .phase) (w .journal) k
@@ -46,12 +46,12 @@ abbrev pub after : Turn → World
 after t = world (t .phase) (t .area)
 
 -- what is seen of a list. What can't be made where it stands is passed over: it is not seen and changes nothing
-unfoldable pub run : Settings → World → List Item → List Event
+unfoldable pub run : Configuration → World → List Item → List Event
 run c w [] = []
 run c w (i ∷ is) = elim (next c w i) [ none ↦ run c w is | some t ↦ t .event ∷ run c (after t) is ]
 
 -- who can be called after a list, and the journal then
-unfoldable pub ends : Settings → World → List Item → World
+unfoldable pub ends : Configuration → World → List Item → World
 ends c w [] = w
 ends c w (i ∷ is) = elim (next c w i) [ none ↦ ends c w is | some t ↦ ends c (after t) is ]
 

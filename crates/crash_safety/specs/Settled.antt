@@ -7,7 +7,7 @@ use mathlib.Core.List.{List, [], _∷_}
 use mathlib.Core.Option.{Option, none, some}
 use Rattle.types.specs.Refusal.{done}
 use Rattle.cursor.specs.Cursor.{settled}
-use Rattle.consumer.specs.State.{Settings, State}
+use Rattle.consumer.specs.State.{Configuration, State}
 use Rattle.consumer.specs.Valid.{Fits}
 use Rattle.starts.specs.Restart.{start}
 use Rattle.machine.specs.Calls.{Event}
@@ -37,6 +37,6 @@ stateIn off = none
 -- every list, from every fresh consumer on a zeroed journal
 unfoldable pub NothingForgotten : Type 0
 NothingForgotten =
-    (c : Settings) (size : ℕ) (s : State) (items : List Item) → Fits (c .policy) → start c size ≡ done s
+    (c : Configuration) (size : ℕ) (s : State) (items : List Item) → Fits (c .settings) → start c size ≡ done s
     → (left : State) → stateIn (ends c (begins s size) items .phase) ≡ some left
     → (o : ℕ) → settled (left .cursor) o ≡ true → settledIn (run c (begins s size) items) o ≡ true

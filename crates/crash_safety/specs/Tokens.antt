@@ -9,7 +9,7 @@ use mathlib.Core.List.{List, [], _∷_}
 use mathlib.Core.Option.{Option, none, some}
 use lib.Dec.{eqb}
 use Rattle.types.specs.Refusal.{Result, refused, done, Fenced}
-use Rattle.consumer.specs.State.{Settings, State}
+use Rattle.consumer.specs.State.{Configuration, State}
 use Rattle.consumer.specs.Calls.{HandOut}
 use Rattle.consumer.specs.Valid.{Fits}
 use Rattle.starts.specs.Restart.{start}
@@ -81,5 +81,5 @@ TokensRight t (e ∷ es) = TokenRight t e × TokensRight (tokensAfter t (effectO
 -- every list, from every fresh consumer on a zeroed journal
 unfoldable pub NoStaleToken : Type 0
 NoStaleToken =
-    (c : Settings) (size : ℕ) (s : State) (items : List Item) → Fits (c .policy) → start c size ≡ done s
+    (c : Configuration) (size : ℕ) (s : State) (items : List Item) → Fits (c .settings) → start c size ≡ done s
     → TokensRight noTokens (run c (begins s size) items)

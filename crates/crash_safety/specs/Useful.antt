@@ -1,7 +1,7 @@
 -- Not useless. After every list that leaves a state with room for one more group, begin and its steps are not refused; a claim
 -- then is granted, but for the last offset, a settled one, one that is held, when generations or room for it are used up. And
 -- the waiting list of every state holds each offset just once that the book has unsettled with a count, and that no lease holds.
-use Prim.Native.Nat.{ℕ, suc}
+use Prim.Native.Nat.{ℕ}
 use mathlib.Core.Path.{_≡_}
 use mathlib.Core.Bool.{Bool, false, cond, not, _&&_}
 use mathlib.Core.List.{List, [], _∷_}
@@ -11,12 +11,12 @@ use Rattle.types.specs.Refusal.{refused, done, CheckpointDue}
 use Rattle.types.specs.Lists.{times}
 use Rattle.cursor.specs.Cursor.{settled}
 use Rattle.lease.specs.Operations.{leaseOf, running}
-use Rattle.consumer.specs.State.{Settings, State}
+use Rattle.consumer.specs.State.{Configuration, State}
 use Rattle.consumer.specs.Calls.{isFull, handOut, claim}
 use Rattle.consumer.specs.Questions.{waitingAt}
 use Rattle.consumer.specs.Valid.{Fits}
 use Rattle.checkpoint.specs.Checkpoint as checkpoints
-use Rattle.checkpoint.specs.Checkpoint.{bodies, flushed}
+use Rattle.checkpoint.specs.Checkpoint.{writes, flushed}
 use Rattle.starts.specs.Restart.{start}
 use Rattle.machine.specs.Calls.{Event, begun, stepped}
 use Rattle.machine.specs.Door.{idle}
@@ -34,12 +34,12 @@ unfoldable pub AllWrote : List Event → Type 0
 AllWrote [] = Unit {0}
 AllWrote (e ∷ es) = Wrote e × AllWrote es
 
--- begin and a step for each block of the group
+-- begin and a step for each block write
 abbrev pub checkpoint : State → List Item
-checkpoint s = recovery.begun (suc (bodies s))
+checkpoint s = recovery.begun (writes s)
 
 -- the checkpoint is made, and the consumer is then its state with a new ceiling and a cleared counter
-pub record Checkpointed (c : Settings) (w : World) (s : State) : Type 0 where
+pub record Checkpointed (c : Configuration) (w : World) (s : State) : Type 0 where
   pub wrote : AllWrote (run c w (checkpoint s))
   pub leaves : ends c w (checkpoint s) .phase ≡ idle (flushed s)
 
@@ -55,7 +55,7 @@ pub record Claimable (s : State) (o now : ℕ) : Type 0 where
 abbrev pub waits : Page → State → ℕ → ℕ → Bool
 waits p s now o = not (p .settled o) && not (eqb (p .count o) 0) && not (running (leaseOf (s .table) o) now)
 
-pub record Useful (c : Settings) (w : World) (s : State) (p : Page) : Type 0 where
+pub record Useful (c : Configuration) (w : World) (s : State) (p : Page) : Type 0 where
   pub checkpoints : HasRoom s → Checkpointed c w s
   -- right after a checkpoint
   pub claims : (o now : ℕ) → Claimable s o now → claim (flushed s) o now .outcome ≡ done (handOut (flushed s) o)
@@ -65,6 +65,6 @@ pub record Useful (c : Settings) (w : World) (s : State) (p : Page) : Type 0 whe
 -- after every list that leaves a state
 unfoldable pub NotUseless : Type 0
 NotUseless =
-    (c : Settings) (size : ℕ) (s : State) (items : List Item) → Fits (c .policy) → start c size ≡ done s
+    (c : Configuration) (size : ℕ) (s : State) (items : List Item) → Fits (c .settings) → start c size ≡ done s
     → (left : State) → ends c (begins s size) items .phase ≡ idle left
     → Useful c (ends c (begins s size) items) left (bookAfter emptyBook (run c (begins s size) items) .page)

@@ -14,11 +14,12 @@ use Rattle.journal.specs.Area.{blockAt, writeAt}
 use Rattle.journal.specs.Blocks.{headerBlock, bodyBlock}
 use Rattle.journal.specs.Sound.{isKind, formed, soundHeader, soundBody}
 use Rattle.journal.specs.Walks.{groupAt, walkOver, walkFrom, payload}
+use Rattle.consumer.specs.State.{badArea}
 use Rattle.consumer.specs.Calls as consumer
 use Rattle.checkpoint.specs.Checkpoint as checkpoint
 use Rattle.starts.specs.Restart as restarts
 use Rattle.starts.specs.Restart.{fresh, fromWalk}
-use Rattle.examples.specs.Consumer.{settings}
+use Rattle.examples.specs.Consumer.{configuration}
 use Rattle.machine.specs.Calls.{claim, ask, begin, step, restart}
 use Rattle.machine.specs.Door.{door}
 use Rattle.power_cut.specs.Cut.{torn}
@@ -36,7 +37,7 @@ items =
     ∷ call begin ∷ call step ∷ call step
     ∷ call (ask (claim 0 20)) ∷ call (ask (claim 0 30)) ∷ []
 
-pub bound-met : handOuts (delivers 0) (run settings (begins (fresh settings 9216) 9216) items)
-    ≡ settings .policy .maxDeliver + restartsIn items * (settings .policy .flushRedeliveries + 1)
-unfolding handOuts restartsIn run next door consumer.claim checkpoint.begin checkpoint.step restarts.restart fromWalk allAttemptCounts encodeCursor decodeCursor encodeAttempts1 decodeAttempts blockAt writeAt headerBlock bodyBlock isKind formed soundHeader soundBody groupAt walkOver walkFrom payload isSealed bits unbits polynomial crc xor
+pub bound-met : handOuts (delivers 0) (run configuration (begins (fresh configuration 9216) 9216) items)
+    ≡ configuration .settings .policy .maxDeliver + restartsIn items * (configuration .settings .policy .flushRedeliveries + 1)
+unfolding handOuts restartsIn run next door consumer.claim checkpoint.begin checkpoint.step badArea restarts.restart fromWalk allAttemptCounts encodeCursor decodeCursor encodeAttempts1 decodeAttempts blockAt writeAt headerBlock bodyBlock isKind formed soundHeader soundBody groupAt walkOver walkFrom payload isSealed bits unbits polynomial crc xor
 bound-met = refl

@@ -19,14 +19,18 @@ use Rattle.journal.specs.Area.{blockAt, writeAt}
 use Rattle.journal.specs.Blocks.{headerBlock, bodyBlock}
 use Rattle.journal.specs.Sound.{isKind, formed, soundHeader, soundBody}
 use Rattle.journal.specs.Walks.{groupAt, walkOver, walkFrom, payload}
-use Rattle.consumer.specs.State.{Settings, State, seatAt}
+use Rattle.consumer.specs.State.{Configuration, State, seatAt, badArea}
 use Rattle.consumer.specs.Calls.{HandOut, claim}
-use Rattle.checkpoint.specs.Checkpoint.{bodies, begin, Left, going, finished, Lent, lent, step}
+use Rattle.checkpoint.specs.Checkpoint.{writes, begin, Left, going, finished, Lent, lent, step}
 use Rattle.starts.specs.Restart.{resumed, fresh, start, fromWalk, restart}
 
 -- M 2, N 1, visibility 10, cap 25
-abbrev pub settings : Settings
-settings = record { policy = policy 2 false [] 1; lease = record { «visibility_nanos» = 10; «hard_cap_nanos» = 25 } }
+abbrev pub configuration : Configuration
+configuration =
+    record {
+      settings = record { policy = policy 2 false [] 1 };
+      lease = record { «visibility_nanos» = 10; «hard_cap_nanos» = 25 };
+    }
 
 -- what is made of a result that is no refusal
 abbrev pub onDone : {A B : Type 0} → Result A → (A → List B) → List B
@@ -56,9 +60,9 @@ pub data Act : Type 0 where
 -- what the claims answer
 abbrev pub answers : State → List ℕ → List Act → List (Result HandOut)
 answers s a [] = []
-answers s a (checkpoints ∷ l) = onDone (begin s) (λ w. steps (suc (bodies s)) (going w) a (λ t b. answers t b l))
+answers s a (checkpoints ∷ l) = onDone (begin s) (λ w. steps (writes s) (going w) a (λ t b. answers t b l))
 answers s a (claims now ∷ l) = claim s 0 now .outcome ∷ answers (claim s 0 now .state) a l
-answers s a (restarts ∷ l) = onDone (restart settings a) (λ t. answers t a l)
+answers s a (restarts ∷ l) = onDone (restart configuration a) (λ t. answers t a l)
 
 abbrev pub handedOut : ℕ → ℕ → Destination → Result HandOut
 handedOut generation deliveries destination =
@@ -66,15 +70,15 @@ handedOut generation deliveries destination =
 
 -- from a start on a zeroed area of 18 blocks
 abbrev pub fromStart : List Act → List (Result HandOut)
-fromStart l = onDone (start settings 9216) (λ s. answers s (replicate 9216 0) l)
+fromStart l = onDone (start configuration 9216) (λ s. answers s (replicate 9216 0) l)
 
--- fresh consumer, claim 0: refusal 26; whatever its settings, its area and the clock are
+-- fresh consumer, claim 0: refusal 26; whatever its configuration, its area and the clock are
 pub record Example13 : Type 0 where
   pub started : fromStart (claims 0 ∷ []) ≡ refused CheckpointDue ∷ []
-  pub always : (c : Settings) (size now : ℕ) → claim (fresh c size) 0 now .outcome ≡ refused CheckpointDue
+  pub always : (c : Configuration) (size now : ℕ) → claim (fresh c size) 0 now .outcome ≡ refused CheckpointDue
 
 pub example-13 : Example13
-unfolding start claim
+unfolding badArea start claim
 example-13 = record { started = refl; always = λ c size now. refl }
 
 -- checkpoint; claims of 0 at 0, 10, 20 give Deliver 1, Deliver 2, refusal 26; checkpoint, restart, checkpoint; claim gives
@@ -86,7 +90,7 @@ pub record Example14 : Type 0 where
   pub answered : fromStart acts14 ≡ handedOut 0 1 Deliver ∷ handedOut 1 2 Deliver ∷ refused CheckpointDue ∷ handedOut 4098 3 DeadLetter ∷ []
 
 pub example-14 : Example14
-unfolding start claim begin step restart fromWalk allAttemptCounts encodeCursor decodeCursor encodeAttempts1 decodeAttempts blockAt writeAt headerBlock bodyBlock isKind formed soundHeader soundBody groupAt walkOver walkFrom payload isSealed bits unbits polynomial crc xor
+unfolding start claim begin step badArea restart fromWalk allAttemptCounts encodeCursor decodeCursor encodeAttempts1 decodeAttempts blockAt writeAt headerBlock bodyBlock isKind formed soundHeader soundBody groupAt walkOver walkFrom payload isSealed bits unbits polynomial crc xor
 example-14 = record { answered = refl }
 
 -- a foreign journal of one group, with a count of a settled offset, a zero and a count for MAX: a restart drops, drops and
@@ -94,7 +98,7 @@ example-14 = record { answered = refl }
 abbrev foreign : List ℕ → List ℕ → List ℕ
 foreign b d = headerBlock 1 7 (length b) (length d) ++ bodyBlock 1 1 (b ++ d)
 
-pub foreign-counts : restart settings (foreign (encodeCursor (cursor 5 [])) (encodeAttempts1 (entry 3 2 ∷ entry 6 0 ∷ entry 9 1 ∷ entry MAX 4 ∷ [])))
-    ≡ done (resumed settings 1024 (cursor 5 []) (entry 9 1 ∷ entry MAX 4 ∷ []) 7 (seatAt 2 2))
-unfolding restart fromWalk encodeCursor decodeCursor encodeAttempts1 decodeAttempts blockAt headerBlock bodyBlock isKind formed soundHeader soundBody groupAt walkOver walkFrom payload isSealed bits unbits polynomial crc xor
+pub foreign-counts : restart configuration (foreign (encodeCursor (cursor 5 [])) (encodeAttempts1 (entry 3 2 ∷ entry 6 0 ∷ entry 9 1 ∷ entry MAX 4 ∷ [])))
+    ≡ done (resumed configuration 1024 (cursor 5 []) (entry 9 1 ∷ entry MAX 4 ∷ []) 7 (seatAt 2 2))
+unfolding badArea restart fromWalk encodeCursor decodeCursor encodeAttempts1 decodeAttempts blockAt headerBlock bodyBlock isKind formed soundHeader soundBody groupAt walkOver walkFrom payload isSealed bits unbits polynomial crc xor
 foreign-counts = refl

@@ -18,7 +18,7 @@ use Rattle.attempt.specs.Examples as attempts
 use Rattle.lease.specs.Operations.{claim, extend}
 use Rattle.lease.specs.Examples.{leased}
 use Rattle.lease.specs.Examples as leases
-use Rattle.consumer.specs.State.{Settings}
+use Rattle.consumer.specs.State.{Configuration}
 use Rattle.consumer.specs.Calls as consumer
 use Rattle.starts.specs.Restart.{fresh}
 use Rattle.examples.specs.Consumer.{claims, fromStart, acts14}
@@ -60,7 +60,7 @@ pub record Twelve (a b c d e f g h i : ℕ) : Type 0 where
 pub record Thirteen : Type 0 where
   pub is : consumers.Example13
   pub started : map toldOf (fromStart (claims 0 ∷ [])) ≡ told 26 [] ∷ []
-  pub always : (c : Settings) (size now : ℕ) → toldOf (consumer.claim (fresh c size) 0 now .outcome) ≡ told 26 []
+  pub always : (c : Configuration) (size now : ℕ) → toldOf (consumer.claim (fresh c size) 0 now .outcome) ≡ told 26 []
 
 pub record Fourteen : Type 0 where
   pub is : consumers.Example14

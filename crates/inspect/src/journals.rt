@@ -4,6 +4,7 @@ use crate::refusals::refused;
 use crate::said::Said;
 use crate::said::says;
 use answers::Told;
+use consumer::Configuration;
 use consumer::Settings;
 use delivery::DeliveryConfig;
 use journal::LastGroup;
@@ -13,16 +14,18 @@ use starts::StartAnswer;
 use text::output::put;
 use text::templates::fill;
 
-// Settings that every start accepts. What a restart finds doesn't depend on them.
-fn settings() -> Settings {
+// A configuration that every start accepts. What a restart finds doesn't depend on it.
+fn configuration() -> Configuration {
     let lease = LeaseConfig::default();
-    Settings {
-        delivery: DeliveryConfig {
-            max_deliver: 1,
-            allow_unlimited: false,
-            backoff_nanos: [0; 16],
-            backoff_len: 0,
-            attempts_flush_redeliveries: 1,
+    Configuration {
+        settings: Settings {
+            delivery: DeliveryConfig {
+                max_deliver: 1,
+                allow_unlimited: false,
+                backoff_nanos: [0; 16],
+                backoff_len: 0,
+                attempts_flush_redeliveries: 1,
+            },
         },
         lease: lease,
     }
@@ -85,7 +88,7 @@ fn walk(out: &mut [u8], at: usize, area: &[u8]) -> usize {
 
 // What a restart would find, or its refusal.
 fn restart(out: &mut [u8], at: usize, area: &[u8]) -> usize {
-    let started = starts::restart(settings(), area);
+    let started = starts::restart(configuration(), area);
     let answer = started.answer;
     let StartAnswer::Started = answer else {
         return no_restart(out, at, answers::of_start(answer));

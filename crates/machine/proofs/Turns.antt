@@ -14,8 +14,8 @@ use Rattle.consumer.specs.State.{State}
 use Rattle.consumer.specs.View.{view, claimOf, settleOf, nackOf, progressOf, commitOf, Unmoved}
 use Rattle.consumer.specs.View as consumer
 use Rattle.consumer.specs.declared.Consumer.{Consumer}
-use Rattle.consumer.specs.declared.Settings.{Settings}
-use Rattle.checkpoint.specs.Checkpoint.{going, Wrote, Lent, lent, bodies, stepTable}
+use Rattle.consumer.specs.declared.Configuration.{Configuration}
+use Rattle.checkpoint.specs.Checkpoint.{writes, going, Wrote, Lent, lent, stepTable}
 use Rattle.checkpoint.specs.Checkpoint as checkpoint
 use Rattle.checkpoint.specs.Writing.{viewWriting, SoundWriting, BegunIs, stepOf, leftOf, SoundLeft, SteppedIs}
 use Rattle.checkpoint.specs.declared.Writing.{Writing}
@@ -25,7 +25,7 @@ use Rattle.checkpoint.specs.declared.Stepped.{Stepped}
 use Rattle.checkpoint.specs.declared.StepAnswer.{StepAnswer}
 use Rattle.checkpoint.specs.declared.StepAnswer.the-variants as steps
 use Rattle.starts.specs.Restart as restarts
-use Rattle.starts.specs.Starting.{settingsOf, StartedIs}
+use Rattle.starts.specs.Starting.{configurationOf, StartedIs}
 use Rattle.starts.specs.declared.Started.{Started}
 use Rattle.starts.specs.declared.StartAnswer.the-variants as starts
 use Rattle.starts.proofs.Restarting.{Other, other-faulty}
@@ -74,9 +74,9 @@ not-writing (suc zero) w f h = absurd (h refl)
 not-writing (suc (suc n)) w f h = refl
 
 module _ (m : Machine) (ok : Sound m) (a out : List ℕ) where
-  not-now : (q : Call) → door (settingsOf (m .settings)) (phaseOf m) a q ≡ none
+  not-now : (q : Call) → door (configurationOf (m .configuration)) (phaseOf m) a q ≡ none
       → CalledIs m q a out (record { answer = calls.NotNow; machine = m }) a out
-  not-now q e = record { is = sym e; sound = ok; settings = refl; kept = refl; lists = rw e }
+  not-now q e = record { is = sym e; sound = ok; configuration = refl; kept = refl; lists = rw e }
 
   pub not-begun : (m .phase ≡ 0 → ⊥) → CalledIs m begin a out (record { answer = calls.NotNow; machine = m }) a out
   unfolding door
@@ -102,7 +102,7 @@ sound-writing m ok e = subst (λ (n : ℕ). SoundAt n (m .writing)) e ok
 abbrev holding : Machine → Consumer → Machine
 holding m c =
     record {
-      settings = m .settings;
+      configuration = m .configuration;
       phase = m .phase;
       writing =
           record {
@@ -122,7 +122,7 @@ module _ (m : Machine) (e : m .phase ≡ 0) (a out : List ℕ) where
       record {
         is = rw (f, e) (h .is a);
         sound = rw e (h .sound);
-        settings = refl;
+        configuration = refl;
         kept = ask-kept-in (λ c. held (holding m c) a) (m .writing .consumer) (r .consumer) (r .answer) (h .kept);
         lists = rw (f, e) (h .lists a);
       }
@@ -132,17 +132,17 @@ module _ (m : Machine) (e : m .phase ≡ 0) (a out : List ℕ) where
     unfolding door
     begin-refused p =
         let w : refused refusal.JournalFull ≡ checkpoint.begin (view (m .writing .consumer)) = rw p at (h .is) in
-        rw p (record { is = rw (e, ← w); sound = ok; settings = refl; kept = refl; lists = rw (e, ← w) })
+        rw p (record { is = rw (e, ← w); sound = ok; configuration = refl; kept = refl; lists = rw (e, ← w) })
 
-    pub begin-done : (writes : ℕ) → r .answer ≡ begins.Begun writes
+    pub begin-done : (k : ℕ) → r .answer ≡ begins.Begun k
         → CalledIs m begin a out
-        (record { answer = calls.Begun (r .answer); machine = record { settings = m .settings; phase = 1; writing = r .writing } }) a out
+        (record { answer = calls.Begun (r .answer); machine = record { configuration = m .configuration; phase = 1; writing = r .writing } }) a out
     unfolding door
-    begin-done writes p =
+    begin-done k p =
         let w : done (viewWriting (r .writing)) ≡ checkpoint.begin (view (m .writing .consumer)) = rw p at (h .is) in
-        let s : SoundWriting (r .writing) × (writes ≡ suc (bodies (view (r .writing .consumer)))) = rw p at (h .sound) in
-        let n : writes ≡ suc (bodies (view (m .writing .consumer))) = s .1 ∙ ap (λ (c : Consumer). suc (bodies (view c))) (h .kept) in
-        rw p (record { is = rw (e, ← w, n); sound = s .0; settings = refl; kept = tt; lists = rw (e, ← w) })
+        let s : SoundWriting (r .writing) × (k ≡ writes (view (r .writing .consumer))) = rw p at (h .sound) in
+        let n : k ≡ writes (view (m .writing .consumer)) = s .1 ∙ ap (λ (c : Consumer). writes (view c)) (h .kept) in
+        rw p (record { is = rw (e, ← w, n); sound = s .0; configuration = refl; kept = tt; lists = rw (e, ← w) })
 
 -- ## on the record
 step-phase : (d : StepAnswer) (w : Writing) → phaseAt (phaseAfter d) w ≡ leftAs (leftOf d w)
@@ -166,7 +166,7 @@ refused-area w w′ a a′ r e =
 
 module _ (m : Machine) (e : m .phase ≡ 1) (a a′ : List ℕ) (r : Stepped) (h : SteppedIs (m .writing) a r a′) where
   abbrev stepped-on : ℕ → Machine
-  stepped-on n = record { settings = m .settings; phase = n; writing = r .writing }
+  stepped-on n = record { configuration = m .configuration; phase = n; writing = r .writing }
 
   step-kept : (d : StepAnswer) → r .answer ≡ d → Kept (stepOf d) (held m a) (held (stepped-on (phaseAfter d)) a′)
   step-kept (steps.Wrote block) p = tt
@@ -185,45 +185,45 @@ module _ (m : Machine) (e : m .phase ≡ 1) (a a′ : List ℕ) (r : Stepped) (h
       (record {
         is = rw (e, ← h .is, step-phase (r .answer) (r .writing));
         sound = step-sound (r .answer) (r .writing) (h .sound);
-        settings = refl;
+        configuration = refl;
         kept = step-kept (r .answer) refl;
         lists = rw e;
       })
 
 -- ## restart
 module _ (m : Machine) (ok : Sound m) (a out : List ℕ) (size : ℕ) (r : Started)
-    (h : StartedIs (m .settings) size (restarts.restart (settingsOf (m .settings)) a) r) where
+    (h : StartedIs (m .configuration) size (restarts.restart (configurationOf (m .configuration)) a) r) where
   pub restart-refused : Other (r .answer) → CalledIs m restart a out (record { answer = calls.Restarted (r .answer); machine = m }) a out
   unfolding door
   restart-refused o =
       let f = other-faulty (r .answer) o in
-      let w : refused (f .refusal) ≡ restarts.restart (settingsOf (m .settings)) a = rw (f .is) at (h .is) in
-      record { is = rw (← w, f .is); sound = ok; settings = refl; kept = rw (f .is); lists = rw (← w) }
+      let w : refused (f .refusal) ≡ restarts.restart (configurationOf (m .configuration)) a = rw (f .is) at (h .is) in
+      record { is = rw (← w, f .is); sound = ok; configuration = refl; kept = rw (f .is); lists = rw (← w) }
 
-  pub restart-done : r .answer ≡ starts.Started → (m′ : Machine) → Rests (m .settings) 0 (r .consumer) m′
+  pub restart-done : r .answer ≡ starts.Started → (m′ : Machine) → Rests (m .configuration) 0 (r .consumer) m′
       → CalledIs m restart a out (record { answer = calls.Restarted (r .answer); machine = m′ }) a out
   unfolding door
   restart-done p m′ i =
-      let w : done (view (r .consumer)) ≡ restarts.restart (settingsOf (m .settings)) a = rw p at (h .is) in
+      let w : done (view (r .consumer)) ≡ restarts.restart (configurationOf (m .configuration)) a = rw p at (h .is) in
       let s : consumer.Sound (r .consumer) = rw (← w) at (h .beside) in
-      record { is = rw (p, ← w, i .phase, i .consumer); sound = rw (i .phase, i .consumer) s; settings = i .settings; kept = rw p tt; lists = rw (← w) }
+      record { is = rw (p, ← w, i .phase, i .consumer); sound = rw (i .phase, i .consumer) s; configuration = i .configuration; kept = rw p tt; lists = rw (← w) }
 
 -- ## start
-module _ (s : Settings) (size : ℕ) (r : Started) (h : StartedIs s size (restarts.start (settingsOf s) size) r) (m : Machine) where
+module _ (s : Configuration) (size : ℕ) (r : Started) (h : StartedIs s size (restarts.start (configurationOf s) size) r) (m : Machine) where
   pub start-refused : Other (r .answer) → Rests s 2 (r .consumer) m → machine.StartedIs s size (record { answer = r .answer; machine = m })
   start-refused o i =
       let f = other-faulty (r .answer) o in
-      let w : refused (f .refusal) ≡ restarts.start (settingsOf s) size = rw (f .is) at (h .is) in
-      record { is = rw (f .is) w; phase = rw (i .phase, ← w); settings = i .settings; sound = rw (i .phase) tt }
+      let w : refused (f .refusal) ≡ restarts.start (configurationOf s) size = rw (f .is) at (h .is) in
+      record { is = rw (f .is) w; phase = rw (i .phase, ← w); configuration = i .configuration; sound = rw (i .phase) tt }
 
   pub start-done : r .answer ≡ starts.Started → Rests s 0 (r .consumer) m → machine.StartedIs s size (record { answer = r .answer; machine = m })
   start-done p i =
-      let w : done (view (r .consumer)) ≡ restarts.start (settingsOf s) size = rw p at (h .is) in
+      let w : done (view (r .consumer)) ≡ restarts.start (configurationOf s) size = rw p at (h .is) in
       let ok : consumer.Sound (r .consumer) = rw (← w) at (h .beside) in
-      record { is = rw (p, i .consumer) w; phase = rw (i .phase, i .consumer, ← w); settings = i .settings; sound = rw (i .phase, i .consumer) ok }
+      record { is = rw (p, i .consumer) w; phase = rw (i .phase, i .consumer, ← w); configuration = i .configuration; sound = rw (i .phase, i .consumer) ok }
 
-pub rests-off : (s : Settings) (c : Consumer) (m : Machine) → Rests s 2 c m → OffIs s m
-rests-off s c m i = record { phase = rw (i .phase); settings = i .settings; sound = rw (i .phase) tt }
+pub rests-off : (s : Configuration) (c : Consumer) (m : Machine) → Rests s 2 c m → OffIs s m
+rests-off s c m i = record { phase = rw (i .phase); configuration = i .configuration; sound = rw (i .phase) tt }
 
 -- a call of which it is known which it is
 pub called-as : {m : Machine} (room : ℕ) {q q′ : code.Call} {a out a′ out′ : List ℕ} {r : Called} → q ≡ q′

@@ -1,16 +1,16 @@
 -- The one door: what a call does to who can be called and to the area that is lent with it. A call that can't be made where it
 -- stands does nothing.
-use Prim.Native.Nat.{ℕ, suc}
+use Prim.Native.Nat.{ℕ}
 use mathlib.Core.Bool.{cond}
 use mathlib.Core.List.{List}
 use mathlib.Core.Option.{Option, none, some}
 use Rattle.types.specs.Refusal.{Result, refused, done}
 use Rattle.types.specs.Table.{Answer}
-use Rattle.consumer.specs.State.{Settings, State}
+use Rattle.consumer.specs.State.{Configuration, State}
 use Rattle.consumer.specs.Calls as consumer
 use Rattle.consumer.specs.Questions.{reply}
 use Rattle.checkpoint.specs.Checkpoint as checkpoint
-use Rattle.checkpoint.specs.Checkpoint.{Writing, bodies, Left, going, finished, Wrote, Lent}
+use Rattle.checkpoint.specs.Checkpoint.{writes, Writing, Left, going, finished, Wrote, Lent}
 use Rattle.starts.specs.Restart as restarts
 use Rattle.machine.specs.Calls.{Ask, claim, ack, term, nack, progress, commit, look, Call, ask, begin, step, restart, fits, Event, claimed, acked, termed, nacked, extended, committed, looked, begun, stepped, restarted}
 
@@ -55,7 +55,7 @@ asked s a (look q) = turn (looked q (reply s q)) (idle s) a
 
 abbrev pub beganAs : State → List ℕ → Result Writing → Option Turn
 beganAs s a (refused r) = turn (begun (refused r)) (idle s) a
-beganAs s a (done w) = turn (begun (done (suc (bodies s)))) (writing w) a
+beganAs s a (done w) = turn (begun (done (writes s))) (writing w) a
 
 abbrev pub leftAs : Left → Phase
 leftAs (going w) = writing w
@@ -70,7 +70,7 @@ restartedAs p a (refused r) = turn (restarted (refused r)) p a
 restartedAs p a (done s) = turn (restarted (done s)) (idle s) a
 
 -- one call, lent an area; `none`: it can't be made where it stands, or a number is no u64
-unfoldable pub door : Settings → Phase → List ℕ → Call → Option Turn
+unfoldable pub door : Configuration → Phase → List ℕ → Call → Option Turn
 door c p a (ask q) = cond (fits q) (onState p (λ s. asked s a q)) none
 door c p a begin = onState p (λ s. beganAs s a (checkpoint.begin s))
 door c p a step = onRecord p (λ w. steppedAs (checkpoint.step w a))

@@ -10,13 +10,13 @@ use Rattle.consumer.specs.Questions.{Question, reply}
 use Rattle.consumer.specs.View.{view}
 use Rattle.consumer.specs.View as consumer
 use Rattle.consumer.specs.declared.Consumer.{Consumer}
-use Rattle.consumer.specs.declared.Settings.{Settings}
+use Rattle.consumer.specs.declared.Configuration.{Configuration}
 use Rattle.checkpoint.specs.Writing.{viewWriting, SoundWriting, stepOf}
 use Rattle.checkpoint.specs.declared.Writing.{Writing}
 use Rattle.checkpoint.specs.declared.StepAnswer.{StepAnswer}
 use Rattle.checkpoint.specs.declared.StepAnswer.the-variants as steps
 use Rattle.starts.specs.Restart as restarts
-use Rattle.starts.specs.Starting.{settingsOf, startFault, startOf}
+use Rattle.starts.specs.Starting.{configurationOf, startFault, startOf}
 use Rattle.machine.specs.Calls.{Ask, Call, ask, begin, step, restart, begun, stepped, restarted}
 use Rattle.machine.specs.Door.{Phase, idle, writing, off, Turn, turn, asked, door}
 use Rattle.machine.specs.Answers.{replyOf, Arguments, noArguments, argumentsIn, argumentsOf, askedBy, seenOf, AskKept, begunOf, filledWith, listIn, outAfter}
@@ -67,15 +67,15 @@ abbrev pub startedAs : Result State → Phase
 startedAs (refused r) = off
 startedAs (done s) = idle s
 
-pub record StartedIs (s : Settings) (size : ℕ) (r : Started) : Type 0 where
-  pub is : startOf (r .answer) (view (r .machine .writing .consumer)) ≡ restarts.start (settingsOf s) size
-  pub phase : phaseOf (r .machine) ≡ startedAs (restarts.start (settingsOf s) size)
-  pub settings : r .machine .settings ≡ s
+pub record StartedIs (s : Configuration) (size : ℕ) (r : Started) : Type 0 where
+  pub is : startOf (r .answer) (view (r .machine .writing .consumer)) ≡ restarts.start (configurationOf s) size
+  pub phase : phaseOf (r .machine) ≡ startedAs (restarts.start (configurationOf s) size)
+  pub configuration : r .machine .configuration ≡ s
   pub sound : Sound (r .machine)
 
-pub record OffIs (s : Settings) (m : Machine) : Type 0 where
+pub record OffIs (s : Configuration) (m : Machine) : Type 0 where
   pub phase : phaseOf m ≡ off
-  pub settings : m .settings ≡ s
+  pub configuration : m .configuration ≡ s
   pub sound : Sound m
 
 -- ## the door
@@ -112,16 +112,16 @@ held m a = record { machine = m; area = a }
 
 -- a call: answer, machine and area are what the door makes of machine, area and call, and the lent list is what the event says
 pub record CalledIs (m : Machine) (q : Call) (a out : List ℕ) (r : Called) (a′ out′ : List ℕ) : Type 0 where
-  pub is : turnOf q (r .answer) (r .machine) a′ out′ ≡ door (settingsOf (m .settings)) (phaseOf m) a q
+  pub is : turnOf q (r .answer) (r .machine) a′ out′ ≡ door (configurationOf (m .configuration)) (phaseOf m) a q
   pub sound : Sound (r .machine)
-  pub settings : r .machine .settings ≡ m .settings
+  pub configuration : r .machine .configuration ≡ m .configuration
   pub kept : CallKept (r .answer) (held m a) (held (r .machine) a′)
-  pub lists : out′ ≡ outAfter (door (settingsOf (m .settings)) (phaseOf m) a q) out
+  pub lists : out′ ≡ outAfter (door (configurationOf (m .configuration)) (phaseOf m) a q) out
 
 -- ## parts
 -- a machine that writes nothing
-pub record Rests (s : Settings) (n : ℕ) (c : Consumer) (m : Machine) : Type 0 where
-  pub settings : m .settings ≡ s
+pub record Rests (s : Configuration) (n : ℕ) (c : Consumer) (m : Machine) : Type 0 where
+  pub configuration : m .configuration ≡ s
   pub phase : m .phase ≡ n
   pub consumer : m .writing .consumer ≡ c
 

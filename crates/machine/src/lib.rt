@@ -13,8 +13,8 @@ use crate::calls::CallAnswer;
 use checkpoint::BeginAnswer;
 use checkpoint::StepAnswer;
 use checkpoint::Writing;
+use consumer::Configuration;
 use consumer::Consumer;
-use consumer::Settings;
 use starts::StartAnswer;
 
 pub mod asks;
@@ -23,7 +23,7 @@ pub mod calls;
 // Who can be called is a number: 0 the consumer in the record, 1 the record itself, 2 nobody, so that only a restart is possible.
 #[repr(C)]
 pub struct Machine {
-    pub settings: Settings,
+    pub configuration: Configuration,
     pub phase: u64,
     pub writing: Writing,
 }
@@ -51,8 +51,8 @@ fn phase_after(answer: StepAnswer) -> u64
 
 impl Machine {
     // A machine that writes nothing.
-    fn resting(settings: Settings, phase: u64, consumer: Consumer) -> Machine
-        ensures { λ r. ⌜ Rests settings phase consumer r ⌝ }
+    fn resting(configuration: Configuration, phase: u64, consumer: Consumer) -> Machine
+        ensures { λ r. ⌜ Rests configuration phase consumer r ⌝ }
     {
         let writing = Writing {
             consumer: consumer,
@@ -62,38 +62,38 @@ impl Machine {
             attempt_len: 0,
         };
         Machine {
-            settings: settings,
+            configuration: configuration,
             phase: phase,
             writing: writing,
         }
     }
 
     // A fresh machine for a journal of so many zeroed bytes, or refusal 1 to 4 beside one that is off.
-    pub fn start(settings: Settings, area_len: usize) -> Started
-        ensures { λ r. ⌜ StartedIs settings «area_len» r ⌝ }
+    pub fn start(configuration: Configuration, area_len: usize) -> Started
+        ensures { λ r. ⌜ StartedIs configuration «area_len» r ⌝ }
     {
-        let started = starts::start(settings, area_len);
+        let started = starts::start(configuration, area_len);
         let answer = started.answer;
         let consumer = started.consumer;
         let StartAnswer::Started = answer else {
             return Started {
                 answer: answer,
-                machine: Machine::resting(settings, 2, consumer),
+                machine: Machine::resting(configuration, 2, consumer),
             };
         };
         Started {
             answer: answer,
-            machine: Machine::resting(settings, 0, consumer),
+            machine: Machine::resting(configuration, 0, consumer),
         }
     }
 
     // A machine that is off: a restart finds what its journal has.
-    pub fn off(settings: Settings) -> Machine
-        ensures { λ r. ⌜ OffIs settings r ⌝ }
+    pub fn off(configuration: Configuration) -> Machine
+        ensures { λ r. ⌜ OffIs configuration r ⌝ }
     {
-        let started = starts::start(settings, 0);
+        let started = starts::start(configuration, 0);
         let consumer = started.consumer;
-        Machine::resting(settings, 2, consumer)
+        Machine::resting(configuration, 2, consumer)
     }
 
     // A call on the state.
@@ -110,13 +110,13 @@ impl Machine {
         let asked = asks::ask(self.writing.consumer, request, out);
         let answer = asked.answer;
         let consumer = asked.consumer;
-        let settings = self.settings;
+        let configuration = self.configuration;
         let mut writing = self.writing;
         writing.consumer = consumer;
         Called {
             answer: CallAnswer::Asked(answer),
             machine: Machine {
-                settings: settings,
+                configuration: configuration,
                 phase: self.phase,
                 writing: writing,
             },
@@ -142,12 +142,12 @@ impl Machine {
                 machine: self,
             };
         };
-        let settings = self.settings;
+        let configuration = self.configuration;
         let writing = begun.writing;
         Called {
             answer: CallAnswer::Begun(answer),
             machine: Machine {
-                settings: settings,
+                configuration: configuration,
                 phase: 1,
                 writing: writing,
             },
@@ -167,12 +167,12 @@ impl Machine {
         }
         let stepped = self.writing.step(area);
         let answer = stepped.answer;
-        let settings = self.settings;
+        let configuration = self.configuration;
         let writing = stepped.writing;
         Called {
             answer: CallAnswer::Stepped(answer),
             machine: Machine {
-                settings: settings,
+                configuration: configuration,
                 phase: phase_after(answer),
                 writing: writing,
             },
@@ -184,8 +184,8 @@ impl Machine {
         requires { ⌜ Sound self ⌝ }
         ensures { λ r. ⌜ ((out : List ℕ) → CalledIs self restart (now (area .entry)) out r (now (area .entry)) out) ⌝ }
     {
-        let settings = self.settings;
-        let started = starts::restart(settings, area);
+        let configuration = self.configuration;
+        let started = starts::restart(configuration, area);
         let answer = started.answer;
         let consumer = started.consumer;
         let StartAnswer::Started = answer else {
@@ -196,7 +196,7 @@ impl Machine {
         };
         Called {
             answer: CallAnswer::Restarted(answer),
-            machine: Machine::resting(settings, 0, consumer),
+            machine: Machine::resting(configuration, 0, consumer),
         }
     }
 }

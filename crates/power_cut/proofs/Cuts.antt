@@ -22,6 +22,7 @@ use Rattle.journal.proofs.Blocks.{header-length, body-length}
 use Rattle.journal.proofs.Group.{chunk-few}
 use Rattle.consumer.specs.State.{blocksOf}
 use Rattle.consumer.specs.View.{view}
+use Rattle.consumer.proofs.Area.{area-taken}
 use Rattle.checkpoint.specs.Checkpoint.{payloadOf, bodies, isLast, nextPlace, nextBlock, leftBy, Wrote, Lent, lent, step}
 use Rattle.checkpoint.specs.Checkpoint as checkpoint
 use Rattle.checkpoint.specs.Writing.{viewWriting, SoundWriting, stepOf, SteppedIs}
@@ -104,7 +105,7 @@ write-again a i x b fits p q =
 -- ## the ways to fail
 module _ (m : Machine) (a : List ℕ) where
   not-now : (k : Cut) → Sound m → powerCut (phaseOf m) a k ≡ none → CutIs m k a (record { answer = answers.NotNow; machine = m }) a
-  not-now k ok e = record { is = sym e; sound = ok; settings = refl; kept = refl }
+  not-now k ok e = record { is = sym e; sound = ok; configuration = refl; kept = refl }
 
   pub not-stepping : (k : Cut) → Sound m → (m .phase ≡ 1 → ⊥) → CutIs m k a (record { answer = answers.NotNow; machine = m }) a
   not-stepping k ok h = not-now k ok (not-writing (m .phase) (m .writing) _ h)
@@ -125,7 +126,7 @@ module _ (m : Machine) (a : List ℕ) where
         → turn (failed header) off a′ ≡ cutAt (viewWriting (m .writing)) a k
         → CutIs m k a (record { answer = answers.Failed header; machine = m′ }) a′
     failed-off k header m′ a′ o e =
-        record { is = rw (o .phase) (e ∙ sym (on-record k)); sound = rw (o .phase) tt; settings = o .settings; kept = tt }
+        record { is = rw (o .phase) (e ∙ sym (on-record k)); sound = rw (o .phase) tt; configuration = o .configuration; kept = tt }
 
     pub cut-old : (m′ : Machine) → OffIs m m′ → CutIs m old a (record { answer = answers.Failed false; machine = m′ }) a
     cut-old m′ o = failed-off old false m′ a o refl
@@ -140,7 +141,7 @@ module _ (m : Machine) (a : List ℕ) where
 
       pub place-small : placeOf (r .answer) ≤ 128
       place-small =
-          omega (arith, made .place, place-inside (m .writing) (i .sound), whole-says (m .writing .consumer .«area_len») (i .sound .valid .state .area) .most)
+          omega (arith, made .place, place-inside (m .writing) (i .sound), whole-says (m .writing .consumer .«area_len») (area-taken (m .writing .consumer .«area_len») (i .sound .valid .state .area)) .most)
 
       pub cut-torn : (b : List ℕ) → length b ≡ 512 → isSealed b ≡ false → (at : ℕ) → at ≡ placeOf (r .answer) → (a″ : List ℕ) (q : Result ℕ)
           → answer q a″ ≡ write (512 * at) b a′ → (m′ : Machine) → OffIs m m′

@@ -37,7 +37,7 @@ CutKept answers.NotNow before after = after ≡ before
 pub record CutIs (m : Machine) (k : Cut) (a : List ℕ) (r : Failed) (a′ : List ℕ) : Type 0 where
   pub is : turnOf (r .answer) (r .machine) a′ ≡ powerCut (phaseOf m) a k
   pub sound : Sound (r .machine)
-  pub settings : r .machine .settings ≡ m .settings
+  pub configuration : r .machine .configuration ≡ m .configuration
   pub kept : CutKept (r .answer) (held m a) (held (r .machine) a′)
 
 -- ## parts
@@ -50,7 +50,7 @@ pub record Stepping (m : Machine) (a : List ℕ) : Type 0 where
 -- the same machine, switched off
 pub record OffIs (before after : Machine) : Type 0 where
   pub phase : after .phase ≡ 2
-  pub settings : after .settings ≡ before .settings
+  pub configuration : after .configuration ≡ before .configuration
 
 -- the block that a step wrote, and whether it was the header's
 abbrev pub placeOf : StepAnswer → ℕ

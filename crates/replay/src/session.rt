@@ -8,6 +8,7 @@ use crate::printing;
 use crate::printing::Said;
 use crate::script;
 use crate::script::Line;
+use consumer::Configuration;
 use consumer::Settings;
 use delivery::DeliveryConfig;
 use lease::LeaseConfig;
@@ -113,15 +114,17 @@ fn backoff_len(count: usize) -> usize {
     count - 6
 }
 
-// The settings that a start's numbers are.
-fn settings_of(v: [u64; 24], count: usize) -> Settings {
-    Settings {
-        delivery: DeliveryConfig {
-            max_deliver: short(v[0]),
-            allow_unlimited: v[1] == 1,
-            backoff_nanos: backoffs_of(v),
-            backoff_len: backoff_len(count),
-            attempts_flush_redeliveries: short(v[2]),
+// The configuration that a start's numbers are.
+fn configuration_of(v: [u64; 24], count: usize) -> Configuration {
+    Configuration {
+        settings: Settings {
+            delivery: DeliveryConfig {
+                max_deliver: short(v[0]),
+                allow_unlimited: v[1] == 1,
+                backoff_nanos: backoffs_of(v),
+                backoff_len: backoff_len(count),
+                attempts_flush_redeliveries: short(v[2]),
+            },
         },
         lease: LeaseConfig {
             visibility_nanos: v[3],
@@ -134,19 +137,19 @@ fn settings_of(v: [u64; 24], count: usize) -> Settings {
 pub fn nothing_started() -> Session
     ensures { λ r. ⌜ ((n : ℕ) → Ready n r) ⌝ }
 {
-    let settings = settings_of([0; 24], 0);
+    let configuration = configuration_of([0; 24], 0);
     Session {
-        machine: Machine::off(settings),
+        machine: Machine::off(configuration),
         len: 0,
     }
 }
 
 // What a start answers and leaves, in an area of so many bytes, of which it is to have the first `len`.
-fn started(session: Session, settings: Settings, len: usize, most: usize) -> Acted
+fn started(session: Session, configuration: Configuration, len: usize, most: usize) -> Acted
     requires { ⌜ Ready most session ⌝ }
     ensures { λ r. ⌜ Ready most (r .session) ⌝ }
 {
-    let started = Machine::start(settings, len);
+    let started = Machine::start(configuration, len);
     let answer = started.answer;
     let told = numbers::of_start(answer);
     if told.0 != 0 {
@@ -183,8 +186,8 @@ fn start(session: Session, line: Line, area: &mut [u8]) -> Acted
             said: printing::plain(printing::BAD_LINE),
         };
     }
-    let settings = settings_of(v, line.count);
-    let acted = started(session, settings, v[5] as usize, area.len());
+    let configuration = configuration_of(v, line.count);
+    let acted = started(session, configuration, v[5] as usize, area.len());
     if acted.said.template == printing::STARTED {
         let len = acted.session.len;
         raw::clear(&mut area[..len]);

@@ -4,7 +4,7 @@ ghost use mathlib.Core.List.{List};
 ghost use Prim.Native.Nat.{ℕ};
 ghost use Rattle.machine.specs.View.{Sound, OffIs};
 ghost use Rattle.turns.specs.Door.{AskIs, CallIs, StartIs};
-use consumer::Settings;
+use consumer::Configuration;
 use machine::Machine;
 use turns::ack;
 use turns::ask;
@@ -18,13 +18,13 @@ use wire::numbers::Numbers;
 pub extern "C" fn ninotskev_start(
     machine: &mut Machine,
     numbers: &mut Numbers,
-    settings: &Settings,
+    configuration: &Configuration,
     area_len: usize,
 )
-    ensures { λ _. ⌜ StartIs (now (machine .entry)) (now (settings .entry)) «area_len» (now (numbers .exit)) (now (machine .exit)) ⌝ }
+    ensures { λ _. ⌜ StartIs (now (machine .entry)) (now (configuration .entry)) «area_len» (now (numbers .exit)) (now (machine .exit)) ⌝ }
 {
     let before = *machine;
-    let given = *settings;
+    let given = *configuration;
     let started = start(before, given, area_len);
     *machine = started.machine;
     *numbers = started.numbers;
@@ -32,10 +32,10 @@ pub extern "C" fn ninotskev_start(
 
 // A machine that is off, into its place: only a restart is possible.
 #[no_mangle]
-pub extern "C" fn ninotskev_off(machine: &mut Machine, settings: &Settings)
-    ensures { λ _. ⌜ OffIs (now (settings .entry)) (now (machine .exit)) ⌝ }
+pub extern "C" fn ninotskev_off(machine: &mut Machine, configuration: &Configuration)
+    ensures { λ _. ⌜ OffIs (now (configuration .entry)) (now (machine .exit)) ⌝ }
 {
-    let given = *settings;
+    let given = *configuration;
     let made = Machine::off(given);
     *machine = made;
 }

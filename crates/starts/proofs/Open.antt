@@ -1,36 +1,38 @@
 -- What the refusal table of a start says where none of its tests holds, by name. A row more in the table is a field more here and
 -- moves nothing else. Assumes nothing.
-use Prim.Native.Nat.{ℕ, _≤_, _<_}
+use Prim.Native.Nat.{ℕ}
 use native.Mathlib.Omega.{arith}
 use mathlib.Core.Path.{_≡_}
-use mathlib.Core.Bool.{false, not, _&&_}
+use mathlib.Core.Bool.{false}
+use mathlib.Core.List.{[], _∷_}
 use lib.ListN.{length}
 use borrow.Author.Tests.{ltb-false, eqb-false}
 use Rattle.types.specs.Limits.{STEPS}
-use Rattle.types.specs.Refusal.{done}
-use Rattle.types.specs.Table.{Passed}
-use Rattle.types.proofs.Table.{checked-done}
-use Rattle.delivery.specs.Policy.{unlimited}
-use Rattle.journal.specs.Area.{badLength}
-use Rattle.consumer.specs.State.{Settings, State}
-use Rattle.starts.specs.Restart.{startTable, fresh, start}
+use Rattle.types.specs.Refusal.{done, BadArea}
+use Rattle.types.specs.Table.{_⇒_, Passed}
+use Rattle.types.proofs.Table.{passed-append, checked-done}
+use Rattle.consumer.specs.State.{Settings, Configuration, State, badArea}
+use Rattle.consumer.specs.Valid.{Accepted}
+use Rattle.starts.specs.Restart.{settingsTable, startTable, fresh, start}
 
-pub record StartOpen (c : Settings) (size : ℕ) : Type 0 where
-  pub allowed : (unlimited (c .policy .maxDeliver) && not (c .policy .allowUnlimited)) ≡ false
-  pub few-steps : length (c .policy .backoff) ≤ STEPS
-  pub some-threshold : 0 < c .policy .flushRedeliveries
-  pub area : badLength size ≡ false
-
-pub start-open : (c : Settings) (size : ℕ) → Passed (startTable c size) → StartOpen c size
-start-open c size p =
+settings-open : (s : Settings) → Passed (settingsTable s) → Accepted s
+settings-open s p =
     record {
-      allowed = p .0;
-      few-steps = ltb-false STEPS (length (c .policy .backoff)) (p .1 .0);
-      some-threshold = omega (arith, eqb-false (c .policy .flushRedeliveries) 0 (p .1 .1 .0));
-      area = p .1 .1 .1 .0;
+      limited = p .0;
+      few-steps = ltb-false STEPS (length (s .policy .backoff)) (p .1 .0);
+      some-threshold = omega (arith, eqb-false (s .policy .flushRedeliveries) 0 (p .1 .1 .0));
     }
 
-pub start-says : (c : Settings) (size : ℕ) (s : State) → start c size ≡ done s → StartOpen c size × (fresh c size ≡ s)
+pub record StartOpen (c : Configuration) (size : ℕ) : Type 0 where
+  pub settings : Accepted (c .settings)
+  pub area : badArea size ≡ false
+
+pub start-open : (c : Configuration) (size : ℕ) → Passed (startTable c size) → StartOpen c size
+start-open c size p =
+    let both = passed-append (settingsTable (c .settings)) (badArea size ⇒ BadArea ∷ []) p in
+    record { settings = settings-open (c .settings) (both .0); area = both .1 .0 }
+
+pub start-says : (c : Configuration) (size : ℕ) (s : State) → start c size ≡ done s → StartOpen c size × (fresh c size ≡ s)
 unfolding start
 start-says c size s e =
     let d = checked-done (startTable c size) (fresh c size) s e in

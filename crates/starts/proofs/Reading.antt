@@ -20,7 +20,7 @@ use Rattle.journal.specs.declared.Payload.{Payload}
 use Rattle.journal.proofs.Area.{Inside, inside-says, partAt, part-is}
 use Rattle.journal.proofs.Group.{payload-length}
 use Rattle.consumer.specs.State.{State}
-use Rattle.consumer.specs.declared.Settings.{Settings}
+use Rattle.consumer.specs.declared.Configuration.{Configuration}
 use Rattle.consumer.specs.declared.Seat.{Seat}
 use Rattle.starts.specs.Restart.{fromSnapshots, readGroup}
 use Rattle.starts.specs.Starting.{keptOf, seatOf, Lies, ResumedIs}
@@ -77,7 +77,7 @@ module _ (a : List ℕ) (i : ℕ) (l : Lies a i) where
           rw (n, cursor-said, lent, drop-append-le lc (payload a i) rest (omega (arith, payload-whole)))
           (take-append-le (attemptLength (blockAt a i)) (drop lc (payload a i)) rest (simp length-drop (omega (arith, payload-whole))))
 
-      module _ (s : Settings) (seat : Seat) where
+      module _ (s : Configuration) (seat : Seat) where
         same : fromSnapshots (keptOf s) (length a) (decodeCursor (take (h .«cursor_len») after))
             (decodeAttempts (take (h .«cursor_len» + h .«attempt_len» - h .«cursor_len») (drop (h .«cursor_len») after)))
             (h .ceiling) (seatOf seat)

@@ -26,24 +26,27 @@ use Rattle.journal.proofs.Area.{says-inside, whole-says}
 use Rattle.journal.proofs.Sound.{Header}
 use Rattle.journal.proofs.Walks.{LastIs, at-once, behind, walk-ended}
 use Rattle.consumer.specs.State.{State, seatAt}
+use Rattle.consumer.specs.State as state
 use Rattle.consumer.specs.Valid.{Fits, Valid}
 use Rattle.consumer.specs.View.{view, Sound}
-use Rattle.consumer.specs.declared.Settings.{Settings}
+use Rattle.consumer.specs.declared.Configuration.{Configuration}
+use Rattle.consumer.specs.declared.Seat.{Seat}
 use Rattle.consumer.specs.declared.Consumer.{Consumer}
-use Rattle.starts.specs.Restart.{startTable, readGroup, fromWalk, restart}
-use Rattle.starts.specs.Starting.{settingsOf, keptOf, startFault, FreshIs, StartedIs, Lies, WalkedIs, Parts, ResumedIs}
+use Rattle.consumer.proofs.Area.{area-taken}
+use Rattle.starts.specs.Restart.{startTable, readGroup, origin, fromWalk, restart}
+use Rattle.starts.specs.Starting.{configurationOf, keptOf, seatOf, startFault, FreshIs, StartedIs, Lies, WalkedIs, Parts, ResumedIs}
 use Rattle.starts.specs.declared.Started.{Started}
 use Rattle.starts.specs.declared.StartAnswer.{StartAnswer}
 use Rattle.starts.specs.declared.StartAnswer.the-variants as answers
 use Rattle.starts.proofs.StartAnswer.{the-type}
 use Rattle.starts.proofs.Valid.{restart-valid}
-use Rattle.starts.proofs.Starting.{same-settings, kept-open, config-sound}
+use Rattle.starts.proofs.Starting.{same-configuration, kept-open, settings-sound}
 
 -- ## The last group of a walk
 module _ (a : List ℕ) where
   -- its header is sound, so its bodies lie in the area, and its lengths are those that 01 allows
-  last-lies : (i k e : ℕ) → badLength (length a) ≡ false → walk a (blocks a) 1 0 ≡ stop (some i) k e → Lies a i
-  last-lies i k e area w = go (walk-ended a (blocks a) none 1 0 (some i) k e w .last-is)
+  last-lies : (i k e : ℕ) → badLength (length a) ≡ false → walk a (blocks a) (origin a .number) (origin a .block) ≡ stop (some i) k e → Lies a i
+  last-lies i k e area w = go (walk-ended a (blocks a) none (origin a .number) (origin a .block) (some i) k e w .last-is)
     where
       lies : (m : ℕ) → Header (blocks a) m i (blockAt a i) → Lies a i
       lies m h =
@@ -55,7 +58,7 @@ module _ (a : List ℕ) where
             attempts = h .form .lengths .attempt-high;
           }
 
-      go : LastIs a (blocks a) none 1 0 (some i) k e → Lies a i
+      go : LastIs a (blocks a) none (origin a .number) (origin a .block) (some i) k e → Lies a i
       go (at-once p q r) = absurd (Option·none-ne-some i (sym p))
       go (behind h m p q r s g) = let same : h ≡ i = cc in lies m (rw same at (g .header))
 
@@ -64,7 +67,7 @@ module _ (a : List ℕ) where
       last-lies i k e (h .area) (sym (h .is) ∙ ap walkedOf (p ∙ ap (λ (x : LastGroup). walked.Stopped x k e) q))
 
   -- ## What each end of the walk is answered with
-  module _ (s : Settings) (w : Walked) where
+  module _ (s : Configuration) (w : Walked) where
     pub group-resumed : (l : LastGroup) (i k e : ℕ) → w ≡ walked.Stopped l k e → l ≡ At i
         → (r : Started) → ResumedIs s (length a) (readGroup (keptOf s) a i (seatAt k e)) r
         → ResumedIs s (length a) (fromWalk (keptOf s) a (walkedOf w)) r
@@ -125,51 +128,52 @@ shown none u t e = done-inj e
 shown (some r) u t e = refused-not-done e
 
 -- ## The whole
-module _ (s : Settings) (a : List ℕ) (d : StartAnswer) (e : startFault d ≡ first (startTable (settingsOf s) (length a))) where
+module _ (s : Configuration) (a : List ℕ) (d : StartAnswer) (e : startFault d ≡ first (startTable (configurationOf s) (length a))) where
   pub restart-refused : Other d → (c : Consumer) → FreshIs s (length a) c
-      → StartedIs s (length a) (restart (settingsOf s) a) (record { answer = d; consumer = c })
+      → StartedIs s (length a) (restart (configurationOf s) a) (record { answer = d; consumer = c })
   unfolding restart
   restart-refused o c i =
       let f = other-faulty d o in
-      let q : first (startTable (settingsOf s) (length a)) ≡ some (f .refusal) = sym e ∙ f .is in
+      let q : first (startTable (configurationOf s) (length a)) ≡ some (f .refusal) = sym e ∙ f .is in
       record { is = rw (e, q); beside = rw q (i .is) }
 
-  module _ (full : length (s .delivery .«backoff_nanos») ≡ 16) (f : Fits (settingsOf s .policy)) (q : d ≡ answers.Started) where
-    untouched : first (startTable (settingsOf s) (length a)) ≡ none
+  module _ (full : length (s .settings .delivery .«backoff_nanos») ≡ 16) (f : Fits (configurationOf s .settings)) (q : d ≡ answers.Started) where
+    untouched : first (startTable (configurationOf s) (length a)) ≡ none
     untouched = sym e ∙ ap startFault q
 
-    passed : Passed (startTable (settingsOf s) (length a))
-    passed = first-none (startTable (settingsOf s) (length a)) untouched
+    passed : Passed (startTable (configurationOf s) (length a))
+    passed = first-none (startTable (configurationOf s) (length a)) untouched
 
-    pub walked-whole : (w : Walked) → walkedOf w ≡ walkIn (length a / 512) 1 0 a → WalkedIs a w
+    pub walked-whole : (from : Seat) → seatOf from ≡ origin a
+        → (w : Walked) → walkedOf w ≡ walkIn (length a / 512) (from .number) (from .block) a → WalkedIs a w
     unfolding walkIn
-    walked-whole w h =
-        let area : badLength (length a) ≡ false = kept-open s (length a) full f passed .area in
+    walked-whole from begins w h =
+        let area : badLength (length a) ≡ false = area-taken (length a) (kept-open s (length a) full f passed .area) in
         let all : min (blocks a) (blocks a) ≡ blocks a = omega arith in
-        record { area = area; is = rw (area, all) at h }
+        record { area = area; is = rw (area, all, ap (λ (x : state.Seat). x .number) begins, ap (λ (x : state.Seat). x .block) begins) at h }
 
-    right-is : restart (settingsOf s) a ≡ fromWalk (keptOf s) a (walk a (blocks a) 1 0)
+    right-is : restart (configurationOf s) a ≡ fromWalk (keptOf s) a (walk a (blocks a) (origin a .number) (origin a .block))
     unfolding restart
-    right-is = rw untouched (rw (same-settings s (length a) full f passed))
+    right-is = rw untouched (rw (same-configuration s (length a) full f passed))
 
     parts-sound : (c : Consumer) → Parts s c → Valid (view c) → Sound c
     parts-sound c p v =
         record {
           cursor = p .cursor;
           table = record { len = p .leases; carried-len = p .carried; valid = v .table };
-          delivery = config-sound s (length a) full f passed (c .delivery) (p .settings);
+          settings = settings-sound s (length a) full f passed (c .settings) (p .settings);
           valid = v;
         }
 
     pub restarted : IsBytes a → (w : Walked) → WalkedIs a w → (r : Started)
-        → ResumedIs s (length a) (fromWalk (keptOf s) a (walkedOf w)) r → StartedIs s (length a) (restart (settingsOf s) a) r
-    restarted bytes w h r i = go (restart (settingsOf s) a) refl (rw (h .is, ← right-is) at i)
+        → ResumedIs s (length a) (fromWalk (keptOf s) a (walkedOf w)) r → StartedIs s (length a) (restart (configurationOf s) a) r
+    restarted bytes w h r i = go (restart (configurationOf s) a) refl (rw (h .is, ← right-is) at i)
       where
-        go : (x : Result State) → restart (settingsOf s) a ≡ x → ResumedIs s (length a) x r → StartedIs s (length a) x r
+        go : (x : Result State) → restart (configurationOf s) a ≡ x → ResumedIs s (length a) x r → StartedIs s (length a) x r
         go (refused y) p i = record { is = i .is; beside = i .beside }
         go (done t) p i =
             let same : view (r .consumer) ≡ t = shown (startFault (r .answer)) (view (r .consumer)) t (i .is) in
             record {
               is = i .is;
-              beside = parts-sound (r .consumer) (i .beside) (rw same (restart-valid (settingsOf s) a t bytes p f));
+              beside = parts-sound (r .consumer) (i .beside) (rw same (restart-valid (configurationOf s) a t bytes p f));
             }

@@ -32,9 +32,9 @@ use Rattle.attempt.proofs.Snapshot.{decoded-few}
 use Rattle.lease.specs.State as lease
 use Rattle.lease.specs.State.{Table, startingAt, withCarried}
 use Rattle.lease.specs.declared.LeaseTable.{LeaseTable}
-use Rattle.delivery.specs.Config as delivery
 use Rattle.consumer.specs.State.{State, stateOf}
-use Rattle.consumer.specs.declared.Settings.{Settings}
+use Rattle.consumer.specs.View.{settingsOf}
+use Rattle.consumer.specs.declared.Configuration.{Configuration}
 use Rattle.consumer.specs.declared.Seat.{Seat}
 use Rattle.consumer.specs.declared.Consumer.{Consumer}
 use Rattle.starts.specs.Restart.{unsettledCounts, fromSnapshots}
@@ -109,7 +109,7 @@ module _ (b : List ℕ) (r : cursors.Decoded) (is : restored.DecodedIs b r) wher
   cursor-read p = sym (is .is) ∙ ap (λ (d : cursors-decode.Decode). restored.decodeOf d (cursor.view (r .cursor))) p
 
 -- ## the two snapshots together
-module _ (s : Settings) (size : ℕ) (cb ab : List ℕ) (ceiling : ℕ) (seat : Seat) where
+module _ (s : Configuration) (size : ℕ) (cb ab : List ℕ) (ceiling : ℕ) (seat : Seat) where
   abbrev right : Result State
   right = fromSnapshots (keptOf s) size (decodeCursor cb) (decodeAttempts ab) ceiling (seatOf seat)
 
@@ -125,12 +125,12 @@ module _ (s : Settings) (size : ℕ) (cb ab : List ℕ) (ceiling : ℕ) (seat : 
     pub both-read : cursor.Sound k → (r : Decoded) (is : DecodedIs ab r) (n : ℕ) → Reads ab r is n
         → (carried : Carried) → CarriedIs (unsettledCounts (cursor.view k) (entriesOf (take n (r .pairs)))) carried
         → (t : LeaseTable) → TableIs (s .lease) ceiling carried t
-        → ResumedIs s size right (record { answer = answers.Started; consumer = consumerOf k t ceiling seat size (s .delivery) })
+        → ResumedIs s size right (record { answer = answers.Started; consumer = consumerOf k t ceiling seat size (s .settings) })
     both-read sound r is n q carried h t g =
         let counts = h .is ∙ ap (unsettledCounts (cursor.view k)) (q .pairs) in
         let table : lease.view t ≡ withCarried (startingAt (s .lease) ceiling) (unsettledCounts (cursor.view k) (q .list)) = g .is ∙ ap (withCarried (startingAt (s .lease) ceiling)) counts in
         record {
-          is = rw (e, q .bytes) (ap (λ (u : Table). done (stateOf (cursor.view k) u ceiling (seatOf seat) size (delivery.view (s .delivery)))) table);
+          is = rw (e, q .bytes) (ap (λ (u : Table). done (stateOf (cursor.view k) u ceiling (seatOf seat) size (settingsOf (s .settings)))) table);
           beside =
               rw (e, q .bytes)
               (record {

@@ -31,9 +31,9 @@ use Rattle.journal.specs.Area.{blocks, blockAt}
 use Rattle.journal.specs.Blocks.{bodiesFor, ceilingOf, cursorLength, attemptLength, payloadLength, contentOf}
 use Rattle.journal.specs.Walks.{Stop, walk, contents, payload}
 use Rattle.journal.proofs.Walks.{walk-ended}
-use Rattle.consumer.specs.State.{Settings, State, Seat, seatAt, countOr0}
-use Rattle.consumer.specs.Valid.{Fits, Accepted, Valid}
-use Rattle.starts.specs.Restart.{startTable, resumed, fresh, start, isDropped, unsettledCounts, fromSnapshots, readGroup, lastGroup, fromWalk, restart}
+use Rattle.consumer.specs.State.{Configuration, State, Seat, seatAt, countOr0}
+use Rattle.consumer.specs.Valid.{Fits, Valid}
+use Rattle.starts.specs.Restart.{startTable, resumed, fresh, start, isDropped, unsettledCounts, fromSnapshots, readGroup, origin, lastGroup, fromWalk, restart}
 use Rattle.starts.proofs.Open.{StartOpen, start-open, start-says}
 
 -- ## The state that is resumed
@@ -49,11 +49,7 @@ pub record SeatFits (size : ℕ) (seat : Seat) : Type 0 where
   pub within : seat .block ≤ size / 512
   pub numbered : seat .number ≤ suc (seat .block)
 
-pub accepted : (c : Settings) (size : ℕ) → StartOpen c size → Fits (c .policy) → Accepted (c .policy)
-accepted c size p f =
-    record { fits = f; allowed = p .allowed; few-steps = p .few-steps; some-threshold = p .some-threshold }
-
-module _ (c : Settings) (size : ℕ) (p : StartOpen c size) (f : Fits (c .policy)) where
+module _ (c : Configuration) (size : ℕ) (p : StartOpen c size) (f : Fits (c .settings)) where
   pub resumed-valid : (cursor : Cursor) (counts : List (Entry ℕ)) (ceiling : ℕ) (seat : Seat)
       → cursors.Valid cursor → Carries cursor counts → ceiling ≤ MAX → SeatFits size seat
       → Valid (resumed c size cursor counts ceiling seat)
@@ -67,7 +63,8 @@ module _ (c : Settings) (size : ℕ) (p : StartOpen c size) (f : Fits (c .policy
         under-ceiling = omega arith;
         ceiling-fits = fits;
         counter = omega arith;
-        policy = accepted c size p f;
+        fits = f;
+        accepted = p .settings;
         area = p .area;
         within = at .within;
         numbered = at .numbered;
@@ -81,7 +78,7 @@ module _ (c : Settings) (size : ℕ) (p : StartOpen c size) (f : Fits (c .policy
       (omega arith)
       (record { within = omega arith; numbered = omega arith })
 
-pub start-valid : (c : Settings) (size : ℕ) (s : State) → start c size ≡ done s → Fits (c .policy) → Valid s
+pub start-valid : (c : Configuration) (size : ℕ) (s : State) → start c size ≡ done s → Fits (c .settings) → Valid s
 start-valid c size s e f =
     let d = start-says c size s e in
     rw (← d .1) (fresh-valid c size (d .0) f)
@@ -162,7 +159,7 @@ module _ (a : List ℕ) (h : IsBytes a) where
       let t = payloadLength (blockAt a i) in
       bytes-take t (contents a (bodiesFor t) (suc i)) (bytes-contents (bodiesFor t) (suc i))
 
-  module _ (c : Settings) (s : State) (p : StartOpen c (length a)) (f : Fits (c .policy)) where
+  module _ (c : Configuration) (s : State) (p : StartOpen c (length a)) (f : Fits (c .settings)) where
     snapshots-valid : (x : Result Cursor) (y : Result (List (Entry ℕ))) (ceiling : ℕ) (seat : Seat)
         → ((cursor : Cursor) → x ≡ done cursor → cursors.Valid cursor)
         → ((cursor : Cursor) (l : List (Entry ℕ)) → y ≡ done l → Carries cursor (unsettledCounts cursor l))
@@ -192,18 +189,18 @@ module _ (a : List ℕ) (h : IsBytes a) where
     last-valid none seat at e = rw (← done-inj e) (fresh-valid c (length a) p f)
     last-valid (some i) seat at e = group-valid i seat at e
 
-    walked-valid : (w : Result Stop) → walk a (blocks a) 1 0 ≡ w → fromWalk c a w ≡ done s → Valid s
+    walked-valid : (w : Result Stop) → walk a (blocks a) (origin a .number) (origin a .block) ≡ w → fromWalk c a w ≡ done s → Valid s
     unfolding fromWalk
     walked-valid (refused r) q e = refused-not-done e
     walked-valid (done end) q e =
-        let r = walk-ended a (blocks a) none 1 0 (end .last) (end .number) (end .block) q in
+        let r = walk-ended a (blocks a) none (origin a .number) (origin a .block) (end .last) (end .number) (end .block) q in
         last-valid (end .last) (seatAt (end .number) (end .block))
         (record { within = r .within (omega arith); numbered = omega (arith, r .numbered) })
         e
 
 -- every area: whatever its bytes are, the restart is refused or the invariant holds
-pub restart-valid : (c : Settings) (a : List ℕ) (s : State) → IsBytes a → restart c a ≡ done s → Fits (c .policy) → Valid s
+pub restart-valid : (c : Configuration) (a : List ℕ) (s : State) → IsBytes a → restart c a ≡ done s → Fits (c .settings) → Valid s
 unfolding restart
 restart-valid c a s h e f =
-    let d = checked-says (startTable c (length a)) (fromWalk c a (walk a (blocks a) 1 0)) s e in
-    walked-valid a h c s (start-open c (length a) (d .0)) f (walk a (blocks a) 1 0) refl (d .1)
+    let d = checked-says (startTable c (length a)) (fromWalk c a (walk a (blocks a) (origin a .number) (origin a .block))) s e in
+    walked-valid a h c s (start-open c (length a) (d .0)) f (walk a (blocks a) (origin a .number) (origin a .block)) refl (d .1)

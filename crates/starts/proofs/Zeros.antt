@@ -10,7 +10,7 @@ use Rattle.raw.specs.Bytes.{allZero}
 use Rattle.journal.specs.Walks.{stop, walk}
 use Rattle.journal.proofs.Sound.{zero-header}
 use Rattle.journal.proofs.Walks.{says-nothing, walk-turn}
-use Rattle.consumer.specs.State.{Settings}
+use Rattle.consumer.specs.State.{Configuration}
 use Rattle.starts.specs.Restart.{start, fromWalk, restart}
 
 zeros : (m n : ℕ) → allZero (take m (replicate n 0)) ≡ true
@@ -28,6 +28,6 @@ module _ (n : ℕ) where
       let a : List ℕ = replicate n 0 in
       walk-turn a hi none 1 0 ∙ rw (says-nothing a hi 1 0 (zero-header hi 1 0 (blockAt a 0) zero-block))
 
-pub start-restart : (c : Settings) (n : ℕ) → start c n ≡ restart c (replicate n 0)
+pub start-restart : (c : Configuration) (n : ℕ) → start c n ≡ restart c (replicate n 0)
 unfolding start restart fromWalk
 start-restart c n = rw (walk-zeros n (blocks (replicate n 0)), length-replicate)

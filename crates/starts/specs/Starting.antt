@@ -1,4 +1,4 @@
--- What a start and a restart are handed and answer in the code: the settings that the struct stands for, 01's refusals for the
+-- What a start and a restart are handed and answer in the code: the configuration that the struct stands for, 01's refusals for the
 -- cases of the answer, and the parts of the contracts.
 use Prim.Native.Nat.{ℕ, _+_, _-_, _≤_}
 use mathlib.Core.Path.{_≡_}
@@ -20,7 +20,6 @@ use Rattle.cursor.specs.Answers.{snapshotError}
 use Rattle.cursor.specs.View as cursor
 use Rattle.attempt.specs.Codec.{decodeOf}
 use Rattle.delivery.specs.declared.DeliveryConfig.{DeliveryConfig}
-use Rattle.delivery.specs.Config as delivery
 use Rattle.delivery.specs.Policy.{policy}
 use Rattle.lease.specs.State as lease
 use Rattle.lease.specs.State.{startingAt, withCarried}
@@ -29,11 +28,12 @@ use Rattle.lease.specs.declared.LeaseTable.{LeaseTable}
 use Rattle.cursor.specs.declared.AckCursor.{AckCursor}
 use Rattle.consumer.specs.State.{State}
 use Rattle.consumer.specs.State as state
-use Rattle.consumer.specs.View.{view, Sound}
+use Rattle.consumer.specs.View.{settingsOf, view, Sound}
 use Rattle.consumer.specs.declared.Settings.{Settings}
+use Rattle.consumer.specs.declared.Configuration.{Configuration}
 use Rattle.consumer.specs.declared.Seat.{Seat}
 use Rattle.consumer.specs.declared.Consumer.{Consumer}
-use Rattle.starts.specs.Restart.{fresh}
+use Rattle.starts.specs.Restart.{fresh, origin}
 use Rattle.starts.specs.declared.Carried.{Carried}
 use Rattle.starts.specs.declared.Started.{Started}
 use Rattle.starts.specs.declared.StartAnswer.{StartAnswer}
@@ -43,18 +43,21 @@ use Rattle.starts.specs.declared.StartAnswer.the-variants as answers
 abbrev pub backoffsOf : DeliveryConfig → List ℕ
 backoffsOf c = take (c .«backoff_len») (c .«backoff_nanos») ++ replicate (c .«backoff_len» - 16) 0
 
-abbrev pub settingsOf : Settings → state.Settings
-settingsOf s =
+-- the settings as they are handed in
+abbrev pub handedOf : Settings → state.Settings
+handedOf s =
     record {
       policy =
           policy (s .delivery .«max_deliver») (s .delivery .«allow_unlimited») (backoffsOf (s .delivery))
           (s .delivery .«attempts_flush_redeliveries»);
-      lease = s .lease;
     }
 
--- the settings as the consumer keeps them
-abbrev pub keptOf : Settings → state.Settings
-keptOf s = record { policy = delivery.view (s .delivery); lease = s .lease }
+abbrev pub configurationOf : Configuration → state.Configuration
+configurationOf c = record { settings = handedOf (c .settings); lease = c .lease }
+
+-- the configuration as the consumer keeps it
+abbrev pub keptOf : Configuration → state.Configuration
+keptOf c = record { settings = settingsOf (c .settings); lease = c .lease }
 
 -- the refusal of an attempt decoder's answer; pairs are none, so that no start answers with them
 abbrev pub refusalIn : Result ℕ → Refusal
@@ -77,18 +80,18 @@ abbrev pub startOf : StartAnswer → State → Result State
 startOf a s = unless (startFault a) (done s)
 
 -- a fresh consumer
-pub record FreshIs (s : Settings) (size : ℕ) (c : Consumer) : Type 0 where
+pub record FreshIs (s : Configuration) (size : ℕ) (c : Consumer) : Type 0 where
   pub is : view c ≡ fresh (keptOf s) size
   pub cursor : cursor.Sound (c .cursor)
   pub table : lease.Sound (c .table)
-  pub settings : c .delivery ≡ s .delivery
+  pub settings : c .settings ≡ s .settings
 
 -- beside a refusal stands the fresh consumer; else the consumer is sound
-abbrev pub Beside : Result State → Settings → ℕ → Consumer → Type 0
+abbrev pub Beside : Result State → Configuration → ℕ → Consumer → Type 0
 Beside (refused r) s size c = view c ≡ fresh (keptOf s) size
 Beside (done t) s size c = Sound c
 
-pub record StartedIs (s : Settings) (size : ℕ) (right : Result State) (r : Started) : Type 0 where
+pub record StartedIs (s : Configuration) (size : ℕ) (right : Result State) (r : Started) : Type 0 where
   pub is : startOf (r .answer) (view (r .consumer)) ≡ right
   pub beside : Beside right s size (r .consumer)
 
@@ -104,15 +107,15 @@ pub record TableIs (c : LeaseConfig) (ceiling : ℕ) (carried : Carried) (r : Le
   pub none : r .len ≡ 0
   pub len : r .«carried_len» ≡ carried .len
 
-abbrev pub consumerOf : AckCursor → LeaseTable → ℕ → Seat → ℕ → DeliveryConfig → Consumer
-consumerOf cursor table ceiling seat size delivery =
+abbrev pub consumerOf : AckCursor → LeaseTable → ℕ → Seat → ℕ → Settings → Consumer
+consumerOf cursor table ceiling seat size settings =
     record {
       cursor = cursor;
       table = table;
       ceiling = record { 0 = ceiling };
       seat = seat;
       «area_len» = size;
-      delivery = delivery;
+      settings = settings;
     }
 
 abbrev pub seatOf : Seat → state.Seat
@@ -124,22 +127,22 @@ pub record Lies (a : List ℕ) (i : ℕ) : Type 0 where
   pub cursor : cursorLength (blockAt a i) ≤ 2061
   pub attempts : attemptLength (blockAt a i) ≤ 1545
 
--- what a walk over the whole area answered; the area is one that 01 allows
+-- what a walk over the whole area answered, from where it begins; the area is one that 01 allows
 pub record WalkedIs (a : List ℕ) (r : Walked) : Type 0 where
   pub area : badLength (length a) ≡ false
-  pub is : walkedOf r ≡ walk a (blocks a) 1 0
+  pub is : walkedOf r ≡ walk a (blocks a) (origin a .number) (origin a .block)
 
 -- the parts of a consumer that goes on from a journal
-pub record Parts (s : Settings) (c : Consumer) : Type 0 where
+pub record Parts (s : Configuration) (c : Consumer) : Type 0 where
   pub cursor : cursor.Sound (c .cursor)
   pub leases : c .table .len ≤ LEASES
   pub carried : c .table .«carried_len» ≤ CARRIED
-  pub settings : c .delivery ≡ s .delivery
+  pub settings : c .settings ≡ s .settings
 
-abbrev pub BesideParts : Result State → Settings → ℕ → Consumer → Type 0
+abbrev pub BesideParts : Result State → Configuration → ℕ → Consumer → Type 0
 BesideParts (refused r) s size c = view c ≡ fresh (keptOf s) size
 BesideParts (done t) s size c = Parts s c
 
-pub record ResumedIs (s : Settings) (size : ℕ) (right : Result State) (r : Started) : Type 0 where
+pub record ResumedIs (s : Configuration) (size : ℕ) (right : Result State) (r : Started) : Type 0 where
   pub is : startOf (r .answer) (view (r .consumer)) ≡ right
   pub beside : BesideParts right s size (r .consumer)

@@ -9,12 +9,13 @@ ghost use Rattle.cursor.specs.View as cursors;
 ghost use Rattle.cursor.specs.Snapshot.{decodeCursor};
 ghost use Rattle.attempt.specs.Snapshot.{decodeAttempts};
 ghost use Rattle.journal.specs.Answers.{walkedOf};
-ghost use Rattle.starts.specs.Restart.{startTable, start, isDropped, unsettledCounts, fromSnapshots, readGroup, fromWalk, restart};
-ghost use Rattle.starts.specs.Starting.{settingsOf, startFault, FreshIs, StartedIs, CarriedIs, TableIs, consumerOf, keptOf, seatOf, ResumedIs, Lies, WalkedIs};
+ghost use Rattle.consumer.specs.State.{badArea};
+ghost use Rattle.starts.specs.Restart.{startTable, start, isDropped, unsettledCounts, fromSnapshots, readGroup, origin, fromWalk, restart};
+ghost use Rattle.starts.specs.Starting.{configurationOf, startFault, FreshIs, StartedIs, CarriedIs, TableIs, consumerOf, keptOf, seatOf, ResumedIs, Lies, WalkedIs};
 use attempt::Decode;
+use consumer::Configuration;
 use consumer::Consumer;
 use consumer::Seat;
-use consumer::Settings;
 use cursor::AckCursor;
 use cursor::Decode as Snapshot;
 use cursor::SnapshotError;
@@ -40,17 +41,24 @@ pub enum StartAnswer {
     Attempts(Decode),
 }
 
-// Beside a refusal stands the fresh consumer of these settings, which is not to be called.
+// Beside a refusal stands the fresh consumer of this configuration, which is not to be called.
 pub struct Started {
     pub answer: StartAnswer,
     pub consumer: Consumer,
 }
 
-// Refusals 1 to 4.
-fn check_start(settings: Settings, area_len: usize) -> StartAnswer
-    ensures { λ r. ⌜ startFault r ≡ first (startTable (settingsOf settings) «area_len») ⌝ }
+// Whether no consumer is started on an area of this length.
+fn bad_area(area_len: usize) -> bool
+    ensures { λ r. ⌜ r ≡ badArea «area_len» ⌝ }
 {
-    let config = settings.delivery;
+    journal::bad_length(area_len)
+}
+
+// Refusals 1 to 4.
+fn check_start(configuration: Configuration, area_len: usize) -> StartAnswer
+    ensures { λ r. ⌜ startFault r ≡ first (startTable (configurationOf configuration) «area_len») ⌝ }
+{
+    let config = configuration.settings.delivery;
     if delivery::lacks_opt_in(config.max_deliver, config.allow_unlimited) {
         return StartAnswer::UnlimitedDeliverNotAllowed;
     }
@@ -60,18 +68,18 @@ fn check_start(settings: Settings, area_len: usize) -> StartAnswer
     if config.attempts_flush_redeliveries == 0 {
         return StartAnswer::ZeroThreshold;
     }
-    if journal::bad_length(area_len) {
+    if bad_area(area_len) {
         return StartAnswer::BadArea;
     }
     StartAnswer::Started
 }
 
 // Nothing settled, nothing handed out, and the first group at block 0.
-fn fresh(settings: Settings, area_len: usize) -> Consumer
-    ensures { λ r. ⌜ FreshIs settings «area_len» r ⌝ }
+fn fresh(configuration: Configuration, area_len: usize) -> Consumer
+    ensures { λ r. ⌜ FreshIs configuration «area_len» r ⌝ }
 {
-    let delivery = settings.delivery;
-    let lease = settings.lease;
+    let settings = configuration.settings;
+    let lease = configuration.lease;
     Consumer {
         cursor: AckCursor::new(),
         table: LeaseTable::starting_at(lease, Generation(0)),
@@ -81,7 +89,7 @@ fn fresh(settings: Settings, area_len: usize) -> Consumer
             block: 0,
         },
         area_len: area_len,
-        delivery: delivery,
+        settings: settings,
     }
 }
 
@@ -155,43 +163,43 @@ fn resumed_table(config: LeaseConfig, ceiling: u64, carried: Carried) -> LeaseTa
 
 // The consumer that goes on from a cursor and counts.
 fn resumed(
-    settings: Settings,
+    configuration: Configuration,
     area_len: usize,
     cursor: AckCursor,
     table: LeaseTable,
     ceiling: u64,
     seat: Seat,
 ) -> Consumer
-    ensures { λ r. ⌜ r ≡ consumerOf cursor table ceiling seat «area_len» (settings .delivery) ⌝ }
+    ensures { λ r. ⌜ r ≡ consumerOf cursor table ceiling seat «area_len» (configuration .settings) ⌝ }
 {
-    let delivery = settings.delivery;
+    let settings = configuration.settings;
     Consumer {
         cursor: cursor,
         table: table,
         ceiling: Generation(ceiling),
         seat: seat,
         area_len: area_len,
-        delivery: delivery,
+        settings: settings,
     }
 }
 
 // The consumer of two snapshots, the cursor's read first: 6 to 19.
 fn read_snapshots<'a>(
-    settings: Settings,
+    configuration: Configuration,
     area_len: usize,
     cursor_bytes: &'a [u8],
     attempt_bytes: &'a [u8],
     ceiling: u64,
     seat: Seat,
 ) -> Started
-    ensures { λ r. ⌜ ResumedIs settings «area_len» (fromSnapshots (keptOf settings) «area_len» (decodeCursor (now («cursor_bytes» .entry))) (decodeAttempts (now («attempt_bytes» .entry))) ceiling (seatOf seat)) r ⌝ }
+    ensures { λ r. ⌜ ResumedIs configuration «area_len» (fromSnapshots (keptOf configuration) «area_len» (decodeCursor (now («cursor_bytes» .entry))) (decodeAttempts (now («attempt_bytes» .entry))) ceiling (seatOf seat)) r ⌝ }
 {
     let restored = AckCursor::decode_snapshot(cursor_bytes);
     let outcome = restored.outcome;
     if let Snapshot::Refused(error) = outcome {
         return Started {
             answer: StartAnswer::Cursor(error),
-            consumer: fresh(settings, area_len),
+            consumer: fresh(configuration, area_len),
         };
     }
     let decoded = attempt::decode_pairs(attempt_bytes);
@@ -199,23 +207,23 @@ fn read_snapshots<'a>(
     let Decode::Pairs(count) = pairs else {
         return Started {
             answer: StartAnswer::Attempts(pairs),
-            consumer: fresh(settings, area_len),
+            consumer: fresh(configuration, area_len),
         };
     };
     let cursor = restored.cursor;
     let list = decoded.pairs;
     let carried = carry(cursor, list, count);
-    let lease = settings.lease;
+    let lease = configuration.lease;
     let table = resumed_table(lease, ceiling, carried);
     Started {
         answer: StartAnswer::Started,
-        consumer: resumed(settings, area_len, cursor, table, ceiling, seat),
+        consumer: resumed(configuration, area_len, cursor, table, ceiling, seat),
     }
 }
 
 // The same of two snapshots that stand one behind the other, up to a place each.
 fn read_both(
-    settings: Settings,
+    configuration: Configuration,
     area_len: usize,
     bytes: &[u8],
     middle: usize,
@@ -224,10 +232,10 @@ fn read_both(
     seat: Seat,
 ) -> Started
     requires { ⌜ (middle ≤ end) × (end ≤ length (now bytes)) ⌝ }
-    ensures { λ r. ⌜ ResumedIs settings «area_len» (fromSnapshots (keptOf settings) «area_len» (decodeCursor (take middle (now (bytes .entry)))) (decodeAttempts (take (end - middle) (drop middle (now (bytes .entry))))) ceiling (seatOf seat)) r ⌝ }
+    ensures { λ r. ⌜ ResumedIs configuration «area_len» (fromSnapshots (keptOf configuration) «area_len» (decodeCursor (take middle (now (bytes .entry)))) (decodeAttempts (take (end - middle) (drop middle (now (bytes .entry))))) ceiling (seatOf seat)) r ⌝ }
 {
     read_snapshots(
-        settings,
+        configuration,
         area_len,
         &bytes[..middle],
         &bytes[middle..end],
@@ -237,9 +245,9 @@ fn read_both(
 }
 
 // The consumer of the group whose header stands at a block.
-fn read_group(settings: Settings, area: &[u8], at: usize, seat: Seat) -> Started
+fn read_group(configuration: Configuration, area: &[u8], at: usize, seat: Seat) -> Started
     requires { ⌜ Lies (now area) at ⌝ }
-    ensures { λ r. ⌜ ResumedIs settings (length (now (area .entry))) (readGroup (keptOf settings) (now (area .entry)) at (seatOf seat)) r ⌝ }
+    ensures { λ r. ⌜ ResumedIs configuration (length (now (area .entry))) (readGroup (keptOf configuration) (now (area .entry)) at (seatOf seat)) r ⌝ }
 {
     let from = 512 * at;
     let to = from + 512;
@@ -249,14 +257,22 @@ fn read_group(settings: Settings, area: &[u8], at: usize, seat: Seat) -> Started
     let middle = header.cursor_len as usize;
     let end = middle + header.attempt_len as usize;
     let ceiling = header.ceiling;
-    read_both(settings, area.len(), &payload, middle, end, ceiling, seat)
+    read_both(
+        configuration,
+        area.len(),
+        &payload,
+        middle,
+        end,
+        ceiling,
+        seat,
+    )
 }
 
 // The consumer of the last group that a walk over the whole area met, or a fresh one where there is none: 5 to 19. The walk
 // answers no 4, since the area's length was tested before.
-fn resume_from(settings: Settings, area: &[u8], walked: Walked) -> Started
+fn resume_from(configuration: Configuration, area: &[u8], walked: Walked) -> Started
     requires { ⌜ WalkedIs (now area) walked ⌝ }
-    ensures { λ r. ⌜ ResumedIs settings (length (now (area .entry))) (fromWalk (keptOf settings) (now (area .entry)) (walkedOf walked)) r ⌝ }
+    ensures { λ r. ⌜ ResumedIs configuration (length (now (area .entry))) (fromWalk (keptOf configuration) (now (area .entry)) (walkedOf walked)) r ⌝ }
 {
     match walked {
         Walked::Stopped {
@@ -269,36 +285,46 @@ fn resume_from(settings: Settings, area: &[u8], walked: Walked) -> Started
                     number: number,
                     block: block,
                 };
-                return read_group(settings, area, at, seat);
+                return read_group(configuration, area, at, seat);
             }
             LastGroup::None => {
                 return Started {
                     answer: StartAnswer::Started,
-                    consumer: fresh(settings, area.len()),
+                    consumer: fresh(configuration, area.len()),
                 };
             }
         },
         Walked::BadArea => {
             return Started {
                 answer: StartAnswer::BadArea,
-                consumer: fresh(settings, area.len()),
+                consumer: fresh(configuration, area.len()),
             };
         }
         Walked::Damaged(block) => {
             return Started {
                 answer: StartAnswer::Damaged { block: block },
-                consumer: fresh(settings, area.len()),
+                consumer: fresh(configuration, area.len()),
             };
         }
     }
 }
 
-// A fresh consumer for an area of so many zeroed bytes: 1 to 4.
-pub fn start(settings: Settings, area_len: usize) -> Started
-    ensures { λ r. ⌜ StartedIs settings «area_len» (start (settingsOf settings) «area_len») r ⌝ }
+// Where the walk over an area begins, and the group number that is expected there.
+pub fn origin(area: &[u8]) -> Seat
+    ensures { λ r. ⌜ seatOf r ≡ origin (now (area .entry)) ⌝ }
 {
-    let answer = check_start(settings, area_len);
-    let consumer = fresh(settings, area_len);
+    Seat {
+        number: 1,
+        block: 0,
+    }
+}
+
+// A fresh consumer for an area of so many zeroed bytes: 1 to 4.
+pub fn start(configuration: Configuration, area_len: usize) -> Started
+    ensures { λ r. ⌜ StartedIs configuration «area_len» (start (configurationOf configuration) «area_len») r ⌝ }
+{
+    let answer = check_start(configuration, area_len);
+    let consumer = fresh(configuration, area_len);
     Started {
         answer: answer,
         consumer: consumer,
@@ -306,16 +332,17 @@ pub fn start(settings: Settings, area_len: usize) -> Started
 }
 
 // A consumer that goes on from what its journal has: 1 to 19. The area is read and nothing is written.
-pub fn restart(settings: Settings, area: &[u8]) -> Started
-    ensures { λ r. ⌜ StartedIs settings (length (now (area .entry))) (restart (settingsOf settings) (now (area .entry))) r ⌝ }
+pub fn restart(configuration: Configuration, area: &[u8]) -> Started
+    ensures { λ r. ⌜ StartedIs configuration (length (now (area .entry))) (restart (configurationOf configuration) (now (area .entry))) r ⌝ }
 {
-    let answer = check_start(settings, area.len());
+    let answer = check_start(configuration, area.len());
     let StartAnswer::Started = answer else {
         return Started {
             answer: answer,
-            consumer: fresh(settings, area.len()),
+            consumer: fresh(configuration, area.len()),
         };
     };
-    let walked = journal::walk(area, area.len() / 512, 1, 0);
-    resume_from(settings, area, walked)
+    let from = origin(area);
+    let walked = journal::walk(area, area.len() / 512, from.number, from.block);
+    resume_from(configuration, area, walked)
 }

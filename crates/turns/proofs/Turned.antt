@@ -14,10 +14,10 @@ use Rattle.consumer.specs.State.{State}
 use Rattle.consumer.specs.View.{view, Unmoved}
 use Rattle.consumer.specs.View as consumer
 use Rattle.consumer.specs.declared.Consumer.{Consumer}
-use Rattle.consumer.specs.declared.Settings.{Settings}
+use Rattle.consumer.specs.declared.Configuration.{Configuration}
 use Rattle.checkpoint.specs.declared.Writing.{Writing}
 use Rattle.starts.specs.Restart as restarts
-use Rattle.starts.specs.Starting.{settingsOf, startFault}
+use Rattle.starts.specs.Starting.{configurationOf, startFault}
 use Rattle.starts.specs.declared.StartAnswer.the-variants as starts
 use Rattle.starts.proofs.Restarting.{Other, other-faulty}
 use Rattle.cursor.specs.declared.AckCursor.{AckCursor}
@@ -133,9 +133,9 @@ module _ {S T : Type 0} (f : S → T) (x y : S) where
   kept-turn (some t) k = kept-by (t .event) k
 
 -- on a machine, by its phase
-module _ (s : Settings) (w : Writing) (kind a b c d : ℕ) (out : List ℕ) (n : Numbers) (x : Consumer) (out′ : List ℕ) where
+module _ (s : Configuration) (w : Writing) (kind a b c d : ℕ) (out : List ℕ) (n : Numbers) (x : Consumer) (out′ : List ℕ) where
   abbrev at : ℕ → Machine
-  at k = record { settings = s; phase = k; writing = w }
+  at k = record { configuration = s; phase = k; writing = w }
 
   -- nobody can be called
   module _ (k : ℕ) (e : (area : List ℕ) (o : Option Ask) → onAsk o (λ q. onState (phaseOf (at k)) (λ u. asked u area q)) ≡ none) (ok : Sound (at k)) where
@@ -145,7 +145,7 @@ module _ (s : Settings) (w : Writing) (kind a b c d : ℕ) (out : List ℕ) (n :
         (record {
           is = λ area. rw (e area (askAt kind a b c d (length out)));
           sound = ok;
-          settings = refl;
+          configuration = refl;
           kept = rw (e [] (askAt kind a b c d (length out))) refl;
         })
 
@@ -155,7 +155,7 @@ module _ (s : Settings) (w : Writing) (kind a b c d : ℕ) (out : List ℕ) (n :
 
   pub asked-on : (k : ℕ) → Sound (at k) → AskedOn k (w .consumer) kind a b c d out n x out′ → AskIs (at k) kind a b c d out n (holding (at k) x) out′
   asked-on zero ok h =
-      record { is = h .is; sound = h .sound; settings = refl; kept = kept-turn (holding (at 0)) (w .consumer) x (askTurn (w .consumer) kind a b c d out []) (h .kept) }
+      record { is = h .is; sound = h .sound; configuration = refl; kept = kept-turn (holding (at 0)) (w .consumer) x (askTurn (w .consumer) kind a b c d out []) (h .kept) }
   asked-on (suc zero) ok h = declined 1 (λ area o. none-asked o) ok h
   asked-on (suc (suc k)) ok h = declined (suc (suc k)) (λ area o. none-asked o) ok h
 
@@ -173,7 +173,7 @@ pub idle-asked : (k : ℕ) (x : Consumer) (kind a b c d : ℕ) (out : List ℕ) 
 idle-asked zero x kind a b c d out n y out′ e h = h
 idle-asked (suc k) x kind a b c d out n y out′ e h = absurd (omega arith)
 
-pub sound-if : (s : Settings) (w : Writing) (k : ℕ) → Sound (record { settings = s; phase = k; writing = w }) → SoundIf k (w .consumer)
+pub sound-if : (s : Configuration) (w : Writing) (k : ℕ) → Sound (record { configuration = s; phase = k; writing = w }) → SoundIf k (w .consumer)
 sound-if s w zero ok = ok
 sound-if s w (suc k) ok = tt
 
@@ -204,11 +204,11 @@ module _ (m : Machine) (kind a b c d : ℕ) (area out : List ℕ) where
   pub call-none : Sound m → none ≡ callAt kind a b c d (length out) → CallIs m kind a b c d area out notNow m area out
   call-none sound e =
       record {
-        is = ap (λ (o : Option Call). answeredBy (phaseOf m) area out (onCall o (door (settingsOf (m .settings)) (phaseOf m) area))) e;
+        is = ap (λ (o : Option Call). answeredBy (phaseOf m) area out (onCall o (door (configurationOf (m .configuration)) (phaseOf m) area))) e;
         sound = sound;
-        settings = refl;
+        configuration = refl;
         kept =
-            subst (λ (o : Option Call). KeptIn (onCall o (door (settingsOf (m .settings)) (phaseOf m) area)) (held m area) (held m area)) e refl;
+            subst (λ (o : Option Call). KeptIn (onCall o (door (configurationOf (m .configuration)) (phaseOf m) area)) (held m area) (held m area)) e refl;
       }
 
   pub call-some : (q : Call) (r : Called) (area′ out′ : List ℕ) (n : Numbers) → some q ≡ callAt kind a b c d (length out)
@@ -219,28 +219,28 @@ module _ (m : Machine) (kind a b c d : ℕ) (area out : List ℕ) where
         is =
             parts (phaseOf m) area out _ _ (h .is) same (call-phase m area q (r .machine) area′ out′ (r .answer) (h .kept))
             (call-area m area q (r .machine) area′ out′ (r .answer) (h .kept)) (h .lists)
-            ∙ ap (λ (o : Option Call). answeredBy (phaseOf m) area out (onCall o (door (settingsOf (m .settings)) (phaseOf m) area))) e;
+            ∙ ap (λ (o : Option Call). answeredBy (phaseOf m) area out (onCall o (door (configurationOf (m .configuration)) (phaseOf m) area))) e;
         sound = h .sound;
-        settings = h .settings;
+        configuration = h .configuration;
         kept =
-            subst (λ (o : Option Call). KeptIn (onCall o (door (settingsOf (m .settings)) (phaseOf m) area)) (held m area) (held (r .machine) area′)) e
+            subst (λ (o : Option Call). KeptIn (onCall o (door (configurationOf (m .configuration)) (phaseOf m) area)) (held m area) (held (r .machine) area′)) e
             (subst (λ (t : Option Turn). KeptIn t (held m area) (held (r .machine) area′)) (h .is)
             (call-kept m area q (r .machine) area′ out′ (r .answer) (h .kept)));
       }
 
 -- ## a start
-module _ (before : Machine) (s : Settings) (size : ℕ) (r : Started) (n : Numbers) (h : StartedIs s size r)
+module _ (before : Machine) (s : Configuration) (size : ℕ) (r : Started) (n : Numbers) (h : StartedIs s size r)
     (e : n ≡ numbersOf (refusal.answered noValues (unless (startFault (r .answer)) (done (tt {0}))))) where
-  start-said : n ≡ numbersOf (refusal.answered noValues (restarts.start (settingsOf s) size))
+  start-said : n ≡ numbersOf (refusal.answered noValues (restarts.start (configurationOf s) size))
   start-said = e ∙ start-numbers (startFault (r .answer)) _ ∙ ap (λ u. numbersOf (refusal.answered noValues u)) (h .is)
 
   pub start-refused : Other (r .answer) → StartIs before s size n before
   start-refused o =
       let f = other-faulty (r .answer) o in
-      let w : refused (f .refusal) ≡ restarts.start (settingsOf s) size = rw (f .is) at (h .is) in
+      let w : refused (f .refusal) ≡ restarts.start (configurationOf s) size = rw (f .is) at (h .is) in
       record { is = start-said; made = rw (← w) refl }
 
   pub start-done : r .answer ≡ starts.Started → StartIs before s size n (r .machine)
   start-done p =
-      let w : done (view (r .machine .writing .consumer)) ≡ restarts.start (settingsOf s) size = rw p at (h .is) in
-      record { is = start-said; made = rw (← w) (rw (← w) at (h .phase), h .settings, h .sound) }
+      let w : done (view (r .machine .writing .consumer)) ≡ restarts.start (configurationOf s) size = rw p at (h .is) in
+      record { is = start-said; made = rw (← w) (rw (← w) at (h .phase), h .configuration, h .sound) }

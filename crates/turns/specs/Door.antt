@@ -11,9 +11,9 @@ use Rattle.consumer.specs.State.{State}
 use Rattle.consumer.specs.View.{view, Unmoved}
 use Rattle.consumer.specs.View as consumer
 use Rattle.consumer.specs.declared.Consumer.{Consumer}
-use Rattle.consumer.specs.declared.Settings.{Settings}
+use Rattle.consumer.specs.declared.Configuration.{Configuration}
 use Rattle.starts.specs.Restart as restarts
-use Rattle.starts.specs.Starting.{settingsOf}
+use Rattle.starts.specs.Starting.{configurationOf}
 use Rattle.machine.specs.Calls.{Ask, Call, Event, claimed, acked, termed, nacked, extended, committed, looked, begun, stepped, restarted, failed}
 use Rattle.machine.specs.Door.{Phase, idle, Turn, onState, asked, door}
 use Rattle.machine.specs.Answers.{outAfter}
@@ -96,7 +96,7 @@ AskedOn (suc k) before kind a b c d out n after out′ = Declined before out n a
 abbrev pub holding : Machine → Consumer → Machine
 holding m s =
     record {
-      settings = m .settings;
+      configuration = m .configuration;
       phase = m .phase;
       writing = record {
         consumer = s;
@@ -115,25 +115,25 @@ askTurnOf m kind a b c d out area =
 pub record AskIs (before : Machine) (kind a b c d : ℕ) (out : List ℕ) (n : Numbers) (after : Machine) (out′ : List ℕ) : Type 0 where
   pub is : (area : List ℕ) → answered n (phaseOf after) area out′ ≡ answeredBy (phaseOf before) area out (askTurnOf before kind a b c d out area)
   pub sound : Sound after
-  pub settings : after .settings ≡ before .settings
+  pub configuration : after .configuration ≡ before .configuration
   pub kept : KeptIn (askTurnOf before kind a b c d out []) before after
 
 -- ## a call of the door
 abbrev pub callTurn : Machine → ℕ → ℕ → ℕ → ℕ → ℕ → List ℕ → List ℕ → Option Turn
-callTurn m kind a b c d area out = onCall (callAt kind a b c d (length out)) (door (settingsOf (m .settings)) (phaseOf m) area)
+callTurn m kind a b c d area out = onCall (callAt kind a b c d (length out)) (door (configurationOf (m .configuration)) (phaseOf m) area)
 
 pub record CallIs (before : Machine) (kind a b c d : ℕ) (area out : List ℕ) (n : Numbers) (after : Machine) (area′ out′ : List ℕ) : Type 0 where
   pub is : answered n (phaseOf after) area′ out′ ≡ answeredBy (phaseOf before) area out (callTurn before kind a b c d area out)
   pub sound : Sound after
-  pub settings : after .settings ≡ before .settings
+  pub configuration : after .configuration ≡ before .configuration
   pub kept : KeptIn (callTurn before kind a b c d area out) (held before area) (held after area′)
 
 -- ## a start, whatever stood in the machine's place before
 -- a fresh machine, or beside a refusal the very thing that stood there
-abbrev pub StartedAs : Result State → Settings → Machine → Machine → Type 0
+abbrev pub StartedAs : Result State → Configuration → Machine → Machine → Type 0
 StartedAs (refused r) s before after = after ≡ before
-StartedAs (done fresh) s before after = (phaseOf after ≡ idle fresh) × (after .settings ≡ s) × Sound after
+StartedAs (done fresh) s before after = (phaseOf after ≡ idle fresh) × (after .configuration ≡ s) × Sound after
 
-pub record StartIs (before : Machine) (s : Settings) (size : ℕ) (n : Numbers) (after : Machine) : Type 0 where
-  pub is : n ≡ numbersOf (refusal.answered noValues (restarts.start (settingsOf s) size))
-  pub made : StartedAs (restarts.start (settingsOf s) size) s before after
+pub record StartIs (before : Machine) (s : Configuration) (size : ℕ) (n : Numbers) (after : Machine) : Type 0 where
+  pub is : n ≡ numbersOf (refusal.answered noValues (restarts.start (configurationOf s) size))
+  pub made : StartedAs (restarts.start (configurationOf s) size) s before after

@@ -5,8 +5,8 @@ ghost use Prim.Native.Nat.{ℕ};
 ghost use Rattle.consumer.specs.View as consumers;
 ghost use Rattle.machine.specs.View.{Sound};
 ghost use Rattle.turns.specs.Door.{SoundIf, AnswersAsk, AskedOn, CallIs, StartIs};
+use consumer::Configuration;
 use consumer::Consumer;
-use consumer::Settings;
 use cursor::AckCursor;
 use lease::LeaseTable;
 use lease::LeaseToken;
@@ -189,10 +189,10 @@ pub fn call(
 }
 
 // A fresh machine for so many zeroed bytes; refused, the one that was handed in.
-pub fn start(before: Machine, settings: Settings, area_len: usize) -> MachineAnswer
-    ensures { λ r. ⌜ StartIs before settings «area_len» (r .numbers) (r .machine) ⌝ }
+pub fn start(before: Machine, configuration: Configuration, area_len: usize) -> MachineAnswer
+    ensures { λ r. ⌜ StartIs before configuration «area_len» (r .numbers) (r .machine) ⌝ }
 {
-    let started = Machine::start(settings, area_len);
+    let started = Machine::start(configuration, area_len);
     let answer = started.answer;
     let numbers = numbers::of_start(answer);
     let StartAnswer::Started = answer else {

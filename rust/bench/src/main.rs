@@ -10,7 +10,9 @@ use std::time::{Duration, Instant};
 use ironbus::attempt::encode_attempt_snapshot;
 use ironbus::cursor::AckCursor;
 use ironbus::lease::{Claim, LeaseConfig, LeaseTable};
-use ironbus_delivery_state::{Consumer, NewJournal, Offset, Settings, Storage, BLOCK, MAX_BLOCKS};
+use ironbus_delivery_state::{
+    Configuration, Consumer, NewJournal, Offset, Storage, BLOCK, MAX_BLOCKS,
+};
 
 /// A file of blocks, made durable at each write or not.
 struct Blocks {
@@ -150,7 +152,7 @@ fn original(work: Work, blocks: Blocks) -> (Duration, Duration) {
 /// The same through this crate.
 fn through_the_crate(work: Work, blocks: Blocks) -> (Duration, Duration) {
     let journal = NewJournal::on(blocks).unwrap();
-    let consumer = Consumer::start(&Settings::default(), journal).unwrap();
+    let consumer = Consumer::start(&Configuration::default(), journal).unwrap();
     let mut consumer = consumer.checkpoint().unwrap();
     let (mut calls, mut writes) = (Duration::MAX, Duration::MAX);
     let mut next = 0;

@@ -10,7 +10,8 @@ use std::path::{Path, PathBuf};
 use std::rc::Rc;
 
 use ironbus_delivery_state::{
-    Consumer, DeliveryConfig, LeaseConfig, LeaseToken, Offset, Settings, Storage, BLOCK,
+    Configuration, Consumer, DeliveryConfig, LeaseConfig, LeaseToken, Offset, Settings, Storage,
+    BLOCK,
 };
 
 /// A file of this name in the folder for tests, which isn't there.
@@ -20,11 +21,13 @@ pub fn fresh_path(name: &str) -> PathBuf {
     path
 }
 
-/// Settings of a limit, a threshold, a visibility and a cap.
-pub fn settings(max_deliver: u32, threshold: u32, visibility: u64, cap: u64) -> Settings {
-    Settings {
-        delivery: DeliveryConfig::new(max_deliver, false, &[3, 7])
-            .with_attempts_flush_redeliveries(threshold),
+/// A configuration of a limit, a threshold, a visibility and a cap.
+pub fn configuration(max_deliver: u32, threshold: u32, visibility: u64, cap: u64) -> Configuration {
+    Configuration {
+        settings: Settings {
+            delivery: DeliveryConfig::new(max_deliver, false, &[3, 7])
+                .with_attempts_flush_redeliveries(threshold),
+        },
         lease: LeaseConfig {
             visibility_nanos: visibility,
             hard_cap_nanos: cap,
@@ -138,9 +141,15 @@ impl Book {
     }
 
     /// Demand 3's bound: at most M + C × (N + 1) deliveries of each offset.
-    pub fn holds_the_bound(&self, settings: &Settings) {
-        let most = u64::from(settings.delivery.max_deliver())
-            + self.restarts * (u64::from(settings.delivery.attempts_flush_redeliveries()) + 1);
+    pub fn holds_the_bound(&self, configuration: &Configuration) {
+        let most = u64::from(configuration.settings.delivery.max_deliver())
+            + self.restarts
+                * (u64::from(
+                    configuration
+                        .settings
+                        .delivery
+                        .attempts_flush_redeliveries(),
+                ) + 1);
         for (offset, times) in &self.delivered {
             assert!(
                 *times <= most,

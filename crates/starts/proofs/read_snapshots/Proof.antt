@@ -22,7 +22,7 @@ returns c =
     let o = c .before .before in
     let d = o .before .before in
     let a = d .before .before .before .args in
-    cursor-refused (a .settings) (a .area-len) (a .cursor-bytes .now) (a .attempt-bytes .now) (a .ceiling) (a .seat) _ _ (cursor-said (a .cursor-bytes .now) (d .decode-snapshot .result) (d .decode-snapshot .ensures) _ (o .outcome .given .1)) (c .fresh .ensures)
+    cursor-refused (a .configuration) (a .area-len) (a .cursor-bytes .now) (a .attempt-bytes .now) (a .ceiling) (a .seat) _ _ (cursor-said (a .cursor-bytes .now) (d .decode-snapshot .result) (d .decode-snapshot .ensures) _ (o .outcome .given .1)) (c .fresh .ensures)
 
 abbrev start : tie.After-enum-told → tie.Start
 start t = t .before .before .before .before .before
@@ -50,7 +50,7 @@ returns-2 c =
     let p = c .before .before in
     let t = p .before in
     let a = start t .args in
-    attempts-refused (a .settings) (a .area-len) (a .cursor-bytes .now) (a .attempt-bytes .now) (a .ceiling) (a .seat) (t .before .before .decode-snapshot .result .cursor) (restored t) (p .decode-pairs .result) (p .decode-pairs .ensures) _ (not-pairs (a .attempt-bytes .now) (p .decode-pairs .result) (p .decode-pairs .ensures) (c .before .match2 .keys2)) (c .fresh2 .ensures)
+    attempts-refused (a .configuration) (a .area-len) (a .cursor-bytes .now) (a .attempt-bytes .now) (a .ceiling) (a .seat) (t .before .before .decode-snapshot .result .cursor) (restored t) (p .decode-pairs .result) (p .decode-pairs .ensures) _ (not-pairs (a .attempt-bytes .now) (p .decode-pairs .result) (p .decode-pairs .ensures) (c .before .match2 .keys2)) (c .fresh2 .ensures)
 
 -- the pairs that were read
 abbrev told : tie.After-pairs → tie.After-enum-told
@@ -77,7 +77,7 @@ returns-3 c =
     let t = told q in
     let a = start t .args in
     rw (c .resumed .ensures)
-    (both-read (a .settings) (a .area-len) (a .cursor-bytes .now) (a .attempt-bytes .now) (a .ceiling) (a .seat) _ (restored t) (t .before .before .decode-snapshot .ensures .sound) _ (q .before .before .decode-pairs .ensures) _ (pairs-of q) _ (k .carry .ensures) _ (c .before .resumed-table .ensures))
+    (both-read (a .configuration) (a .area-len) (a .cursor-bytes .now) (a .attempt-bytes .now) (a .ceiling) (a .seat) _ (restored t) (t .before .before .decode-snapshot .ensures .sound) _ (q .before .before .decode-pairs .ensures) _ (pairs-of q) _ (k .carry .ensures) _ (c .before .resumed-table .ensures))
 
 pub read-snapshots-spec : {M : Type 1} → statement M
 read-snapshots-spec =

@@ -5,7 +5,7 @@ use lib.ListN.{length}
 use borrow.Author.Needs.{needs}
 use Rattle.raw.proofs.Bytes.{bytes-known}
 use Rattle.consumer.specs.Valid.{Fits}
-use Rattle.starts.specs.Starting.{settingsOf, WalkedIs}
+use Rattle.starts.specs.Starting.{configurationOf, WalkedIs}
 use Rattle.starts.proofs.Restarting.{restart-refused, walked-whole, restarted}
 use Rattle.starts.proofs.restart.Statement.{statement}
 use Rattle.starts.proofs.restart.Tie as tie
@@ -19,39 +19,42 @@ enum-told c = search needs
 fresh-requires : tie.Need-fresh-requires
 fresh-requires c κs = search needs
 
--- what the types of the settings say
-full : (c : tie.Start) → length (c .args .settings .delivery .«backoff_nanos») ≡ 16
+-- what the types of the configuration say
+full : (c : tie.Start) → length (c .args .configuration .settings .delivery .«backoff_nanos») ≡ 16
 full c = search needs
 
-fits : (c : tie.Start) → Fits (settingsOf (c .args .settings) .policy)
+fits : (c : tie.Start) → Fits (configurationOf (c .args .configuration) .settings)
 fits c = record { limit-fits = search needs; threshold-fits = search needs }
 
 returns : tie.Need-returns
 returns c =
     let k = c .before .before in
     let s = k .before .before in
-    restart-refused (s .args .settings) (s .args .area .now) (k .check-start .result) (k .check-start .ensures)
+    restart-refused (s .args .configuration) (s .args .area .now) (k .check-start .result) (k .check-start .ensures)
     (c .before .match .keys2) (c .fresh .result) (c .fresh .ensures)
+
+origin-requires : tie.Need-origin-requires
+origin-requires c κs = search needs
 
 walk-requires : tie.Need-walk-requires
 walk-requires c κs = search needs
 
-whole : (c : tie.After-walk) → WalkedIs (c .before .before .before .before .before .args .area .now) (c .walk .result)
+whole : (c : tie.After-walk) → WalkedIs (c .before .before .before .before .before .before .args .area .now) (c .walk .result)
 whole c =
-    let k = c .before .before .before in
+    let k = c .before .before .before .before in
     let s = k .before .before in
-    walked-whole (s .args .settings) (s .args .area .now) (k .check-start .result) (k .check-start .ensures) (full s)
-    (fits s) (c .before .enum-told .given .1) (c .walk .result) (c .walk .ensures)
+    walked-whole (s .args .configuration) (s .args .area .now) (k .check-start .result) (k .check-start .ensures) (full s)
+    (fits s) (c .before .before .enum-told .given .1) (c .before .origin .result) (c .before .origin .ensures) (c .walk .result) (c .walk .ensures)
 
 resume-from-requires : tie.Need-resume-from-requires
 resume-from-requires c κs = whole c
 
 returns-2 : tie.Need-returns-2
 returns-2 c =
-    let k = c .before .before .before .before in
+    let k = c .before .before .before .before .before in
     let s = k .before .before in
-    restarted (s .args .settings) (s .args .area .now) (k .check-start .result) (k .check-start .ensures) (full s) (fits s)
-    (c .before .before .enum-told .given .1) (bytes-known (s .args .area .now) (k .before .shared-slice-known .given))
+    restarted (s .args .configuration) (s .args .area .now) (k .check-start .result) (k .check-start .ensures) (full s) (fits s)
+    (c .before .before .before .enum-told .given .1) (bytes-known (s .args .area .now) (k .before .shared-slice-known .given))
     (c .before .walk .result) (whole (c .before)) (c .resume-from .result) (c .resume-from .ensures)
 
 pub restart-spec : {M : Type 1} → statement M
@@ -62,6 +65,7 @@ restart-spec =
     enum-told
     fresh-requires
     returns
+    origin-requires
     walk-requires
     resume-from-requires
     returns-2)

@@ -22,7 +22,7 @@ returns c =
     let l = c .before .before in
     let w = l .before .before .before in
     let s = w .before .before .before in
-    group-resumed (s .args .area .now) (s .args .settings) (s .args .walked) _ _ _ _ (w .walked .given .1)
+    group-resumed (s .args .area .now) (s .args .configuration) (s .args .walked) _ _ _ _ (w .walked .given .1)
     (l .last .given .1) (c .read-group .result) (c .read-group .ensures)
 
 enum-told : tie.Need-enum-told
@@ -36,7 +36,7 @@ returns-2 c =
     let l = c .before in
     let w = l .before .before .before in
     let s = w .before .before .before in
-    none-resumed (s .args .area .now) (s .args .settings) (s .args .walked) (c .fresh .result) (c .fresh .ensures) _ _ _
+    none-resumed (s .args .area .now) (s .args .configuration) (s .args .walked) (c .fresh .result) (c .fresh .ensures) _ _ _
     (w .walked .given .1) (l .enum-told .given .1)
 
 enum-told-2 : tie.Need-enum-told-2
@@ -48,7 +48,7 @@ fresh-requires-2 c κs = search needs
 returns-3 : tie.Need-returns-3
 returns-3 c =
     let s = c .before .before .before .before in
-    area-resumed (s .args .area .now) (s .args .settings) (s .args .walked) (c .fresh2 .result) (c .fresh2 .ensures)
+    area-resumed (s .args .area .now) (s .args .configuration) (s .args .walked) (c .fresh2 .result) (c .fresh2 .ensures)
     (c .before .enum-told2 .given .1)
 
 enum-known-walked-2 : tie.Need-enum-known-walked-2
@@ -61,7 +61,7 @@ returns-4 : tie.Need-returns-4
 returns-4 c =
     let w = c .before .before in
     let s = w .before .before .before in
-    damaged-resumed (s .args .area .now) (s .args .settings) (s .args .walked) (c .fresh3 .result) (c .fresh3 .ensures) _
+    damaged-resumed (s .args .area .now) (s .args .configuration) (s .args .walked) (c .fresh3 .result) (c .fresh3 .ensures) _
     (w .walked2 .given .1)
 
 pub resume-from-spec : {M : Type 1} → statement M

@@ -18,7 +18,7 @@ returns c =
     let k = c .before in
     let m = k .before in
     let x = m .before .args in
-    start-refused (x .before) (x .settings) (x .area-len) (m .start .result) (k .of-start .result) (m .start .ensures) (k .of-start .ensures)
+    start-refused (x .before) (x .configuration) (x .area-len) (m .start .result) (k .of-start .result) (m .start .ensures) (k .of-start .ensures)
     (c .match .keys2)
 
 returns-2 : tie.Need-returns-2
@@ -27,7 +27,7 @@ returns-2 c =
     let k = t .before in
     let m = k .before in
     let x = m .before .args in
-    start-done (x .before) (x .settings) (x .area-len) (m .start .result) (k .of-start .result) (m .start .ensures) (k .of-start .ensures)
+    start-done (x .before) (x .configuration) (x .area-len) (m .start .result) (k .of-start .result) (m .start .ensures) (k .of-start .ensures)
     (c .before .enum-told .given .1)
 
 pub start-spec : {M : Type 1} → statement M

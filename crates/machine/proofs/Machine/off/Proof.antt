@@ -11,7 +11,7 @@ resting-requires : tie.Need-resting-requires
 resting-requires c κs = search needs
 
 returns : tie.Need-returns
-returns c = rests-off (c .before .before .before .args .settings) _ (c .resting .result) (c .resting .ensures)
+returns c = rests-off (c .before .before .before .args .configuration) _ (c .resting .result) (c .resting .ensures)
 
 pub off-spec : {M : Type 1} → statement M
 off-spec = tie.close (tie.spec start-requires resting-requires returns)

@@ -18,7 +18,7 @@ returns c =
     let m = c .before in
     let k = m .before .before in
     let s = k .before in
-    start-refused (s .args .settings) (s .args .area-len) (k .start .result) (k .start .ensures) (c .resting .result) (m .match .keys2) (c .resting .ensures)
+    start-refused (s .args .configuration) (s .args .area-len) (k .start .result) (k .start .ensures) (c .resting .result) (m .match .keys2) (c .resting .ensures)
 
 resting-requires-2 : tie.Need-resting-requires-2
 resting-requires-2 c κs = search needs
@@ -28,7 +28,7 @@ returns-2 c =
     let t = c .before in
     let k = t .before .before .before in
     let s = k .before in
-    start-done (s .args .settings) (s .args .area-len) (k .start .result) (k .start .ensures) (c .resting2 .result) (t .enum-told .given .1)
+    start-done (s .args .configuration) (s .args .area-len) (k .start .result) (k .start .ensures) (c .resting2 .result) (t .enum-told .given .1)
     (c .resting2 .ensures)
 
 pub start-spec : {M : Type 1} → statement M

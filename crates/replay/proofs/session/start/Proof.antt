@@ -14,8 +14,8 @@ plain-requires c κs = search needs
 returns : tie.Need-returns
 returns c = search needs
 
-settings-of-requires : tie.Need-settings-of-requires
-settings-of-requires c κs = search needs
+configuration-of-requires : tie.Need-configuration-of-requires
+configuration-of-requires c κs = search needs
 
 array-read-started : tie.Need-array-read-started
 array-read-started c = search needs
@@ -50,7 +50,7 @@ start-spec =
     in-range-requires
     plain-requires
     returns
-    settings-of-requires
+    configuration-of-requires
     array-read-started
     started-requires
     slice-relend-prefix-clear

@@ -171,7 +171,7 @@ module _ {M : Type 1} (𝓤 : URA M) (H : Heap 𝓤) (A : Atoms 𝓤) (W : Given
       suffices ! _
       (ends-at 𝓤 H A f.ended stayed (f.clauses 𝓤 H A at-mem run) W (((κ0, (κ1, (κ2, tt))), (q0, (q1, (q2, tt))), tt, x, vals), tt) vunit tt (holding h1 (r .consumer), (r .numbers, (tt, (tt, (tt, (tt, (tt, (out′, tt))))))))
       (tt, (tt, (tt, (tt, (tt, (tt, (tt, (len-out, tt))))))))) $
-      says ! (asked-on (h1 .settings) (h1 .writing) n3 n4 n5 n6 n7 xs8 (r .numbers) (r .consumer) out′ (h1 .phase) req e) $ move ! (5 ∷ 6 ∷ []) $ join ! $ move ! (3 ∷ 0 ∷ []) $ join ! $ frame ! $
+      says ! (asked-on (h1 .configuration) (h1 .writing) n3 n4 n5 n6 n7 xs8 (r .numbers) (r .consumer) out′ (h1 .phase) req e) $ move ! (5 ∷ 6 ∷ []) $ join ! $ move ! (3 ∷ 0 ∷ []) $ join ! $ frame ! $
       feqI ! (List Val) (vptr b1 o1 ∷ []) (vptr b1 o1 ∷ []) refl $ fjoin3 ! $ move ! (1 ∷ 2 ∷ []) $
       feqI ! (List Val) (vptr b2 o2 ∷ []) (vptr b2 o2 ∷ []) refl $ fjoin3 ! $ nothing ! $ move ! (3 ∷ 0 ∷ []) $ fjoin ! $
       nothing ! $ fjoin ! $ nothing ! $ fjoin ! $ nothing ! $ fjoin ! $ nothing ! $ fjoin ! $ nothing ! $ fjoin ! $
@@ -194,7 +194,7 @@ module _ {M : Type 1} (𝓤 : URA M) (H : Heap 𝓤) (A : Atoms 𝓤) (W : Given
 
   goes-ask : Is TMachine.the-row h1 (low-machine h1) → ent 𝓤 (sep 𝓤 (sem 𝓤 H A Own-out) (sep 𝓤 (A .lft κ2 q2) (sem 𝓤 H A ftrue))) (C-ask 𝓤 H A at-mem run .pre to-ask)
   goes-ask was =
-      qed W (‵ Own-out ∷ (‵ (flft κ2 q2) ⊛ ‵ ftrue) ∷ []) ∵ says ! (sound-if (h1 .settings) (h1 .writing) (h1 .phase) req) $ move ! (1 ∷ []) $ frame ! $ nothing ! $ move ! (1 ∷ 0 ∷ []) $ fjoin ! $
+      qed W (‵ Own-out ∷ (‵ (flft κ2 q2) ⊛ ‵ ftrue) ∷ []) ∵ says ! (sound-if (h1 .configuration) (h1 .writing) (h1 .phase) req) $ move ! (1 ∷ []) $ frame ! $ nothing ! $ move ! (1 ∷ 0 ∷ []) $ fjoin ! $
       owned ! u64 (Is u64) (uint-makes 𝓤 H A W w64) n7 _ (refl, n7-fits) $ fjoin ! $
       owned ! u64 (Is u64) (uint-makes 𝓤 H A W w64) n6 _ (refl, n6-fits) $ fjoin ! $
       owned ! u64 (Is u64) (uint-makes 𝓤 H A W w64) n5 _ (refl, n5-fits) $ fjoin ! $

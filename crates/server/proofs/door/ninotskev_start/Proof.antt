@@ -1,4 +1,4 @@
--- `ninotskev_start` meets its contract: a walk of its code, by hand. The machine and the settings are copied to locals, and what `start`,
+-- `ninotskev_start` meets its contract: a walk of its code, by hand. The machine and the configuration are copied to locals, and what `start`,
 -- of which only the contract is known, returned is stored behind both borrows. Assumes nothing.
 use mathlib.Core.Path.{refl, ap, subst}
 use Prim.Native.Nat.{ℕ, _-_, _<_, _^_}
@@ -44,9 +44,9 @@ use Rattle.machine.proofs.Machine.Laws as TMachine′
 use Rattle.wire.specs.declared.numbers.Numbers.{Numbers}
 use Rattle.wire.proofs.numbers.Numbers as TNumbers
 use Rattle.wire.proofs.numbers.Numbers.Laws as TNumbers′
-use Rattle.consumer.specs.declared.Settings.{Settings}
-use Rattle.consumer.proofs.Settings as TSettings
-use Rattle.consumer.proofs.Settings.Laws as TSettings′
+use Rattle.consumer.specs.declared.Configuration.{Configuration}
+use Rattle.consumer.proofs.Configuration as TConfiguration
+use Rattle.consumer.proofs.Configuration.Laws as TConfiguration′
 use Rattle.turns.specs.declared.MachineAnswer.{MachineAnswer}
 use Rattle.turns.proofs.MachineAnswer as TMachineAnswer
 use Rattle.turns.proofs.MachineAnswer.Laws as TMachineAnswer′
@@ -61,15 +61,15 @@ use Rattle.server.proofs.door.ninotskev_start.Statement as stated
 use Rattle.server.proofs.door.ninotskev_start.Code as code
 
 abbrev Arg : Type 0
-Arg = RefT Machine × (RefT Numbers × (RefT Settings × (ℕ × (Unit {0}))))
+Arg = RefT Machine × (RefT Numbers × (RefT Configuration × (ℕ × (Unit {0}))))
 
 abbrev stayed : Stays (f.ended .signature .params) (f.ended .kept)
-stayed = (stay-ref (0 ∷ []) tt (plain (λ _. TMachine.the-row)), (stay-ref (1 ∷ []) tt (plain (λ _. TNumbers.the-row)), (stay-dropped (shrRef 2 tt (λ _. TSettings.the-row)) yes, (stay-dropped (plain (λ _. u64)) yes, tt))))
+stayed = (stay-ref (0 ∷ []) tt (plain (λ _. TMachine.the-row)), (stay-ref (1 ∷ []) tt (plain (λ _. TNumbers.the-row)), (stay-dropped (shrRef 2 tt (λ _. TConfiguration.the-row)) yes, (stay-dropped (plain (λ _. u64)) yes, tt))))
 
 abbrev C-start : {M : Type 1} (𝓤 : URA M) (H : Heap 𝓤) (A : Atoms 𝓤) (mem : Memory → SProp 𝓤) (run : Routine → Fun 𝓤) → Contract 𝓤
 C-start 𝓤 H A mem run = tripleOf 𝓤 H A start.signature (start.spec 𝓤 H A mem run)
 
-module _ {M : Type 1} (𝓤 : URA M) (H : Heap 𝓤) (A : Atoms 𝓤) (W : Given 𝓤 H A) (at-mem : Memory → SProp 𝓤) (run : Routine → Fun 𝓤) (κ0 κ1 κ2 : Lft) (q0 q1 q2 : Share) (b1 o1 : ℕ) (γ1 : GName) (h1 : Machine) (b2 o2 : ℕ) (γ2 : GName) (h2 : Numbers) (b3 o3 : ℕ) (γ3 : GName) (h3 : Settings) (n4 : ℕ) (n4-fits : n4 < 2 ^ 64) where
+module _ {M : Type 1} (𝓤 : URA M) (H : Heap 𝓤) (A : Atoms 𝓤) (W : Given 𝓤 H A) (at-mem : Memory → SProp 𝓤) (run : Routine → Fun 𝓤) (κ0 κ1 κ2 : Lft) (q0 q1 q2 : Share) (b1 o1 : ℕ) (γ1 : GName) (h1 : Machine) (b2 o2 : ℕ) (γ2 : GName) (h2 : Numbers) (b3 o3 : ℕ) (γ3 : GName) (h3 : Configuration) (n4 : ℕ) (n4-fits : n4 < 2 ^ 64) where
   abbrev x : Arg
   x = (record { ptr = (b1, o1); name = γ1; now = h1 }, (record { ptr = (b2, o2); name = γ2; now = h2 }, (record { ptr = (b3, o3); name = γ3; now = h3 }, (n4, tt))))
 
@@ -85,8 +85,8 @@ module _ {M : Type 1} (𝓤 : URA M) (H : Heap 𝓤) (A : Atoms 𝓤) (W : Given
   abbrev low-numbers : Numbers → List Val
   low-numbers h = TNumbers′.lowered h ∷ []
 
-  abbrev low-settings : Settings → List Val
-  low-settings h = TSettings′.lowered h ∷ []
+  abbrev low-configuration : Configuration → List Val
+  low-configuration h = TConfiguration′.lowered h ∷ []
 
   abbrev low-both : MachineAnswer → List Val
   low-both h = TMachineAnswer′.lowered h ∷ []
@@ -108,7 +108,7 @@ module _ {M : Type 1} (𝓤 : URA M) (H : Heap 𝓤) (A : Atoms 𝓤) (W : Given
       subst (Is TMachine.the-row (r .machine)) (TMachine′.lowers .val-is (r .machine) _ (LL.owed TMachineAnswer.the-type TMachineAnswer′.the-laws r _ is .1 .0))
       (LL.owed TMachineAnswer.the-type TMachineAnswer′.the-laws r _ is .1 .0)
 
-  -- what is left at the end: the machine, the numbers, and the token of the settings
+  -- what is left at the end: the machine, the numbers, and the token of the configuration
   abbrev Left : MachineAnswer → List (Item 𝓤)
   Left r =
       ‵ (fobs γ1 (TMachine.the-row .coded .code (r .machine))) ∷ ‵ (fbor κ0 (Body (mem TMachine.the-row) b1 o1 γ1)) ∷ ‵ (flft κ0 q0) ∷
@@ -126,22 +126,22 @@ module _ {M : Type 1} (𝓤 : URA M) (H : Heap 𝓤) (A : Atoms 𝓤) (W : Given
       move ! (1 ∷ 0 ∷ []) $ fjoin ! $ move ! (1 ∷ 0 ∷ []) $ fjoin ! $ feqI ! (List Val) (vunit ∷ []) (vunit ∷ []) refl $ move ! (1 ∷ 0 ∷ []) $ done !
 
   abbrev to-start : C-start 𝓤 H A at-mem run .Ghost
-  to-start = ((tt, tt, tt, (h1, (h3, (n4, tt))), (low-machine h1, (low-settings h3, (vint w64 n4 ∷ [], tt)))), tt)
+  to-start = ((tt, tt, tt, (h1, (h3, (n4, tt))), (low-machine h1, (low-configuration h3, (vint w64 n4 ∷ [], tt)))), tt)
 
-  goes-start : Is TMachine.the-row h1 (low-machine h1) → Is TSettings.the-row h3 (low-settings h3) → ent 𝓤 (emp 𝓤) (C-start 𝓤 H A at-mem run .pre to-start)
+  goes-start : Is TMachine.the-row h1 (low-machine h1) → Is TConfiguration.the-row h3 (low-configuration h3) → ent 𝓤 (emp 𝓤) (C-start 𝓤 H A at-mem run .pre to-start)
   goes-start was is =
       qed W [] ∵ nothing ! $ owned ! u64 (Is u64) (uint-makes 𝓤 H A W w64) n4 _ (refl, n4-fits) $ fjoin ! $
-      owned ! TSettings.the-row (Is TSettings.the-row) ((LL.makes TSettings.the-type TSettings′.the-plain) 𝓤 H A) h3 _ is $ fjoin ! $
+      owned ! TConfiguration.the-row (Is TConfiguration.the-row) ((LL.makes TConfiguration.the-type TConfiguration′.the-plain) 𝓤 H A) h3 _ is $ fjoin ! $
       owned ! TMachine.the-row (Is TMachine.the-row) ((LL.makes TMachine.the-type TMachine′.the-plain) 𝓤 H A) h1 _ was $ fjoin ! $
       nothing ! $ join ! $ nothing ! $ move ! (1 ∷ 0 ∷ []) $ done !
 
   module _ (C : Calls 𝓤 H) (Λ : Loops 𝓤 H) (fm : FmC 𝓤 H (W .laws) C) (known-start : Triple 𝓤 (C #turns·start) (C-start 𝓤 H A at-mem run)) where
     walk : ent 𝓤 (onEntry 𝓤 H A f.signature (κ0, (κ1, (κ2, tt))) (q0, (q1, (q2, tt))) x vals) (WpFn 𝓤 H C Λ code.function (vptr b1 o1 ∷ vptr b2 o2 ∷ vptr b3 o3 ∷ vint w64 n4 ∷ []) Post)
     walk =
-        qed W ((‵ (flft κ0 q0) ⊛ ‵ (flft κ1 q1) ⊛ ‵ (flft κ2 q2) ⊛ ‵ ftrue) ∷ ‵ (owns (MutRef (named 0) κ0 TMachine.the-row ∷ MutRef (named 1) κ1 TNumbers.the-row ∷ ShrRef (named 2) κ2 TSettings.the-row ∷ u64 ∷ []) x vals) ∷ []) ∵
+        qed W ((‵ (flft κ0 q0) ⊛ ‵ (flft κ1 q1) ⊛ ‵ (flft κ2 q2) ⊛ ‵ ftrue) ∷ ‵ (owns (MutRef (named 0) κ0 TMachine.the-row ∷ MutRef (named 1) κ1 TNumbers.the-row ∷ ShrRef (named 2) κ2 TConfiguration.the-row ∷ u64 ∷ []) x vals) ∷ []) ∵
         split ! $ move ! (1 ∷ []) $ split ! $ move ! (3 ∷ []) $ fsplit ! $ fsplit3 ! $ drop ! $ move ! (2 ∷ []) $ fsplit ! $ fsplit3 ! $ drop ! $ move ! (2 ∷ []) $
         fsplit ! $ fsplit3 ! $ drop ! $ move ! (8 ∷ []) $ split ! $ move ! (7 ∷ 8 ∷ 10 ∷ 5 ∷ 6 ∷ 9 ∷ 3 ∷ 0 ∷ []) $
-        -- [the machine: obs, borrow, token; the numbers: obs, borrow, token; the settings: borrow, token; …]
+        -- [the machine: obs, borrow, token; the numbers: obs, borrow, token; the configuration: borrow, token; …]
         enter ! C Λ code.function (vptr b1 o1 ∷ vptr b2 o2 ∷ vptr b3 o3 ∷ vint w64 n4 ∷ []) _ $
         alloc1 ! (λ l₀. alloc1 ! (λ l₁. alloc1 ! (λ l₂. alloc1 ! (λ l₃. alloc1 ! (λ l₄. alloc1 ! (λ l₅. alloc1 ! (λ l₆. alloc1 ! (λ l₇. alloc0 ! $ params1 ! $
         pass1 ! (init ! 12 refl (tt, tt)) $ pass1 ! (init ! 10 refl (tt, tt)) $ pass1 ! (init ! 8 refl (tt, tt)) $ pass1 ! (init ! 6 refl (tt, record { fits = n4-fits })) $ pass0 ! $
@@ -150,34 +150,34 @@ module _ {M : Type 1} (𝓤 : URA M) (H : Heap 𝓤) (A : Atoms 𝓤) (W : Given
         move ! (20 ∷ 21 ∷ 22 ∷ []) $ opens ! tt TNumbers.the-row {h = h2} b2 o2 (λ vs′. spelt ! TNumbers.the-row (Is TNumbers.the-row) (shows 𝓤 H A TNumbers.the-row) low-numbers (TNumbers′.lowers .val-is) fullShare h2 vs′ b2 o2 $
         move ! (1 ∷ []) $ drop ! $
         assigns ! (of-opd ! (load ! (from ! (hop ! (look ! 20 refl) (stop !))) (look-raw ! 4 refl))) (from ! (stop !)) (init ! 12 refl (LL.lawful TMachine.the-type TMachine′.the-laws 𝓤 H A W .typed h1 _ was .0)) $
-        move ! (24 ∷ 25 ∷ []) $ looks ! tt TSettings.the-row (Is TSettings.the-row) (shows 𝓤 H A TSettings.the-row) low-settings (TSettings′.lowers .val-is) (LL.copy TSettings.the-type TSettings′.the-copy 𝓤 H A W) h3 b3 o3 (λ q′ ws.
-        spelt ! TSettings.the-row (Is TSettings.the-row) (shows 𝓤 H A TSettings.the-row) low-settings (TSettings′.lowers .val-is) q′ h3 ws b3 o3 $ move ! (1 ∷ []) $ peeks ! TSettings.the-row (Is TSettings.the-row) (shows 𝓤 H A TSettings.the-row) h3 (low-settings h3) (λ given. move ! (1 ∷ 0 ∷ []) $
-        -- [the settings: a share of the cell, what they own, what shuts, the borrow; four of the numbers; four of the machine; _6; …; _0; …]
-        assigns ! (of-opd ! (load ! (from ! (hop ! (look ! 20 refl) (stop !))) (look-raw ! 0 refl))) (from ! (stop !)) (init ! 14 refl (LL.lawful TSettings.the-type TSettings′.the-laws 𝓤 H A W .typed h3 _ given .0)) $
-        shuts ! tt TSettings.the-row q′ h3 (low-settings h3) b3 o3 $ use0 W (raw (C-start 𝓤 H A at-mem run .pre to-start)) (goes-start was given) $
+        move ! (24 ∷ 25 ∷ []) $ looks ! tt TConfiguration.the-row (Is TConfiguration.the-row) (shows 𝓤 H A TConfiguration.the-row) low-configuration (TConfiguration′.lowers .val-is) (LL.copy TConfiguration.the-type TConfiguration′.the-copy 𝓤 H A W) h3 b3 o3 (λ q′ ws.
+        spelt ! TConfiguration.the-row (Is TConfiguration.the-row) (shows 𝓤 H A TConfiguration.the-row) low-configuration (TConfiguration′.lowers .val-is) q′ h3 ws b3 o3 $ move ! (1 ∷ []) $ peeks ! TConfiguration.the-row (Is TConfiguration.the-row) (shows 𝓤 H A TConfiguration.the-row) h3 (low-configuration h3) (λ given. move ! (1 ∷ 0 ∷ []) $
+        -- [the configuration: a share of the cell, what it owns, what shuts, the borrow; four of the numbers; four of the machine; _6; …; _0; …]
+        assigns ! (of-opd ! (load ! (from ! (hop ! (look ! 20 refl) (stop !))) (look-raw ! 0 refl))) (from ! (stop !)) (init ! 14 refl (LL.lawful TConfiguration.the-type TConfiguration′.the-laws 𝓤 H A W .typed h3 _ given .0)) $
+        shuts ! tt TConfiguration.the-row q′ h3 (low-configuration h3) b3 o3 $ use0 W (raw (C-start 𝓤 H A at-mem run .pre to-start)) (goes-start was given) $
         calls-at ! fm (C-start 𝓤 H A at-mem run) known-start to-start (and-then ! (load ! (from ! (stop !)) (look ! 15 refl)) (and-then ! (load ! (from ! (stop !)) (look ! 13 refl)) (and-then ! (load ! (from ! (stop !)) (look ! 17 refl)) (no-more !)))) (λ v.
         use1 W (later (some (λ (r : MachineAnswer). (‵ ftrue ⊛ ‵ (TMachineAnswer.the-row .own r (v ∷ []))) ⊛ raw (ensured 𝓤 H A start.ended (start.clauses 𝓤 H A at-mem run) tt (h1, (h3, (n4, tt))) tt r)))) (id⊢ 𝓤 _) $ await ! tt $ pick ! (λ r.
         split ! $ move ! (1 ∷ []) $ use1 W (raw (fact 𝓤 (Said r))) (said r) $ heard ! (Said r) (λ e. split ! $ drop ! $
         peeks ! TMachineAnswer.the-row (Is TMachineAnswer.the-row) (shows 𝓤 H A TMachineAnswer.the-row) r (v ∷ []) (λ is-v. let is = subst (Is TMachineAnswer.the-row r) (TMachineAnswer′.lowers .val-is r (v ∷ []) is-v) is-v in
-        -- [the result; the settings: token, borrow; four of the numbers; four of the machine; _6; …; _0; …]
+        -- [the result; the configuration: token, borrow; four of the numbers; four of the machine; _6; …; _0; …]
         land ! (from ! (stop !)) (init ! 11 refl (LL.lawful TMachineAnswer.the-type TMachineAnswer′.the-laws 𝓤 H A W .typed r _ is-v .0)) $ rewrite ! 11 (λ (u : Val). ‵ (fat fullShare TMachineAnswer′.mir l₇ 0 u)) (ap only (TMachineAnswer′.lowers .val-is r (v ∷ []) is-v)) refl $ drop ! $
         assigns ! (of-opd ! (load ! (from ! (fld ! {τ = TMachine′.mir} {d = 48} refl (stop !))) (look-in ! 10 (sub ! 1 {τ = TMachine′.mir} {d = 48} refl (whole !))))) (from ! (hop ! (look ! 22 refl) (stop !))) (store-raw ! 6 refl (LL.lawful TMachine.the-type TMachine′.the-laws 𝓤 H A W .typed (r .machine) _ (is-machine r is) .0)) $
         assigns ! (of-opd ! (load ! (from ! (fld ! {τ = TNumbers′.mir} {d = 0} refl (stop !))) (look-in ! 10 (sub ! 0 {τ = TNumbers′.mir} {d = 0} refl (whole !))))) (from ! (hop ! (look ! 20 refl) (stop !))) (store-raw ! 2 refl (LL.lawful TNumbers.the-type TNumbers′.the-laws 𝓤 H A W .typed (r .numbers) _ (is-numbers r is) .0)) $
         assigns ! (of-opd ! (unit-lit !)) (from ! (stop !)) (init ! 24 refl (tt, tt)) $
         owned ! TNumbers.the-row (Is TNumbers.the-row) ((LL.makes TNumbers.the-type TNumbers′.the-plain) 𝓤 H A) (r .numbers) _ (is-numbers r is) $ move ! (3 ∷ 0 ∷ 4 ∷ 5 ∷ 6 ∷ []) $ closes ! tt TNumbers.the-row (r .numbers) (low-numbers (r .numbers)) b2 o2 $
         owned ! TMachine.the-row (Is TMachine.the-row) ((LL.makes TMachine.the-type TMachine′.the-plain) 𝓤 H A) (r .machine) _ (is-machine r is) $ move ! (6 ∷ 0 ∷ 7 ∷ 8 ∷ 9 ∷ []) $ closes ! tt TMachine.the-row (r .machine) (low-machine (r .machine)) b1 o1 $
-        -- [the machine: obs, borrow, token; the numbers: obs, borrow, token; the settings: token, borrow; _6; …; _0; …]
+        -- [the machine: obs, borrow, token; the numbers: obs, borrow, token; the configuration: token, borrow; _6; …; _0; …]
         returns ! (look ! 22 refl) $ forget ! 8 refl $ forget ! 10 refl $ forget ! 12 refl $ forget ! 14 refl $ forget ! 16 refl $ forget ! 18 refl $ forget ! 20 refl $ forget ! 22 refl $
         move ! (22 ∷ 23 ∷ []) $ free1 ! $ move ! (20 ∷ 21 ∷ []) $ free1 ! $ move ! (18 ∷ 19 ∷ []) $ free1 ! $ move ! (16 ∷ 17 ∷ []) $ free1 ! $ move ! (14 ∷ 15 ∷ []) $ free1 ! $ move ! (12 ∷ 13 ∷ []) $ free1 ! $ move ! (10 ∷ 11 ∷ []) $ free1 ! $ move ! (8 ∷ 9 ∷ []) $ free1 ! $ free0 ! $
         keep ! (0 ∷ 1 ∷ 2 ∷ 3 ∷ 4 ∷ 5 ∷ 6 ∷ []) $ by ! (exits r e))))))))))))))))))
 
 module _ {M : Type 1} (𝓤 : URA M) (H : Heap 𝓤) (A : Atoms 𝓤) (W : Given 𝓤 H A) (at-mem : Memory → SProp 𝓤) (run : Routine → Fun 𝓤) where
   walks : (C : Calls 𝓤 H) (Λ : Loops 𝓤 H) → FmC 𝓤 H (W .laws) C → Triple 𝓤 (C #turns·start) (C-start 𝓤 H A at-mem run) → Walks 𝓤 H A f.ended stayed (WpFn 𝓤 H C Λ code.function) (f.clauses 𝓤 H A at-mem run)
-  walks C Λ fm known-start = walked 𝓤 H A f.ended stayed (f.clauses 𝓤 H A at-mem run) (WpFn 𝓤 H C Λ code.function) (λ κs. (ptr-vals, (ptr-vals, (ptr-vals, (uint-vals w64, tt))))) (λ κs. (mut-tells (named 0) (κs .0) TMachine.the-row, (mut-tells (named 1) (κs .1 .0) TNumbers.the-row, (shr-tells (named 2) (κs .1 .1 .0) TSettings.the-row, (uint-tells w64, tt)))))
+  walks C Λ fm known-start = walked 𝓤 H A f.ended stayed (f.clauses 𝓤 H A at-mem run) (WpFn 𝓤 H C Λ code.function) (λ κs. (ptr-vals, (ptr-vals, (ptr-vals, (uint-vals w64, tt))))) (λ κs. (mut-tells (named 0) (κs .0) TMachine.the-row, (mut-tells (named 1) (κs .1 .0) TNumbers.the-row, (shr-tells (named 2) (κs .1 .1 .0) TConfiguration.the-row, (uint-tells w64, tt)))))
       (λ κs qs bounds a _ are. via 𝓤 _ (fst∗ 𝓤 _ (emp 𝓤)) (walk 𝓤 H A W at-mem run (κs .0) (κs .1 .0) (κs .1 .1 .0) (qs .0) (qs .1 .0) (qs .1 .1 .0) (a .0 .ptr .0) (a .0 .ptr .1) (a .0 .name) (a .0 .now) (a .1 .0 .ptr .0) (a .1 .0 .ptr .1) (a .1 .0 .name) (a .1 .0 .now) (a .1 .1 .0 .ptr .0) (a .1 .1 .0 .ptr .1) (a .1 .1 .0 .name) (a .1 .1 .0 .now) (a .1 .1 .1 .0) (are .1 .1 .1 .0 .1) C Λ fm known-start))
 
   goes : AllGo 𝓤 H A W 3 (f.signature .params) (f.ended .kept) stayed
-  goes = (goes-ref 𝓤 H A W 3 0 tt (plain (λ _. TMachine.the-row)), (goes-ref 𝓤 H A W 3 1 tt (plain (λ _. TNumbers.the-row)), (goes-dropped 𝓤 H A W 3 (shrRef 2 tt (λ _. TSettings.the-row)) yes (λ κs x f. refl), (goes-dropped 𝓤 H A W 3 (plain (λ _. u64)) yes (λ κs x f. refl), tt))))
+  goes = (goes-ref 𝓤 H A W 3 0 tt (plain (λ _. TMachine.the-row)), (goes-ref 𝓤 H A W 3 1 tt (plain (λ _. TNumbers.the-row)), (goes-dropped 𝓤 H A W 3 (shrRef 2 tt (λ _. TConfiguration.the-row)) yes (λ κs x f. refl), (goes-dropped 𝓤 H A W 3 (plain (λ _. u64)) yes (λ κs x f. refl), tt))))
 
 meets : {M : Type 1} (𝓤 : URA M) (H : Heap 𝓤) (A : Atoms 𝓤) → Given 𝓤 H A → (at-mem : Memory → SProp 𝓤) (run : Routine → Fun 𝓤) (𝓣 : Tables 𝓤 H) → Triple 𝓤 (𝓣 .C #turns·start) (C-start 𝓤 H A at-mem run)
     → Meets 𝓤 H A f.signature (WpFn 𝓤 H (𝓣 .C) (𝓣 .Λ) code.function) (f.spec 𝓤 H A at-mem run)

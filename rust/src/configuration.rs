@@ -105,12 +105,20 @@ impl Default for DeliveryConfig {
     }
 }
 
-/// What a consumer is started with, and each restart on the same journal: the bound on deliveries is for one configuration.
+/// What a consumer keeps of its configuration, beside how long a message stays with a worker.
 #[derive(Clone, Debug, Default, PartialEq, Eq)]
 #[repr(C)]
 pub struct Settings {
     /// The limit, the delays and the flush threshold.
     pub delivery: DeliveryConfig,
+}
+
+/// What a consumer is started with, and each restart on the same journal: the bound on deliveries is for one configuration.
+#[derive(Clone, Debug, Default, PartialEq, Eq)]
+#[repr(C)]
+pub struct Configuration {
+    /// What the consumer keeps.
+    pub settings: Settings,
     /// How long a message stays with a worker.
     pub lease: LeaseConfig,
 }
