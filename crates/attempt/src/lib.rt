@@ -2,7 +2,7 @@
 // pair are known here alone.
 ghost use mathlib.Core.Path.{_≡_};
 ghost use mathlib.Core.List.{_++_};
-ghost use Prim.Native.Nat.{_+_, _*_, _≤_, min};
+ghost use Prim.Native.Nat.{_+_, _*_, _≤_};
 ghost use lib.ListN.{length, take, drop};
 ghost use Rattle.types.specs.Refusal.{done};
 ghost use Rattle.types.specs.Table.{answer, checked};
@@ -13,6 +13,8 @@ ghost use Rattle.attempt.specs.Snapshot.{readPair, readPairs, pairCount,
 ghost use Rattle.attempt.specs.Codec.{blank, encodeOf, decodeOf};
 ghost use Rattle.attempt.specs.Codec.{encodeFirst, DecodedIs, RefusedIs, RoomIs};
 use types::Pair;
+use types::limits::PAIRS;
+use types::numbers::shorter;
 
 // The length of a snapshot without pairs: version, count and check.
 pub const ATTEMPT_SNAPSHOT_MIN_LEN: usize = 9;
@@ -45,18 +47,18 @@ pub enum Decode {
 // The pairs are the first `count` of the array; a refusal has none.
 pub struct Decoded {
     pub outcome: Decode,
-    pub pairs: [Pair; 128],
+    pub pairs: [Pair; PAIRS],
     pub count: usize,
 }
 
 // An array without pairs.
-fn no_pairs() -> [Pair; 128]
+fn no_pairs() -> [Pair; PAIRS]
     ensures { λ r. ⌜ r ≡ blank ⌝ }
 {
     [Pair {
         offset: 0,
         attempt: 0,
-    }; 128]
+    }; PAIRS]
 }
 
 // Writes a pair at a position.
@@ -69,7 +71,7 @@ fn put_pair(out: &mut [u8], pos: usize, pair: Pair)
 }
 
 // Writes the first `count` pairs from a position on.
-fn put_pairs(pairs: [Pair; 128], count: usize, out: &mut [u8], at: usize)
+fn put_pairs(pairs: [Pair; PAIRS], count: usize, out: &mut [u8], at: usize)
     requires { ⌜ (count ≤ 128) × (at + 12 * count ≤ length (now out)) ⌝ }
     ensures { λ _. ⌜ now (out .exit) ≡ overwrite at (pairsBytes (entriesOf (take count pairs))) (now (out .entry)) ⌝ }
 {
@@ -83,7 +85,7 @@ fn put_pairs(pairs: [Pair; 128], count: usize, out: &mut [u8], at: usize)
 }
 
 // Writes all but the check.
-fn put_body(pairs: [Pair; 128], count: usize, out: &mut [u8], at: usize)
+fn put_body(pairs: [Pair; PAIRS], count: usize, out: &mut [u8], at: usize)
     requires { ⌜ (count ≤ 128) × (at + (5 + 12 * count) ≤ length (now out)) ⌝ }
     ensures { λ _. ⌜ now (out .exit) ≡ overwrite at (bodyBytes (entriesOf (take count pairs))) (now (out .entry)) ⌝ }
 {
@@ -94,10 +96,10 @@ fn put_body(pairs: [Pair; 128], count: usize, out: &mut [u8], at: usize)
 
 // Writes the snapshot of the first `count` pairs from a position on, in their order. Over 128 pairs are refused (19), then a
 // snapshot without room (20).
-pub fn encode_pairs(pairs: [Pair; 128], count: usize, out: &mut [u8], at: usize) -> Encode
+pub fn encode_pairs(pairs: [Pair; PAIRS], count: usize, out: &mut [u8], at: usize) -> Encode
     ensures { λ r. ⌜ answer (encodeOf r) (now (out .exit)) ≡ encodeFirst count pairs at (now (out .entry)) ⌝ }
 {
-    if 128 < count {
+    if PAIRS < count {
         return Encode::TooManyPairs;
     }
     let len = ATTEMPT_SNAPSHOT_MIN_LEN + PAIR_LEN * count;
@@ -134,7 +136,7 @@ fn check_pairs(input: &[u8], count: usize) -> Decode
         pos += PAIR_LEN;
         i += 1;
     }
-    if 128 < count {
+    if PAIRS < count {
         return Decode::TooManyPairs;
     }
     Decode::Pairs(count)
@@ -183,7 +185,7 @@ fn get_pair(input: &[u8], pos: usize) -> Pair
 }
 
 // The pairs at the front of an array.
-fn get_pairs(input: &[u8], count: usize) -> [Pair; 128]
+fn get_pairs(input: &[u8], count: usize) -> [Pair; PAIRS]
     requires { ⌜ (count ≤ 128) × (5 + 12 * count ≤ length (now input)) ⌝ }
     ensures { λ r. ⌜ entriesOf r ≡ readPairs count 5 (now (input .entry)) ++ drop count (entriesOf blank) ⌝ }
 {
@@ -248,18 +250,8 @@ fn check_room(input: &[u8], room: usize) -> Decode
     outcome
 }
 
-// The number, or 128 where it is larger.
-fn at_most_128(n: usize) -> usize
-    ensures { λ r. ⌜ r ≡ min n 128 ⌝ }
-{
-    if 128 < n {
-        return 128;
-    }
-    n
-}
-
 // The first n pairs of a lent list at the front of an array.
-fn gathered(pairs: &[Pair], n: usize) -> [Pair; 128]
+fn gathered(pairs: &[Pair], n: usize) -> [Pair; PAIRS]
     requires { ⌜ (n ≤ length (now pairs)) × (n ≤ 128) ⌝ }
     ensures { λ r. ⌜ take n r ≡ take n (now (pairs .entry)) ⌝ }
 {
@@ -286,18 +278,19 @@ fn fill_pairs(input: &[u8], pairs: &mut [Pair], n: usize)
     }
 }
 
-// Writes the snapshot of the pairs from a position on, in their order. Over 128 pairs are refused (19), then a snapshot
-// without room (20).
+// Writes the snapshot of the pairs from a position on, in their order, which has to rise by offset for a decoder to take it. Over 128
+// pairs are refused (19), then a snapshot without room (20).
 pub fn encode_attempt_snapshot(pairs: &[Pair], out: &mut [u8], at: usize) -> Encode
     ensures { λ r. ⌜ answer (encodeOf r) (now (out .exit)) ≡ encodeInto (entriesOf (now (pairs .entry))) at (now (out .entry)) ⌝ }
 {
     let count = pairs.len();
-    let first = gathered(pairs, at_most_128(count));
+    let first = gathered(pairs, shorter(count, PAIRS));
     encode_pairs(first, count, out, at)
 }
 
 // Fills a lent list with the pairs of a snapshot, from its first place on; the other places stay. Refused as `decode_pairs`
-// refuses, and then where the list is too short (20).
+// refuses, and then where the list is too short (20). Without the counts of a refused snapshot every message begins again at its
+// first attempt.
 pub fn decode_attempt_snapshot(input: &[u8], pairs: &mut [Pair]) -> Decode
     ensures { λ r. ⌜ answer (decodeOf r) (entriesOf (now (pairs .exit))) ≡ decodeInto (now (input .entry)) (entriesOf (now (pairs .entry))) ⌝ }
 {

@@ -19,6 +19,7 @@ use journal::Header;
 use raw::Write;
 use types::Pair;
 use types::lent::AttemptCounts;
+use types::limits::PAIRS;
 use types::numbers;
 
 // The consumer, the number of blocks written, and what is written: the snapshots of the cursor and of all attempt counts, one
@@ -105,14 +106,14 @@ fn flushed(mut consumer: Consumer, bodies: usize) -> Consumer
 }
 
 // The counts as pairs, at the front of an array.
-fn pairs_of(counts: AttemptCounts) -> [Pair; 128]
+fn pairs_of(counts: AttemptCounts) -> [Pair; PAIRS]
     requires { ⌜ counts .len ≤ 128 ⌝ }
     ensures { λ r. ⌜ entriesOf (take (counts .len) r) ≡ countsIn counts ⌝ }
 {
     let mut pairs = [Pair {
         offset: 0,
         attempt: 0,
-    }; 128];
+    }; PAIRS];
     let mut i: usize = 0;
     while i < counts.len {
         pairs[i] = Pair {

@@ -23,6 +23,9 @@ use lease::LeaseToken;
 use lease::NackOutcome;
 use lease::lookup::LeaseAt;
 use types::Offset;
+use types::limits::CARRIED;
+use types::limits::LEASES;
+use types::limits::MAX;
 
 // What a claim answers: a hand-out for delivery or for the dead letters, with its token and the number of hand-outs so far,
 // this one counted; or refusal 21, 22, 23, 25, 26 or 27.
@@ -177,13 +180,13 @@ impl Consumer {
             return false;
         };
         let leases = self.table.in_flight();
-        if 64 <= leases {
+        if LEASES <= leases {
             return true;
         }
         let Attempts::None = self.table.carried_count(offset) else {
             return false;
         };
-        128 <= leases + self.table.carried()
+        CARRIED <= leases + self.table.carried()
     }
 
     // What stands against a claim: the first of 21, 22, 23, 25, 26 and 27 that is met.
@@ -191,7 +194,7 @@ impl Consumer {
         requires { ⌜ Sound self ⌝ }
         ensures { λ r. ⌜ testOf r ≡ asResult (first (claimTable (view self) (offset .0) now)) ⌝ }
     {
-        if offset.0 == 18446744073709551615 {
+        if offset.0 == MAX {
             return ClaimTest::Refused(ClaimAnswer::LastOffset);
         }
         if self.cursor.is_acked(offset) {
@@ -201,7 +204,7 @@ impl Consumer {
             return ClaimTest::Refused(ClaimAnswer::InFlight);
         }
         let next = self.table.next_generation.0;
-        if next == 18446744073709551615 {
+        if next == MAX {
             return ClaimTest::Refused(ClaimAnswer::Exhausted);
         }
         if self.ceiling.0 <= next {
@@ -367,7 +370,7 @@ impl Consumer {
             };
         };
         let generation = self.table.next_generation.0;
-        if generation == 18446744073709551615 {
+        if generation == MAX {
             return Nacked {
                 answer: NackAnswer::Exhausted,
                 consumer: self,

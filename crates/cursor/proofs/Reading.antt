@@ -1,106 +1,76 @@
 -- What the decoder's functions answer, over plain values. Assumes nothing.
-use Prim.Native.Nat.{ℕ, suc, _+_, _-_, _*_, _%_, _≤_, _<_}
+use Prim.Native.Nat.{ℕ, zero, suc, _+_, _-_, _*_, _%_, _≤_, _<_}
 use native.Mathlib.Omega.{arith}
-use native.Mathlib.Numerals.{add-one}
-use mathlib.Core.Path.{_≡_, sym, ap, subst, _∙_}
+use mathlib.Core.Path.{_≡_, sym, subst}
 use mathlib.Core.Bool.{true, false}
-use mathlib.Core.List.{List, [], _∷_, _++_, append-nil}
+use mathlib.Core.List.{List, [], _∷_, _++_}
 use mathlib.Core.Option.{none, some}
-use lib.Dec.{ltb}
-use lib.ListN.{length, take, getD, set}
-use lib.Seq.{append-snoc}
-use borrow.Author.Tests.{lt-ltb, le-ltb, eq-eqb, ne-eqb}
-use Rattle.types.specs.Limits.{RANGES}
-use Rattle.types.specs.Refusal.{Refusal, TooManyRuns, CursorTruncated, CursorBadLength, CursorUnsupportedVersion, CursorBadCrc}
-use Rattle.types.specs.Table.{Row, _⇒_, first}
+use lib.ListN.{length, take, getD}
+use borrow.Author.Tests.{lt-ltb, le-ltb, eq-eqb, ne-eqb, ltb-false}
+use Rattle.types.specs.Refusal.{CursorTruncated, CursorBadLength, CursorUnsupportedVersion, CursorBadCrc}
+use Rattle.types.specs.Table.{first}
 use Rattle.types.specs.Zipped.{zipped}
 use Rattle.types.proofs.Table.{first-none, first-met-before, first-none-before}
-use Rattle.types.proofs.Zipped.{zipped-more}
 use Rattle.raw.specs.Bytes.{IsBytes, numberAt}
 use Rattle.crc.specs.Seal.{isSealed}
 use Rattle.cursor.specs.Ranges.{range}
-use Rattle.cursor.specs.Cursor.{Valid, rangeTable, rangesTable, resumeTable}
-use Rattle.cursor.specs.Snapshot.{readRanges, rangeCount, cursorIn, decodeTable, decodeCursor}
+use Rattle.cursor.specs.Cursor.{Valid, resumeTable}
+use Rattle.cursor.specs.Snapshot.{readRanges, rangeCount, cursorIn, frameTable, decodeTable, decodeCursor}
 use Rattle.cursor.specs.View.{view, Fresh}
-use Rattle.cursor.specs.Answers.{decodeFault, DecodedIs}
-use Rattle.cursor.specs.declared.Range.{Range}
+use Rattle.cursor.specs.Answers.{rangesError, snapshotError, decodeFault, DecodedIs}
+use Rattle.cursor.specs.Taking.{Taken}
 use Rattle.cursor.specs.declared.AckCursor.{AckCursor}
+use Rattle.cursor.specs.declared.AckCursorError.{AckCursorError}
 use Rattle.cursor.specs.declared.SnapshotError.{SnapshotError}
+use Rattle.cursor.specs.declared.Resume.the-variants as resumes
+use Rattle.cursor.specs.declared.Resuming.{Resuming}
 use Rattle.cursor.specs.declared.Decode.the-variants.{Restored, Refused}
-use Rattle.cursor.proofs.Snapshot.{length-read, accepted, accepted-few, read-valid}
+use Rattle.cursor.proofs.Snapshot.{length-read, accepted, read-valid}
+use Rattle.cursor.proofs.Taking.{fault-of-all, taken-is}
 
--- the loop of `check_ranges`: the table of the ranges that are left, behind the last end, with other rows behind
-module _ (bytes : List ℕ) (n i pos prev : ℕ) (vs : List Row) where
-  abbrev left : List Row
-  left = rangesTable prev (readRanges (n - i) pos bytes) ++ vs
+-- n ranges in the bytes, and more behind them
+read-more : (n more pos : ℕ) (bytes : List ℕ) → readRanges (n + more) pos bytes ≡ readRanges n pos bytes ++ readRanges more (pos + 16 * n) bytes
+read-more zero more pos bytes =
+    let m : 0 + more ≡ more = omega arith in
+    let z : pos + 16 * 0 ≡ pos = omega arith in
+    rw (m, z)
+read-more (suc n) more pos bytes =
+    let s : suc n + more ≡ suc (n + more) = omega arith in
+    let p : pos + 16 * suc n ≡ pos + 16 + 16 * n = omega arith in
+    rw (s, p, read-more n more (pos + 16) bytes)
 
-  module _ (h : i < n) (start end : ℕ) (s : start ≡ numberAt 8 pos bytes) (e : end ≡ numberAt 8 (pos + 8) bytes) where
-    abbrev next : List Row
-    next = rangesTable end (readRanges (n - (i + 1)) (pos + 16) bytes) ++ vs
+-- the loop of `take_ranges`: one range more, a fault before those that are left, and the end
+module _ (i pos : ℕ) (bytes : List ℕ) (at : pos ≡ 9 + 16 * i) where
+  pub one-more : (start end : ℕ) → start ≡ numberAt 8 pos bytes → end ≡ numberAt 8 (pos + 8) bytes → readRanges i 9 bytes ++ range start end ∷ [] ≡ readRanges (i + 1) 9 bytes
+  one-more start end s e = sym (rw (s, e, at) (read-more i 1 9 bytes))
 
-    left-is : left ≡ rangeTable prev (range start end) ++ next
-    left-is =
-        let k : n - i ≡ suc (n - (i + 1)) = omega arith in
-        rw (k, s, e)
+module _ (committed n : ℕ) (bytes : List ℕ) (b : Resuming) where
+  pub fault-here : (i : ℕ) (e : AckCursorError) → i ≤ n → Taken committed (readRanges i 9 bytes) b → b .outcome ≡ resumes.Refused e → first (resumeTable committed (readRanges n 9 bytes)) ≡ some (rangesError e)
+  fault-here i e h t q =
+      let k : n ≡ i + (n - i) = omega arith in
+      rw (k, read-more i (n - i) 9 bytes) (fault-of-all committed (readRanges i 9 bytes) b t e (readRanges (n - i) (9 + 16 * i) bytes) q)
 
-    pub fault-here : (r : Refusal) → first (rangeTable prev (range start end)) ≡ some r → first left ≡ some r
-    fault-here r f = ap first left-is ∙ first-met-before (rangeTable prev (range start end)) next r f
+  pub all-taken : Taken committed (readRanges n 9 bytes) b → b .outcome ≡ resumes.Resumed → b .taken ≤ 128 → zipped range (take n (b .starts)) (take n (b .ends)) ≡ readRanges n 9 bytes
+  all-taken t q h = rw (length-read n 9 bytes) at (taken-is committed (readRanges n 9 bytes) b t q h)
 
-    pub no-fault-here : first (rangeTable prev (range start end)) ≡ none → first left ≡ first next
-    no-fault-here f = ap first left-is ∙ first-none-before (rangeTable prev (range start end)) next f
-
-  pub all-left : i ≡ 0 → first left ≡ first (rangesTable prev (readRanges n pos bytes) ++ vs)
-  all-left h = let k : n - i ≡ n = omega arith in rw k
-
-  pub no-range-left : n ≤ i → first left ≡ first vs
-  no-range-left h = let k : n - i ≡ 0 = omega arith in rw k
-
--- the row of 12
-module _ (n pos : ℕ) (bytes : List ℕ) where
-  abbrev limit : List Row
-  limit = ltb RANGES (length (readRanges n pos bytes)) ⇒ TooManyRuns ∷ []
-
-  pub over-limit : RANGES < n → first limit ≡ some TooManyRuns
-  over-limit h = rw (length-read n pos bytes, lt-ltb _ _ h)
-
-  pub within-limit : n ≤ RANGES → first limit ≡ none
-  within-limit h = rw (length-read n pos bytes, le-ltb _ _ h)
-
--- the loop of `read_ranges`: what the columns have, with what is left in the bytes
-module _ (bytes : List ℕ) (n i pos : ℕ) (starts ends : List ℕ) where
-  abbrev filled : List Range
-  filled = zipped range (take i starts) (take i ends) ++ readRanges (n - i) pos bytes
-
-  pub filled-more : i < n → i < length starts → i < length ends → (start end : ℕ) → start ≡ numberAt 8 pos bytes → end ≡ numberAt 8 (pos + 8) bytes
-      → zipped range (take (i + 1) (set starts i start)) (take (i + 1) (set ends i end)) ++ readRanges (n - (i + 1)) (pos + 16) bytes ≡ filled
-  filled-more h hs he start end s e =
-      let k : n - i ≡ suc (n - suc i) = omega arith in
-      rw (add-one i, zipped-more range i start end starts ends hs he, append-snoc, k, s, e)
-
-  pub filled-all : n ≤ i → i ≤ n → filled ≡ zipped range (take n starts) (take n ends)
-  filled-all h g =
-      let k : n - i ≡ 0 = omega arith in
-      let e : i ≡ n = omega arith in
-      rw (k, e) (append-nil (zipped range (take n starts) (take n ends)))
-
--- the rows that `check_snapshot` goes down
+-- the rows that `check_frame` goes down
 module _ (bytes : List ℕ) where
-  pub truncated : length bytes < 13 → first (decodeTable bytes) ≡ some CursorTruncated
+  pub truncated : length bytes < 13 → first (frameTable bytes) ≡ some CursorTruncated
   truncated h = rw (lt-ltb _ _ h)
 
   module _ (long : 13 ≤ length bytes) where
-    pub bad-length : ((length bytes - 13) % 16 ≡ 0 → ⊥) → first (decodeTable bytes) ≡ some (CursorBadLength (length bytes))
+    pub bad-length : ((length bytes - 13) % 16 ≡ 0 → ⊥) → first (frameTable bytes) ≡ some (CursorBadLength (length bytes))
     bad-length h = rw (le-ltb _ _ long, ne-eqb _ _ h)
 
     module _ (whole : (length bytes - 13) % 16 ≡ 0) where
-      pub other-version : (getD bytes 0 0 ≡ 1 → ⊥) → first (decodeTable bytes) ≡ some (CursorUnsupportedVersion (getD bytes 0 0))
+      pub other-version : (getD bytes 0 0 ≡ 1 → ⊥) → first (frameTable bytes) ≡ some (CursorUnsupportedVersion (getD bytes 0 0))
       other-version h = rw (le-ltb _ _ long, eq-eqb _ _ whole, ne-eqb _ _ h)
 
       module _ (version : getD bytes 0 0 ≡ 1) where
-        pub bad-crc : isSealed bytes ≡ false → first (decodeTable bytes) ≡ some CursorBadCrc
+        pub bad-crc : isSealed bytes ≡ false → first (frameTable bytes) ≡ some CursorBadCrc
         bad-crc h = rw (le-ltb _ _ long, eq-eqb _ _ whole, eq-eqb _ _ version, h)
 
-        pub framed : isSealed bytes ≡ true → first (decodeTable bytes) ≡ first (resumeTable (cursorIn bytes .committed) (cursorIn bytes .ahead))
+        pub framed : isSealed bytes ≡ true → first (frameTable bytes) ≡ none
         framed h = rw (le-ltb _ _ long, eq-eqb _ _ whole, eq-eqb _ _ version, h)
 
   -- what `decode_snapshot` answers
@@ -119,9 +89,15 @@ module _ (bytes : List ℕ) where
         kept = tt;
       }
 
-  -- and what it needs of bytes that were let through
-  pub restored-fits : decodeFault Restored ≡ first (decodeTable bytes) → (13 ≤ length bytes) × (9 + 16 * rangeCount bytes ≤ length bytes) × (rangeCount bytes ≤ 128)
-  restored-fits t =
-      let a = accepted bytes (first-none (decodeTable bytes) (sym t)) in
-      let few = accepted-few bytes a in
-      (a .long, omega (arith, a .long), few)
+  -- a fault of the frame comes before those of the ranges
+  pub frame-refused : (e : SnapshotError) → decodeFault (Refused e) ≡ first (frameTable bytes) → decodeFault (Refused e) ≡ first (decodeTable bytes)
+  frame-refused e h = sym (first-met-before (frameTable bytes) (resumeTable (cursorIn bytes .committed) (cursorIn bytes .ahead)) (snapshotError e) (sym h))
+
+  module _ (h : decodeFault Restored ≡ first (frameTable bytes)) where
+    pub ranges-left : first (decodeTable bytes) ≡ first (resumeTable (cursorIn bytes .committed) (cursorIn bytes .ahead))
+    ranges-left = first-none-before (frameTable bytes) (resumeTable (cursorIn bytes .committed) (cursorIn bytes .ahead)) (sym h)
+
+    pub frame-fits : (13 ≤ length bytes) × (9 + 16 * rangeCount bytes ≤ length bytes)
+    frame-fits =
+        let long : 13 ≤ length bytes = ltb-false (length bytes) 13 (first-none (frameTable bytes) (sym h) .0) in
+        (long, omega arith)

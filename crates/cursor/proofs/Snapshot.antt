@@ -93,11 +93,6 @@ accepted bytes p =
       ranges = q .1;
     }
 
-pub accepted-few : (bytes : List ℕ) → Accepted bytes → rangeCount bytes ≤ RANGES
-accepted-few bytes a =
-    let q = passed-append (rangesTable (cursorIn bytes .committed) (cursorIn bytes .ahead)) (ltb RANGES (length (cursorIn bytes .ahead)) ⇒ TooManyRuns ∷ []) (a .ranges) in
-    omega (arith, ltb-false RANGES (length (cursorIn bytes .ahead)) (q .1 .0), length-read (rangeCount bytes) 9 bytes)
-
 decoded : (bytes : List ℕ) (c : Cursor) → decodeCursor bytes ≡ done c → Accepted bytes × (cursorIn bytes ≡ c)
 unfolding decodeCursor
 decoded bytes c e =

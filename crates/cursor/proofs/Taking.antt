@@ -27,10 +27,10 @@ use Rattle.cursor.specs.declared.Resume.the-variants.{Resumed, Refused}
 use Rattle.cursor.specs.declared.Resuming.{Resuming}
 use Rattle.cursor.proofs.Snapshot.{passed-valid}
 
--- one range behind others
-table-more : (n : ℕ) (l : List Range) (r : Range) → rangesTable n (l ++ r ∷ []) ≡ rangesTable n l ++ rangeTable (lastEnd n l) r
-table-more n [] r = refl
-table-more n (p ∷ l) r = rw (table-more (p .end) l r)
+-- ranges behind others
+table-more : (n : ℕ) (l rest : List Range) → rangesTable n (l ++ rest) ≡ rangesTable n l ++ rangesTable (lastEnd n l) rest
+table-more n [] rest = refl
+table-more n (p ∷ l) rest = rw (table-more (p .end) l rest)
 
 last-more : (n : ℕ) (l : List Range) (r : Range) → lastEnd n (l ++ r ∷ []) ≡ r .end
 last-more n [] r = refl
@@ -56,6 +56,15 @@ columns-all (suc k) (x ∷ xs) [] h = refl
 columns-all zero (x ∷ xs) (y ∷ ys) h = absurd (omega arith)
 columns-all (suc k) (x ∷ xs) (y ∷ ys) h = ap (λ (l : List Range). range x y ∷ l) (columns-all k xs ys (omega arith))
 
+-- a resumption without a fault so far, by its parts
+abbrev pub underWay : ℕ → List ℕ → List ℕ → ℕ → ℕ → Resuming
+underWay committed starts ends taken last =
+    record { outcome = Resumed; committed = committed; starts = starts; ends = ends; taken = taken; last = last }
+
+pub none-taken : (n : ℕ) (starts ends : List ℕ) → n ≤ MAX → Taken n [] (underWay n starts ends 0 n)
+none-taken n starts ends h =
+    record { committed = refl; fits = (h, tt); fault = refl; faultless = λ z. record { last = refl; count = refl; columns = λ few. refl } }
+
 -- the row of 12
 abbrev limit : List Range → List Row
 limit l = ltb RANGES (length l) ⇒ TooManyRuns ∷ []
@@ -65,13 +74,19 @@ module _ (n : ℕ) (l : List Range) (b : Resuming) (t : Taken n l b) where
   pub take-none : (e : AckCursorError) (start end : ℕ) → end ≤ MAX → b .outcome ≡ Refused e → Taken n (l ++ range start end ∷ []) b
   take-none e start end h q =
       let f : first (rangesTable n (l ++ range start end ∷ [])) ≡ some (rangesError e) =
-      ap first (table-more n l (range start end)) ∙ first-met-before (rangesTable n l) (rangeTable (lastEnd n l) (range start end)) (rangesError e) (sym (rw q at (t .fault))) in
+      ap first (table-more n l (range start end ∷ [])) ∙ first-met-before (rangesTable n l) (rangeTable (lastEnd n l) (range start end)) (rangesError e) (sym (rw q at (t .fault))) in
       record {
         committed = t .committed;
         fits = (t .fits .0, fits-more l (range start end) (t .fits .1) h);
         fault = rw q (sym f);
         faultless = λ z. absurd (Option·none-ne-some (rangesError e) (sym z ∙ f));
       }
+
+  -- a fault is that of all ranges, whatever comes behind
+  pub fault-of-all : (e : AckCursorError) (rest : List Range) → b .outcome ≡ Refused e → first (resumeTable n (l ++ rest)) ≡ some (rangesError e)
+  fault-of-all e rest q =
+      first-met-before (rangesTable n (l ++ rest)) (limit (l ++ rest)) (rangesError e)
+      (ap first (table-more n l rest) ∙ first-met-before (rangesTable n l) (rangesTable (lastEnd n l) rest) (rangesError e) (sym (rw q at (t .fault))))
 
   module _ (q : b .outcome ≡ Resumed) where
     no-fault : first (rangesTable n l) ≡ none
@@ -95,7 +110,7 @@ module _ (n : ℕ) (l : List Range) (b : Resuming) (t : Taken n l b) where
         record {
           committed = t .committed;
           fits = (t .fits .0, fits-more l (range start end) (t .fits .1) h);
-          fault = f ∙ rw (seen .last, table-more n l (range start end)) (sym (first-none-before (rangesTable n l) (rangeTable (lastEnd n l) (range start end)) no-fault));
+          fault = f ∙ rw (seen .last, table-more n l (range start end ∷ [])) (sym (first-none-before (rangesTable n l) (rangeTable (lastEnd n l) (range start end)) no-fault));
           faultless = λ z. record {
             last = sym (last-more n l (range start end));
             count = omega (arith, k, seen .count, length-append l (range start end ∷ []));
@@ -103,25 +118,29 @@ module _ (n : ℕ) (l : List Range) (b : Resuming) (t : Taken n l b) where
           };
         }
 
-    -- `finish` where there was none: the ranges are few enough, or too many
-    length-is : b .taken ≤ 128 → b .taken ≡ length l
-    length-is h = omega (arith, seen .count)
+    -- behind the last range: they are few enough, or too many
+    pub too-many : 128 < b .taken → first (resumeTable n l) ≡ some TooManyRuns
+    too-many h = first-none-before (rangesTable n l) (limit l) no-fault ∙ rw (lt-ltb RANGES (length l) (omega (arith, seen .count)))
 
+    pub few-enough : b .taken ≤ 128 → first (resumeTable n l) ≡ none
+    few-enough h = first-none-before (rangesTable n l) (limit l) no-fault ∙ rw (le-ltb RANGES (length l) (omega (arith, seen .count)))
+
+    pub taken-is : b .taken ≤ 128 → zipped range (take (length l) (b .starts)) (take (length l) (b .ends)) ≡ l
+    taken-is h = seen .columns (omega (arith, seen .count))
+
+    -- `finish` where there was none
     pub finish-many : (c : AckCursor) → Fresh 0 c → 128 < b .taken → ResumedIs n l (record { outcome = Refused errors.TooManyRuns; cursor = c })
     unfolding resumeWithAhead
-    finish-many c f h =
-        let many : first (resumeTable n l) ≡ some TooManyRuns = first-none-before (rangesTable n l) (limit l) no-fault ∙ rw (lt-ltb RANGES (length l) (omega (arith, seen .count))) in
-        record { is = rw many; sound = f .sound; kept = f .literal }
+    finish-many c f h = record { is = rw (too-many h); sound = f .sound; kept = f .literal }
 
     pub finish-done : b .taken ≤ 128 → ResumedIs n l (record { outcome = b .outcome; cursor = ackCursor (b .committed) (b .starts) (b .ends) (b .taken) })
     unfolding resumeWithAhead
     finish-done h =
-        let few : first (resumeTable n l) ≡ none = first-none-before (rangesTable n l) (limit l) no-fault ∙ rw (le-ltb RANGES (length l) (omega (arith, seen .count))) in
-        let k = length-is h in
-        let e : view (ackCursor (b .committed) (b .starts) (b .ends) (b .taken)) ≡ cursor n l = rw (t .committed, k, seen .columns (omega arith)) in
-        let v = passed-valid n l (t .fits .0) (t .fits .1) (first-none (resumeTable n l) few) in
+        let k : b .taken ≡ length l = omega (arith, seen .count) in
+        let e : view (ackCursor (b .committed) (b .starts) (b .ends) (b .taken)) ≡ cursor n l = rw (t .committed, k, taken-is h) in
+        let v = passed-valid n l (t .fits .0) (t .fits .1) (first-none (resumeTable n l) (few-enough h)) in
         record {
-          is = rw (q, few, e);
+          is = rw (q, few-enough h, e);
           sound = record { few = h; valid = subst Valid (sym e) v };
           kept = rw q tt;
         }

@@ -3,7 +3,7 @@
 // An ack at committed moves it over that offset and over the range that begins right behind it. A cursor goes in by value
 // and comes back; nothing is kept elsewhere.
 ghost use mathlib.Core.Path.{_≡_};
-ghost use Prim.Native.Nat.{ℕ, _+_, _-_, _*_, _≤_, _<_, min, max};
+ghost use Prim.Native.Nat.{ℕ, _+_, _-_, _≤_, _<_, min};
 ghost use mathlib.Core.Bool.{_&&_};
 ghost use mathlib.Core.List.{List, [], _∷_, _++_};
 ghost use lib.Dec.{ltb, eqb};
@@ -12,27 +12,25 @@ ghost use Rattle.types.specs.Identifiers.{offset};
 ghost use Rattle.types.specs.Refusal.{done};
 ghost use Rattle.types.specs.Lists.{listed, roomFor, listedOf};
 ghost use Rattle.types.specs.Table.{answer, first};
-ghost use Rattle.raw.specs.Bytes.{overwrite, write, outcomeOf};
 ghost use Rattle.types.specs.Zipped.{zipped};
 ghost use Rattle.types.specs.Sorted.{Ascending, upTo};
 ghost use Rattle.cursor.specs.Ranges.{range, offsets};
-ghost use Rattle.cursor.specs.Snapshot.{rangesBytes, bodyBytes, encodeCursor, readRanges, decodeTable};
-ghost use Rattle.cursor.specs.Cursor.{settled, ackBounded, commitUpTo, rangeTable, resumeTable};
+ghost use Rattle.cursor.specs.Cursor.{settled, ackBounded, commitUpTo, rangeTable};
 ghost use Rattle.cursor.specs.View.{ackCursor, view, Sound, Whole, Fresh};
-ghost use Rattle.cursor.specs.Answers.{ackOf, Updated, resumeFault, ResumedIs, decodeFault, DecodedIs};
+ghost use Rattle.cursor.specs.Answers.{ackOf, Updated, resumeFault, ResumedIs};
 ghost use Rattle.cursor.specs.Taking.{Taken};
 ghost use Rattle.cursor.specs.declared.Range.{Range};
 ghost use Rattle.cursor.specs.Place.{Spotted, rangeAt, joinedAt};
-use raw::Write;
 use types::Offset;
 use types::lent;
 use types::lent::Listed;
+use types::limits::MAX;
+use types::limits::RANGES;
+use types::numbers::larger;
 use types::numbers::shorter;
 
-const SNAPSHOT_VERSION: u8 = 1;
-
-// The bytes of a range in a snapshot.
-const RANGE_LEN: usize = 16;
+// `encode_snapshot` and `decode_snapshot`.
+mod codec;
 
 // The offsets from start up to, and not including, end.
 #[repr(C)]
@@ -46,14 +44,14 @@ pub struct Range {
 #[repr(C)]
 pub struct AckCursor {
     pub committed: u64,
-    pub starts: [u64; 128],
-    pub ends: [u64; 128],
+    pub starts: [u64; RANGES],
+    pub ends: [u64; RANGES],
     pub runs: usize,
 }
 
 // What a bounded ack answers. Recorded: it was new. Duplicate: the offset was acked before, or is the last of all, which
 // is never acked. Shed, refusal 29: it would have made a range more than the limit; the offset still reads as unacked
-// and comes again later.
+// and comes again later, a duplicate and no loss. A caller should count these: many of them say that acks leave too many gaps.
 pub enum BoundedAck {
     Recorded,
     Duplicate,
@@ -118,440 +116,7 @@ pub struct Decoded {
     pub cursor: AckCursor,
 }
 
-// What an ack in place answers, beside the columns.
-struct Noted {
-    outcome: BoundedAck,
-    committed: u64,
-    runs: usize,
-}
-
-// What a commit in place answers, beside the columns.
-struct Moved {
-    advanced: bool,
-    committed: u64,
-    runs: usize,
-}
-
-// A resumption under way: whether the ranges so far are those of a cursor, the first 128 of them, how many they are, up to
-// 129, and their last end, which is committed before the first.
-struct Resuming {
-    outcome: Resume,
-    committed: u64,
-    starts: [u64; 128],
-    ends: [u64; 128],
-    taken: usize,
-    last: u64,
-}
-
-// Where an offset stands. Places count from 0, and committed is the end before place 0.
-enum Spot {
-    // Acked before, or the last offset of all.
-    Settled,
-    // At the end before this place.
-    Behind(usize),
-    // At the end before this place, and the range at it starts right behind.
-    Between(usize),
-    // Right before the range at this place.
-    Before(usize),
-    // Next to nothing, and this is its place.
-    Apart(usize),
-}
-
-// How many of the first n numbers of a column, which rise, are at most x.
-fn partition_point(column: &[u64; 128], n: usize, x: u64) -> usize
-    requires { ⌜ (length (now column) ≡ 128) × (n ≤ 128) × Ascending 0 (take n (now column)) ⌝ }
-    ensures { λ r. ⌜ r ≡ upTo x (take n (now (column .entry))) ⌝ }
-{
-    let mut low: usize = 0;
-    let mut high = n;
-    while low < high {
-        let middle = low + (high - low) / 2;
-        if column[middle] <= x {
-            low = middle + 1;
-        } else {
-            high = middle;
-        }
-    }
-    low
-}
-
-// Whether x stands at a place of the first n numbers of a column.
-fn stands_at(column: &[u64; 128], n: usize, at: usize, x: u64) -> bool
-    requires { ⌜ n ≤ 128 ⌝ }
-    ensures { λ r. ⌜ r ≡ (ltb at n && eqb (getD (now (column .entry)) at 0) x) ⌝ }
-{
-    if at < n {
-        return column[at] == x;
-    }
-    false
-}
-
-// The end before a place, which is committed at the first place.
-fn end_before(committed: u64, ends: &[u64; 128], at: usize) -> u64
-    requires { ⌜ at ≤ 128 ⌝ }
-    ensures { λ r. ⌜ r ≡ getD (committed ∷ now (ends .entry)) at 0 ⌝ }
-{
-    if at == 0 {
-        return committed;
-    }
-    let k = at - 1;
-    ends[k]
-}
-
-// Moves the end before a place, which is committed at the first place. Answers committed.
-fn stretch(committed: u64, ends: &mut [u64; 128], at: usize, end: u64) -> u64
-    requires { ⌜ at ≤ 128 ⌝ }
-    ensures { λ r. ⌜ r ∷ now (ends .exit) ≡ set (committed ∷ now (ends .entry)) at end ⌝ }
-{
-    if at == 0 {
-        return end;
-    }
-    let k = at - 1;
-    ends[k] = end;
-    committed
-}
-
-// Where offset x stands.
-fn locate(committed: u64, starts: &[u64; 128], ends: &[u64; 128], runs: usize, x: u64) -> Spot
-    requires { ⌜ Whole (ackCursor committed (now starts) (now ends) runs) ⌝ }
-    ensures { λ r. ⌜ Spotted (view (ackCursor committed (now (starts .entry)) (now (ends .entry)) runs)) x r ⌝ }
-{
-    if x == 18446744073709551615 {
-        return Spot::Settled;
-    }
-    let i = partition_point(starts, runs, x);
-    let end = end_before(committed, ends, i);
-    if x < end {
-        return Spot::Settled;
-    }
-    let next = stands_at(starts, runs, i, x + 1);
-    if end == x {
-        if next {
-            return Spot::Between(i);
-        }
-        return Spot::Behind(i);
-    }
-    if next {
-        return Spot::Before(i);
-    }
-    Spot::Apart(i)
-}
-
-// The range at a place becomes part of what ends before it, which is committed at the first place. Answers committed.
-fn join(
-    committed: u64,
-    starts: &mut [u64; 128],
-    ends: &mut [u64; 128],
-    runs: usize,
-    at: usize,
-) -> u64
-    requires { ⌜ Whole (ackCursor committed (now starts) (now ends) runs) × (at < runs) ⌝ }
-    ensures { λ r. ⌜ view (ackCursor r (now (starts .exit)) (now (ends .exit)) (runs - 1)) ≡ joinedAt at (view (ackCursor committed (now (starts .entry)) (now (ends .entry)) runs)) ⌝ }
-{
-    let end = ends[at];
-    tables::remove_128(starts, runs, at, at + 1);
-    tables::remove_128(ends, runs, at, at + 1);
-    stretch(committed, ends, at, end)
-}
-
-// A new answer to an ack.
-fn recorded(committed: u64, runs: usize) -> Noted
-    ensures { λ r. ⌜ r ≡ record { outcome = BoundedAck.Recorded; committed = committed; runs = runs } ⌝ }
-{
-    Noted {
-        outcome: BoundedAck::Recorded,
-        committed,
-        runs,
-    }
-}
-
-// An ack in place: what `ack_bounded` does to the parts of a cursor.
-fn ack_in_place(
-    committed: u64,
-    starts: &mut [u64; 128],
-    ends: &mut [u64; 128],
-    runs: usize,
-    x: u64,
-    max_runs: usize,
-) -> Noted
-    requires { ⌜ Whole (ackCursor committed (now starts) (now ends) runs) ⌝ }
-    ensures { λ r. ⌜ Updated (ackCursor committed (now (starts .entry)) (now (ends .entry)) runs) (ackOf (r .outcome)) (ackCursor (r .committed) (now (starts .exit)) (now (ends .exit)) (r .runs)) (ackBounded (view (ackCursor committed (now (starts .entry)) (now (ends .entry)) runs)) x «max_runs») ⌝ }
-{
-    let spot = locate(committed, starts, ends, runs, x);
-    match spot {
-        Spot::Settled => Noted {
-            outcome: BoundedAck::Duplicate,
-            committed,
-            runs,
-        },
-        Spot::Behind(i) => recorded(stretch(committed, ends, i, x + 1), runs),
-        Spot::Between(i) => recorded(join(committed, starts, ends, runs, i), runs - 1),
-        Spot::Before(i) => {
-            starts[i] = x;
-            recorded(committed, runs)
-        }
-        Spot::Apart(i) => {
-            if runs < max_runs {
-                if runs < 128 {
-                    tables::insert_128(starts, runs, i, x);
-                    tables::insert_128(ends, runs, i, x + 1);
-                    return recorded(committed, runs + 1);
-                }
-            }
-            Noted {
-                outcome: BoundedAck::Shed,
-                committed,
-                runs,
-            }
-        }
-    }
-}
-
-fn larger(a: u64, b: u64) -> u64
-    ensures { λ r. ⌜ r ≡ max a b ⌝ }
-{
-    if a < b { b } else { a }
-}
-
-// A commit in place: what `commit_up_to` does to the parts of a cursor.
-fn commit_in_place(
-    committed: u64,
-    starts: &mut [u64; 128],
-    ends: &mut [u64; 128],
-    runs: usize,
-    bound: u64,
-) -> Moved
-    requires { ⌜ Whole (ackCursor committed (now starts) (now ends) runs) ⌝ }
-    ensures { λ r. ⌜ Updated (ackCursor committed (now (starts .entry)) (now (ends .entry)) runs) (done (r .advanced)) (ackCursor (r .committed) (now (starts .exit)) (now (ends .exit)) (r .runs)) (commitUpTo (view (ackCursor committed (now (starts .entry)) (now (ends .entry)) runs)) bound) ⌝ }
-{
-    if bound <= committed {
-        return Moved {
-            advanced: false,
-            committed,
-            runs,
-        };
-    }
-    let k = partition_point(starts, runs, bound);
-    let end = end_before(committed, ends, k);
-    tables::remove_128(starts, runs, 0, k);
-    tables::remove_128(ends, runs, 0, k);
-    Moved {
-        advanced: true,
-        committed: larger(bound, end),
-        runs: runs - k,
-    }
-}
-
-// Whether a range may stand behind an end.
-fn check_range(prev_end: u64, start: u64, end: u64) -> Resume
-    ensures { λ r. ⌜ resumeFault r ≡ first (rangeTable «prev_end» (range start end)) ⌝ }
-{
-    if end <= start {
-        return Resume::Refused(AckCursorError::EmptyRange { start, end });
-    }
-    if start <= prev_end {
-        return Resume::Refused(AckCursorError::NotSortedDisjointAndAboveCommitted {
-            start,
-            prev_end,
-        });
-    }
-    Resume::Resumed
-}
-
-// Puts a range at a place of the columns, if they have that place. Answers how many there are then, up to 129.
-fn note_range(
-    starts: &mut [u64; 128],
-    ends: &mut [u64; 128],
-    at: usize,
-    start: u64,
-    end: u64,
-) -> usize
-    requires { ⌜ (length (now starts) ≡ 128) × (length (now ends) ≡ 128) ⌝ }
-    ensures { λ r. ⌜ (r ≡ min (at + 1) 129) × (now (starts .exit) ≡ set (now (starts .entry)) at start) × (now (ends .exit) ≡ set (now (ends .entry)) at end) ⌝ }
-{
-    if at < 128 {
-        starts[at] = start;
-        ends[at] = end;
-        return at + 1;
-    }
-    129
-}
-
-// A resumption that has taken no range yet.
-fn begin(committed: u64) -> Resuming
-    ensures { λ r. ⌜ Taken committed [] r ⌝ }
-{
-    Resuming {
-        outcome: Resume::Resumed,
-        committed,
-        starts: [0; 128],
-        ends: [0; 128],
-        taken: 0,
-        last: committed,
-    }
-}
-
-// Takes one range more.
-fn take_range(under_way: Resuming, start: u64, end: u64) -> Resuming
-    ensures { λ r. ⌜ ((n : ℕ) (ranges : List Range) → Taken n ranges «under_way» → Taken n (ranges ++ range start end ∷ []) r) ⌝ }
-{
-    let outcome = under_way.outcome;
-    let Resume::Resumed = outcome else {
-        return under_way;
-    };
-    let checked = check_range(under_way.last, start, end);
-    let mut starts = under_way.starts;
-    let mut ends = under_way.ends;
-    let taken = note_range(&mut starts, &mut ends, under_way.taken, start, end);
-    Resuming {
-        outcome: checked,
-        committed: under_way.committed,
-        starts,
-        ends,
-        taken,
-        last: end,
-    }
-}
-
-// The cursor of the ranges that were taken, or the first refusal.
-fn finish(all: Resuming) -> Resumed
-    ensures { λ r. ⌜ ((n : ℕ) (ranges : List Range) → Taken n ranges all → ResumedIs n ranges r) ⌝ }
-{
-    let outcome = all.outcome;
-    let taken = all.taken;
-    let Resume::Resumed = outcome else {
-        return Resumed {
-            outcome,
-            cursor: AckCursor::new(),
-        };
-    };
-    if 128 < taken {
-        return Resumed {
-            outcome: Resume::Refused(AckCursorError::TooManyRuns),
-            cursor: AckCursor::new(),
-        };
-    }
-    let starts = all.starts;
-    let ends = all.ends;
-    Resumed {
-        outcome,
-        cursor: AckCursor {
-            committed: all.committed,
-            starts,
-            ends,
-            runs: taken,
-        },
-    }
-}
-
-// Whether the n ranges of a snapshot may stand ahead of committed: all of them are tested before their number is.
-fn check_ranges(input: &[u8], committed: u64, n: usize) -> Resume
-    requires { ⌜ 9 + 16 * n ≤ length (now input) ⌝ }
-    ensures { λ r. ⌜ resumeFault r ≡ first (resumeTable committed (readRanges n 9 (now (input .entry)))) ⌝ }
-{
-    let mut prev_end = committed;
-    let mut pos: usize = 9;
-    let mut i: usize = 0;
-    while i < n {
-        let start = raw::read_u64(input, pos);
-        let end = raw::read_u64(input, pos + 8);
-        let checked = check_range(prev_end, start, end);
-        let Resume::Resumed = checked else {
-            return checked;
-        };
-        prev_end = end;
-        pos += RANGE_LEN;
-        i += 1;
-    }
-    if 128 < n {
-        return Resume::Refused(AckCursorError::TooManyRuns);
-    }
-    Resume::Resumed
-}
-
-// Whether bytes are a snapshot.
-fn check_snapshot(input: &[u8]) -> Decode
-    ensures { λ r. ⌜ decodeFault r ≡ first (decodeTable (now (input .entry))) ⌝ }
-{
-    let len = input.len();
-    if len < AckCursor::SNAPSHOT_MIN_LEN {
-        return Decode::Refused(SnapshotError::Truncated);
-    }
-    let ranges_len = len - AckCursor::SNAPSHOT_MIN_LEN;
-    if ranges_len % RANGE_LEN != 0 {
-        return Decode::Refused(SnapshotError::BadLength { len });
-    }
-    let version = input[0];
-    if version != SNAPSHOT_VERSION {
-        return Decode::Refused(SnapshotError::UnsupportedVersion(version));
-    }
-    if !crc::is_sealed(input) {
-        return Decode::Refused(SnapshotError::BadCrc);
-    }
-    let committed = raw::read_u64(input, 1);
-    match check_ranges(input, committed, ranges_len / RANGE_LEN) {
-        Resume::Resumed => Decode::Restored,
-        Resume::Refused(error) => Decode::Refused(SnapshotError::Ranges(error)),
-    }
-}
-
-// Reads the n ranges of a snapshot into columns.
-fn read_ranges(input: &[u8], n: usize, starts: &mut [u64; 128], ends: &mut [u64; 128])
-    requires { ⌜ (9 + 16 * n ≤ length (now input)) × (n ≤ 128) × (length (now starts) ≡ 128) × (length (now ends) ≡ 128) ⌝ }
-    ensures { λ _. ⌜ zipped range (take n (now (starts .exit))) (take n (now (ends .exit))) ≡ readRanges n 9 (now (input .entry)) ⌝ }
-{
-    let mut pos: usize = 9;
-    let mut i: usize = 0;
-    while i < n {
-        starts[i] = raw::read_u64(input, pos);
-        ends[i] = raw::read_u64(input, pos + 8);
-        pos += RANGE_LEN;
-        i += 1;
-    }
-}
-
-// Writes the first n ranges of columns from a position on.
-fn write_ranges<'a>(
-    starts: &'a [u64; 128],
-    ends: &'a [u64; 128],
-    n: usize,
-    out: &mut [u8],
-    at: usize,
-)
-    requires { ⌜ (n ≤ 128) × (length (now starts) ≡ 128) × (length (now ends) ≡ 128) × (at + 16 * n ≤ length (now out)) ⌝ }
-    ensures { λ _. ⌜ now (out .exit) ≡ overwrite at (rangesBytes (zipped range (take n (now (starts .entry))) (take n (now (ends .entry))))) (now (out .entry)) ⌝ }
-{
-    let mut pos = at;
-    let mut i: usize = 0;
-    while i < n {
-        raw::write_u64(out, pos, starts[i]);
-        raw::write_u64(out, pos + 8, ends[i]);
-        pos += RANGE_LEN;
-        i += 1;
-    }
-}
-
-// Writes all of a snapshot but its check.
-fn write_body<'a>(
-    committed: u64,
-    starts: &'a [u64; 128],
-    ends: &'a [u64; 128],
-    n: usize,
-    out: &mut [u8],
-    at: usize,
-)
-    requires { ⌜ (n ≤ 128) × (length (now starts) ≡ 128) × (length (now ends) ≡ 128) × (at + (9 + 16 * n) ≤ length (now out)) ⌝ }
-    ensures { λ _. ⌜ now (out .exit) ≡ overwrite at (bodyBytes (view (ackCursor committed (now (starts .entry)) (now (ends .entry)) n))) (now (out .entry)) ⌝ }
-{
-    out[at] = SNAPSHOT_VERSION;
-    raw::write_u64(out, at + 1, committed);
-    write_ranges(starts, ends, n, out, at + 9);
-}
-
 impl AckCursor {
-    // The length of a snapshot without ranges: version, committed and check.
-    pub const SNAPSHOT_MIN_LEN: usize = 1 + 8 + 4;
-
     // A cursor at offset zero with nothing acked.
     pub fn new() -> AckCursor
         ensures { λ r. ⌜ Fresh 0 r ⌝ }
@@ -572,14 +137,15 @@ impl AckCursor {
     {
         AckCursor {
             committed: committed.0,
-            starts: [0; 128],
-            ends: [0; 128],
+            starts: [0; RANGES],
+            ends: [0; RANGES],
             runs: 0,
         }
     }
 
     // A cursor at a committed offset with ranges ahead of it, of which there may be any number. Refused range by range: an
-    // empty one (10), one not above the end before it (11); then over 128 ranges (12).
+    // empty one (10), one not above the end before it (11); then over 128 ranges (12). A caller whose ranges are refused can still
+    // `resume` at committed: what was acked ahead of it comes again.
     pub fn resume_with_ahead(committed: Offset, ahead: &[Range]) -> Resumed
         ensures { λ r. ⌜ ResumedIs (committed .0) (now (ahead .entry)) r ⌝ }
     {
@@ -608,28 +174,6 @@ impl AckCursor {
         finish(under_way)
     }
 
-    // The range at a place.
-    fn range_at(self, at: usize) -> Range
-        requires { ⌜ Sound self × (at < length (view self .ahead)) ⌝ }
-        ensures { λ r. ⌜ r ≡ rangeAt at (view self .ahead) ⌝ }
-    {
-        Range {
-            start: self.starts[at],
-            end: self.ends[at],
-        }
-    }
-
-    // Whether the ranges fit into a list of this length.
-    fn room_for(self, len: usize) -> Listed
-        requires { ⌜ Sound self ⌝ }
-        ensures { λ r. ⌜ listedOf r ≡ roomFor (length (view self .ahead)) len ⌝ }
-    {
-        if len < self.runs {
-            return Listed::OutTooShort;
-        }
-        Listed::Filled(self.runs)
-    }
-
     // Lists the ranges ahead from the first place on and answers their number; later places stay. Refused, with the list
     // as it was, where they don't fit (20).
     pub fn ahead_ranges(self, out: &mut [Range]) -> Listed
@@ -644,49 +188,6 @@ impl AckCursor {
             i += 1;
         }
         outcome
-    }
-
-    // Writes the snapshot from a position on, and answers the position behind it. Refused without room (20).
-    pub fn encode_snapshot(self, out: &mut [u8], at: usize) -> Write
-        requires { ⌜ Sound self ⌝ }
-        ensures { λ r. ⌜ answer (outcomeOf r) (now (out .exit)) ≡ write at (encodeCursor (view self)) (now (out .entry)) ⌝ }
-    {
-        let runs = self.runs;
-        let len = AckCursor::SNAPSHOT_MIN_LEN + RANGE_LEN * runs;
-        if raw::too_short(out.len(), at, len) {
-            return Write::OutTooShort;
-        }
-        write_body(self.committed, &self.starts, &self.ends, runs, out, at);
-        let end = at + (len - 4);
-        let check = crc::crc32c(&out[at..end]);
-        raw::write_u32(out, end, check)
-    }
-
-    // The cursor of a snapshot. Refused in this order: too short (6), no whole number of ranges (7), another version (8), a
-    // wrong check (9), range by range an empty one (10) or one not above the end before it (11), over 128 ranges (12).
-    pub fn decode_snapshot(input: &[u8]) -> Decoded
-        ensures { λ r. ⌜ DecodedIs (now (input .entry)) r ⌝ }
-    {
-        let outcome = check_snapshot(input);
-        let Decode::Restored = outcome else {
-            return Decoded {
-                outcome,
-                cursor: AckCursor::new(),
-            };
-        };
-        let n = (input.len() - AckCursor::SNAPSHOT_MIN_LEN) / RANGE_LEN;
-        let mut starts = [0; 128];
-        let mut ends = [0; 128];
-        read_ranges(input, n, &mut starts, &mut ends);
-        Decoded {
-            outcome,
-            cursor: AckCursor {
-                committed: raw::read_u64(input, 1),
-                starts,
-                ends,
-                runs: n,
-            },
-        }
     }
 
     // The offset below which all are acked.
@@ -734,12 +235,13 @@ impl AckCursor {
         requires { ⌜ Sound self ⌝ }
         ensures { λ r. ⌜ Updated self (ackOf (r .outcome)) (r .cursor) (ackBounded (view self) (offset .0) 128) ⌝ }
     {
-        self.ack_bounded(offset, 128)
+        self.ack_bounded(offset, RANGES)
     }
 
     // Records an ack, and moves committed over what it completes. One that is next to no range and not at committed
     // makes a range more; where there are max_runs already, or 128, it is shed and nothing changes. An ack at committed
-    // and one that joins a range make none, and are never shed: what fills the gaps towards committed always lands.
+    // and one that joins a range make none, and are never shed: what fills the gaps towards committed always lands. A limit of 0 takes
+    // acks at committed alone; where 0 stands for no limit, the caller hands in the largest number.
     pub fn ack_bounded(self, offset: Offset, max_runs: usize) -> Acked
         requires { ⌜ Sound self ⌝ }
         ensures { λ r. ⌜ Updated self (ackOf (r .outcome)) (r .cursor) (ackBounded (view self) (offset .0) «max_runs») ⌝ }
@@ -767,7 +269,8 @@ impl AckCursor {
     }
 
     // Settles every offset below a bound. A range that the bound lies in, or touches, is swallowed whole. A bound at or
-    // below committed changes nothing: committed never moves back.
+    // below committed changes nothing: committed never moves back. A cursor doesn't know the log, so the caller sees to it that the
+    // bound isn't past its end.
     pub fn commit_up_to(self, up_to: Offset) -> Committed
         requires { ⌜ Sound self ⌝ }
         ensures { λ r. ⌜ Updated self (done (r .advanced)) (r .cursor) (commitUpTo (view self) («up_to» .0)) ⌝ }
@@ -785,4 +288,343 @@ impl AckCursor {
             },
         }
     }
+
+    // Whether the ranges fit into a list of this length.
+    fn room_for(self, len: usize) -> Listed
+        requires { ⌜ Sound self ⌝ }
+        ensures { λ r. ⌜ listedOf r ≡ roomFor (length (view self .ahead)) len ⌝ }
+    {
+        lent::room_for(self.runs, RANGES, len)
+    }
+
+    // The range at a place.
+    fn range_at(self, at: usize) -> Range
+        requires { ⌜ Sound self × (at < length (view self .ahead)) ⌝ }
+        ensures { λ r. ⌜ r ≡ rangeAt at (view self .ahead) ⌝ }
+    {
+        Range {
+            start: self.starts[at],
+            end: self.ends[at],
+        }
+    }
+}
+
+// A resumption under way: whether the ranges so far are those of a cursor, the first 128 of them, how many they are, up to
+// 129, and their last end, which is committed before the first.
+struct Resuming {
+    outcome: Resume,
+    committed: u64,
+    starts: [u64; RANGES],
+    ends: [u64; RANGES],
+    taken: usize,
+    last: u64,
+}
+
+// A resumption that has taken no range yet.
+fn begin(committed: u64) -> Resuming
+    ensures { λ r. ⌜ Taken committed [] r ⌝ }
+{
+    Resuming {
+        outcome: Resume::Resumed,
+        committed,
+        starts: [0; RANGES],
+        ends: [0; RANGES],
+        taken: 0,
+        last: committed,
+    }
+}
+
+// Takes one range more.
+fn take_range(under_way: Resuming, start: u64, end: u64) -> Resuming
+    ensures { λ r. ⌜ ((n : ℕ) (ranges : List Range) → Taken n ranges «under_way» → Taken n (ranges ++ range start end ∷ []) r) ⌝ }
+{
+    let outcome = under_way.outcome;
+    let Resume::Resumed = outcome else {
+        return under_way;
+    };
+    let checked = check_range(under_way.last, start, end);
+    let mut starts = under_way.starts;
+    let mut ends = under_way.ends;
+    let taken = note_range(&mut starts, &mut ends, under_way.taken, start, end);
+    Resuming {
+        outcome: checked,
+        committed: under_way.committed,
+        starts,
+        ends,
+        taken,
+        last: end,
+    }
+}
+
+// The cursor of the ranges that were taken, or the first refusal.
+fn finish(all: Resuming) -> Resumed
+    ensures { λ r. ⌜ ((n : ℕ) (ranges : List Range) → Taken n ranges all → ResumedIs n ranges r) ⌝ }
+{
+    let outcome = all.outcome;
+    let taken = all.taken;
+    let Resume::Resumed = outcome else {
+        return Resumed {
+            outcome,
+            cursor: AckCursor::new(),
+        };
+    };
+    if RANGES < taken {
+        return Resumed {
+            outcome: Resume::Refused(AckCursorError::TooManyRuns),
+            cursor: AckCursor::new(),
+        };
+    }
+    let starts = all.starts;
+    let ends = all.ends;
+    Resumed {
+        outcome,
+        cursor: AckCursor {
+            committed: all.committed,
+            starts,
+            ends,
+            runs: taken,
+        },
+    }
+}
+
+// Whether a range may stand behind an end.
+fn check_range(prev_end: u64, start: u64, end: u64) -> Resume
+    ensures { λ r. ⌜ resumeFault r ≡ first (rangeTable «prev_end» (range start end)) ⌝ }
+{
+    if end <= start {
+        return Resume::Refused(AckCursorError::EmptyRange { start, end });
+    }
+    if start <= prev_end {
+        return Resume::Refused(AckCursorError::NotSortedDisjointAndAboveCommitted {
+            start,
+            prev_end,
+        });
+    }
+    Resume::Resumed
+}
+
+// Puts a range at a place of the columns, if they have that place. Answers how many there are then, up to 129.
+fn note_range(
+    starts: &mut [u64; RANGES],
+    ends: &mut [u64; RANGES],
+    at: usize,
+    start: u64,
+    end: u64,
+) -> usize
+    requires { ⌜ (length (now starts) ≡ 128) × (length (now ends) ≡ 128) ⌝ }
+    ensures { λ r. ⌜ (r ≡ min (at + 1) 129) × (now (starts .exit) ≡ set (now (starts .entry)) at start) × (now (ends .exit) ≡ set (now (ends .entry)) at end) ⌝ }
+{
+    if at < RANGES {
+        starts[at] = start;
+        ends[at] = end;
+        return at + 1;
+    }
+    RANGES + 1
+}
+
+// What an ack in place answers, beside the columns.
+struct Noted {
+    outcome: BoundedAck,
+    committed: u64,
+    runs: usize,
+}
+
+// An ack in place: what `ack_bounded` does to the parts of a cursor.
+fn ack_in_place(
+    committed: u64,
+    starts: &mut [u64; RANGES],
+    ends: &mut [u64; RANGES],
+    runs: usize,
+    x: u64,
+    max_runs: usize,
+) -> Noted
+    requires { ⌜ Whole (ackCursor committed (now starts) (now ends) runs) ⌝ }
+    ensures { λ r. ⌜ Updated (ackCursor committed (now (starts .entry)) (now (ends .entry)) runs) (ackOf (r .outcome)) (ackCursor (r .committed) (now (starts .exit)) (now (ends .exit)) (r .runs)) (ackBounded (view (ackCursor committed (now (starts .entry)) (now (ends .entry)) runs)) x «max_runs») ⌝ }
+{
+    let spot = locate(committed, starts, ends, runs, x);
+    match spot {
+        Spot::Settled => Noted {
+            outcome: BoundedAck::Duplicate,
+            committed,
+            runs,
+        },
+        Spot::Behind(i) => recorded(stretch(committed, ends, i, x + 1), runs),
+        Spot::Between(i) => recorded(join(committed, starts, ends, runs, i), runs - 1),
+        Spot::Before(i) => {
+            starts[i] = x;
+            recorded(committed, runs)
+        }
+        Spot::Apart(i) => {
+            if runs < max_runs {
+                if runs < RANGES {
+                    tables::insert_128(starts, runs, i, x);
+                    tables::insert_128(ends, runs, i, x + 1);
+                    return recorded(committed, runs + 1);
+                }
+            }
+            Noted {
+                outcome: BoundedAck::Shed,
+                committed,
+                runs,
+            }
+        }
+    }
+}
+
+// A new answer to an ack.
+fn recorded(committed: u64, runs: usize) -> Noted
+    ensures { λ r. ⌜ r ≡ record { outcome = BoundedAck.Recorded; committed = committed; runs = runs } ⌝ }
+{
+    Noted {
+        outcome: BoundedAck::Recorded,
+        committed,
+        runs,
+    }
+}
+
+// The range at a place becomes part of what ends before it, which is committed at the first place. Answers committed.
+fn join(
+    committed: u64,
+    starts: &mut [u64; RANGES],
+    ends: &mut [u64; RANGES],
+    runs: usize,
+    at: usize,
+) -> u64
+    requires { ⌜ Whole (ackCursor committed (now starts) (now ends) runs) × (at < runs) ⌝ }
+    ensures { λ r. ⌜ view (ackCursor r (now (starts .exit)) (now (ends .exit)) (runs - 1)) ≡ joinedAt at (view (ackCursor committed (now (starts .entry)) (now (ends .entry)) runs)) ⌝ }
+{
+    let end = ends[at];
+    tables::remove_128(starts, runs, at, at + 1);
+    tables::remove_128(ends, runs, at, at + 1);
+    stretch(committed, ends, at, end)
+}
+
+// What a commit in place answers, beside the columns.
+struct Moved {
+    advanced: bool,
+    committed: u64,
+    runs: usize,
+}
+
+// A commit in place: what `commit_up_to` does to the parts of a cursor.
+fn commit_in_place(
+    committed: u64,
+    starts: &mut [u64; RANGES],
+    ends: &mut [u64; RANGES],
+    runs: usize,
+    bound: u64,
+) -> Moved
+    requires { ⌜ Whole (ackCursor committed (now starts) (now ends) runs) ⌝ }
+    ensures { λ r. ⌜ Updated (ackCursor committed (now (starts .entry)) (now (ends .entry)) runs) (done (r .advanced)) (ackCursor (r .committed) (now (starts .exit)) (now (ends .exit)) (r .runs)) (commitUpTo (view (ackCursor committed (now (starts .entry)) (now (ends .entry)) runs)) bound) ⌝ }
+{
+    if bound <= committed {
+        return Moved {
+            advanced: false,
+            committed,
+            runs,
+        };
+    }
+    let k = partition_point(starts, runs, bound);
+    let end = end_before(committed, ends, k);
+    tables::remove_128(starts, runs, 0, k);
+    tables::remove_128(ends, runs, 0, k);
+    Moved {
+        advanced: true,
+        committed: larger(bound, end),
+        runs: runs - k,
+    }
+}
+
+// Where an offset stands. Places count from 0, and committed is the end before place 0.
+enum Spot {
+    // Acked before, or the last offset of all.
+    Settled,
+    // At the end before this place.
+    Behind(usize),
+    // At the end before this place, and the range at it starts right behind.
+    Between(usize),
+    // Right before the range at this place.
+    Before(usize),
+    // Next to nothing, and this is its place.
+    Apart(usize),
+}
+
+// Where offset x stands.
+fn locate(committed: u64, starts: &[u64; RANGES], ends: &[u64; RANGES], runs: usize, x: u64) -> Spot
+    requires { ⌜ Whole (ackCursor committed (now starts) (now ends) runs) ⌝ }
+    ensures { λ r. ⌜ Spotted (view (ackCursor committed (now (starts .entry)) (now (ends .entry)) runs)) x r ⌝ }
+{
+    if x == MAX {
+        return Spot::Settled;
+    }
+    let i = partition_point(starts, runs, x);
+    let end = end_before(committed, ends, i);
+    if x < end {
+        return Spot::Settled;
+    }
+    let next = stands_at(starts, runs, i, x + 1);
+    if end == x {
+        if next {
+            return Spot::Between(i);
+        }
+        return Spot::Behind(i);
+    }
+    if next {
+        return Spot::Before(i);
+    }
+    Spot::Apart(i)
+}
+
+// Moves the end before a place, which is committed at the first place. Answers committed.
+fn stretch(committed: u64, ends: &mut [u64; RANGES], at: usize, end: u64) -> u64
+    requires { ⌜ at ≤ 128 ⌝ }
+    ensures { λ r. ⌜ r ∷ now (ends .exit) ≡ set (committed ∷ now (ends .entry)) at end ⌝ }
+{
+    if at == 0 {
+        return end;
+    }
+    let k = at - 1;
+    ends[k] = end;
+    committed
+}
+
+// The end before a place, which is committed at the first place.
+fn end_before(committed: u64, ends: &[u64; RANGES], at: usize) -> u64
+    requires { ⌜ at ≤ 128 ⌝ }
+    ensures { λ r. ⌜ r ≡ getD (committed ∷ now (ends .entry)) at 0 ⌝ }
+{
+    if at == 0 {
+        return committed;
+    }
+    let k = at - 1;
+    ends[k]
+}
+
+// Whether x stands at a place of the first n numbers of a column.
+fn stands_at(column: &[u64; RANGES], n: usize, at: usize, x: u64) -> bool
+    requires { ⌜ n ≤ 128 ⌝ }
+    ensures { λ r. ⌜ r ≡ (ltb at n && eqb (getD (now (column .entry)) at 0) x) ⌝ }
+{
+    if at < n {
+        return column[at] == x;
+    }
+    false
+}
+
+// How many of the first n numbers of a column, which rise, are at most x.
+fn partition_point(column: &[u64; RANGES], n: usize, x: u64) -> usize
+    requires { ⌜ (length (now column) ≡ 128) × (n ≤ 128) × Ascending 0 (take n (now column)) ⌝ }
+    ensures { λ r. ⌜ r ≡ upTo x (take n (now (column .entry))) ⌝ }
+{
+    let mut low: usize = 0;
+    let mut high = n;
+    while low < high {
+        let middle = low + (high - low) / 2;
+        if column[middle] <= x {
+            low = middle + 1;
+        } else {
+            high = middle;
+        }
+    }
+    low
 }

@@ -6,6 +6,7 @@ ghost use lib.ListN.{length, take};
 ghost use Rattle.types.specs.Refusal.{done};
 ghost use Rattle.delivery.specs.Policy.{unlimited, disposition, nackBackoff, effectiveNackDelay};
 ghost use Rattle.delivery.specs.Config.{view, Sound, dispositionOf, delayOf, ConfiguredIs, RefusedIs, FlushingIs};
+use types::limits::MAX32;
 
 // What a consumer says of a message that it was handed.
 pub enum AckVerb {
@@ -65,7 +66,7 @@ pub fn lacks_opt_in(max_deliver: u32, allow_unlimited: bool) -> bool
     if max_deliver == 0 {
         return true;
     }
-    max_deliver == 4294967295
+    max_deliver == MAX32
 }
 
 // The backoffs at the front of an array.
@@ -144,7 +145,8 @@ impl DeliveryConfig {
         }
     }
 
-    // The same config with another flush threshold. 0 is taken here and refused (3) where a consumer starts.
+    // The same config with another flush threshold: the counts on the disk are at most that many redeliveries behind. In the Rust 0
+    // switches the trigger off, so that they fall behind without a bound; it is taken here and refused (3) where a consumer starts.
     pub fn with_attempts_flush_redeliveries(mut self, n: u32) -> DeliveryConfig
         ensures { λ r. ⌜ FlushingIs self n r ⌝ }
     {

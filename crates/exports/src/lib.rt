@@ -26,6 +26,8 @@ use cursor::SnapshotError;
 use raw::Write;
 use types::Offset;
 use types::Pair;
+use types::limits::PAIRS;
+use types::limits::RANGES;
 use types::numbers::shorter;
 
 // 01's number of an answer, 0 where nothing is refused, and its values, 0 where there are fewer than two.
@@ -128,7 +130,7 @@ fn pairs_told(outcome: attempt::Decode) -> Told
 }
 
 // Puts the first n numbers of a column at the front of a lent one.
-fn list_column(column: &[u64; 128], n: usize, out: &mut [u64])
+fn list_column(column: &[u64; RANGES], n: usize, out: &mut [u64])
     requires { ⌜ (length (now column) ≡ 128) × (n ≤ 128) × (n ≤ length (now out)) ⌝ }
     ensures { λ _. ⌜ now (out .exit) ≡ front (take n (now (column .entry))) (now (out .entry)) ⌝ }
 {
@@ -140,7 +142,7 @@ fn list_column(column: &[u64; 128], n: usize, out: &mut [u64])
 }
 
 // Puts the offsets of the first n pairs at the front of a lent column.
-fn list_offsets(pairs: [Pair; 128], n: usize, out: &mut [u64])
+fn list_offsets(pairs: [Pair; PAIRS], n: usize, out: &mut [u64])
     requires { ⌜ (n ≤ 128) × (n ≤ length (now out)) ⌝ }
     ensures { λ _. ⌜ now (out .exit) ≡ front (keysOf (entriesOf (take n pairs))) (now (out .entry)) ⌝ }
 {
@@ -152,7 +154,7 @@ fn list_offsets(pairs: [Pair; 128], n: usize, out: &mut [u64])
 }
 
 // Puts the counts of the first n pairs at the front of a lent column.
-fn list_attempts(pairs: [Pair; 128], n: usize, out: &mut [u32])
+fn list_attempts(pairs: [Pair; PAIRS], n: usize, out: &mut [u32])
     requires { ⌜ (n ≤ 128) × (n ≤ length (now out)) ⌝ }
     ensures { λ _. ⌜ now (out .exit) ≡ front (valuesOf (entriesOf (take n pairs))) (now (out .entry)) ⌝ }
 {
@@ -164,7 +166,7 @@ fn list_attempts(pairs: [Pair; 128], n: usize, out: &mut [u32])
 }
 
 // The first n pairs of two columns at the front of an array.
-fn gathered<'a>(offsets: &'a [u64], attempts: &'a [u32], n: usize) -> [Pair; 128]
+fn gathered<'a>(offsets: &'a [u64], attempts: &'a [u32], n: usize) -> [Pair; PAIRS]
     requires { ⌜ (n ≤ 128) × (n ≤ length (now offsets)) × (n ≤ length (now attempts)) ⌝ }
     ensures { λ r. ⌜ entriesOf (take n r) ≡ take n (entries (now (offsets .entry)) (now (attempts .entry))) ⌝ }
 {
@@ -172,7 +174,7 @@ fn gathered<'a>(offsets: &'a [u64], attempts: &'a [u32], n: usize) -> [Pair; 128
         offset: 0,
         attempt: 0,
     };
-    let mut pairs = [none; 128];
+    let mut pairs = [none; PAIRS];
     let mut i: usize = 0;
     while i < n {
         pairs[i] = Pair {
@@ -249,7 +251,7 @@ pub extern "C" fn ninotskev_encode_attempts<'a>(
     ensures { λ r. ⌜ crossed r (now (out .exit)) ≡ cross one (encodeInto (entries (now (offsets .entry)) (now (attempts .entry))) at (now (out .entry))) ⌝ }
 {
     let n = shorter(offsets.len(), attempts.len());
-    let pairs = gathered(offsets, attempts, shorter(n, 128));
+    let pairs = gathered(offsets, attempts, shorter(n, PAIRS));
     encode_told(attempt::encode_pairs(pairs, n, out, at))
 }
 

@@ -12,6 +12,7 @@ ghost use Rattle.journal.specs.Area.{badLength, outside};
 ghost use Rattle.journal.specs.Sound.{isKind, heads, formed, soundHeader, soundBody};
 ghost use Rattle.journal.specs.Walks.{firstUnsound, orUnsound, groupAt, contents};
 ghost use Rattle.journal.specs.Answers.{fill, writeBlock, walkIn, readPayload, headerIn, headerOf, blockOf, filledOf, foundOf, walkedOf, payloadOf};
+use types::numbers::shorter;
 
 // What the header of a group says: its number, the generation ceiling, and the lengths of the cursor snapshot and of
 // the attempt snapshot.
@@ -146,7 +147,7 @@ fn write_body(block: &mut [u8], number: u32, index: u8, payload: &[u8]) -> Fille
         return Filled::BadArea;
     }
     let from = chunk_start(index, payload.len());
-    let to = lesser(from + 500, payload.len());
+    let to = shorter(from + 500, payload.len());
     put_body(block, number, index, &payload[from..to]);
     Filled::Written
 }
@@ -259,7 +260,7 @@ pub fn is_sound_body(block: &[u8], number: u64, index: u8, used: u16) -> bool
     if bytes != used {
         return false;
     }
-    let from = lesser(8 + used as usize, 508);
+    let from = shorter(8 + used as usize, 508);
     raw::all_zero(&block[from..508])
 }
 
@@ -318,7 +319,7 @@ pub fn walk(area: &[u8], hi: usize, first_number: u64, first_block: usize) -> Wa
     if bad_length(area.len()) {
         return Walked::BadArea;
     }
-    let end = lesser(hi, area.len() / 512);
+    let end = shorter(hi, area.len() / 512);
     let mut last = LastGroup::None;
     let mut number = first_number;
     let mut at = first_block;
@@ -372,7 +373,7 @@ fn copy_payload(area: &[u8], first: usize, total: usize, out: &mut [u8])
     let mut at = first;
     let mut copied: usize = 0;
     while copied < total {
-        let size = lesser(500, total - copied);
+        let size = shorter(500, total - copied);
         let from = 512 * at + 8;
         let to = from + size;
         raw::write_bytes(out, copied, &area[from..to]);
@@ -419,12 +420,5 @@ fn chunk_start(index: u8, len: usize) -> usize
     if index == 0 {
         return 0;
     }
-    lesser(500 * (index as usize - 1), len)
-}
-
-// The smaller of two numbers.
-fn lesser(a: usize, b: usize) -> usize
-    ensures { λ r. ⌜ r ≡ min a b ⌝ }
-{
-    if a < b { a } else { b }
+    shorter(500 * (index as usize - 1), len)
 }

@@ -4,6 +4,8 @@ pub mod Lookups
 pub mod Generations
 pub mod Counts
 pub mod Slots
+mod CountsHanded
+pub mod OffsetsHanded
 mod Bounds
 mod Returns
 mod Claims

@@ -20,6 +20,8 @@ use types::lent;
 use types::lent::AttemptCounts;
 use types::lent::Listed;
 use types::lent::OffsetList;
+use types::limits::CARRIED;
+use types::limits::COUNTS;
 
 impl LeaseTable {
     // Carries attempt counts over from before a restart: the next claim of an offset goes on from its count. A count of 0 says
@@ -116,8 +118,8 @@ impl LeaseTable {
         ensures { λ r. ⌜ ListsCounts r (attemptCounts (view self)) ⌝ }
     {
         let len = self.len;
-        let mut offsets = [0u64; 192];
-        let mut attempts = [0u32; 192];
+        let mut offsets = [0u64; COUNTS];
+        let mut attempts = [0u32; COUNTS];
         let mut i: usize = 0;
         while i < len {
             offsets[i] = self.offsets[i];
@@ -151,7 +153,7 @@ impl LeaseTable {
         ensures { λ r. ⌜ ListsOffsets r (expired (view self) now) ⌝ }
     {
         let len = self.len;
-        let mut offsets = [0u64; 128];
+        let mut offsets = [0u64; CARRIED];
         let mut n: usize = 0;
         let mut i: usize = 0;
         while i < len {

@@ -20,6 +20,9 @@ use tables::Place;
 use tables::counts;
 use types::Generation;
 use types::Offset;
+use types::limits::CARRIED;
+use types::limits::LEASES;
+use types::limits::MAX;
 use types::numbers;
 
 mod lent;
@@ -183,7 +186,7 @@ impl Lease {
                 next: fence.0,
             };
         }
-        if fence.0 == 18446744073709551615 {
+        if fence.0 == MAX {
             return Requeue {
                 outcome: NackOutcome::Exhausted,
                 lease: self,
@@ -263,12 +266,12 @@ pub enum Attempts {
 #[repr(C)]
 pub struct LeaseTable {
     pub config: LeaseConfig,
-    pub offsets: [u64; 64],
-    pub leases: [Lease; 64],
+    pub offsets: [u64; LEASES],
+    pub leases: [Lease; LEASES],
     pub len: usize,
     // The counts that a restart carried over: an offset's first lease takes its count over and goes on from it.
-    pub carried_offsets: [u64; 128],
-    pub carried_counts: [u32; 128],
+    pub carried_offsets: [u64; CARRIED],
+    pub carried_counts: [u32; CARRIED],
     pub carried_len: usize,
     // What the next grant or nack takes.
     pub next_generation: Generation,
@@ -308,14 +311,15 @@ pub struct Changed {
 }
 
 impl LeaseTable {
-    // An empty table.
+    // An empty table. Its generations begin at 0, so by itself it fences off no token from before a restart: whoever keeps leases over
+    // restarts begins above every generation given before (`starting_at`), as the consumer does.
     pub fn new(config: LeaseConfig) -> LeaseTable
         ensures { λ r. ⌜ Becomes r (startingAt config 0) ⌝ }
     {
         LeaseTable::starting_at(config, Generation(0))
     }
 
-    // An empty table of the default configuration.
+    // An empty table of the default configuration, which begins at generation 0 as `new` does.
     pub fn default() -> LeaseTable
         ensures { λ r. ⌜ Becomes r (startingAt defaultConfig 0) ⌝ }
     {
@@ -334,11 +338,11 @@ impl LeaseTable {
         };
         LeaseTable {
             config: config,
-            offsets: [0; 64],
-            leases: [none; 64],
+            offsets: [0; LEASES],
+            leases: [none; LEASES],
             len: 0,
-            carried_offsets: [0; 128],
-            carried_counts: [0; 128],
+            carried_offsets: [0; CARRIED],
+            carried_counts: [0; CARRIED],
             carried_len: 0,
             next_generation: generation,
             redeliveries_since_flush: 0,
@@ -418,13 +422,13 @@ impl LeaseTable {
             Place::Missing(at) => at,
         };
         let generation = self.next_generation;
-        if generation.0 == 18446744073709551615 {
+        if generation.0 == MAX {
             return Claimed {
                 outcome: Claim::Exhausted,
                 table: self,
             };
         }
-        if 64 <= len {
+        if LEASES <= len {
             return Claimed {
                 outcome: Claim::Full,
                 table: self,
@@ -480,7 +484,7 @@ impl LeaseTable {
                 table: self,
             };
         }
-        if self.next_generation.0 == 18446744073709551615 {
+        if self.next_generation.0 == MAX {
             return Claimed {
                 outcome: Claim::Exhausted,
                 table: self,
@@ -501,7 +505,9 @@ impl LeaseTable {
     }
 
     // Puts the lease of an offset under another generation, if it still has the one that the caller claimed it under: whoever
-    // claimed it since keeps the fence.
+    // claimed it since keeps the fence. Messages that are handed out as one batch come under one generation so; an offset and a
+    // generation together still name one hand-out. The new generation is to be one that was given before, below the next: then a
+    // later claim of the offset takes another, and fences the batch's token off.
     pub fn reseal_from_to(
         mut self,
         offset: Offset,
@@ -612,8 +618,9 @@ impl LeaseTable {
         now < lease.deadline
     }
 
-    // Gives the lease that the token owns up: the message can be claimed again after the delay, which no cap bounds. A new
-    // generation fences the token off, and the count stays for the next claim.
+    // Gives the lease that the token owns up: the message can be claimed again after the delay, which no cap bounds, since it belongs
+    // to the next attempt. A new generation fences the token off, so that no ack of it can settle what it gave up, and the count
+    // stays for the next claim.
     pub fn nack(mut self, token: LeaseToken, now: u64, delay_nanos: u64) -> Nacked
         requires { ⌜ Sound self ⌝ }
         ensures { λ r. ⌜ Answers (nackOf (r .outcome)) self (r .table) (nack (view self) (token .offset .0) (token .generation .0) now «delay_nanos») ⌝ }
@@ -649,7 +656,8 @@ impl LeaseTable {
         Attempts::Some(lease.deliveries)
     }
 
-    // Puts a lease that has run out off by a delay, which no cap bounds; generation and count stay.
+    // Puts a lease that has run out off by a delay, which no cap bounds; generation and count stay, since nobody is to be fenced off
+    // and nothing was handed out.
     pub fn defer_redelivery(mut self, offset: Offset, now: u64, delay_nanos: u64) -> Changed
         requires { ⌜ Sound self ⌝ }
         ensures { λ r. ⌜ Tries (r .changed) self (r .table) (deferRedelivery (view self) (offset .0) now «delay_nanos») ⌝ }
@@ -703,6 +711,6 @@ fn to_nanos(ms: u64) -> u64
     if ms <= 18446744073709 {
         ms * 1000000
     } else {
-        18446744073709551615
+        MAX
     }
 }

@@ -3,6 +3,7 @@
 // elsewhere.
 ghost use mathlib.Core.Path.{_≡_};
 ghost use Rattle.redeliveries.specs.Counter.{afterGrant, afterFlush, counter};
+use types::limits::MAX32;
 
 #[repr(C)]
 pub struct Redeliveries {
@@ -52,7 +53,7 @@ fn raised(since_flush: u32, deliveries: u32) -> u32
     if deliveries < 2 {
         return since_flush;
     }
-    if since_flush == 4294967295 {
+    if since_flush == MAX32 {
         return since_flush;
     }
     since_flush + 1

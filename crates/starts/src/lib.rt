@@ -27,6 +27,9 @@ use lease::LeaseTable;
 use types::Generation;
 use types::Offset;
 use types::Pair;
+use types::limits::CARRIED;
+use types::limits::LEASES;
+use types::limits::PAIRS;
 
 // What a start or a restart answers: a consumer, or a refusal: 1 to 5, the cursor snapshot's (6 to 12), or the attempt
 // snapshot's (13 to 19), as its decoder has it.
@@ -95,8 +98,8 @@ fn fresh(configuration: Configuration, area_len: usize) -> Consumer
 
 // The counts that a restart carries, by offset: the first `len` places of each array.
 struct Carried {
-    offsets: [u64; 128],
-    counts: [u32; 128],
+    offsets: [u64; CARRIED],
+    counts: [u32; CARRIED],
     len: usize,
 }
 
@@ -112,12 +115,12 @@ fn is_carried(cursor: AckCursor, pair: Pair) -> bool
 }
 
 // The nonzero counts of offsets that are not settled, of the first `count` pairs.
-fn carry(cursor: AckCursor, pairs: [Pair; 128], count: usize) -> Carried
+fn carry(cursor: AckCursor, pairs: [Pair; PAIRS], count: usize) -> Carried
     requires { ⌜ cursors.Sound cursor × (count ≤ 128) ⌝ }
     ensures { λ r. ⌜ CarriedIs (unsettledCounts (cursors.view cursor) (entriesOf (take count pairs))) r ⌝ }
 {
-    let mut offsets = [0u64; 128];
-    let mut counts = [0u32; 128];
+    let mut offsets = [0u64; CARRIED];
+    let mut counts = [0u32; CARRIED];
     let mut len: usize = 0;
     let mut i: usize = 0;
     while i < count {
@@ -150,8 +153,8 @@ fn resumed_table(config: LeaseConfig, ceiling: u64, carried: Carried) -> LeaseTa
     let carried_counts = carried.counts;
     LeaseTable {
         config: config,
-        offsets: [0; 64],
-        leases: [none; 64],
+        offsets: [0; LEASES],
+        leases: [none; LEASES],
         len: 0,
         carried_offsets: carried_offsets,
         carried_counts: carried_counts,

@@ -1,6 +1,5 @@
 // Attempt counts in columns: the count of an offset, one pair more, and two sorted lists of them in one.
 ghost use mathlib.Core.Path.{_≡_};
-ghost use Prim.Native.Nat.{max};
 ghost use lib.ListN.{take, drop, getD};
 ghost use Rattle.types.specs.Keyed.{entries};
 ghost use Rattle.types.specs.Lists.{entryOf, countsIn, ListsCounts};
@@ -10,6 +9,9 @@ ghost use Rattle.tables.specs.Merge.{merge, first, headOf, lower, picked
 use crate::Place;
 use types::Pair;
 use types::lent::AttemptCounts;
+use types::limits::CARRIED;
+use types::limits::COUNTS;
+use types::numbers::larger_count;
 
 // The places of a key, one or none, and the count there, 0 where there is none.
 pub struct Span {
@@ -59,8 +61,8 @@ fn count_at(counts: &[u32], at: usize) -> u32
 // The carried counts while pairs are taken in one by one, in the first `len` places of two columns; or there would be more than
 // 128.
 pub struct Carried {
-    pub offsets: [u64; 128],
-    pub counts: [u32; 128],
+    pub offsets: [u64; CARRIED],
+    pub counts: [u32; CARRIED],
     pub len: usize,
     pub full: bool,
 }
@@ -85,7 +87,7 @@ pub fn carry_pair(mut carried: Carried, pair: Pair) -> Carried
         }
         Place::Missing(at) => at,
     };
-    if len == 128 {
+    if len == CARRIED {
         carried.full = true;
         return carried;
     }
@@ -105,12 +107,12 @@ pub fn merged<'a>(
 ) -> AttemptCounts
     ensures { λ r. ⌜ ListsCounts r (take 192 (merge (countsIn counts) (entries (take len (now (others .entry))) (take len (now («other_counts» .entry)))))) ⌝ }
 {
-    let mut offsets = [0u64; 192];
-    let mut attempts = [0u32; 192];
+    let mut offsets = [0u64; COUNTS];
+    let mut attempts = [0u32; COUNTS];
     let mut i: usize = 0;
     let mut j: usize = 0;
     let mut k: usize = 0;
-    let mut end: usize = 192;
+    let mut end: usize = COUNTS;
     while k < end {
         let left = pair_at(&counts.offsets, &counts.attempts, counts.len, i);
         let right = pair_at(others, other_counts, len, j);
@@ -201,14 +203,8 @@ fn pick_lower(a: Pair, b: Pair) -> Pick
     }
     Pick {
         offset: a.offset,
-        attempt: larger(b.attempt, a.attempt),
+        attempt: larger_count(b.attempt, a.attempt),
         left: 1,
         right: 1,
     }
-}
-
-fn larger(a: u32, b: u32) -> u32
-    ensures { λ r. ⌜ r ≡ max a b ⌝ }
-{
-    if a < b { b } else { a }
 }

@@ -13,3 +13,5 @@ pub mod Lists
 pub mod Loops
 pub mod Listing
 pub mod Walk
+pub mod Asking
+pub mod Filling

@@ -4,6 +4,7 @@ ghost use mathlib.Core.Path.{_≡_};
 ghost use Rattle.types.specs.Identifiers.{offset, checkedNext, nextOf};
 
 pub mod lent;
+pub mod limits;
 pub mod numbers;
 
 // A position in the log: it names a message.
@@ -57,7 +58,7 @@ impl Offset {
         ensures { λ r. ⌜ nextOf r ≡ checkedNext (self .0) ⌝ }
     {
         let value = self.0;
-        if value == 18446744073709551615 {
+        if value == limits::MAX {
             return NextOffset::None;
         }
         NextOffset::Some(Offset(value + 1))

@@ -24,6 +24,9 @@ add-result c = search needs
 returns : tie.Need-returns
 returns c = search needs
 
+add-result-2 : tie.Need-add-result-2
+add-result-2 c = search needs
+
 returns-2 : tie.Need-returns-2
 returns-2 c =
     let a = c .before .args in
@@ -39,4 +42,5 @@ note-range-spec =
     element-write-ends
     add-result
     returns
+    add-result-2
     returns-2)

@@ -24,11 +24,11 @@ within : (c : tie.In-loop Inv-loop μ-loop)
     → c .before .loop .at < start c .args .first + bodiesFor (start c .args .total)
 within c = copy-within _ _ _ _ (start c .pre .0) (start c .pre .1) _ _ _ (c .before .loop .inv) (c .loop-test .taken)
 
-sub-lesser : tie.Need-sub-lesser Inv-loop μ-loop
-sub-lesser c = omega arith
+sub-shorter : tie.Need-sub-shorter Inv-loop μ-loop
+sub-shorter c = omega arith
 
-lesser-requires : tie.Need-lesser-requires Inv-loop μ-loop
-lesser-requires c κs = tt
+shorter-requires : tie.Need-shorter-requires Inv-loop μ-loop
+shorter-requires c κs = tt
 
 mul-from : tie.Need-mul-from Inv-loop μ-loop
 mul-from c = omega (arith, within (c .before))
@@ -46,31 +46,31 @@ part-write-bytes-start : tie.Need-part-write-bytes-start Inv-loop μ-loop
 part-write-bytes-start c = omega arith
 
 part-write-bytes-end : tie.Need-part-write-bytes-end Inv-loop μ-loop
-part-write-bytes-end c = omega (arith, within (c .before .before), c .before .lesser .ensures)
+part-write-bytes-end c = omega (arith, within (c .before .before), c .before .shorter .ensures)
 
 write-bytes-requires : tie.Need-write-bytes-requires Inv-loop μ-loop
 write-bytes-requires c κs = tt
 
-abbrev sized : tie.After-slice-known2 Inv-loop μ-loop → tie.After-lesser Inv-loop μ-loop
+abbrev sized : tie.After-slice-known2 Inv-loop μ-loop → tie.After-shorter Inv-loop μ-loop
 sized c = c .before .before .before .before .before
 
 add-copied : tie.Need-add-copied Inv-loop μ-loop
 add-copied c =
     let s = start (sized c .before) in
-    omega (arith, sized c .lesser .ensures, sized c .before .loop-test .taken, s .pre .1, s .good)
+    omega (arith, sized c .shorter .ensures, sized c .before .loop-test .taken, s .pre .1, s .good)
 
 add-at : tie.Need-add-at Inv-loop μ-loop
 add-at c = omega (arith, within (sized c .before), start (sized c .before) .pre .0, start (sized c .before) .good)
 
 loop-less : tie.Need-loop-less Inv-loop μ-loop
-loop-less c = omega (arith, sized c .lesser .ensures, sized c .before .loop-test .taken)
+loop-less c = omega (arith, sized c .shorter .ensures, sized c .before .loop-test .taken)
 
 loop-again : tie.Need-loop-again Inv-loop μ-loop
 loop-again c =
     let s = start (sized c .before) in
     copy-more _ _ _ _ (s .pre .0) (s .pre .1) _ _ _ (sized c .before .before .loop .inv) _
     (sized c .before .loop-test .taken)
-    (sized c .lesser .ensures)
+    (sized c .shorter .ensures)
     _
     _
     (c .before .before .write-bytes .ensures)
@@ -90,8 +90,8 @@ copy-payload-spec =
     Inv-loop
     μ-loop
     loop-holds
-    sub-lesser
-    lesser-requires
+    sub-shorter
+    shorter-requires
     mul-from
     add-from
     add-to

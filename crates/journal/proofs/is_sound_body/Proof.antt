@@ -39,11 +39,11 @@ read-u16-requires c κs = search needs
 returns-4 : tie.Need-returns-4
 returns-4 c = no-body _ _ _ _ (λ b. c .if4 .taken (c .before .read-u16 .ensures ∙ b .bytes))
 
-add-lesser : tie.Need-add-lesser
-add-lesser c = search needs
+add-shorter : tie.Need-add-shorter
+add-shorter c = search needs
 
-lesser-requires : tie.Need-lesser-requires
-lesser-requires c κs = search needs
+shorter-requires : tie.Need-shorter-requires
+shorter-requires c κs = search needs
 
 sub-all-zero : tie.Need-sub-all-zero
 sub-all-zero c = search needs
@@ -51,7 +51,7 @@ sub-all-zero c = search needs
 part-all-zero-start : tie.Need-part-all-zero-start
 part-all-zero-start c = search needs
 
-abbrev first : tie.After-lesser → tie.Else1
+abbrev first : tie.After-shorter → tie.Else1
 first c = c .before .before .before .before .before .before .before
 
 part-all-zero-end : tie.Need-part-all-zero-end
@@ -65,7 +65,7 @@ returns-5 c =
     let l = c .before .before in
     let i = l .before .before .before in
     c .all-zero .ensures
-    ∙ body-test _ _ _ _ _ (l .lesser .ensures) (kind (first l))
+    ∙ body-test _ _ _ _ _ (l .shorter .ensures) (kind (first l))
     (sym (i .before .before .before .read-u32 .ensures) ∙ i .before .before .if2 .left)
     (i .if3 .left)
     (sym (l .before .before .read-u16 .ensures) ∙ l .before .if4 .left)
@@ -83,8 +83,8 @@ is-sound-body-spec =
     returns-3
     read-u16-requires
     returns-4
-    add-lesser
-    lesser-requires
+    add-shorter
+    shorter-requires
     sub-all-zero
     part-all-zero-start
     part-all-zero-end

@@ -13,11 +13,11 @@ returns c = fill-refused _ _ (c .if1 .taken)
 chunk-start-requires : tie.Need-chunk-start-requires
 chunk-start-requires c κs = search needs
 
-add-lesser : tie.Need-add-lesser
-add-lesser c = search needs
+add-shorter : tie.Need-add-shorter
+add-shorter c = search needs
 
-lesser-requires : tie.Need-lesser-requires
-lesser-requires c κs = search needs
+shorter-requires : tie.Need-shorter-requires
+shorter-requires c κs = search needs
 
 sub-put-body : tie.Need-sub-put-body
 sub-put-body c = search needs
@@ -45,7 +45,7 @@ returns-2 c =
     ∙ ap (bodyBlock (a .number) (a .index))
     (chunk-part (a .index) _ _ (a .payload .now)
     (started c .chunk-start .ensures)
-    (c .before .before .before .before .before .lesser .ensures)))
+    (c .before .before .before .before .before .shorter .ensures)))
 
 pub write-body-spec : {M : Type 1} → statement M
 write-body-spec =
@@ -53,8 +53,8 @@ write-body-spec =
     (tie.spec
     returns
     chunk-start-requires
-    add-lesser
-    lesser-requires
+    add-shorter
+    shorter-requires
     sub-put-body
     part-put-body-start
     part-put-body-end

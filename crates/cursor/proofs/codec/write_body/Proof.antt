@@ -6,8 +6,8 @@ use borrow.Author.Needs.{needs}
 use Rattle.cursor.specs.View.{ackCursor, view}
 use Rattle.cursor.proofs.View.{count}
 use Rattle.cursor.proofs.Writing.{body-put}
-use Rattle.cursor.proofs.write_body.Statement.{statement}
-use Rattle.cursor.proofs.write_body.Tie as tie
+use Rattle.cursor.proofs.codec.write_body.Statement.{statement}
+use Rattle.cursor.proofs.codec.write_body.Tie as tie
 
 slice-write-out : tie.Need-slice-write-out
 slice-write-out c = search needs

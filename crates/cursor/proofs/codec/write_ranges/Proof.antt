@@ -10,8 +10,8 @@ use Rattle.raw.specs.Bytes.{overwrite}
 use Rattle.cursor.specs.Ranges.{range}
 use Rattle.cursor.specs.Snapshot.{rangesBytes}
 use Rattle.cursor.proofs.Writing.{put-more, put-end}
-use Rattle.cursor.proofs.write_ranges.Statement.{statement}
-use Rattle.cursor.proofs.write_ranges.Tie as tie
+use Rattle.cursor.proofs.codec.write_ranges.Statement.{statement}
+use Rattle.cursor.proofs.codec.write_ranges.Tie as tie
 
 abbrev Inv-loop : tie.InvT-loop
 Inv-loop starts ends n out₀ at pos₀ i₀ out pos i =
