@@ -1,21 +1,17 @@
 -- Lists that stand in two columns of which the first n places are in use, as a loop goes over them, and the pieces that are put for
--- marks, empty lists and values. Assumes nothing.
+-- marks and empty lists. Assumes nothing.
 use Prim.Native.Nat.{ℕ, zero, suc, _+_, _≤_, _<_, min}
 use native.Mathlib.Numerals.{add-one}
 use native.Mathlib.Omega.{arith}
 use mathlib.Core.Path.{_≡_, refl, sym, ap, _∙_}
 use mathlib.Core.List.{List, [], _∷_, _++_, map}
 use lib.ListN.{length, take, drop, getD, length-map, length-take, drop-of-length-le}
-use lib.Dec.{ltb}
-use borrow.Author.Tests.{lt-ltb}
 use Rattle.types.specs.Zipped.{zipped}
 use Rattle.types.specs.Keyed.{Entry, entry, entries}
 use Rattle.lease.specs.Operations.{lease}
 use Rattle.lease.specs.declared.Lease.{Lease}
 use Rattle.text.specs.Output.{ascii}
-use Rattle.answers.specs.Told.{toldOf}
-use Rattle.answers.specs.declared.Told.{Told}
-use Rattle.shown.specs.Shown.{valuesText, valueWhere, mark, noneWhere}
+use Rattle.shown.specs.Shown.{mark, noneWhere}
 
 module _ {A B C : Type 0} (f : A → B → C) where
   few : (xs : List A) (ys : List B) → length (zipped f xs ys) ≤ length xs
@@ -68,7 +64,7 @@ noLease = lease 0 0 0 0
 pub length-mapped : {A B : Type 0} (f : A → B) (l : List A) (n : ℕ) → length (map f l) ≡ n → length l ≡ n
 length-mapped f l n e = sym (length-map l f) ∙ e
 
--- ## marks, empty lists, values
+-- ## marks and empty lists
 pub mark-later : (i : ℕ) → 0 < i → mark i ≡ ascii ","
 mark-later zero h = absurd (omega arith)
 mark-later (suc i) h = refl
@@ -76,13 +72,3 @@ mark-later (suc i) h = refl
 pub some-there : (n : ℕ) → 0 < n → noneWhere n ≡ []
 some-there zero h = absurd (omega arith)
 some-there (suc n) h = refl
-
-values-of : (n a b : ℕ) → valuesText (take n (a ∷ b ∷ [])) ≡ valueWhere (ltb 0 n) a ++ valueWhere (ltb 1 n) b
-values-of zero a b = refl
-values-of (suc zero) a b = refl
-values-of (suc (suc zero)) a b = refl
-values-of (suc (suc (suc n))) a b = rw (lt-ltb 0 (suc (suc (suc n))) (omega arith), lt-ltb 1 (suc (suc (suc n))) (omega arith))
-
--- the values of a refusal: none, one or two
-pub values-told : (t : Told) → valuesText (toldOf t .values) ≡ valueWhere (ltb 0 (t .count)) (t .first) ++ valueWhere (ltb 1 (t .count)) (t .second)
-values-told t = values-of (t .count) (t .first) (t .second)

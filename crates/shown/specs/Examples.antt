@@ -1,14 +1,13 @@
--- Lines as they are read: the pieces of a template, a refusal and lists of ranges, put together, by computation.
+-- Lines as they are read: the pieces of a template and of lists of ranges, put together, by computation.
 use Prim.Native.Nat.{ℕ}
 use mathlib.Core.Path.{_≡_, refl}
 use mathlib.Core.List.{List, [], _∷_, _++_}
-use Rattle.types.specs.Refusal.{numbered, EmptyRange}
 use Rattle.text.specs.Output as output
 use Rattle.text.specs.Output.{ascii}
 use Rattle.text.specs.Words as words
 use Rattle.text.specs.Templates.{templateAt, filled}
 use Rattle.cursor.specs.Ranges.{range}
-use Rattle.shown.specs.Shown.{refusalLine, rangesText}
+use Rattle.shown.specs.Shown.{rangesText}
 
 abbrev joined : List (List ℕ) → List ℕ
 joined [] = []
@@ -18,10 +17,6 @@ joined (p ∷ ps) = p ++ joined ps
 pub dead-letter : joined (filled (templateAt 1 (ascii "deliver # # #\n|deadletter # # #\n")) (0 ∷ 4098 ∷ 3 ∷ 0 ∷ [])) ≡ ascii "deadletter 0 4098 3\n"
 unfolding output.decimalIn words.lengthTo words.parts
 dead-letter = refl
-
-pub empty-range : joined (refusalLine (numbered (EmptyRange 5 5))) ≡ ascii "refused 10 5 5\n"
-unfolding output.decimalIn
-empty-range = refl
 
 pub no-range : joined (rangesText []) ≡ ascii " ranges none"
 no-range = refl

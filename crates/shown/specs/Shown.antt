@@ -1,36 +1,19 @@
--- What the programs print of a refusal and of a consumer's state: pieces of text, one behind the other.
+-- What the programs print of a consumer's state: pieces of text, one behind the other.
 use Prim.Native.Nat.{ℕ, zero, suc}
-use mathlib.Core.Bool.{Bool, cond}
 use mathlib.Core.List.{List, [], _∷_, _++_}
 use lib.ListN.{length}
 use Rattle.types.specs.Keyed.{Entry}
-use Rattle.types.specs.Refusal.{Told}
 use Rattle.text.specs.Output.{ascii, decimal, each}
+use Rattle.text.specs.Templates.{filled}
 use Rattle.cursor.specs.View as cursor
 use Rattle.cursor.specs.declared.AckCursor.{AckCursor}
 use Rattle.cursor.specs.declared.Range.{Range}
 use Rattle.lease.specs.declared.Lease.{Lease}
 use Rattle.consumer.specs.State.{State}
 
--- ## numbers behind texts
+-- a number behind a text
 abbrev pub textNumber : List ℕ → ℕ → List (List ℕ)
 textNumber text n = text ∷ decimal n ∷ []
-
-abbrev pub numberLine : List ℕ → ℕ → List (List ℕ)
-numberLine text n = text ∷ decimal n ∷ ascii "\n" ∷ []
-
--- a value behind a space, where it is there
-abbrev pub valueWhere : Bool → ℕ → List (List ℕ)
-valueWhere there n = cond there (ascii " " ∷ decimal n ∷ []) []
-
--- ## refusals
-abbrev pub valuesText : List ℕ → List (List ℕ)
-valuesText [] = []
-valuesText (v ∷ vs) = ascii " " ∷ decimal v ∷ valuesText vs
-
--- 01's number and values
-abbrev pub refusalLine : Told → List (List ℕ)
-refusalLine t = ascii "refused " ∷ decimal (t .number) ∷ (valuesText (t .values) ++ (ascii "\n" ∷ []))
 
 -- ## lists
 -- what stands in front of entry i
@@ -56,8 +39,8 @@ rangeText r = decimal (r .start) ∷ ascii "-" ∷ decimal (r .end) ∷ []
 -- offset, generation, attempt start, deadline, deliveries
 abbrev pub leaseText : Entry Lease → List (List ℕ)
 leaseText e =
-    decimal (e .key) ∷ ascii ":" ∷ decimal (e .value .generation .0) ∷ ascii ":" ∷ decimal (e .value .«attempt_start»)
-    ∷ ascii ":" ∷ decimal (e .value .deadline) ∷ ascii ":" ∷ decimal (e .value .deliveries) ∷ []
+    filled (ascii "#:#:#:#") (e .key ∷ e .value .generation .0 ∷ e .value .«attempt_start» ∷ e .value .deadline ∷ [])
+    ++ textNumber (ascii ":") (e .value .deliveries)
 
 -- offset, count
 abbrev pub countText : Entry ℕ → List (List ℕ)
@@ -79,9 +62,8 @@ aheadOf c = cursor.view c .ahead
 -- generations, the redelivery counter, and where the next group goes
 abbrev pub numbersText : State → List (List ℕ)
 numbersText s =
-    ascii " next " ∷ decimal (s .table .nextGeneration) ∷ ascii " ceiling " ∷ decimal (s .ceiling)
-    ∷ ascii " counter " ∷ decimal (s .table .redeliveries) ∷ ascii " group " ∷ decimal (s .seat .number)
-    ∷ ascii " block " ∷ decimal (s .seat .block) ∷ ascii "\n" ∷ []
+    filled (ascii " next # ceiling # counter # group #") (s .table .nextGeneration ∷ s .ceiling ∷ s .table .redeliveries ∷ s .seat .number ∷ [])
+    ++ filled (ascii " block #\n") (s .seat .block ∷ [])
 
 abbrev pub stateLine : State → List (List ℕ)
 stateLine s =

@@ -1,18 +1,17 @@
-// What the programs print alike: refusals, and the state of a consumer.
+// What the programs print alike: the state of a consumer.
 ghost use mathlib.Core.List.{[], _∷_};
 ghost use Rattle.types.specs.Keyed.{entry};
 ghost use Rattle.lease.specs.State.{leasesOf, carriedOf};
 ghost use Rattle.consumer.specs.View.{view};
-ghost use Rattle.answers.specs.Told.{toldOf};
 ghost use Rattle.text.specs.Output.{Says};
-ghost use Rattle.shown.specs.Shown.{textNumber, numberLine, valueWhere, refusalLine, mark, noneWhere, rangesText, aheadOf, leaseText, leasesText, carriedText, numbersText, stateLine};
-use answers::Told;
+ghost use Rattle.shown.specs.Shown.{textNumber, mark, noneWhere, rangesText, aheadOf, leaseText, leasesText, carriedText, numbersText, stateLine};
 use consumer::Consumer;
 use cursor::AckCursor;
 use lease::Lease;
 use lease::LeaseTable;
 use text::output::put;
 use text::output::put_number;
+use text::templates::fill;
 use types::numbers::wide;
 
 // A text and a number behind it.
@@ -21,34 +20,6 @@ pub fn with(out: &mut [u8], at: usize, text: &[u8], n: u64) -> usize
 {
     let next = put(out, at, text);
     put_number(out, next, n)
-}
-
-// A line of a text and a number.
-pub fn numbered(out: &mut [u8], at: usize, text: &[u8], n: u64) -> usize
-    ensures { λ r. ⌜ Says (numberLine (now (text .entry)) n) at (now (out .entry)) r (now (out .exit)) ⌝ }
-{
-    let next = with(out, at, text, n);
-    put(out, next, b"\n")
-}
-
-// A value behind a space, where it is there.
-pub fn value(out: &mut [u8], at: usize, there: bool, n: u64) -> usize
-    ensures { λ r. ⌜ Says (valueWhere there n) at (now (out .entry)) r (now (out .exit)) ⌝ }
-{
-    if there {
-        return with(out, at, b" ", n);
-    }
-    at
-}
-
-// A refusal: 01's number and values.
-pub fn refused(out: &mut [u8], at: usize, told: Told) -> usize
-    ensures { λ r. ⌜ Says (refusalLine (toldOf told)) at (now (out .entry)) r (now (out .exit)) ⌝ }
-{
-    let number = with(out, at, b"refused ", told.number);
-    let first = value(out, number, 0 < told.count, told.first);
-    let second = value(out, first, 1 < told.count, told.second);
-    put(out, second, b"\n")
 }
 
 // What stands in front of entry i of a list, and what an empty list is.
@@ -92,10 +63,13 @@ pub fn ranges(out: &mut [u8], at: usize, cursor: AckCursor) -> usize
 fn lease(out: &mut [u8], at: usize, offset: u64, lease: Lease) -> usize
     ensures { λ r. ⌜ Says (leaseText (entry offset lease)) at (now (out .entry)) r (now (out .exit)) ⌝ }
 {
-    let mut next = put_number(out, at, offset);
-    next = with(out, next, b":", lease.generation.0);
-    next = with(out, next, b":", lease.attempt_start);
-    next = with(out, next, b":", lease.deadline);
+    let times = [
+        offset,
+        lease.generation.0,
+        lease.attempt_start,
+        lease.deadline,
+    ];
+    let next = fill(out, at, b"#:#:#:#", 0, times);
     with(out, next, b":", lease.deliveries as u64)
 }
 
@@ -138,16 +112,20 @@ fn carried(out: &mut [u8], at: usize, table: LeaseTable) -> usize
 fn numbers(out: &mut [u8], at: usize, consumer: Consumer) -> usize
     ensures { λ r. ⌜ Says (numbersText (view consumer)) at (now (out .entry)) r (now (out .exit)) ⌝ }
 {
-    let mut next = with(out, at, b" next ", consumer.table.next_generation.0);
-    next = with(out, next, b" ceiling ", consumer.ceiling.0);
-    next = with(
+    let numbers = [
+        consumer.table.next_generation.0,
+        consumer.ceiling.0,
+        wide(consumer.table.redeliveries_since_flush),
+        consumer.seat.number,
+    ];
+    let next = fill(out, at, b" next # ceiling # counter # group #", 0, numbers);
+    fill(
         out,
         next,
-        b" counter ",
-        wide(consumer.table.redeliveries_since_flush),
-    );
-    next = with(out, next, b" group ", consumer.seat.number);
-    numbered(out, next, b" block ", consumer.seat.block as u64)
+        b" block #\n",
+        0,
+        [consumer.seat.block as u64, 0, 0, 0],
+    )
 }
 
 // The whole state.
