@@ -20,7 +20,7 @@ use Rattle.journal.specs.Blocks.{headerBlock, bodyBlock}
 use Rattle.journal.specs.Sound.{isKind, formed, soundHeader, soundBody}
 use Rattle.journal.specs.Walks.{stop, groupAt, walkOver, walkFrom, payload}
 use Rattle.journal.specs.Answers.{fill, writeBlock, walkIn, readPayload}
-use Rattle.consumer.specs.State.{Configuration, State, stateOf, seatAt}
+use Rattle.consumer.specs.State.{Configuration, State, stateOf, seatAt, badArea}
 use Rattle.checkpoint.specs.Checkpoint.{begin, step, writing}
 use Rattle.starts.specs.Restart.{start, fresh, readGroup, fromWalk, restart}
 use Rattle.cases.specs.States.{rangesFrom, leaseConfig, tableOf}
@@ -51,27 +51,27 @@ start-zero-threshold = refl
 
 -- 4 for no bytes, for parts of a block and for 129 blocks; from 1 to 128 blocks a start
 pub start-on-nothing : start accepted 0 ≡ refused BadArea
-unfolding start
+unfolding start badArea
 start-on-nothing = refl
 
 pub start-below-a-block : start accepted 511 ≡ refused BadArea
-unfolding start
+unfolding start badArea
 start-below-a-block = refl
 
 pub start-above-a-block : start accepted 513 ≡ refused BadArea
-unfolding start
+unfolding start badArea
 start-above-a-block = refl
 
 pub start-on-129-blocks : start accepted 66048 ≡ refused BadArea
-unfolding start
+unfolding start badArea
 start-on-129-blocks = refl
 
 pub start-on-a-block : start accepted 512 ≡ done (fresh accepted 512)
-unfolding start
+unfolding start badArea
 start-on-a-block = refl
 
 pub start-on-128-blocks : start accepted 65536 ≡ done (fresh accepted 65536)
-unfolding start
+unfolding start badArea
 start-on-128-blocks = refl
 
 -- ## restart
@@ -81,21 +81,21 @@ headed behind = headerBlock 1 4096 493 9 ++ behind
 
 -- 4 before 5
 pub restart-bad-area-before-damaged : restart accepted (headed (replicate 1025 0)) ≡ refused BadArea
-unfolding restart headerBlock
+unfolding restart badArea headerBlock
 restart-bad-area-before-damaged = refl
 
 -- 5 with the first unsound body, counted from 0
 pub restart-first-body-damaged : restart accepted (headed (replicate 1024 0)) ≡ refused (Damaged 1)
-unfolding restart fromWalk walkFrom walkOver groupAt soundHeader formed soundBody isKind isSealed blockAt headerBlock crc bits unbits polynomial xor
+unfolding restart badArea fromWalk walkFrom walkOver groupAt soundHeader formed soundBody isKind isSealed blockAt headerBlock crc bits unbits polynomial xor
 restart-first-body-damaged = refl
 
 pub restart-second-body-damaged : restart accepted (headed (bodyBlock 1 1 (replicate 500 7) ++ replicate 512 0)) ≡ refused (Damaged 2)
-unfolding restart fromWalk walkFrom walkOver groupAt soundHeader formed soundBody isKind isSealed blockAt headerBlock bodyBlock crc bits unbits polynomial xor
+unfolding restart badArea fromWalk walkFrom walkOver groupAt soundHeader formed soundBody isKind isSealed blockAt headerBlock bodyBlock crc bits unbits polynomial xor
 restart-second-body-damaged = refl
 
 -- a header whose bodies the area has no room for is not sound, and what is no header damages nothing
 pub restart-header-without-room : restart accepted (headed (replicate 512 0)) ≡ done (fresh accepted 1024)
-unfolding restart fromWalk walkFrom walkOver groupAt soundHeader formed isKind isSealed blockAt headerBlock crc bits unbits polynomial xor
+unfolding restart badArea fromWalk walkFrom walkOver groupAt soundHeader formed isKind isSealed blockAt headerBlock crc bits unbits polynomial xor
 restart-header-without-room = refl
 
 -- the header of group 1 with snapshots of 13 and 9 bytes, and the group with these bytes as its payload

@@ -72,7 +72,9 @@ fn stop_said(last: LastGroup, number: u64, block: u64) -> Said {
 }
 
 fn walk(out: &mut [u8], at: usize, area: &[u8]) -> usize {
-    let end = walk_said(journal::walk(area, area.len() / 512, 1, 0));
+    let from = starts::origin(area);
+    let walked = journal::walk(area, area.len() / 512, from.number, from.block);
+    let end = walk_said(walked);
     let numbers = end.numbers;
     fill(
         out,
