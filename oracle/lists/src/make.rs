@@ -480,6 +480,7 @@ impl Maker {
             say!(self, "list add {} {attempt}", self.random.below(8));
         }
         say!(self, "lease resume");
+        say!(self, "lease counts");
         say!(self, "lease all");
         for now in [5, 10, 20] {
             for _ in 0..6 {
