@@ -1,6 +1,6 @@
 // A checkpoint, block write by block write: begin takes the consumer into a writing record, each step makes the next block
 // write, and the last one, the header's, gives the consumer back. While a record is out there is no consumer to call.
-ghost use Prim.Native.Nat.{_≤_};
+ghost use Prim.Native.Nat.{_≤_, _+_};
 ghost use mathlib.Core.Path.{_≡_};
 ghost use lib.ListN.{take};
 ghost use Rattle.types.specs.Limits.{sat64};
@@ -8,6 +8,7 @@ ghost use Rattle.types.specs.Lists.{entriesOf, countsIn, counted};
 ghost use Rattle.raw.specs.Bytes.{outcomeOf};
 ghost use Rattle.attempt.specs.Codec.{encodeOf};
 ghost use Rattle.journal.specs.Area.{writeAt};
+ghost use Rattle.journal.specs.Blocks.{bodiesFor};
 ghost use Rattle.journal.specs.Answers.{blockOf};
 ghost use Rattle.consumer.specs.View.{view, Sound};
 ghost use Rattle.checkpoint.specs.Checkpoint.{payloadOf};
@@ -168,6 +169,14 @@ fn encoded(consumer: Consumer) -> Writing
     }
 }
 
+// Bodies for the two snapshots of a group.
+fn bodies_of(cursor_len: usize, attempt_len: usize) -> usize
+    requires { ⌜ («cursor_len» ≤ 4000) × («attempt_len» ≤ 4000) ⌝ }
+    ensures { λ r. ⌜ r ≡ bodiesFor («cursor_len» + «attempt_len») ⌝ }
+{
+    (cursor_len + attempt_len + 499) / 500
+}
+
 // Takes a consumer into a record of the group to be written; nothing is written yet. Refused where fewer blocks are left than
 // the group needs (31).
 pub fn begin(consumer: Consumer) -> Begun
@@ -175,7 +184,7 @@ pub fn begin(consumer: Consumer) -> Begun
     ensures { λ r. ⌜ BegunIs consumer r ⌝ }
 {
     let writing = encoded(consumer);
-    let writes = (writing.cursor_len + writing.attempt_len + 499) / 500 + 1;
+    let writes = bodies_of(writing.cursor_len, writing.attempt_len) + 1;
     if consumer.area_len / 512 < consumer.seat.block + writes {
         return Begun {
             answer: BeginAnswer::JournalFull,
@@ -202,7 +211,7 @@ impl Writing {
             };
         }
         let first = self.consumer.seat.block;
-        let bodies = (self.cursor_len + self.attempt_len + 499) / 500;
+        let bodies = bodies_of(self.cursor_len, self.attempt_len);
         let written = self.written;
         let mut writing = self;
         if bodies <= written {

@@ -35,11 +35,8 @@ returns c =
     let s = c .before .before .before in
     step-refused (s .args .self) (s .pre) (s .args .area .now) (search needs)
 
-add-bodies : tie.Need-add-bodies
-add-bodies c = let s = begun (c .before) in omega (arith, fits s .cursor-len, fits s .attempt-len)
-
-add-bodies-2 : tie.Need-add-bodies-2
-add-bodies-2 c = let s = begun (c .before) in omega (arith, fits s .cursor-len, fits s .attempt-len)
+bodies-of-requires : tie.Need-bodies-of-requires
+bodies-of-requires c κs = let s = begun c in (omega (arith, fits s .cursor-len), omega (arith, fits s .attempt-len))
 
 -- ---- the header
 header-block-requires : tie.Need-header-block-requires
@@ -54,7 +51,7 @@ put-block-requires c κs =
 flushed-requires : tie.Need-flushed-requires
 flushed-requires c κs =
     let s = begun (c .before .before .before .before .before .before .before) in
-    record-fits (s .args .self) (s .pre)
+    rw (c .before .before .before .before .before .before .bodies-of .ensures) (record-fits (s .args .self) (s .pre))
 
 same-length : tie.Need-same-length
 same-length c = search needs
@@ -79,8 +76,8 @@ add-block c = let s = begun (c .before .before) in omega (arith, fits s .block, 
 cast-number : tie.Need-cast-number
 cast-number c = let s = begun (c .before .before .before) in omega (arith, fits s .number)
 
-cast-t20 : tie.Need-cast-t20
-cast-t20 c = let s = begun (c .before .before .before) in omega (arith, fits s .written)
+cast-t19 : tie.Need-cast-t19
+cast-t19 c = let s = begun (c .before .before .before) in omega (arith, fits s .written)
 
 put-block-requires-2 : tie.Need-put-block-requires-2
 put-block-requires-2 c κs =
@@ -106,8 +103,7 @@ step-spec =
     tie.close
     (tie.spec
     returns
-    add-bodies
-    add-bodies-2
+    bodies-of-requires
     header-block-requires
     put-block-requires
     flushed-requires
@@ -116,7 +112,7 @@ step-spec =
     add-index
     add-block
     cast-number
-    cast-t20
+    cast-t19
     put-block-requires-2
     same-length-2
     returns-3)
