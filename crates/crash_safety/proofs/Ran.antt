@@ -149,9 +149,9 @@ unfolding RanIsRun
 ran-is-run m a is es last end s r = runs s r
 
 -- ## from a start
--- a state that can be called is valid, so its policy's numbers are of their types
-idle-fits : (n : ℕ) (w : Writing) (s : State) → phaseAt n w ≡ idle s → SoundAt n w → Fits (s .settings .policy)
-idle-fits zero w s e h = let same : view (w .consumer) ≡ s = cc in rw (← same) (h .valid .policy .fits)
+-- a state that can be called is valid, so the numbers of its settings are of their types
+idle-fits : (n : ℕ) (w : Writing) (s : State) → phaseAt n w ≡ idle s → SoundAt n w → Fits (s .settings)
+idle-fits zero w s e h = let same : view (w .consumer) ≡ s = cc in rw (← same) (h .valid .fits)
 idle-fits (suc zero) w s e h = absurd (let z : _≡_ {A = ℕ} 0 1 = cc in omega arith)
 idle-fits (suc (suc n)) w s e h = absurd (let z : _≡_ {A = ℕ} 0 1 = cc in omega arith)
 
@@ -160,7 +160,7 @@ record Fresh (s : Configuration) (size : ℕ) (m : Machine) : Type 0 where
   state : State
   is : start (configurationOf s) size ≡ done state
   phase : phaseOf m ≡ idle state
-  fits : Fits (configurationOf s .settings .policy)
+  fits : Fits (configurationOf s .settings)
 
 fresh-from : (s : Configuration) (size : ℕ) (r : Started) → StartedIs s size r → r .answer ≡ answers.Started → Fresh s size (r .machine)
 unfolding start
@@ -175,7 +175,7 @@ fresh-from s size r h e =
       state = v;
       is = is;
       phase = phase;
-      fits = rw (ap (λ (x : State). x .settings .policy) same) (idle-fits (r .machine .phase) w v phase (h .sound));
+      fits = rw (ap (λ (x : State). x .settings) same) (idle-fits (r .machine .phase) w v phase (h .sound));
     }
 
 -- a restart of a machine that is off is not refused where the journal can be read
