@@ -4,7 +4,7 @@ use mathlib.Core.List.{[], _∷_}
 use lib.ListN.{take}
 use Rattle.types.specs.Refusal.{numbered, Result, answered}
 use Rattle.types.specs.Refusal as refusal
-use Rattle.attempt.specs.Codec.{decodeOf}
+use Rattle.attempt.specs.Codec.{attemptError}
 use Rattle.cursor.specs.Answers.{snapshotError}
 use Rattle.checkpoint.specs.declared.BeginAnswer.{BeginAnswer}
 use Rattle.checkpoint.specs.declared.BeginAnswer.the-variants as begins
@@ -34,4 +34,4 @@ faultIn starts.ZeroThreshold = numbered refusal.ZeroThreshold
 faultIn starts.BadArea = numbered refusal.BadArea
 faultIn (starts.Damaged block) = numbered (refusal.Damaged block)
 faultIn (starts.Cursor error) = numbered (snapshotError error)
-faultIn (starts.Attempts decoded) = refusalIn (decodeOf decoded)
+faultIn (starts.Attempts error) = numbered (attemptError error)

@@ -3,11 +3,11 @@
 ghost use mathlib.Core.Path.{_≡_};
 ghost use Rattle.types.specs.Refusal.{numbered};
 ghost use Rattle.cursor.specs.Answers.{rangesError, snapshotError};
-ghost use Rattle.attempt.specs.Codec.{decodeOf};
+ghost use Rattle.attempt.specs.Codec.{attemptError};
 ghost use Rattle.consumer.specs.View.{claimOf, settleOf, nackOf, progressOf, commitOf};
 ghost use Rattle.checkpoint.specs.Writing.{stepOf};
 ghost use Rattle.answers.specs.Told.{with, toldOf, refusalIn, beginRefusal, faultIn};
-use attempt::Decode;
+use attempt::AttemptSnapshotError;
 use checkpoint::BeginAnswer;
 use checkpoint::StepAnswer;
 use consumer::calls::ClaimAnswer;
@@ -143,26 +143,28 @@ pub fn of_cursor(error: SnapshotError) -> Told
     }
 }
 
-pub fn of_attempts(answer: Decode) -> Told
-    ensures { λ r. ⌜ toldOf r ≡ refusalIn (decodeOf answer) ⌝ }
+pub fn of_attempts(error: AttemptSnapshotError) -> Told
+    ensures { λ r. ⌜ toldOf r ≡ numbered (attemptError error) ⌝ }
 {
-    match answer {
-        Decode::Pairs(_) => tell(0, 0, 0, 0),
-        Decode::Truncated => tell(13, 0, 0, 0),
-        Decode::UnsupportedVersion(version) => tell(14, 1, version as u64, 0),
-        Decode::BadLength { len } => tell(15, 1, len as u64, 0),
-        Decode::CountMismatch { declared, actual } => tell(16, 2, declared as u64, actual),
-        Decode::BadCrc => tell(17, 0, 0, 0),
-        Decode::NotSorted {
+    match error {
+        AttemptSnapshotError::Truncated => tell(13, 0, 0, 0),
+        AttemptSnapshotError::UnsupportedVersion(version) => tell(14, 1, version as u64, 0),
+        AttemptSnapshotError::BadLength { len } => tell(15, 1, len as u64, 0),
+        AttemptSnapshotError::CountMismatch { declared, actual } => tell(
+            16,
+            2,
+            declared as u64,
+            actual,
+        ),
+        AttemptSnapshotError::BadCrc => tell(17, 0, 0, 0),
+        AttemptSnapshotError::NotSorted {
             offset,
             prev_offset,
         } => tell(18, 2, offset, prev_offset),
-        Decode::TooManyPairs => tell(19, 0, 0, 0),
-        Decode::OutTooShort => tell(20, 0, 0, 0),
+        AttemptSnapshotError::TooManyPairs => tell(19, 0, 0, 0),
     }
 }
 
-// A start or a restart is refused by no answer of an attempt decoder that has pairs.
 pub fn of_start(answer: StartAnswer) -> Told
     ensures { λ r. ⌜ toldOf r ≡ faultIn answer ⌝ }
 {
@@ -174,6 +176,6 @@ pub fn of_start(answer: StartAnswer) -> Told
         StartAnswer::BadArea => tell(4, 0, 0, 0),
         StartAnswer::Damaged { block } => tell(5, 1, block as u64, 0),
         StartAnswer::Cursor(error) => of_cursor(error),
-        StartAnswer::Attempts(decoded) => of_attempts(decoded),
+        StartAnswer::Attempts(error) => of_attempts(error),
     }
 }

@@ -21,14 +21,15 @@ use Rattle.raw.specs.Bytes.{numberAt}
 use Rattle.crc.specs.Seal.{isSealed}
 use Rattle.attempt.specs.Snapshot.{readPair, readPairs, pairCount, pairsIn, orderAfter, orderTable, limitTable, pairsTable}
 use Rattle.attempt.specs.Snapshot.{decodeTable, decodeAttempts, decodeInto}
-use Rattle.attempt.specs.Codec.{blank, decodeOf, DecodedIs, RefusedIs, RoomIs}
+use Rattle.attempt.specs.Codec.{blank, attemptError, fillOf, DecodedIs, RefusedIs, RoomIs}
 use Rattle.types.specs.declared.Pair.{Pair}
 use Rattle.types.specs.Lists.{entryOf, entriesOf, counted}
 use Rattle.attempt.specs.declared.Decoded.{Decoded}
-use Rattle.attempt.specs.declared.Decode.{Decode}
-use Rattle.attempt.specs.declared.Decode.the-variants.{Pairs, Truncated, UnsupportedVersion, BadLength, CountMismatch}
-use Rattle.attempt.specs.declared.Decode.the-variants.{BadCrc, NotSorted, TooManyPairs, OutTooShort}
-use Rattle.attempt.proofs.Decode.{the-type}
+use Rattle.attempt.specs.declared.AttemptSnapshotError.{AttemptSnapshotError}
+use Rattle.attempt.specs.declared.Decode.the-variants as outcomes
+use Rattle.attempt.specs.declared.Fill.{Fill}
+use Rattle.attempt.specs.declared.Fill.the-variants.{Pairs, Refused, OutTooShort}
+use Rattle.attempt.proofs.Fill.{the-type}
 use Rattle.attempt.proofs.Snapshot.{length-read, accepted, accepts, fill-room, fill-short}
 
 -- ---- the tests of `check`, in their order
@@ -128,22 +129,13 @@ module _ (b : List ℕ) (n pos : ℕ) where
 -- ---- outcomes
 
 -- an outcome of the arms behind that of pairs
-abbrev pub Other : Decode → Type 0
-Other d = OneOf (1 ∷ 2 ∷ 3 ∷ 4 ∷ 5 ∷ 6 ∷ 7 ∷ 8 ∷ []) (tagOf the-type d)
+abbrev pub Other : Fill → Type 0
+Other d = OneOf (1 ∷ 2 ∷ []) (tagOf the-type d)
 
-other-refused : (d : Decode) → Other d → (q : Refusal) × (decodeOf d ≡ refused q)
-other-refused (Pairs n) h = absurd (miss (1 ∷ 2 ∷ 3 ∷ 4 ∷ 5 ∷ 6 ∷ 7 ∷ 8 ∷ []) 0 tt h)
-other-refused Truncated h = (_, refl)
-other-refused (UnsupportedVersion v) h = (_, refl)
-other-refused (BadLength n) h = (_, refl)
-other-refused (CountMismatch d n) h = (_, refl)
-other-refused BadCrc h = (_, refl)
-other-refused (NotSorted o p) h = (_, refl)
-other-refused TooManyPairs h = (_, refl)
-other-refused OutTooShort h = (_, refl)
-
-pub other-counted : (d : Decode) → Other d → 0 ≡ counted (decodeOf d)
-other-counted d h = sym (ap counted (other-refused d h .1))
+pub other-counted : (d : Fill) → Other d → 0 ≡ counted (fillOf d)
+other-counted (Pairs n) h = absurd (miss (1 ∷ 2 ∷ []) 0 tt h)
+other-counted (Refused error) h = refl
+other-counted OutTooShort h = refl
 
 module _ (b : List ℕ) where
   -- the tests refused, or let n pairs through
@@ -172,45 +164,40 @@ module _ (b : List ℕ) where
     no-room lent short = rw decoded-bytes (fill-short (readPairs n 5 b) lent n (length-read n 5 b) short)
 
   -- ---- what `decode_pairs` answers
-  pub refuses : (d : Decode) (r : Decoded) → Other d → decodeOf d ≡ answered b → RefusedIs d r → DecodedIs b r
-  refuses d r h e k =
-      let f = other-refused d h in
-      let bytes = refused-bytes (f .0) (sym (f .1) ∙ e) in
-      record { is = rw (k .outcome-is, k .pairs, f .1, bytes); count = rw (k .outcome-is, f .1) (k .count) }
+  pub refuses : (error : AttemptSnapshotError) (r : Decoded) → refused (attemptError error) ≡ answered b → RefusedIs error r → DecodedIs b r
+  refuses error r e k =
+      let bytes = refused-bytes (attemptError error) e in
+      record { is = rw (k .outcome-is, k .pairs, bytes); count = rw (k .outcome-is) (k .count) }
 
   pub decodes : (n : ℕ) (pairs : List Pair) → done n ≡ answered b → entriesOf pairs ≡ readPairs n 5 b ++ drop n (entriesOf blank)
-      → DecodedIs b (record { outcome = Pairs n; pairs = pairs; count = n })
+      → DecodedIs b (record { outcome = outcomes.Pairs n; pairs = pairs; count = n })
   decodes n pairs e g =
       let room : n ≤ length (entriesOf blank) = omega (arith, fits n e .0, length-map blank entryOf, length-blank) in
       record { is = rw g (sym (into n e (entriesOf blank) room)); count = refl }
 
   -- ---- what `check_room` answers
   module _ (room : ℕ) where
-    pub room-short : (d : Decode) → decodeOf d ≡ answered b → room < counted (decodeOf d) → RoomIs b room OutTooShort
-    room-short d e h = go (decodeOf d) e h
-      where
-        go : (a : Result ℕ) → a ≡ answered b → room < counted a → RoomIs b room OutTooShort
-        go (refused q) e h = absurd (omega arith)
-        go (done n) e h =
-            record {
-              is = λ lent size. sym (no-room n e lent (omega arith));
-              within = omega arith;
-              fits = omega arith;
-            }
+    pub room-refused : (error : AttemptSnapshotError) → refused (attemptError error) ≡ answered b → RoomIs b room (Refused error)
+    room-refused error e =
+        record {
+          is = λ lent size. rw (refused-bytes (attemptError error) e);
+          within = omega arith;
+          fits = omega arith;
+        }
 
-    pub room-enough : (d : Decode) → decodeOf d ≡ answered b → counted (decodeOf d) ≤ room → RoomIs b room d
-    room-enough d e h = go (decodeOf d) refl e h
-      where
-        go : (a : Result ℕ) → decodeOf d ≡ a → a ≡ answered b → counted a ≤ room → RoomIs b room d
-        go (refused q) p e h =
-            record {
-              is = λ lent size. rw (p, refused-bytes q e);
-              within = rw p (omega arith);
-              fits = rw p (omega arith);
-            }
-        go (done n) p e h =
-            record {
-              is = λ lent size. rw p (sym (into n e lent (omega arith)));
-              within = rw p (omega (arith, fits n e .1));
-              fits = rw p h;
-            }
+    module _ (n : ℕ) (e : done n ≡ answered b) where
+      pub room-short : room < n → RoomIs b room OutTooShort
+      room-short h =
+          record {
+            is = λ lent size. sym (no-room n e lent (omega arith));
+            within = omega arith;
+            fits = omega arith;
+          }
+
+      pub room-enough : n ≤ room → RoomIs b room (Pairs n)
+      room-enough h =
+          record {
+            is = λ lent size. sym (into n e lent (omega arith));
+            within = omega (arith, fits n e .1);
+            fits = h;
+          }

@@ -5,7 +5,7 @@ use mathlib.Core.List.{List, [], _∷_, _++_}
 use lib.Dec.{ltb}
 use lib.ListN.{length, take, drop, replicate}
 use Rattle.types.specs.Limits.{PAIRS}
-use Rattle.types.specs.Refusal.{Result, refused, done}
+use Rattle.types.specs.Refusal.{Refusal, Result, refused, done}
 use Rattle.types.specs.Refusal as refusal
 use Rattle.types.specs.Table.{_⇒_, Answer, answer, guarded}
 use Rattle.types.specs.Keyed.{Entry}
@@ -14,9 +14,13 @@ use Rattle.types.specs.declared.Pair.{Pair}
 use Rattle.attempt.specs.Snapshot.{encodeInto, readPairs, decodeInto}
 use Rattle.attempt.specs.declared.Encode.{Encode}
 use Rattle.attempt.specs.declared.Encode.the-variants as encodes
+use Rattle.attempt.specs.declared.AttemptSnapshotError.{AttemptSnapshotError}
+use Rattle.attempt.specs.declared.AttemptSnapshotError.the-variants.{Truncated, UnsupportedVersion, BadLength, CountMismatch}
+use Rattle.attempt.specs.declared.AttemptSnapshotError.the-variants.{BadCrc, NotSorted, TooManyPairs}
 use Rattle.attempt.specs.declared.Decode.{Decode}
-use Rattle.attempt.specs.declared.Decode.the-variants.{Pairs, Truncated, UnsupportedVersion, BadLength, CountMismatch}
-use Rattle.attempt.specs.declared.Decode.the-variants.{BadCrc, NotSorted, TooManyPairs, OutTooShort}
+use Rattle.attempt.specs.declared.Decode.the-variants as decodes
+use Rattle.attempt.specs.declared.Fill.{Fill}
+use Rattle.attempt.specs.declared.Fill.the-variants as fills
 use Rattle.attempt.specs.declared.Decoded.{Decoded}
 
 -- an array without pairs
@@ -32,16 +36,23 @@ encodeOf (encodes.Next pos) = done pos
 encodeOf encodes.TooManyPairs = refused refusal.TooManyPairs
 encodeOf encodes.OutTooShort = refused refusal.OutTooShort
 
+abbrev pub attemptError : AttemptSnapshotError → Refusal
+attemptError Truncated = refusal.AttemptTruncated
+attemptError (UnsupportedVersion version) = refusal.AttemptUnsupportedVersion version
+attemptError (BadLength len) = refusal.AttemptBadLength len
+attemptError (CountMismatch declared actual) = refusal.CountMismatch declared actual
+attemptError BadCrc = refusal.AttemptBadCrc
+attemptError (NotSorted offset prev) = refusal.NotSorted offset prev
+attemptError TooManyPairs = refusal.TooManyPairs
+
 abbrev pub decodeOf : Decode → Result ℕ
-decodeOf (Pairs count) = done count
-decodeOf Truncated = refused refusal.AttemptTruncated
-decodeOf (UnsupportedVersion version) = refused (refusal.AttemptUnsupportedVersion version)
-decodeOf (BadLength len) = refused (refusal.AttemptBadLength len)
-decodeOf (CountMismatch declared actual) = refused (refusal.CountMismatch declared actual)
-decodeOf BadCrc = refused refusal.AttemptBadCrc
-decodeOf (NotSorted offset prev) = refused (refusal.NotSorted offset prev)
-decodeOf TooManyPairs = refused refusal.TooManyPairs
-decodeOf OutTooShort = refused refusal.OutTooShort
+decodeOf (decodes.Pairs count) = done count
+decodeOf (decodes.Refused error) = refused (attemptError error)
+
+abbrev pub fillOf : Fill → Result ℕ
+fillOf (fills.Pairs count) = done count
+fillOf (fills.Refused error) = refused (attemptError error)
+fillOf fills.OutTooShort = refused refusal.OutTooShort
 
 -- encoding the first n pairs of an array of 128: over 128 is 19
 abbrev pub encodeFirst : ℕ → List Pair → ℕ → List ℕ → Answer ℕ (List ℕ)
@@ -54,14 +65,14 @@ pub record DecodedIs (b : List ℕ) (r : Decoded) : Type 0 where
   pub count : r .count ≡ counted (decodeOf (r .outcome))
 
 -- a refusal
-pub record RefusedIs (outcome : Decode) (r : Decoded) : Type 0 where
-  pub outcome-is : r .outcome ≡ outcome
+pub record RefusedIs (error : AttemptSnapshotError) (r : Decoded) : Type 0 where
+  pub outcome-is : r .outcome ≡ decodes.Refused error
   pub pairs : r .pairs ≡ blank
   pub count : r .count ≡ 0
 
 -- the outcome for a lent list of a length, which the pairs in the bytes then go into, and that they are there and fit
-pub record RoomIs (b : List ℕ) (room : ℕ) (r : Decode) : Type 0 where
+pub record RoomIs (b : List ℕ) (room : ℕ) (r : Fill) : Type 0 where
   pub is : (lent : List (Entry ℕ)) → length lent ≡ room
-      → let n = counted (decodeOf r) in answer (decodeOf r) (readPairs n 5 b ++ drop n lent) ≡ decodeInto b lent
-  pub within : 12 * counted (decodeOf r) ≤ length b
-  pub fits : counted (decodeOf r) ≤ room
+      → let n = counted (fillOf r) in answer (fillOf r) (readPairs n 5 b ++ drop n lent) ≡ decodeInto b lent
+  pub within : 12 * counted (fillOf r) ≤ length b
+  pub fits : counted (fillOf r) ≤ room

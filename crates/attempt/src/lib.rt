@@ -10,7 +10,7 @@ ghost use Rattle.types.specs.Lists.{entryOf, entriesOf, counted};
 ghost use Rattle.raw.specs.Bytes.{overwrite};
 ghost use Rattle.attempt.specs.Snapshot.{pairBytes, pairsBytes, bodyBytes, encodeInto};
 ghost use Rattle.attempt.specs.Snapshot.{readPair, readPairs, pairCount, pairsTable, decodeTable, decodeInto};
-ghost use Rattle.attempt.specs.Codec.{blank, encodeOf, decodeOf};
+ghost use Rattle.attempt.specs.Codec.{blank, encodeOf, decodeOf, fillOf};
 ghost use Rattle.attempt.specs.Codec.{encodeFirst, DecodedIs, RefusedIs, RoomIs};
 use types::Pair;
 use types::limits::PAIRS;
@@ -31,9 +31,8 @@ pub enum Encode {
     OutTooShort,
 }
 
-// What decoding answers: the number of pairs, or a refusal, 13 to 20.
-pub enum Decode {
-    Pairs(usize),
+// Why bytes are no attempt snapshot: refusals 13 to 19.
+pub enum AttemptSnapshotError {
     Truncated,
     UnsupportedVersion(u8),
     BadLength { len: usize },
@@ -41,6 +40,18 @@ pub enum Decode {
     BadCrc,
     NotSorted { offset: u64, prev_offset: u64 },
     TooManyPairs,
+}
+
+// What decoding answers: the number of pairs, or a refusal.
+pub enum Decode {
+    Pairs(usize),
+    Refused(AttemptSnapshotError),
+}
+
+// What decoding into a lent list answers: that, or refusal 20.
+pub enum Fill {
+    Pairs(usize),
+    Refused(AttemptSnapshotError),
     OutTooShort,
 }
 
@@ -127,17 +138,17 @@ fn check_pairs(input: &[u8], count: usize) -> Decode
     while i < count {
         let offset = raw::read_u64(input, pos);
         if offset <= prev {
-            return Decode::NotSorted {
+            return Decode::Refused(AttemptSnapshotError::NotSorted {
                 offset: offset,
                 prev_offset: prev,
-            };
+            });
         }
         prev = offset;
         pos += PAIR_LEN;
         i += 1;
     }
     if PAIRS < count {
-        return Decode::TooManyPairs;
+        return Decode::Refused(AttemptSnapshotError::TooManyPairs);
     }
     Decode::Pairs(count)
 }
@@ -148,27 +159,27 @@ fn check(input: &[u8]) -> Decode
 {
     let len = input.len();
     if len < ATTEMPT_SNAPSHOT_MIN_LEN {
-        return Decode::Truncated;
+        return Decode::Refused(AttemptSnapshotError::Truncated);
     }
     let version = input[0];
     if version != SNAPSHOT_VERSION {
-        return Decode::UnsupportedVersion(version);
+        return Decode::Refused(AttemptSnapshotError::UnsupportedVersion(version));
     }
     let pairs_bytes = len - ATTEMPT_SNAPSHOT_MIN_LEN;
     if pairs_bytes % PAIR_LEN != 0 {
-        return Decode::BadLength { len: len };
+        return Decode::Refused(AttemptSnapshotError::BadLength { len: len });
     }
     let declared = raw::read_u32(input, 1);
     let count = declared as usize;
     let actual = pairs_bytes / PAIR_LEN;
     if count != actual {
-        return Decode::CountMismatch {
+        return Decode::Refused(AttemptSnapshotError::CountMismatch {
             declared: declared,
             actual: actual as u64,
-        };
+        });
     }
     if !crc::is_sealed(input) {
-        return Decode::BadCrc;
+        return Decode::Refused(AttemptSnapshotError::BadCrc);
     }
     check_pairs(input, actual)
 }
@@ -201,12 +212,12 @@ fn get_pairs(input: &[u8], count: usize) -> [Pair; PAIRS]
 }
 
 // The answer of a refusal.
-fn refused(outcome: Decode) -> Decoded
-    ensures { λ r. ⌜ RefusedIs outcome r ⌝ }
+fn refused(error: AttemptSnapshotError) -> Decoded
+    ensures { λ r. ⌜ RefusedIs error r ⌝ }
 {
     let pairs = no_pairs();
     Decoded {
-        outcome: outcome,
+        outcome: Decode::Refused(error),
         pairs: pairs,
         count: 0,
     }
@@ -217,37 +228,39 @@ fn refused(outcome: Decode) -> Decoded
 pub fn decode_pairs(input: &[u8]) -> Decoded
     ensures { λ r. ⌜ DecodedIs (now (input .entry)) r ⌝ }
 {
-    let outcome = check(input);
-    let Decode::Pairs(count) = outcome else {
-        return refused(outcome);
-    };
-    let pairs = get_pairs(input, count);
-    Decoded {
-        outcome: outcome,
-        pairs: pairs,
-        count: count,
+    match check(input) {
+        Decode::Pairs(count) => Decoded {
+            outcome: Decode::Pairs(count),
+            pairs: get_pairs(input, count),
+            count: count,
+        },
+        Decode::Refused(error) => refused(error),
     }
 }
 
-// How many pairs an outcome has.
-fn count_of(outcome: Decode) -> usize
-    ensures { λ r. ⌜ r ≡ counted (decodeOf outcome) ⌝ }
+// How many pairs go into a lent list.
+fn count_of(outcome: Fill) -> usize
+    ensures { λ r. ⌜ r ≡ counted (fillOf outcome) ⌝ }
 {
     match outcome {
-        Decode::Pairs(count) => count,
+        Fill::Pairs(count) => count,
         _ => 0,
     }
 }
 
 // Refusals 13 to 20, or the number of pairs, for a list with this much room.
-fn check_room(input: &[u8], room: usize) -> Decode
+fn check_room(input: &[u8], room: usize) -> Fill
     ensures { λ r. ⌜ RoomIs (now (input .entry)) room r ⌝ }
 {
-    let outcome = check(input);
-    if room < count_of(outcome) {
-        return Decode::OutTooShort;
+    match check(input) {
+        Decode::Pairs(count) => {
+            if room < count {
+                return Fill::OutTooShort;
+            }
+            Fill::Pairs(count)
+        }
+        Decode::Refused(error) => Fill::Refused(error),
     }
-    outcome
 }
 
 // The first n pairs of a lent list at the front of an array.
@@ -291,8 +304,8 @@ pub fn encode_attempt_snapshot(pairs: &[Pair], out: &mut [u8], at: usize) -> Enc
 // Fills a lent list with the pairs of a snapshot, from its first place on; the other places stay. Refused as `decode_pairs`
 // refuses, and then where the list is too short (20). Without the counts of a refused snapshot every message begins again at its
 // first attempt.
-pub fn decode_attempt_snapshot(input: &[u8], pairs: &mut [Pair]) -> Decode
-    ensures { λ r. ⌜ answer (decodeOf r) (entriesOf (now (pairs .exit))) ≡ decodeInto (now (input .entry)) (entriesOf (now (pairs .entry))) ⌝ }
+pub fn decode_attempt_snapshot(input: &[u8], pairs: &mut [Pair]) -> Fill
+    ensures { λ r. ⌜ answer (fillOf r) (entriesOf (now (pairs .exit))) ≡ decodeInto (now (input .entry)) (entriesOf (now (pairs .entry))) ⌝ }
 {
     let outcome = check_room(input, pairs.len());
     fill_pairs(input, pairs, count_of(outcome));

@@ -2,15 +2,14 @@
 use Prim.Native.Nat.{ℕ, _-_}
 use mathlib.Core.Bool.{Bool, true, false}
 use mathlib.Core.List.{List, [], _∷_, _++_}
-use mathlib.Core.Option.{Option, none, some}
 use lib.Dec.{ltb}
 use lib.ListN.{length}
 use Rattle.types.specs.Refusal.{Result, done, OutTooShort}
 use Rattle.types.specs.Table.{_⇒_, checked}
 use Rattle.types.specs.Keyed.{Entry, lookup}
 use Rattle.cursor.specs.Cursor.{settled}
-use Rattle.lease.specs.declared.Lease.{Lease}
 use Rattle.lease.specs.Operations.{leaseOf}
+use Rattle.lease.specs.Lookup.{leaseValues}
 use Rattle.lease.specs.Rest.{dueOffsets, inFlight}
 use Rattle.lease.specs.Counts.{allAttemptCounts}
 use Rattle.consumer.specs.State.{State, blocksOf, countOr0}
@@ -33,11 +32,6 @@ waiting s now room = checked (ltb room (length (waitingAt s now)) ⇒ OutTooShor
 abbrev pub bit : Bool → ℕ
 bit true = 1
 bit false = 0
-
--- the generation, attempt start, deadline and deliveries of a lease, or nothing
-abbrev pub leaseValues : Option Lease → List ℕ
-leaseValues none = []
-leaseValues (some l) = l .generation .0 ∷ l .«attempt_start» ∷ l .deadline ∷ l .deliveries ∷ []
 
 -- how often an offset was handed out, as the next checkpoint stores it
 abbrev pub countOf : State → ℕ → ℕ

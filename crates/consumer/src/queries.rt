@@ -5,7 +5,7 @@ ghost use Rattle.types.specs.Refusal.{done};
 ghost use Rattle.types.specs.Lists.{listed, listedOf, numbersOf, offsetsIn};
 ghost use Rattle.types.specs.Table.{answer};
 ghost use Rattle.lease.specs.Lookup.{leaseAt};
-ghost use Rattle.consumer.specs.Questions.{waitingAt, bit, leaseValues, Committed, IsSettled, LeaseOf, CountOf, InFlight, IsDue, BlocksLeft, reply};
+ghost use Rattle.consumer.specs.Questions.{waitingAt, bit, Committed, IsSettled, LeaseOf, CountOf, InFlight, IsDue, BlocksLeft, reply};
 ghost use Rattle.consumer.specs.View.{view, Sound};
 use crate::Consumer;
 use lease::Attempts;
@@ -41,7 +41,7 @@ impl Consumer {
     // The lease of an offset, run out or not.
     pub fn lease_of(self, offset: Offset) -> LeaseAt
         requires { ⌜ Sound self ⌝ }
-        ensures { λ r. ⌜ done (leaseValues (leaseAt r)) ≡ reply (view self) (LeaseOf (offset .0)) ⌝ }
+        ensures { λ r. ⌜ leaseAt r ≡ reply (view self) (LeaseOf (offset .0)) ⌝ }
     {
         self.table.lease_of(offset)
     }

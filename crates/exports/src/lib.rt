@@ -15,9 +15,10 @@ ghost use Rattle.cursor.specs.Ranges.{range};
 ghost use Rattle.cursor.specs.Answers.{rangesError, snapshotError, decodeFault};
 ghost use Rattle.attempt.specs.Snapshot.{encodeInto};
 ghost use Rattle.types.specs.Lists.{entriesOf};
-ghost use Rattle.attempt.specs.Codec.{encodeOf, decodeOf};
+ghost use Rattle.attempt.specs.Codec.{encodeOf, attemptError, decodeOf};
 ghost use Rattle.exports.specs.Answers.{tells, refuses, one, crossed, cross};
 ghost use Rattle.exports.specs.Snapshots.{columns, keysOf, valuesOf, front, encodeRanges, decodeRanges, decodePairs};
+use attempt::AttemptSnapshotError;
 use attempt::Encode;
 use cursor::AckCursor;
 use cursor::AckCursorError;
@@ -105,27 +106,35 @@ fn encode_told(outcome: Encode) -> Told
     }
 }
 
+// The refusals of an attempt snapshot.
+fn attempt_told(error: AttemptSnapshotError) -> Told
+    ensures { λ r. ⌜ r ≡ refuses (attemptError error) ⌝ }
+{
+    match error {
+        AttemptSnapshotError::Truncated => numbered(13, 0, 0),
+        AttemptSnapshotError::UnsupportedVersion(version) => numbered(14, version as u64, 0),
+        AttemptSnapshotError::BadLength { len } => numbered(15, len as u64, 0),
+        AttemptSnapshotError::CountMismatch { declared, actual } => numbered(
+            16,
+            declared as u64,
+            actual,
+        ),
+        AttemptSnapshotError::BadCrc => numbered(17, 0, 0),
+        AttemptSnapshotError::NotSorted {
+            offset,
+            prev_offset,
+        } => numbered(18, offset, prev_offset),
+        AttemptSnapshotError::TooManyPairs => numbered(19, 0, 0),
+    }
+}
+
 // What decoded attempt counts answer: how many pairs there are.
 fn pairs_told(outcome: attempt::Decode) -> Told
     ensures { λ r. ⌜ r ≡ tells (answered one (decodeOf outcome)) ⌝ }
 {
     match outcome {
         attempt::Decode::Pairs(count) => numbered(0, count as u64, 0),
-        attempt::Decode::Truncated => numbered(13, 0, 0),
-        attempt::Decode::UnsupportedVersion(version) => numbered(14, version as u64, 0),
-        attempt::Decode::BadLength { len } => numbered(15, len as u64, 0),
-        attempt::Decode::CountMismatch { declared, actual } => numbered(
-            16,
-            declared as u64,
-            actual,
-        ),
-        attempt::Decode::BadCrc => numbered(17, 0, 0),
-        attempt::Decode::NotSorted {
-            offset,
-            prev_offset,
-        } => numbered(18, offset, prev_offset),
-        attempt::Decode::TooManyPairs => numbered(19, 0, 0),
-        attempt::Decode::OutTooShort => numbered(20, 0, 0),
+        attempt::Decode::Refused(error) => attempt_told(error),
     }
 }
 

@@ -50,15 +50,27 @@ fn ranges(out: &mut [u8], at: usize, cursor: AckCursor) -> usize {
     next
 }
 
-fn told_of(outcome: Decode) -> Told {
+// No refusal.
+fn read() -> Told {
+    Told {
+        number: 0,
+        count: 0,
+        first: 0,
+        second: 0,
+    }
+}
+
+fn cursor_told(outcome: Decode) -> Told {
     match outcome {
-        Decode::Restored => Told {
-            number: 0,
-            count: 0,
-            first: 0,
-            second: 0,
-        },
+        Decode::Restored => read(),
         Decode::Refused(error) => answers::of_cursor(error),
+    }
+}
+
+fn pairs_told(outcome: attempt::Decode) -> Told {
+    match outcome {
+        attempt::Decode::Pairs(_) => read(),
+        attempt::Decode::Refused(error) => answers::of_attempts(error),
     }
 }
 
@@ -72,7 +84,7 @@ pub fn cursor(out: &mut [u8], at: usize, bytes: &[u8]) -> usize {
         b"cursor snapshot of # bytes\ncommitted #\nranges ahead #\n|\
         cursor snapshot of # bytes\nrefused: # ",
         bytes.len() as u64,
-        told_of(outcome),
+        cursor_told(outcome),
         decoded.cursor.committed,
         decoded.cursor.runs as u64,
     );
@@ -103,7 +115,7 @@ pub fn attempts(out: &mut [u8], at: usize, bytes: &[u8]) -> usize {
         b"attempt snapshot of # bytes\npairs #\n|\
         attempt snapshot of # bytes\nrefused: # ",
         bytes.len() as u64,
-        answers::of_attempts(outcome),
+        pairs_told(outcome),
         decoded.count as u64,
         0,
     );

@@ -10,6 +10,7 @@ mod Bounds
 mod Returns
 mod Claims
 mod Tokens
+pub mod Found
 mod Questions
 mod Changes
 mod Lists

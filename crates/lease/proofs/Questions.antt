@@ -4,12 +4,13 @@
 use Prim.Native.Nat.{ℕ, _≤_, _<_}
 use mathlib.Core.Path.{_≡_, refl, sym, ap, subst, _∙_}
 use mathlib.Core.Bool.{Bool, true, false, cond, not, true≢false}
+use mathlib.Core.List.{[], _∷_}
 use mathlib.Core.Option.{none, some}
 use lib.Dec.{ltb, leb}
 use lib.ListN.{getD}
 use borrow.Author.Tests.{ltb-true, ltb-false, lt-ltb, le-ltb, le-leb, lt-leb}
 use Rattle.types.specs.Limits.{sat64}
-use Rattle.types.specs.Refusal.{done}
+use Rattle.types.specs.Refusal.{done, optional}
 use Rattle.types.specs.Table.{answer}
 use Rattle.types.specs.Keyed.{update}
 use Rattle.types.proofs.Cases.{split}
@@ -19,23 +20,12 @@ use Rattle.lease.specs.Operations.{leaseOf, owns, dueAt}
 use Rattle.lease.specs.Rest.{resealedAs, resealFromTo, overdue, deferRedelivery, isClaimable, deliveries, pendingRedeliveryAttempt}
 use Rattle.lease.specs.Answers.{Tries}
 use Rattle.lease.specs.Helpers.{held}
-use Rattle.lease.specs.Lookup.{leaseAt}
 use Rattle.lease.specs.declared.Lease.{Lease}
 use Rattle.lease.specs.declared.LeaseTable.{LeaseTable}
-use Rattle.lease.specs.declared.lookup.LeaseAt.{LeaseAt}
-use Rattle.lease.specs.declared.lookup.LeaseAt.the-variants.{Some, None}
 use Rattle.lease.proofs.Slots.{nil, Looks}
 use Rattle.lease.proofs.Returns.{sound-as}
 use Rattle.lease.proofs.Tokens.{owned-found, stored, stored-same, shows-stored}
 use Rattle.lease.proofs.Valid.{valid-update}
-
--- ## what a look-up found
-module _ (s : Table) (o : ℕ) {r : LeaseAt} (p : leaseAt r ≡ leaseOf s o) where
-  pub found-lease : {l : Lease} → r ≡ Some l → leaseOf s o ≡ some l
-  found-lease e = sym p ∙ ap leaseAt e
-
-  pub found-none : r ≡ None → leaseOf s o ≡ none
-  found-none e = sym p ∙ ap leaseAt e
 
 -- ## a lease that has run out
 -- it has, or it still runs
@@ -59,7 +49,7 @@ module _ (s : Table) (o now : ℕ) where
     run-out h = rw (e, le-ltb now (l .deadline) h)
 
     -- ## questions
-    pub pending : l .deadline ≤ now → some (l .deliveries) ≡ pendingRedeliveryAttempt s o now
+    pub pending : l .deadline ≤ now → done (l .deliveries ∷ []) ≡ done (optional (pendingRedeliveryAttempt s o now))
     pending h = rw (run-out h, e)
 
     pub claimable : leb (l .deadline) now ≡ isClaimable s o now

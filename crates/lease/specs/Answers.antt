@@ -3,7 +3,7 @@
 use Prim.Native.Nat.{ℕ}
 use mathlib.Core.Path.{_≡_}
 use mathlib.Core.Bool.{Bool, false}
-use mathlib.Core.Option.{Option, none, some}
+use mathlib.Core.List.{List, [], _∷_}
 use Rattle.types.specs.Refusal.{Result, refused, done}
 use Rattle.types.specs.Refusal as refusal
 use Rattle.types.specs.Table.{Answer, answer, Kept}
@@ -48,9 +48,9 @@ abbrev pub resumeOf : ResumeOutcome → Result (Unit {0})
 resumeOf resume.Resumed = done tt
 resumeOf resume.TooManyPairs = refused refusal.TooManyPairs
 
-abbrev pub attemptsOf : Attempts → Option ℕ
-attemptsOf (attempts.Some n) = some n
-attemptsOf attempts.None = none
+abbrev pub attemptsOf : Attempts → Result (List ℕ)
+attemptsOf (attempts.Some n) = done (n ∷ [])
+attemptsOf attempts.None = done []
 
 -- ## contracts
 -- a call that refuses or takes effect: answer and table are the definition's, and a refusal gives back the very struct

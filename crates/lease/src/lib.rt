@@ -6,7 +6,7 @@ ghost use mathlib.Core.Path.{_≡_};
 ghost use Prim.Native.Nat.{_≤_, _<_};
 ghost use lib.ListN.{take, getD};
 ghost use Rattle.types.specs.Limits.{MAX, LEASES};
-ghost use Rattle.types.specs.Refusal.{done};
+ghost use Rattle.types.specs.Refusal.{done, optional};
 ghost use Rattle.tables.specs.Search.{Placed};
 ghost use Rattle.tables.specs.declared.Place.the-variants.{Missing};
 ghost use Rattle.lease.specs.Config.{nanos, fromMillis, defaultConfig};
@@ -591,7 +591,7 @@ impl LeaseTable {
     // How often the message of the token was handed out, while the token owns its lease.
     pub fn deliveries(self, token: LeaseToken) -> Attempts
         requires { ⌜ Sound self ⌝ }
-        ensures { λ r. ⌜ attemptsOf r ≡ deliveries (view self) (token .offset .0) (token .generation .0) ⌝ }
+        ensures { λ r. ⌜ attemptsOf r ≡ done (optional (deliveries (view self) (token .offset .0) (token .generation .0))) ⌝ }
     {
         let found = self.lease_of(token.offset);
         let LeaseAt::Some(lease) = found else {
@@ -644,7 +644,7 @@ impl LeaseTable {
     // How often the message at an offset was handed out, if the next claim would hand it out again: its lease has run out.
     pub fn pending_redelivery_attempt(self, offset: Offset, now: u64) -> Attempts
         requires { ⌜ Sound self ⌝ }
-        ensures { λ r. ⌜ attemptsOf r ≡ pendingRedeliveryAttempt (view self) (offset .0) now ⌝ }
+        ensures { λ r. ⌜ attemptsOf r ≡ done (optional (pendingRedeliveryAttempt (view self) (offset .0) now)) ⌝ }
     {
         let found = self.lease_of(offset);
         let LeaseAt::Some(lease) = found else {

@@ -1,11 +1,12 @@
 // What a table says of one offset, and whether anything is in flight below a bound.
 ghost use mathlib.Core.Path.{_≡_};
 ghost use lib.ListN.{length};
+ghost use Rattle.types.specs.Refusal.{done, optional};
 ghost use Rattle.types.specs.Keyed.{lookup, anyBelow};
 ghost use Rattle.lease.specs.State.{Sound, view};
 ghost use Rattle.lease.specs.Operations.{leaseOf};
 ghost use Rattle.lease.specs.Answers.{attemptsOf};
-ghost use Rattle.lease.specs.Lookup.{leaseAt};
+ghost use Rattle.lease.specs.Lookup.{leaseValues, leaseAt};
 use crate::Attempts;
 use crate::Lease;
 use crate::LeaseTable;
@@ -22,7 +23,7 @@ impl LeaseTable {
     // The lease of an offset, run out or not.
     pub fn lease_of(self, offset: Offset) -> LeaseAt
         requires { ⌜ Sound self ⌝ }
-        ensures { λ r. ⌜ leaseAt r ≡ leaseOf (view self) (offset .0) ⌝ }
+        ensures { λ r. ⌜ leaseAt r ≡ done (leaseValues (leaseOf (view self) (offset .0))) ⌝ }
     {
         let place = tables::find(&self.offsets, self.len, offset.0);
         let Place::Found(at) = place else {
@@ -34,7 +35,7 @@ impl LeaseTable {
     // The count that a restart carried over for an offset, until a first lease takes it over.
     pub fn carried_count(self, offset: Offset) -> Attempts
         requires { ⌜ Sound self ⌝ }
-        ensures { λ r. ⌜ attemptsOf r ≡ lookup (offset .0) (view self .carried) ⌝ }
+        ensures { λ r. ⌜ attemptsOf r ≡ done (optional (lookup (offset .0) (view self .carried))) ⌝ }
     {
         let place = tables::find(&self.carried_offsets, self.carried_len, offset.0);
         let Place::Found(at) = place else {

@@ -11,7 +11,7 @@ use Rattle.delivery.specs.Config.{delayOf}
 use Rattle.lease.specs.Lookup.{leaseAt}
 use Rattle.types.specs.declared.lent.Listed.{Listed}
 use Rattle.types.specs.declared.lent.Listed.the-variants as listed
-use Rattle.consumer.specs.Questions.{Question, Waiting, Committed, IsSettled, LeaseOf, CountOf, InFlight, IsDue, BlocksLeft, bit, leaseValues}
+use Rattle.consumer.specs.Questions.{Question, Waiting, Committed, IsSettled, LeaseOf, CountOf, InFlight, IsDue, BlocksLeft, bit}
 use Rattle.consumer.specs.View.{claimOf, settleOf, nackOf, progressOf, commitOf, Unmoved}
 use Rattle.checkpoint.specs.declared.BeginAnswer.{BeginAnswer}
 use Rattle.checkpoint.specs.declared.BeginAnswer.the-variants as begins
@@ -69,7 +69,7 @@ abbrev pub replyOf : Reply → List ℕ → Result (List ℕ)
 replyOf (reply.Waiting l) out = listOf l out
 replyOf (reply.Committed o) out = done (o .0 ∷ [])
 replyOf (reply.IsSettled b) out = done (bit b ∷ [])
-replyOf (reply.LeaseOf l) out = done (leaseValues (leaseAt l))
+replyOf (reply.LeaseOf l) out = leaseAt l
 replyOf (reply.CountOf n) out = done (n ∷ [])
 replyOf (reply.InFlight n) out = done (n ∷ [])
 replyOf (reply.IsDue d) out = done (bit (d .ceiling) ∷ bit (d .threshold) ∷ [])

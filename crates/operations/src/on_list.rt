@@ -186,8 +186,8 @@ pub fn decode(op: Op, bytes: Bytes, list: List) -> Done
     let decoded = attempt::decode_pairs(&all[start..end]);
     let outcome = decoded.outcome;
     let pairs = decoded.pairs;
-    let Decode::Pairs(count) = outcome else {
-        return left(list, answer::of_told(answers::of_attempts(outcome)));
-    };
-    fitted(entries_from(pairs, count), op.y, list)
+    match outcome {
+        Decode::Pairs(count) => fitted(entries_from(pairs, count), op.y, list),
+        Decode::Refused(error) => left(list, answer::of_told(answers::of_attempts(error))),
+    }
 }

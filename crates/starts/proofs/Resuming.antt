@@ -2,13 +2,11 @@
 -- Assumes nothing.
 use Prim.Native.Nat.{ℕ, _≤_}
 use native.Mathlib.Omega.{arith}
-use mathlib.Core.Path.{_≡_, refl, sym, ap, subst, _∙_}
-use mathlib.Core.List.{List, [], _∷_}
+use mathlib.Core.Path.{_≡_, refl, sym, ap, _∙_}
+use mathlib.Core.List.{List}
 use lib.ListN.{length, take}
-use types.Run.{OneOf, miss}
-use denote.Enum.Declared.{tagOf}
 use Rattle.types.specs.Limits.{PAIRS}
-use Rattle.types.specs.Refusal.{Refusal, Result, refused, done}
+use Rattle.types.specs.Refusal.{Result, refused, done}
 use Rattle.types.specs.Keyed.{Entry}
 use Rattle.types.specs.Lists.{entriesOf}
 use Rattle.cursor.specs.Cursor.{Cursor}
@@ -22,10 +20,9 @@ use Rattle.cursor.specs.declared.Decoded as cursors
 use Rattle.cursor.specs.declared.Decode as cursors-decode
 use Rattle.cursor.specs.declared.Decode.the-variants as decodes
 use Rattle.attempt.specs.Snapshot.{decodeAttempts}
-use Rattle.attempt.specs.Codec.{decodeOf, DecodedIs}
-use Rattle.attempt.specs.declared.Decode.{Decode}
-use Rattle.attempt.proofs.Decode.{the-type}
-use Rattle.attempt.specs.declared.Decode.the-variants.{Pairs, Truncated, UnsupportedVersion, BadLength, CountMismatch, BadCrc, NotSorted, TooManyPairs, OutTooShort}
+use Rattle.attempt.specs.Codec.{attemptError, decodeOf, DecodedIs}
+use Rattle.attempt.specs.declared.AttemptSnapshotError.{AttemptSnapshotError}
+use Rattle.attempt.specs.declared.Decode.the-variants as attempts
 use Rattle.attempt.specs.declared.Decoded.{Decoded}
 use Rattle.attempt.proofs.Codec.{decoded-refused, decoded-pairs}
 use Rattle.attempt.proofs.Snapshot.{decoded-few}
@@ -43,61 +40,42 @@ use Rattle.starts.specs.declared.Carried.{Carried}
 use Rattle.starts.specs.declared.StartAnswer.the-variants as answers
 
 -- ## what the attempt decoder's answer says
--- an answer that is no refusal has pairs
-done-pairs : (d : Decode) (n : ℕ) → decodeOf d ≡ done n → d ≡ Pairs n
-done-pairs (Pairs m) n e = cc
-done-pairs Truncated n e = absurd (let z : _≡_ {A = ℕ} 0 1 = cc in omega arith)
-done-pairs (UnsupportedVersion v) n e = absurd (let z : _≡_ {A = ℕ} 0 1 = cc in omega arith)
-done-pairs (BadLength l) n e = absurd (let z : _≡_ {A = ℕ} 0 1 = cc in omega arith)
-done-pairs (CountMismatch a b) n e = absurd (let z : _≡_ {A = ℕ} 0 1 = cc in omega arith)
-done-pairs BadCrc n e = absurd (let z : _≡_ {A = ℕ} 0 1 = cc in omega arith)
-done-pairs (NotSorted a b) n e = absurd (let z : _≡_ {A = ℕ} 0 1 = cc in omega arith)
-done-pairs TooManyPairs n e = absurd (let z : _≡_ {A = ℕ} 0 1 = cc in omega arith)
-done-pairs OutTooShort n e = absurd (let z : _≡_ {A = ℕ} 0 1 = cc in omega arith)
-
--- every variant but `Pairs`
-abbrev variants : List ℕ
-variants = 1 ∷ 2 ∷ 3 ∷ 4 ∷ 5 ∷ 6 ∷ 7 ∷ 8 ∷ []
-
-abbrev pub Other : Decode → Type 0
-Other d = OneOf variants (tagOf the-type d)
-
 module _ (b : List ℕ) (r : Decoded) (is : DecodedIs b r) where
-  pub record Refuses : Type 0 where
-    pub refusal : Refusal
-    pub bytes : decodeAttempts b ≡ refused refusal
-    pub answer : decodeOf (r .outcome) ≡ refused refusal
+  pub attempts-said : (error : AttemptSnapshotError) → r .outcome ≡ attempts.Refused error → decodeAttempts b ≡ refused (attemptError error)
+  attempts-said error p = go (decodeAttempts b) refl
+    where
+      go : (a : Result (List (Entry ℕ))) → decodeAttempts b ≡ a → decodeAttempts b ≡ refused (attemptError error)
+      go (refused q) e =
+          let a : decodeOf (r .outcome) ≡ refused q = decoded-refused b r is q e in
+          let d : decodeOf (r .outcome) ≡ refused (attemptError error) = rw p in
+          let same : q ≡ attemptError error = cc in
+          e ∙ ap refused same
+      go (done l) e =
+          let a : decodeOf (r .outcome) ≡ done (length l) = decoded-pairs b r is l e .0 in
+          let d : decodeOf (r .outcome) ≡ refused (attemptError error) = rw p in
+          absurd (let z : _≡_ {A = ℕ} 0 1 = cc in omega arith)
 
-  pub record Reads (n : ℕ) : Type 0 where
+  pub record Reads : Type 0 where
     pub list : List (Entry ℕ)
     pub bytes : decodeAttempts b ≡ done list
-    pub pairs : entriesOf (take n (r .pairs)) ≡ list
-    pub few : n ≤ PAIRS
+    pub pairs : entriesOf (take (r .count) (r .pairs)) ≡ list
+    pub few : r .count ≤ PAIRS
 
-  pub not-pairs : Other (r .outcome) → Refuses
-  not-pairs other = go (decodeAttempts b) refl
+  pub attempts-read : (n : ℕ) → r .outcome ≡ attempts.Pairs n → Reads
+  attempts-read n p = go (decodeAttempts b) refl
     where
-      go : (a : Result (List (Entry ℕ))) → decodeAttempts b ≡ a → Refuses
-      go (refused q) e = record { refusal = q; bytes = e; answer = decoded-refused b r is q e }
-      go (done l) e = absurd (miss variants 0 tt (subst Other (done-pairs (r .outcome) (length l) (decoded-pairs b r is l e .0)) other))
-
-  pub are-pairs : (n : ℕ) → r .outcome ≡ Pairs n → Reads n
-  are-pairs n p = go (decodeAttempts b) refl
-    where
-      go : (a : Result (List (Entry ℕ))) → decodeAttempts b ≡ a → Reads n
+      go : (a : Result (List (Entry ℕ))) → decodeAttempts b ≡ a → Reads
       go (refused q) e =
           let a : decodeOf (r .outcome) ≡ refused q = decoded-refused b r is q e in
           let d : decodeOf (r .outcome) ≡ done n = rw p in
           absurd (let z : _≡_ {A = ℕ} 0 1 = cc in omega arith)
       go (done l) e =
           let t = decoded-pairs b r is l e in
-          let d : decodeOf (r .outcome) ≡ done n = rw p in
-          let same : n ≡ length l = cc in
           record {
             list = l;
             bytes = e;
-            pairs = rw (same ∙ sym (t .1)) (t .2);
-            few = omega (arith, decoded-few b l e);
+            pairs = t .2;
+            few = omega (arith, t .1, decoded-few b l e);
           }
 
 -- ## what the cursor's decoder says
@@ -118,15 +96,15 @@ module _ (s : Configuration) (size : ℕ) (cb ab : List ℕ) (ceiling : ℕ) (se
   cursor-refused error c e f = record { is = rw e; beside = rw e (f .is) }
 
   module _ (k : AckCursor) (e : decodeCursor cb ≡ done (cursor.view k)) where
-    pub attempts-refused : (r : Decoded) (is : DecodedIs ab r) (c : Consumer) → Refuses ab r is → FreshIs s size c
-        → ResumedIs s size right (record { answer = answers.Attempts (r .outcome); consumer = c })
-    attempts-refused r is c q f = record { is = rw (e, q .bytes, q .answer); beside = rw (e, q .bytes) (f .is) }
+    pub attempts-refused : (error : AttemptSnapshotError) (c : Consumer) → decodeAttempts ab ≡ refused (attemptError error) → FreshIs s size c
+        → ResumedIs s size right (record { answer = answers.Attempts error; consumer = c })
+    attempts-refused error c q f = record { is = rw (e, q); beside = rw (e, q) (f .is) }
 
-    pub both-read : cursor.Sound k → (r : Decoded) (is : DecodedIs ab r) (n : ℕ) → Reads ab r is n
-        → (carried : Carried) → CarriedIs (unsettledCounts (cursor.view k) (entriesOf (take n (r .pairs)))) carried
+    pub both-read : cursor.Sound k → (r : Decoded) (is : DecodedIs ab r) → Reads ab r is
+        → (carried : Carried) → CarriedIs (unsettledCounts (cursor.view k) (entriesOf (take (r .count) (r .pairs)))) carried
         → (t : LeaseTable) → TableIs (s .lease) ceiling carried t
         → ResumedIs s size right (record { answer = answers.Started; consumer = consumerOf k t ceiling seat size (s .settings) })
-    both-read sound r is n q carried h t g =
+    both-read sound r is q carried h t g =
         let counts = h .is ∙ ap (unsettledCounts (cursor.view k)) (q .pairs) in
         let table : lease.view t ≡ withCarried (startingAt (s .lease) ceiling) (unsettledCounts (cursor.view k) (q .list)) = g .is ∙ ap (withCarried (startingAt (s .lease) ceiling)) counts in
         record {

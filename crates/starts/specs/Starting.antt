@@ -18,7 +18,7 @@ use Rattle.types.specs.Limits.{LEASES, CARRIED}
 use Rattle.types.specs.Keyed.{Entry, entries}
 use Rattle.cursor.specs.Answers.{snapshotError}
 use Rattle.cursor.specs.View as cursor
-use Rattle.attempt.specs.Codec.{decodeOf}
+use Rattle.attempt.specs.Codec.{attemptError}
 use Rattle.delivery.specs.declared.DeliveryConfig.{DeliveryConfig}
 use Rattle.delivery.specs.Policy.{policy}
 use Rattle.lease.specs.State as lease
@@ -59,11 +59,6 @@ configurationOf c = record { settings = handedOf (c .settings); lease = c .lease
 abbrev pub keptOf : Configuration → state.Configuration
 keptOf c = record { settings = settingsOf (c .settings); lease = c .lease }
 
--- the refusal of an attempt decoder's answer; pairs are none, so that no start answers with them
-abbrev pub refusalIn : Result ℕ → Refusal
-refusalIn (refused r) = r
-refusalIn (done n) = refusal.AttemptTruncated
-
 -- the refusal that an answer is, if it is one
 abbrev pub startFault : StartAnswer → Option Refusal
 startFault answers.Started = none
@@ -73,7 +68,7 @@ startFault answers.ZeroThreshold = some refusal.ZeroThreshold
 startFault answers.BadArea = some refusal.BadArea
 startFault (answers.Damaged block) = some (refusal.Damaged block)
 startFault (answers.Cursor error) = some (snapshotError error)
-startFault (answers.Attempts decoded) = some (refusalIn (decodeOf decoded))
+startFault (answers.Attempts error) = some (attemptError error)
 
 -- the answer, with the state that stands beside it
 abbrev pub startOf : StartAnswer → State → Result State

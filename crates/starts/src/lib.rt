@@ -12,6 +12,7 @@ ghost use Rattle.journal.specs.Answers.{walkedOf};
 ghost use Rattle.consumer.specs.State.{badArea};
 ghost use Rattle.starts.specs.Restart.{startTable, start, isDropped, unsettledCounts, fromSnapshots, readGroup, origin, fromWalk, restart};
 ghost use Rattle.starts.specs.Starting.{configurationOf, startFault, FreshIs, StartedIs, CarriedIs, TableIs, consumerOf, keptOf, seatOf, ResumedIs, Lies, WalkedIs};
+use attempt::AttemptSnapshotError;
 use attempt::Decode;
 use consumer::Configuration;
 use consumer::Consumer;
@@ -32,7 +33,7 @@ use types::limits::LEASES;
 use types::limits::PAIRS;
 
 // What a start or a restart answers: a consumer, or a refusal: 1 to 5, the cursor snapshot's (6 to 12), or the attempt
-// snapshot's (13 to 19), as its decoder has it.
+// snapshot's (13 to 19).
 pub enum StartAnswer {
     Started,
     UnlimitedDeliverNotAllowed,
@@ -41,7 +42,7 @@ pub enum StartAnswer {
     BadArea,
     Damaged { block: usize },
     Cursor(SnapshotError),
-    Attempts(Decode),
+    Attempts(AttemptSnapshotError),
 }
 
 // Beside a refusal stands the fresh consumer of this configuration, which is not to be called.
@@ -207,15 +208,15 @@ fn read_snapshots<'a>(
     }
     let decoded = attempt::decode_pairs(attempt_bytes);
     let pairs = decoded.outcome;
-    let Decode::Pairs(count) = pairs else {
+    if let Decode::Refused(error) = pairs {
         return Started {
-            answer: StartAnswer::Attempts(pairs),
+            answer: StartAnswer::Attempts(error),
             consumer: fresh(configuration, area_len),
         };
-    };
+    }
     let cursor = restored.cursor;
     let list = decoded.pairs;
-    let carried = carry(cursor, list, count);
+    let carried = carry(cursor, list, decoded.count);
     let lease = configuration.lease;
     let table = resumed_table(lease, ceiling, carried);
     Started {

@@ -1,9 +1,11 @@
 -- Offsets: the number that each wraps, and the one behind it (types.rs, `checked_next`).
 use Prim.Native.Nat.{ℕ, _+_}
 use mathlib.Core.Bool.{cond}
+use mathlib.Core.List.{List, [], _∷_}
 use mathlib.Core.Option.{Option, none, some}
 use lib.Dec.{eqb}
 use Rattle.types.specs.Limits.{MAX}
+use Rattle.types.specs.Refusal.{Result, done}
 use Rattle.types.specs.declared.Offset.{Offset}
 use Rattle.types.specs.declared.NextOffset.{NextOffset}
 use Rattle.types.specs.declared.NextOffset.the-variants.{Some, None}
@@ -15,6 +17,7 @@ offset n = record { 0 = n }
 abbrev pub checkedNext : ℕ → Option ℕ
 checkedNext n = cond (eqb n MAX) none (some (n + 1))
 
-abbrev pub nextOf : NextOffset → Option ℕ
-nextOf (Some o) = some (o .0)
-nextOf None = none
+-- 01's answers for the cases of the enum
+abbrev pub nextOf : NextOffset → Result (List ℕ)
+nextOf (Some o) = done (o .0 ∷ [])
+nextOf None = done []

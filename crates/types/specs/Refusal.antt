@@ -3,6 +3,7 @@
 use Prim.Native.Nat.{ℕ}
 use mathlib.Core.Path.{_≡_}
 use mathlib.Core.List.{List, [], _∷_}
+use mathlib.Core.Option.{Option, none, some}
 use lib.ListN.{length}
 
 pub data Refusal : Type 0 where
@@ -101,6 +102,11 @@ NumberedApart = (r q : Refusal) → numbered r .number ≡ numbered q .number �
 pub data Result (A : Type 0) : Type 0 where
   refused : Refusal → Result A
   done : A → Result A
+
+-- the values of a number that may be missing
+abbrev pub optional : Option ℕ → List ℕ
+optional none = []
+optional (some n) = n ∷ []
 
 -- the number and the values of an answer, given the values of its outcomes
 abbrev pub answered : {A : Type 0} → (A → List ℕ) → Result A → Told

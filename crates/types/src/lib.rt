@@ -1,6 +1,7 @@
 // The identifiers that the log and the lease table hand out, each a type of its own so that none is taken for another, and an
 // offset with its attempt count.
 ghost use mathlib.Core.Path.{_≡_};
+ghost use Rattle.types.specs.Refusal.{done, optional};
 ghost use Rattle.types.specs.Identifiers.{offset, checkedNext, nextOf};
 
 pub mod lent;
@@ -55,7 +56,7 @@ impl Offset {
 
     // The next offset, or None behind the last: offsets are never used again, so there is no way round.
     pub fn checked_next(self) -> NextOffset
-        ensures { λ r. ⌜ nextOf r ≡ checkedNext (self .0) ⌝ }
+        ensures { λ r. ⌜ nextOf r ≡ done (optional (checkedNext (self .0))) ⌝ }
     {
         let value = self.0;
         if value == limits::MAX {

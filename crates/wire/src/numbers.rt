@@ -3,21 +3,21 @@ ghost use mathlib.Core.Path.{_≡_};
 ghost use Prim.Native.Nat.{ℕ};
 ghost use mathlib.Core.List.{List};
 ghost use lib.ListN.{getD};
-ghost use Rattle.types.specs.Refusal.{done, told, numbered, answered};
+ghost use Rattle.types.specs.Refusal.{done, numbered, answered};
 ghost use Rattle.types.specs.Table.{unless};
 ghost use Rattle.cursor.specs.Answers.{rangesError, snapshotError};
-ghost use Rattle.attempt.specs.Codec.{decodeOf};
-ghost use Rattle.consumer.specs.Questions.{bit, leaseValues};
+ghost use Rattle.attempt.specs.Codec.{attemptError};
+ghost use Rattle.consumer.specs.Questions.{bit};
 ghost use Rattle.consumer.specs.View.{claimOf, settleOf, nackOf, progressOf, commitOf};
 ghost use Rattle.checkpoint.specs.Writing.{stepOf};
-ghost use Rattle.starts.specs.Starting.{refusalIn, startFault};
+ghost use Rattle.starts.specs.Starting.{startFault};
 ghost use Rattle.lease.specs.Lookup.{leaseAt};
 ghost use Rattle.machine.specs.Answers.{begunOf, firstPlaces, listOf, replyOf, Arguments, seenOf};
 ghost use Rattle.machine.specs.Calls.{Call};
 ghost use Rattle.machine.specs.View.{turnOf};
 ghost use Rattle.machine.specs.declared.Machine.{Machine};
 ghost use Rattle.wire.specs.Numbers.{numbersOf, values, handOutValues, noValues, oneValue, bitValue, wroteValues, seenNumbers, numbersIn};
-use attempt::Decode;
+use attempt::AttemptSnapshotError;
 use checkpoint::BeginAnswer;
 use checkpoint::StepAnswer;
 use consumer::calls::ClaimAnswer;
@@ -150,23 +150,35 @@ fn of_cursor(error: SnapshotError) -> Numbers
     }
 }
 
-// The refusals of an attempt snapshot, 13 to 19. No start answers pairs.
-fn of_attempts(decoded: Decode) -> Numbers
-    ensures { λ r. ⌜ r ≡ numbersOf (numbered (refusalIn (decodeOf decoded))) ⌝ }
+// The refusals of an attempt snapshot, 13 to 19.
+fn of_attempts(error: AttemptSnapshotError) -> Numbers
+    ensures { λ r. ⌜ r ≡ numbersOf (numbered (attemptError error)) ⌝ }
 {
-    match decoded {
-        Decode::Pairs(_) => Numbers(13, 0, 0, 0, 0, 0),
-        Decode::Truncated => Numbers(13, 0, 0, 0, 0, 0),
-        Decode::UnsupportedVersion(version) => Numbers(14, 1, version as u64, 0, 0, 0),
-        Decode::BadLength { len } => Numbers(15, 1, len as u64, 0, 0, 0),
-        Decode::CountMismatch { declared, actual } => Numbers(16, 2, declared as u64, actual, 0, 0),
-        Decode::BadCrc => Numbers(17, 0, 0, 0, 0, 0),
-        Decode::NotSorted {
+    match error {
+        AttemptSnapshotError::Truncated => Numbers(13, 0, 0, 0, 0, 0),
+        AttemptSnapshotError::UnsupportedVersion(version) => Numbers(
+            14,
+            1,
+            version as u64,
+            0,
+            0,
+            0,
+        ),
+        AttemptSnapshotError::BadLength { len } => Numbers(15, 1, len as u64, 0, 0, 0),
+        AttemptSnapshotError::CountMismatch { declared, actual } => Numbers(
+            16,
+            2,
+            declared as u64,
+            actual,
+            0,
+            0,
+        ),
+        AttemptSnapshotError::BadCrc => Numbers(17, 0, 0, 0, 0, 0),
+        AttemptSnapshotError::NotSorted {
             offset,
             prev_offset,
         } => Numbers(18, 2, offset, prev_offset, 0, 0),
-        Decode::TooManyPairs => Numbers(19, 0, 0, 0, 0, 0),
-        Decode::OutTooShort => Numbers(20, 0, 0, 0, 0, 0),
+        AttemptSnapshotError::TooManyPairs => Numbers(19, 0, 0, 0, 0, 0),
     }
 }
 
@@ -182,7 +194,7 @@ pub fn of_start(answer: StartAnswer) -> Numbers
         StartAnswer::BadArea => Numbers(4, 0, 0, 0, 0, 0),
         StartAnswer::Damaged { block } => Numbers(5, 1, block as u64, 0, 0, 0),
         StartAnswer::Cursor(error) => of_cursor(error),
-        StartAnswer::Attempts(decoded) => of_attempts(decoded),
+        StartAnswer::Attempts(error) => of_attempts(error),
     }
 }
 
@@ -217,7 +229,7 @@ fn of_list(listed: Listed, out: &[u64]) -> Numbers
 
 // A lease: its generation, the start of its attempt, its deadline and its hand-outs; or nothing.
 fn of_lease(lease: LeaseAt) -> Numbers
-    ensures { λ r. ⌜ r ≡ numbersOf (told 0 (leaseValues (leaseAt lease))) ⌝ }
+    ensures { λ r. ⌜ r ≡ numbersOf (answered values (leaseAt lease)) ⌝ }
 {
     match lease {
         LeaseAt::Some(lease) => Numbers(

@@ -41,12 +41,12 @@ use denote.Exit.{yes}
 use Rattle.types.specs.Table.{answer}
 use Rattle.types.specs.declared.Pair.{Pair}
 use Rattle.types.specs.Lists.{entryOf, entriesOf, counted}
-use Rattle.attempt.specs.declared.Decode.{Decode}
+use Rattle.attempt.specs.declared.Fill.{Fill as Outcome}
 use Rattle.attempt.specs.Snapshot.{readPairs, decodeInto}
-use Rattle.attempt.specs.Codec.{decodeOf, RoomIs}
+use Rattle.attempt.specs.Codec.{fillOf, RoomIs}
 use Rattle.types.proofs.Pair as T
-use Rattle.attempt.proofs.Decode as E
-use Rattle.attempt.proofs.Decode.Laws as E′
+use Rattle.attempt.proofs.Fill as E
+use Rattle.attempt.proofs.Fill.Laws as E′
 use Rattle.attempt.proofs.check_room as check-room
 use Rattle.attempt.proofs.check_room.Symbol as check-room-def
 use Rattle.attempt.proofs.check_room.Symbol.{name as #check-room}
@@ -117,7 +117,7 @@ module _ {M : Type 1} (𝓤 : URA M) (H : Heap 𝓤) (A : Atoms 𝓤) (W : Given
   abbrev Own′ : Fml
   Own′ = MutSlice (named 1) κ′ R .own pairs (s′ ∷ [])
 
-  exits : (r : Decode) (zs : List Pair) → length zs ≡ length ps → answer (decodeOf r) (entriesOf zs) ≡ decodeInto bs (entriesOf ps) → Is D r (E′.lowered r ∷ [])
+  exits : (r : Outcome) (zs : List Pair) → length zs ≡ length ps → answer (fillOf r) (entriesOf zs) ≡ decodeInto bs (entriesOf ps) → Is D r (E′.lowered r ∷ [])
       → ent 𝓤 (⋆ 𝓤 H A ((‵ (flft κ q) ⊛ ‵ (flft κ′ q′) ⊛ ‵ ftrue) ∷ ‵ (finally R γ′ zs) ∷ [])) (Post (E′.lowered r))
   exits r zs len e is =
       qed W ((‵ (flft κ q) ⊛ ‵ (flft κ′ q′) ⊛ ‵ ftrue) ∷ ‵ (finally R γ′ zs) ∷ []) ∵
@@ -133,17 +133,17 @@ module _ {M : Type 1} (𝓤 : URA M) (H : Heap 𝓤) (A : Atoms 𝓤) (W : Given
       qed W (‵ (flft κ q) ∷ ‵ Own ∷ []) ∵ nothing ! $ move ! (1 ∷ 0 ∷ []) $ join ! $ move ! (1 ∷ 0 ∷ []) $
       nothing ! $ owned ! usize (Is usize) (uint-makes 𝓤 H A W w64) (length ps) _ (refl, gm .0) $ fjoin ! $ move ! (1 ∷ 0 ∷ []) $ fjoin ! $ move ! (1 ∷ 0 ∷ []) $ join ! $ nothing ! $ move ! (1 ∷ 0 ∷ []) $ done !
 
-  said-check : (r : Decode) → ent 𝓤 (ensured 𝓤 H A check-room.ended (check-room.clauses 𝓤 H A at-mem run) (κ, tt) (bytes, (length ps, tt)) tt r) (fact 𝓤 (RoomIs bs (length ps) r))
+  said-check : (r : Outcome) → ent 𝓤 (ensured 𝓤 H A check-room.ended (check-room.clauses 𝓤 H A at-mem run) (κ, tt) (bytes, (length ps, tt)) tt r) (fact 𝓤 (RoomIs bs (length ps) r))
   said-check r = exE 𝓤 _ (λ ws. snd∗ 𝓤 (sem 𝓤 H A (lasts check-room.ended (κ, tt) (bytes, (length ps, tt)) ws)) (fact 𝓤 (RoomIs bs (length ps) r)))
 
-  abbrev to-count : Decode → Count 𝓤 H A at-mem run .Ghost
+  abbrev to-count : Outcome → Count 𝓤 H A at-mem run .Ghost
   to-count r = ((tt, tt, tt, (r, tt), (E′.lowered r ∷ [], tt)), tt)
 
-  goes-count : (r : Decode) → Is D r (E′.lowered r ∷ []) → ent 𝓤 (emp 𝓤) (Count 𝓤 H A at-mem run .pre (to-count r))
+  goes-count : (r : Outcome) → Is D r (E′.lowered r ∷ []) → ent 𝓤 (emp 𝓤) (Count 𝓤 H A at-mem run .pre (to-count r))
   goes-count r is = qed W [] ∵ nothing ! $ owned ! D (Is D) ((EL.makes E.the-type E′.the-plain) 𝓤 H A) r _ is $ fjoin ! $ nothing ! $ join ! $ nothing ! $ move ! (1 ∷ 0 ∷ []) $ done !
 
-  said-count : (r : Decode) (m : ℕ) → ent 𝓤 (ensured 𝓤 H A count-of.ended (count-of.clauses 𝓤 H A at-mem run) tt (r, tt) tt m) (fact 𝓤 (m ≡ counted (decodeOf r)))
-  said-count r m = exE 𝓤 _ (λ ws. snd∗ 𝓤 (sem 𝓤 H A (lasts count-of.ended tt (r, tt) ws)) (fact 𝓤 (m ≡ counted (decodeOf r))))
+  said-count : (r : Outcome) (m : ℕ) → ent 𝓤 (ensured 𝓤 H A count-of.ended (count-of.clauses 𝓤 H A at-mem run) tt (r, tt) tt m) (fact 𝓤 (m ≡ counted (fillOf r)))
+  said-count r m = exE 𝓤 _ (λ ws. snd∗ 𝓤 (sem 𝓤 H A (lasts count-of.ended tt (r, tt) ws)) (fact 𝓤 (m ≡ counted (fillOf r))))
 
   abbrev to-fill : ℕ → Fill 𝓤 H A at-mem run .Ghost
   to-fill m = (((κ, (κ′, tt)), (q, (q′, tt)), tt, (bytes, (pairs, (m, tt))), (s ∷ [], (s′ ∷ [], (vint w64 m ∷ [], tt)))), tt)
@@ -158,14 +158,14 @@ module _ {M : Type 1} (𝓤 : URA M) (H : Heap 𝓤) (A : Atoms 𝓤) (W : Given
   Filled m zs = entriesOf zs ≡ readPairs m 5 bs ++ drops m (entriesOf ps)
 
   -- what the three contracts say together
-  decoded : (r : Decode) (m : ℕ) (zs : List Pair) → RoomIs bs (length ps) r → m ≡ counted (decodeOf r) → Filled m zs → answer (decodeOf r) (entriesOf zs) ≡ decodeInto bs (entriesOf ps)
+  decoded : (r : Outcome) (m : ℕ) (zs : List Pair) → RoomIs bs (length ps) r → m ≡ counted (fillOf r) → Filled m zs → answer (fillOf r) (entriesOf zs) ≡ decodeInto bs (entriesOf ps)
   decoded r m zs g c e = rw (e, c) (g .is (entriesOf ps) (length-map ps entryOf))
 
-  fits : (r : Decode) (m : ℕ) → RoomIs bs (length ps) r → m ≡ counted (decodeOf r) → (12 * m ≤ length bs) × (m ≤ length ps)
+  fits : (r : Outcome) (m : ℕ) → RoomIs bs (length ps) r → m ≡ counted (fillOf r) → (12 * m ≤ length bs) × (m ≤ length ps)
   fits r m g c = rw c (g .within, g .fits)
 
   -- an outcome is a value of its MIR type
-  typed : (r : Decode) (v : Val) → Is D r (v ∷ []) → Holds (hasTy E′.mir v) × WT v
+  typed : (r : Outcome) (v : Val) → Is D r (v ∷ []) → Holds (hasTy E′.mir v) × WT v
   typed r v is = EL.lawful E.the-type E′.the-laws 𝓤 H A W tt .typed r (v ∷ []) is .0
 
   module _ (C : Calls 𝓤 H) (Λ : Loops 𝓤 H) (fm : FmC 𝓤 H (W .laws) C) (known-check : Triple 𝓤 (C #check-room) (Check 𝓤 H A at-mem run)) (known-count : Triple 𝓤 (C #count-of) (Count 𝓤 H A at-mem run)) (known-fill : Triple 𝓤 (C #fill-pairs) (Fill 𝓤 H A at-mem run)) where
@@ -182,7 +182,7 @@ module _ {M : Type 1} (𝓤 : URA M) (H : Heap 𝓤) (A : Atoms 𝓤) (W : Given
         move ! (2 ∷ 0 ∷ []) $ use2 W (raw (Check 𝓤 H A at-mem run .pre to-check)) goes-check $
         -- [the callee's pre; what bytes owns; the token of pairs; what pairs owns; _7; …; _0; …]
         calls-at ! fm (Check 𝓤 H A at-mem run) known-check to-check (and-then ! (load ! (from ! (stop !)) (look ! 16 refl)) (and-then ! (load ! (from ! (stop !)) (look ! 10 refl)) (no-more !))) (λ w.
-        use1 W (later (some (λ (r : Decode). ((‵ (flft κ q) ⊛ ‵ ftrue) ⊛ ‵ (D .own r (w ∷ []))) ⊛ raw (ensured 𝓤 H A check-room.ended (check-room.clauses 𝓤 H A at-mem run) (κ, tt) (bytes, (length ps, tt)) tt r)))) (id⊢ 𝓤 _) $ await ! tt $ pick ! (λ r.
+        use1 W (later (some (λ (r : Outcome). ((‵ (flft κ q) ⊛ ‵ ftrue) ⊛ ‵ (D .own r (w ∷ []))) ⊛ raw (ensured 𝓤 H A check-room.ended (check-room.clauses 𝓤 H A at-mem run) (κ, tt) (bytes, (length ps, tt)) tt r)))) (id⊢ 𝓤 _) $ await ! tt $ pick ! (λ r.
         split ! $ move ! (1 ∷ []) $ use1 W (raw (fact 𝓤 (RoomIs bs (length ps) r))) (said-check r) $ heard ! (RoomIs bs (length ps) r) (λ g. split ! $ move ! (1 ∷ []) $
         peeks ! D (Is D) (shows 𝓤 H A D) r (w ∷ []) (λ is-w. let is = subst (Is D r) (E′.lowers .val-is r (w ∷ []) is-w) is-w in
         land ! (from ! (stop !)) (init ! 13 refl (typed r w is-w)) $ rewrite ! 13 (λ (u : Val). ‵ (fat fullShare E′.mir l₃ 0 u)) (ap only (E′.lowers .val-is r (w ∷ []) is-w)) refl $ drop ! $
@@ -192,7 +192,7 @@ module _ {M : Type 1} (𝓤 : URA M) (H : Heap 𝓤) (A : Atoms 𝓤) (W : Given
         use0 W (raw (Count 𝓤 H A at-mem run .pre (to-count r))) (goes-count r is) $
         calls-at ! fm (Count 𝓤 H A at-mem run) known-count (to-count r) (and-then ! (load ! (from ! (stop !)) (look ! 13 refl)) (no-more !)) (λ w₂.
         use1 W (later (some (λ (m : ℕ). (‵ ftrue ⊛ ‵ (usize .own m (w₂ ∷ []))) ⊛ raw (ensured 𝓤 H A count-of.ended (count-of.clauses 𝓤 H A at-mem run) tt (r, tt) tt m)))) (id⊢ 𝓤 _) $ await ! tt $ pick ! (λ m.
-        split ! $ move ! (1 ∷ []) $ use1 W (raw (fact 𝓤 (m ≡ counted (decodeOf r)))) (said-count r m) $ heard ! (m ≡ counted (decodeOf r)) (λ c. split ! $ drop ! $
+        split ! $ move ! (1 ∷ []) $ use1 W (raw (fact 𝓤 (m ≡ counted (fillOf r)))) (said-count r m) $ heard ! (m ≡ counted (fillOf r)) (λ c. split ! $ drop ! $
         peeks ! usize (Is usize) (shows 𝓤 H A usize) m (w₂ ∷ []) (λ is-m.
         land ! (from ! (stop !)) (store ! 11 refl (uint-lawful 𝓤 H A W w64 .typed m _ is-m .0)) $ rewrite ! 11 (λ (u : Val). ‵ (fat fullShare (tyInt w64) l₄ 0 u)) (ap only (is-m .0)) refl $ drop ! $ split ! $
         -- [the token of bytes; true; what bytes owns; the token of pairs; what pairs owns; _7; …; _0; …]

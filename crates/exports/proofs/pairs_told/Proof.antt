@@ -1,4 +1,4 @@
--- `pairs_told` meets its contract: each case has its number and its values. Assumes nothing.
+-- `pairs_told` meets its contract: the number of pairs, or the refusal. Assumes nothing.
 use borrow.Author.Needs.{needs}
 use Rattle.exports.proofs.pairs_told.Statement.{statement}
 use Rattle.exports.proofs.pairs_told.Tie as tie
@@ -9,117 +9,19 @@ enum-known-outcome c = search needs
 numbered-requires : tie.Need-numbered-requires
 numbered-requires c κs = search needs
 
-enum-told : tie.Need-enum-told
-enum-told c = search needs
-
-numbered-requires-2 : tie.Need-numbered-requires-2
-numbered-requires-2 c κs = search needs
-
 enum-known-outcome-2 : tie.Need-enum-known-outcome-2
 enum-known-outcome-2 c = search needs
 
-cast-numbered : tie.Need-cast-numbered
-cast-numbered c = search needs
-
-numbered-requires-3 : tie.Need-numbered-requires-3
-numbered-requires-3 c κs = search needs
-
-enum-known-outcome-3 : tie.Need-enum-known-outcome-3
-enum-known-outcome-3 c = search needs
-
-numbered-requires-4 : tie.Need-numbered-requires-4
-numbered-requires-4 c κs = search needs
-
-enum-known-outcome-4 : tie.Need-enum-known-outcome-4
-enum-known-outcome-4 c = search needs
-
-cast-numbered-2 : tie.Need-cast-numbered-2
-cast-numbered-2 c = search needs
-
-numbered-requires-5 : tie.Need-numbered-requires-5
-numbered-requires-5 c κs = search needs
-
-enum-told-2 : tie.Need-enum-told-2
-enum-told-2 c = search needs
-
-numbered-requires-6 : tie.Need-numbered-requires-6
-numbered-requires-6 c κs = search needs
-
-enum-known-outcome-5 : tie.Need-enum-known-outcome-5
-enum-known-outcome-5 c = search needs
-
-numbered-requires-7 : tie.Need-numbered-requires-7
-numbered-requires-7 c κs = search needs
-
-enum-told-3 : tie.Need-enum-told-3
-enum-told-3 c = search needs
-
-numbered-requires-8 : tie.Need-numbered-requires-8
-numbered-requires-8 c κs = search needs
-
-enum-told-4 : tie.Need-enum-told-4
-enum-told-4 c = search needs
-
-numbered-requires-9 : tie.Need-numbered-requires-9
-numbered-requires-9 c κs = search needs
+attempt-told-requires : tie.Need-attempt-told-requires
+attempt-told-requires c κs = search needs
 
 returns : tie.Need-returns
 returns c = rw (c .before .before .outcome .given .1) (c .numbered .ensures)
 
 returns-2 : tie.Need-returns-2
-returns-2 c = rw (c .before .enum-told .given .1) (c .numbered2 .ensures)
-
-returns-3 : tie.Need-returns-3
-returns-3 c = rw (c .before .before .outcome2 .given .1) (c .numbered3 .ensures)
-
-returns-4 : tie.Need-returns-4
-returns-4 c = rw (c .before .before .outcome3 .given .1) (c .numbered4 .ensures)
-
-returns-5 : tie.Need-returns-5
-returns-5 c = rw (c .before .before .outcome4 .given .1) (c .numbered5 .ensures)
-
-returns-6 : tie.Need-returns-6
-returns-6 c = rw (c .before .enum-told2 .given .1) (c .numbered6 .ensures)
-
-returns-7 : tie.Need-returns-7
-returns-7 c = rw (c .before .before .outcome5 .given .1) (c .numbered7 .ensures)
-
-returns-8 : tie.Need-returns-8
-returns-8 c = rw (c .before .enum-told3 .given .1) (c .numbered8 .ensures)
-
-returns-9 : tie.Need-returns-9
-returns-9 c = rw (c .before .enum-told4 .given .1) (c .numbered9 .ensures)
+returns-2 c = rw (c .before .before .outcome2 .given .1) (c .attempt-told .ensures)
 
 pub pairs-told-spec : {M : Type 1} → statement M
 pairs-told-spec =
     tie.close
-    (tie.spec
-    enum-known-outcome
-    numbered-requires
-    enum-told
-    numbered-requires-2
-    enum-known-outcome-2
-    cast-numbered
-    numbered-requires-3
-    enum-known-outcome-3
-    numbered-requires-4
-    enum-known-outcome-4
-    cast-numbered-2
-    numbered-requires-5
-    enum-told-2
-    numbered-requires-6
-    enum-known-outcome-5
-    numbered-requires-7
-    enum-told-3
-    numbered-requires-8
-    enum-told-4
-    numbered-requires-9
-    returns
-    returns-2
-    returns-3
-    returns-4
-    returns-5
-    returns-6
-    returns-7
-    returns-8
-    returns-9)
+    (tie.spec enum-known-outcome numbered-requires enum-known-outcome-2 attempt-told-requires returns returns-2)

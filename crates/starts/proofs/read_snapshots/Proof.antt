@@ -4,7 +4,7 @@ use borrow.Author.Needs.{needs}
 use Rattle.types.specs.Refusal.{done}
 use Rattle.cursor.specs.View.{view}
 use Rattle.cursor.specs.Snapshot.{decodeCursor}
-use Rattle.starts.proofs.Resuming.{cursor-said, cursor-read, cursor-refused, attempts-refused, both-read, Reads, not-pairs, are-pairs}
+use Rattle.starts.proofs.Resuming.{cursor-said, cursor-read, cursor-refused, attempts-refused, both-read, Reads, attempts-said, attempts-read}
 use Rattle.starts.proofs.read_snapshots.Statement.{statement}
 use Rattle.starts.proofs.read_snapshots.Tie as tie
 
@@ -47,21 +47,25 @@ restored t =
 
 returns-2 : tie.Need-returns-2
 returns-2 c =
-    let p = c .before .before in
+    let o = c .before .before in
+    let p = o .before .before in
     let t = p .before in
     let a = start t .args in
-    attempts-refused (a .configuration) (a .area-len) (a .cursor-bytes .now) (a .attempt-bytes .now) (a .ceiling) (a .seat) (t .before .before .decode-snapshot .result .cursor) (restored t) (p .decode-pairs .result) (p .decode-pairs .ensures) _ (not-pairs (a .attempt-bytes .now) (p .decode-pairs .result) (p .decode-pairs .ensures) (c .before .match2 .keys2)) (c .fresh2 .ensures)
+    attempts-refused (a .configuration) (a .area-len) (a .cursor-bytes .now) (a .attempt-bytes .now) (a .ceiling) (a .seat) (t .before .before .decode-snapshot .result .cursor) (restored t) _ _ (attempts-said (a .attempt-bytes .now) (p .decode-pairs .result) (p .decode-pairs .ensures) _ (o .pairs .given .1)) (c .fresh2 .ensures)
+
+enum-told-2 : tie.Need-enum-told-2
+enum-told-2 c = search needs
 
 -- the pairs that were read
-abbrev told : tie.After-pairs → tie.After-enum-told
+abbrev told : tie.After-enum-told2 → tie.After-enum-told
 told q = q .before .before .before
 
-pairs-of : (q : tie.After-pairs) → Reads (start (told q) .args .attempt-bytes .now) (q .before .before .decode-pairs .result) (q .before .before .decode-pairs .ensures) (q .pairs .given .0 .0)
-pairs-of q = are-pairs (start (told q) .args .attempt-bytes .now) (q .before .before .decode-pairs .result) (q .before .before .decode-pairs .ensures) (q .pairs .given .0 .0) (q .pairs .given .1)
+pairs-of : (q : tie.After-enum-told2) → Reads (start (told q) .args .attempt-bytes .now) (q .before .before .decode-pairs .result) (q .before .before .decode-pairs .ensures)
+pairs-of q = attempts-read (start (told q) .args .attempt-bytes .now) (q .before .before .decode-pairs .result) (q .before .before .decode-pairs .ensures) (q .enum-told2 .given .0 .0) (q .enum-told2 .given .1)
 
 carry-requires : tie.Need-carry-requires
 carry-requires c κs =
-    let q = c .before .before .before in
+    let q = c .before .before in
     (told q .before .before .decode-snapshot .ensures .sound, pairs-of q .few)
 
 resumed-table-requires : tie.Need-resumed-table-requires
@@ -73,11 +77,11 @@ resumed-requires c κs = search needs
 returns-3 : tie.Need-returns-3
 returns-3 c =
     let k = c .before .before .before in
-    let q = k .before .before .before .before in
+    let q = k .before .before .before in
     let t = told q in
     let a = start t .args in
     rw (c .resumed .ensures)
-    (both-read (a .configuration) (a .area-len) (a .cursor-bytes .now) (a .attempt-bytes .now) (a .ceiling) (a .seat) _ (restored t) (t .before .before .decode-snapshot .ensures .sound) _ (q .before .before .decode-pairs .ensures) _ (pairs-of q) _ (k .carry .ensures) _ (c .before .resumed-table .ensures))
+    (both-read (a .configuration) (a .area-len) (a .cursor-bytes .now) (a .attempt-bytes .now) (a .ceiling) (a .seat) _ (restored t) (t .before .before .decode-snapshot .ensures .sound) _ (q .before .before .decode-pairs .ensures) (pairs-of q) _ (k .carry .ensures) _ (c .before .resumed-table .ensures))
 
 pub read-snapshots-spec : {M : Type 1} → statement M
 read-snapshots-spec =
@@ -92,6 +96,7 @@ read-snapshots-spec =
     enum-known-pairs
     fresh-requires-2
     returns-2
+    enum-told-2
     carry-requires
     resumed-table-requires
     resumed-requires

@@ -1,11 +1,11 @@
 -- `Consumer::count_of` meets its contract: an offset with a lease has no carried count. Assumes nothing.
 use Prim.Native.Nat.{ℕ}
-use mathlib.Core.Path.{_≡_, sym, ap, _∙_}
+use mathlib.Core.Path.{_≡_, sym, ap}
 use mathlib.Core.List.{List, [], _∷_}
 use borrow.Author.Needs.{needs}
 use Rattle.types.specs.Refusal.{Result, done}
-use Rattle.lease.specs.Lookup.{leaseAt}
-use Rattle.lease.specs.Answers.{attemptsOf}
+use Rattle.lease.proofs.Found as found
+use Rattle.lease.proofs.Found.{found-lease, found-none}
 use Rattle.consumer.specs.View.{view}
 use Rattle.consumer.proofs.Counts.{lease-count, carried-count}
 use Rattle.consumer.proofs.Asked.{no-count}
@@ -29,7 +29,7 @@ returns c =
     answers
     (sym
     (lease-count (view (s .args .self)) (s .pre .valid) (s .args .offset .0) (k .lease .given .0 .0)
-    (sym (sym (ap leaseAt (k .lease .given .1)) ∙ l .lease-of .ensures))))
+    (found-lease (view (s .args .self) .table) (s .args .offset .0) (l .lease-of .ensures) (k .lease .given .1))))
 
 enum-told : tie.Need-enum-told
 enum-told c = search needs
@@ -50,8 +50,8 @@ returns-2 c =
     let l = t .before .before in
     let s = l .before in
     answers
-    (no-count (view (s .args .self)) (s .pre .valid) (s .args .offset .0) (sym (sym (ap leaseAt (t .enum-told .given .1)) ∙ l .lease-of .ensures))
-    (sym (sym (ap attemptsOf (c .enum-told2 .given .1)) ∙ n .carried-count .ensures)))
+    (no-count (view (s .args .self)) (s .pre .valid) (s .args .offset .0) (found-none (view (s .args .self) .table) (s .args .offset .0) (l .lease-of .ensures) (t .enum-told .given .1))
+    (found.no-count _ (n .carried-count .ensures) (c .enum-told2 .given .1)))
 
 returns-3 : tie.Need-returns-3
 returns-3 c =
@@ -61,7 +61,7 @@ returns-3 c =
     answers
     (sym
     (carried-count (view (s .args .self)) (s .pre .valid) (s .args .offset .0) (k .count .given .0 .0)
-    (sym (sym (ap attemptsOf (k .count .given .1)) ∙ n .carried-count .ensures))))
+    (found.found-count _ (n .carried-count .ensures) (k .count .given .1))))
 
 pub count-of-spec : {M : Type 1} → statement M
 count-of-spec =

@@ -1,13 +1,12 @@
 -- `Consumer::is_full` meets its contract: refusal 27, test by test. Assumes nothing.
 use native.Mathlib.Omega.{arith}
 use Prim.Native.Nat.{_<_}
-use mathlib.Core.Path.{_≡_, sym, ap, _∙_}
+use mathlib.Core.Path.{_≡_}
 use mathlib.Core.Option.{none}
 use borrow.Author.Needs.{needs}
 use lib.ListN.{length}
-use Rattle.lease.specs.Lookup.{leaseAt}
-use Rattle.lease.specs.Answers.{attemptsOf}
 use Rattle.lease.specs.Operations.{leaseOf}
+use Rattle.lease.proofs.Found.{found-lease, found-none, found-count, no-count}
 use Rattle.consumer.specs.View.{view}
 use Rattle.consumer.proofs.CallsClaim.{full-leased, full-leases, full-counted, full-counts}
 use Rattle.consumer.proofs.Consumer.is_full.Statement.{statement}
@@ -26,7 +25,7 @@ returns : tie.Need-returns
 returns c =
     let l = c .before .before in
     let s = l .before in
-    full-leased (view (s .args .self) .table) (s .args .offset .0) _ (sym (sym (ap leaseAt (c .enum-told2 .given .1)) ∙ l .lease-of .ensures))
+    full-leased (view (s .args .self) .table) (s .args .offset .0) _ (found-lease (view (s .args .self) .table) (s .args .offset .0) (l .lease-of .ensures) (c .enum-told2 .given .1))
 
 in-flight-requires : tie.Need-in-flight-requires
 in-flight-requires c κs = search needs
@@ -35,7 +34,10 @@ abbrev start : tie.After-in-flight → tie.Start
 start c = c .before .before .before .before
 
 no-lease : (c : tie.After-in-flight) → leaseOf (view (start c .args .self) .table) (start c .args .offset .0) ≡ none
-no-lease c = let t = c .before in sym (sym (ap leaseAt (t .enum-told .given .1)) ∙ t .before .before .lease-of .ensures)
+no-lease c =
+    let t = c .before in
+    let s = start c in
+    found-none (view (s .args .self) .table) (s .args .offset .0) (t .before .before .lease-of .ensures) (t .enum-told .given .1)
 
 returns-2 : tie.Need-returns-2
 returns-2 c =
@@ -61,7 +63,7 @@ returns-3 c =
     let f = n .before .before in
     let s = start f in
     full-counted (view (s .args .self) .table) (s .args .offset .0) (no-lease f) (few (n .before)) _
-    (sym (sym (ap attemptsOf (c .enum-told4 .given .1)) ∙ n .carried-count .ensures))
+    (found-count _ (n .carried-count .ensures) (c .enum-told4 .given .1))
 
 carried-requires : tie.Need-carried-requires
 carried-requires c κs = search needs
@@ -77,7 +79,7 @@ returns-4 c =
     let s = start f in
     rw (c .carried .ensures, f .in-flight .ensures)
     (full-counts (view (s .args .self) .table) (s .args .offset .0) (no-lease f) (few (n .before))
-    (sym (sym (ap attemptsOf (k .enum-told3 .given .1)) ∙ n .carried-count .ensures)))
+    (no-count _ (n .carried-count .ensures) (k .enum-told3 .given .1)))
 
 pub is-full-spec : {M : Type 1} → statement M
 is-full-spec =

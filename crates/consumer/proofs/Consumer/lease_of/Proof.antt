@@ -1,10 +1,5 @@
 -- `Consumer::lease_of` meets its contract: what the table says. Assumes nothing.
-use mathlib.Core.Path.{ap}
-use mathlib.Core.Option.{Option}
 use borrow.Author.Needs.{needs}
-use Rattle.types.specs.Refusal.{done}
-use Rattle.lease.specs.declared.Lease.{Lease}
-use Rattle.consumer.specs.Questions.{leaseValues}
 use Rattle.consumer.proofs.Consumer.lease_of.Statement.{statement}
 use Rattle.consumer.proofs.Consumer.lease_of.Tie as tie
 
@@ -12,7 +7,7 @@ lease-of-requires : tie.Need-lease-of-requires
 lease-of-requires c κs = search needs
 
 returns : tie.Need-returns
-returns c = ap (λ (l : Option Lease). done (leaseValues l)) (c .lease-of .ensures)
+returns c = c .lease-of .ensures
 
 pub lease-of-spec : {M : Type 1} → statement M
 lease-of-spec = tie.close (tie.spec lease-of-requires returns)

@@ -1,10 +1,10 @@
 -- `Consumer::nack` meets its contract: each test of the table in its order, then the effect. Assumes nothing.
-use mathlib.Core.Path.{_≡_, sym, ap, _∙_}
+use mathlib.Core.Path.{_≡_, sym}
 use mathlib.Core.Option.{some}
 use borrow.Author.Needs.{needs}
 use Rattle.delivery.specs.Config.{delayOf}
 use Rattle.lease.specs.Rest.{deliveries}
-use Rattle.lease.specs.Answers.{attemptsOf}
+use Rattle.lease.proofs.Found.{found-count, no-count}
 use Rattle.consumer.specs.View.{view}
 use Rattle.consumer.proofs.CallsToken.{nack-fenced, attempt-is, nack-exhausted, nack-due, nack-passed}
 use Rattle.consumer.proofs.Consumer.nack.Statement.{statement}
@@ -24,7 +24,7 @@ returns c =
     let d = c .before .before in
     let s = d .before in
     nack-fenced (s .args .self) (s .pre) (s .args .token .offset .0) (s .args .token .generation .0) (s .args .now) (delayOf (s .args .delay))
-    (sym (ap attemptsOf (c .enum-told .given .1)) ∙ d .deliveries .ensures)
+    (sym (no-count _ (d .deliveries .ensures) (c .enum-told .given .1)))
 
 abbrev start : tie.After-known-told → tie.Start
 start c = c .before .before .before .before
@@ -32,7 +32,7 @@ start c = c .before .before .before .before
 -- the token owns the lease, and this is its count
 counted : (c : tie.After-known-told)
     → let a = start c .args in some (c .before .attempt .given .0 .0) ≡ deliveries (view (a .self) .table) (a .token .offset .0) (a .token .generation .0)
-counted c = sym (ap attemptsOf (c .before .attempt .given .1)) ∙ c .before .before .before .deliveries .ensures
+counted c = sym (found-count _ (c .before .before .before .deliveries .ensures) (c .before .attempt .given .1))
 
 returns-2 : tie.Need-returns-2
 returns-2 c =

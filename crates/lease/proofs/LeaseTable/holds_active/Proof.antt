@@ -4,7 +4,7 @@ use mathlib.Core.Path.{sym, _∙_}
 use borrow.Author.Needs.{needs}
 use borrow.Author.Tests.{not-true, not-false}
 use Rattle.lease.specs.State.{view}
-use Rattle.lease.proofs.Questions.{found-lease, found-none}
+use Rattle.lease.proofs.Found.{found-lease, found-none}
 use Rattle.lease.proofs.LeaseTable.holds_active.Statement.{statement}
 use Rattle.lease.proofs.LeaseTable.holds_active.Tie as tie
 

@@ -2,7 +2,8 @@
 -- Assumes nothing.
 use borrow.Author.Needs.{needs}
 use Rattle.lease.specs.State.{view}
-use Rattle.lease.proofs.Questions.{found-lease, found-none, claimable}
+use Rattle.lease.proofs.Found.{found-lease, found-none}
+use Rattle.lease.proofs.Questions.{claimable}
 use Rattle.lease.proofs.LeaseTable.is_claimable.Statement.{statement}
 use Rattle.lease.proofs.LeaseTable.is_claimable.Tie as tie
 

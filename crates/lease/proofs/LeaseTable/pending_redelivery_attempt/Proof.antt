@@ -2,7 +2,8 @@
 -- Assumes nothing.
 use borrow.Author.Needs.{needs}
 use Rattle.lease.specs.State.{view}
-use Rattle.lease.proofs.Questions.{found-lease, found-none, none-overdue, still-running, pending}
+use Rattle.lease.proofs.Found.{found-lease, found-none}
+use Rattle.lease.proofs.Questions.{none-overdue, still-running, pending}
 use Rattle.lease.proofs.LeaseTable.pending_redelivery_attempt.Statement.{statement}
 use Rattle.lease.proofs.LeaseTable.pending_redelivery_attempt.Tie as tie
 

@@ -1,17 +1,16 @@
 -- `of_lease` meets its contract. Assumes nothing.
 use mathlib.Core.Path.{sym, ap}
 use borrow.Author.Needs.{needs}
-use Rattle.types.specs.Refusal as refusal
+use Rattle.types.specs.Refusal.{answered}
 use Rattle.lease.specs.Lookup.{leaseAt}
 use Rattle.lease.specs.declared.lookup.LeaseAt.{LeaseAt}
-use Rattle.consumer.specs.Questions.{leaseValues}
 use Rattle.wire.specs.declared.numbers.Numbers.{Numbers}
-use Rattle.wire.specs.Numbers.{numbersOf}
+use Rattle.wire.specs.Numbers.{numbersOf, values}
 use Rattle.wire.proofs.numbers.of_lease.Statement.{statement}
 use Rattle.wire.proofs.numbers.of_lease.Tie as tie
 
 abbrev told : LeaseAt → Numbers
-told l = numbersOf (refusal.told 0 (leaseValues (leaseAt l)))
+told l = numbersOf (answered values (leaseAt l))
 
 enum-known-lease : tie.Need-enum-known-lease
 enum-known-lease c = search needs
