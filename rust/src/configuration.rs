@@ -52,8 +52,8 @@ impl DeliveryConfig {
     /// The redeliveries after which a checkpoint is due.
     pub const DEFAULT_ATTEMPTS_FLUSH_REDELIVERIES: u32 = 1;
 
-    /// A configuration of a limit, the opt-in to none (0 or 4294967295), and the delays of failed messages: the first behind
-    /// the first hand-out and so on, the last behind all further ones.
+    /// A configuration of a limit, the opt-in to none (0 or 4294967295), and the delays of failed messages: the first after
+    /// the first hand-out and so on, the last after all further ones.
     ///
     /// Nothing is refused here. Start and restart refuse what document 01 does: a limit that needs the opt-in (1), more than
     /// 16 delays (2).

@@ -109,7 +109,7 @@ impl<S> Consumer<S> {
         })
     }
 
-    // A call under a token, with what comes behind it.
+    // A call under a token, with what comes after it.
     fn under(&mut self, ask: Ask, token: LeaseToken, now: u64, delay: u64) -> Result<u64, Refusal> {
         let numbers = [token.offset.get(), token.generation.get(), now, delay];
         Ok(self.machine.ask(ask, numbers)?.values[0])

@@ -1,6 +1,6 @@
 //! The proved library, and the only unsafe code of this crate.
 //!
-//! `crates/server/src/door.rt` of the repository has the functions with their contracts. They take the state behind `&mut`
+//! `crates/server/src/transition.rt` of the repository has the functions with their contracts. They take the state behind `&mut`
 //! and require one thing, the invariant of the state that every start, restart and call is proved to leave. So a [`Machine`] is
 //! made here by a start or a restart alone, nothing outside this file sees its fields, and the structs below are laid out as
 //! the library's, field by field, which `tests` at the end compares.
@@ -42,9 +42,9 @@ struct LeaseTable {
     redeliveries_since_flush: u32,
 }
 
-// consumer: Seat
+// consumer: NextGroup
 #[repr(C)]
-struct Seat {
+struct NextGroup {
     number: u64,
     block: usize,
 }
@@ -55,7 +55,7 @@ struct Consumer {
     cursor: AckCursor,
     table: LeaseTable,
     ceiling: u64,
-    seat: Seat,
+    next: NextGroup,
     area_len: usize,
     settings: Settings,
 }
@@ -112,7 +112,7 @@ pub(crate) enum Ask {
     BlocksLeft = 14,
 }
 
-// The other calls of the door.
+// The other calls on the machine.
 const BEGIN: u64 = 15;
 const STEP: u64 = 16;
 const RESTART: u64 = 17;
@@ -205,7 +205,7 @@ impl Machine {
         Ok(machine)
     }
 
-    // A call of the door that isn't on the consumer.
+    // A call on the machine that isn't on the consumer.
     fn call(&mut self, kind: u64, area: &mut [u8]) -> Numbers {
         let mut numbers = Numbers::default();
         let mut out = [];
@@ -362,7 +362,7 @@ mod tests {
         }
     }
 
-    fn told(number: u64, count: u64, values: [u64; 4]) -> Numbers {
+    fn code(number: u64, count: u64, values: [u64; 4]) -> Numbers {
         Numbers {
             number,
             count,
@@ -401,7 +401,7 @@ mod tests {
         let mut area = [0; 512 * 20];
         let mut out = [0; 4];
         guarded.start(&configuration, area.len());
-        assert_eq!(guarded.numbers, told(0, 0, [0; 4]));
+        assert_eq!(guarded.numbers, code(0, 0, [0; 4]));
         assert_eq!(guarded.machine.configuration, configuration);
         assert_eq!(guarded.machine.phase, 0);
         assert_eq!(
@@ -413,25 +413,25 @@ mod tests {
             configuration.lease
         );
         assert_eq!(guarded.machine.writing.consumer.area_len, area.len());
-        assert_eq!(guarded.machine.writing.consumer.seat.number, 1);
+        assert_eq!(guarded.machine.writing.consumer.next.number, 1);
         guarded.call(BEGIN, [0; 4], &mut [], &mut []);
-        assert_eq!(guarded.numbers, told(0, 1, [2, 0, 0, 0]));
+        assert_eq!(guarded.numbers, code(0, 1, [2, 0, 0, 0]));
         assert_eq!(guarded.machine.phase, 1);
         assert_eq!(guarded.machine.writing.cursor_len, 13);
         assert_eq!(guarded.machine.writing.attempt_len, 9);
         assert_eq!(guarded.machine.writing.payload[0], 1);
         guarded.call(STEP, [0; 4], &mut area, &mut []);
-        assert_eq!(guarded.numbers, told(0, 2, [1, 0, 0, 0]));
+        assert_eq!(guarded.numbers, code(0, 2, [1, 0, 0, 0]));
         assert_eq!(guarded.machine.writing.written, 1);
         guarded.call(STEP, [0; 4], &mut area, &mut []);
-        assert_eq!(guarded.numbers, told(0, 2, [0, 1, 0, 0]));
+        assert_eq!(guarded.numbers, code(0, 2, [0, 1, 0, 0]));
         assert_eq!(guarded.machine.phase, 0);
         assert_eq!(guarded.machine.writing.consumer.ceiling, 4096);
-        assert_eq!(guarded.machine.writing.consumer.seat.block, 2);
+        assert_eq!(guarded.machine.writing.consumer.next.block, 2);
         for offset in [5, 9] {
             guarded.call(Ask::Claim as u64, [offset, 50, 0, 0], &mut [], &mut out);
         }
-        assert_eq!(guarded.numbers, told(0, 3, [1, 1, 0, 0]));
+        assert_eq!(guarded.numbers, code(0, 3, [1, 1, 0, 0]));
         let table = &guarded.machine.writing.consumer.table;
         assert_eq!((table.len, table.next_generation), (2, 2));
         assert_eq!(table.offsets[..2], [5, 9]);
@@ -447,22 +447,22 @@ mod tests {
         assert_eq!(guarded.machine.writing.attempt_len, 9 + 12);
         // While a record is out, the consumer can't be called.
         guarded.call(Ask::Claim as u64, [6, 50, 0, 0], &mut [], &mut out);
-        assert_eq!(guarded.numbers, told(255, 0, [0; 4]));
+        assert_eq!(guarded.numbers, code(255, 0, [0; 4]));
         guarded.call(STEP, [0; 4], &mut area, &mut []);
         guarded.call(STEP, [0; 4], &mut area, &mut []);
         guarded.call(RESTART, [0; 4], &mut area, &mut []);
-        assert_eq!(guarded.numbers, told(0, 0, [0; 4]));
+        assert_eq!(guarded.numbers, code(0, 0, [0; 4]));
         let table = &guarded.machine.writing.consumer.table;
         assert_eq!((table.carried_len, table.carried_offsets[0]), (1, 5));
         assert_eq!((table.carried_counts[0], table.next_generation), (1, 4098));
         assert_eq!(table.redeliveries_since_flush, 0);
         guarded.call(Ask::Waiting as u64, [50, 0, 0, 0], &mut [], &mut out);
-        assert_eq!(guarded.numbers, told(0, 1, [5, 0, 0, 0]));
+        assert_eq!(guarded.numbers, code(0, 1, [5, 0, 0, 0]));
         assert_eq!(out[0], 5);
     }
 
     #[test]
-    fn a_claim_and_an_ack_by_themselves_are_the_door_s() {
+    fn a_claim_and_an_ack_by_themselves_are_those_of_the_machine() {
         let mut whole = Guarded::new();
         let mut part = Guarded::new();
         let mut area = [0; 512 * 20];
@@ -508,7 +508,7 @@ mod tests {
         guarded.start(&Configuration::default(), 512 * 20);
         for kind in [STEP, 18, u64::MAX] {
             guarded.call(kind, [0; 4], &mut [0; 512], &mut []);
-            assert_eq!(guarded.numbers, told(255, 0, [0; 4]));
+            assert_eq!(guarded.numbers, code(255, 0, [0; 4]));
         }
     }
 
@@ -521,16 +521,16 @@ mod tests {
         for ask in [Ask::Claim, Ask::Commit, Ask::Waiting, Ask::Committed] {
             let numbers = guarded.machine.on_consumer(ask, [5, 0, 0, 0], &mut list);
             guarded.untouched();
-            assert_eq!(numbers, told(255, 0, [0; 4]));
+            assert_eq!(numbers, code(255, 0, [0; 4]));
         }
         assert_eq!(list, [7; 2]);
         let mut numbers = Numbers::default();
         // SAFETY: as for `Machine::call`.
         unsafe { ninotskev_claim(&mut guarded.machine, &mut numbers, 5, 0) };
-        assert_eq!(numbers, told(255, 0, [0; 4]));
+        assert_eq!(numbers, code(255, 0, [0; 4]));
         // SAFETY: as for `Machine::call`.
         unsafe { ninotskev_ack(&mut guarded.machine, &mut numbers, 5, 0) };
-        assert_eq!(numbers, told(255, 0, [0; 4]));
+        assert_eq!(numbers, code(255, 0, [0; 4]));
         guarded.untouched();
         assert_eq!(guarded.machine.phase, 1);
     }
@@ -540,13 +540,13 @@ mod tests {
         let mut guarded = Guarded::new();
         guarded.start(&Configuration::default(), 512 * 20);
         guarded.call(BEGIN, [0; 4], &mut [], &mut []);
-        assert_eq!(guarded.numbers, told(0, 1, [2, 0, 0, 0]));
+        assert_eq!(guarded.numbers, code(0, 1, [2, 0, 0, 0]));
         guarded.start(&Configuration::default(), 511);
-        assert_eq!(guarded.numbers, told(4, 0, [0; 4]));
+        assert_eq!(guarded.numbers, code(4, 0, [0; 4]));
         assert_eq!(guarded.machine.phase, 1);
         // What was begun goes on.
         let mut area = [0; 512 * 20];
         guarded.call(STEP, [0; 4], &mut area, &mut []);
-        assert_eq!(guarded.numbers, told(0, 2, [1, 0, 0, 0]));
+        assert_eq!(guarded.numbers, code(0, 2, [1, 0, 0, 0]));
     }
 }

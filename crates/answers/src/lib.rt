@@ -6,7 +6,7 @@ ghost use Rattle.cursor.specs.Answers.{rangesError, snapshotError};
 ghost use Rattle.attempt.specs.Codec.{attemptError};
 ghost use Rattle.consumer.specs.View.{claimOf, settleOf, nackOf, progressOf, commitOf};
 ghost use Rattle.checkpoint.specs.Writing.{stepOf};
-ghost use Rattle.answers.specs.Told.{with, toldOf, refusalIn, beginRefusal, faultIn};
+ghost use Rattle.answers.specs.Code.{with, codeOf, codeIn, beginRefusal, faultIn};
 use attempt::AttemptSnapshotError;
 use checkpoint::BeginAnswer;
 use checkpoint::StepAnswer;
@@ -20,17 +20,17 @@ use cursor::SnapshotError;
 use starts::StartAnswer;
 
 // A number of document 01 and the first `count` of two values.
-pub struct Told {
+pub struct Code {
     pub number: u64,
     pub count: usize,
     pub first: u64,
     pub second: u64,
 }
 
-fn tell(number: u64, count: usize, first: u64, second: u64) -> Told
+fn tell(number: u64, count: usize, first: u64, second: u64) -> Code
     ensures { λ r. ⌜ r ≡ with number count first second ⌝ }
 {
-    Told {
+    Code {
         number: number,
         count: count,
         first: first,
@@ -38,8 +38,8 @@ fn tell(number: u64, count: usize, first: u64, second: u64) -> Told
     }
 }
 
-pub fn of_claim(answer: ClaimAnswer) -> Told
-    ensures { λ r. ⌜ toldOf r ≡ refusalIn (claimOf answer) ⌝ }
+pub fn of_claim(answer: ClaimAnswer) -> Code
+    ensures { λ r. ⌜ codeOf r ≡ codeIn (claimOf answer) ⌝ }
 {
     match answer {
         ClaimAnswer::Deliver {
@@ -59,8 +59,8 @@ pub fn of_claim(answer: ClaimAnswer) -> Told
     }
 }
 
-pub fn of_settle(answer: SettleAnswer) -> Told
-    ensures { λ r. ⌜ toldOf r ≡ refusalIn (settleOf answer) ⌝ }
+pub fn of_settle(answer: SettleAnswer) -> Code
+    ensures { λ r. ⌜ codeOf r ≡ codeIn (settleOf answer) ⌝ }
 {
     match answer {
         SettleAnswer::Settled => tell(0, 0, 0, 0),
@@ -69,8 +69,8 @@ pub fn of_settle(answer: SettleAnswer) -> Told
     }
 }
 
-pub fn of_nack(answer: NackAnswer) -> Told
-    ensures { λ r. ⌜ toldOf r ≡ refusalIn (nackOf answer) ⌝ }
+pub fn of_nack(answer: NackAnswer) -> Code
+    ensures { λ r. ⌜ codeOf r ≡ codeIn (nackOf answer) ⌝ }
 {
     match answer {
         NackAnswer::Requeued { deadline: _ } => tell(0, 0, 0, 0),
@@ -80,8 +80,8 @@ pub fn of_nack(answer: NackAnswer) -> Told
     }
 }
 
-pub fn of_progress(answer: ProgressAnswer) -> Told
-    ensures { λ r. ⌜ toldOf r ≡ refusalIn (progressOf answer) ⌝ }
+pub fn of_progress(answer: ProgressAnswer) -> Code
+    ensures { λ r. ⌜ codeOf r ≡ codeIn (progressOf answer) ⌝ }
 {
     match answer {
         ProgressAnswer::Extended { deadline: _ } => tell(0, 0, 0, 0),
@@ -90,8 +90,8 @@ pub fn of_progress(answer: ProgressAnswer) -> Told
     }
 }
 
-pub fn of_commit(answer: CommitAnswer) -> Told
-    ensures { λ r. ⌜ toldOf r ≡ refusalIn (commitOf answer) ⌝ }
+pub fn of_commit(answer: CommitAnswer) -> Code
+    ensures { λ r. ⌜ codeOf r ≡ codeIn (commitOf answer) ⌝ }
 {
     match answer {
         CommitAnswer::Committed => tell(0, 0, 0, 0),
@@ -100,8 +100,8 @@ pub fn of_commit(answer: CommitAnswer) -> Told
     }
 }
 
-pub fn of_begin(answer: BeginAnswer) -> Told
-    ensures { λ r. ⌜ toldOf r ≡ beginRefusal answer ⌝ }
+pub fn of_begin(answer: BeginAnswer) -> Code
+    ensures { λ r. ⌜ codeOf r ≡ beginRefusal answer ⌝ }
 {
     match answer {
         BeginAnswer::Begun { writes: _ } => tell(0, 0, 0, 0),
@@ -109,8 +109,8 @@ pub fn of_begin(answer: BeginAnswer) -> Told
     }
 }
 
-pub fn of_step(answer: StepAnswer) -> Told
-    ensures { λ r. ⌜ toldOf r ≡ refusalIn (stepOf answer) ⌝ }
+pub fn of_step(answer: StepAnswer) -> Code
+    ensures { λ r. ⌜ codeOf r ≡ codeIn (stepOf answer) ⌝ }
 {
     match answer {
         StepAnswer::Wrote { block: _ } => tell(0, 0, 0, 0),
@@ -119,8 +119,8 @@ pub fn of_step(answer: StepAnswer) -> Told
     }
 }
 
-pub fn of_ranges(error: AckCursorError) -> Told
-    ensures { λ r. ⌜ toldOf r ≡ numbered (rangesError error) ⌝ }
+pub fn of_ranges(error: AckCursorError) -> Code
+    ensures { λ r. ⌜ codeOf r ≡ numbered (rangesError error) ⌝ }
 {
     match error {
         AckCursorError::EmptyRange { start, end } => tell(10, 2, start, end),
@@ -131,8 +131,8 @@ pub fn of_ranges(error: AckCursorError) -> Told
     }
 }
 
-pub fn of_cursor(error: SnapshotError) -> Told
-    ensures { λ r. ⌜ toldOf r ≡ numbered (snapshotError error) ⌝ }
+pub fn of_cursor(error: SnapshotError) -> Code
+    ensures { λ r. ⌜ codeOf r ≡ numbered (snapshotError error) ⌝ }
 {
     match error {
         SnapshotError::Truncated => tell(6, 0, 0, 0),
@@ -143,8 +143,8 @@ pub fn of_cursor(error: SnapshotError) -> Told
     }
 }
 
-pub fn of_attempts(error: AttemptSnapshotError) -> Told
-    ensures { λ r. ⌜ toldOf r ≡ numbered (attemptError error) ⌝ }
+pub fn of_attempts(error: AttemptSnapshotError) -> Code
+    ensures { λ r. ⌜ codeOf r ≡ numbered (attemptError error) ⌝ }
 {
     match error {
         AttemptSnapshotError::Truncated => tell(13, 0, 0, 0),
@@ -165,8 +165,8 @@ pub fn of_attempts(error: AttemptSnapshotError) -> Told
     }
 }
 
-pub fn of_start(answer: StartAnswer) -> Told
-    ensures { λ r. ⌜ toldOf r ≡ faultIn answer ⌝ }
+pub fn of_start(answer: StartAnswer) -> Code
+    ensures { λ r. ⌜ codeOf r ≡ faultIn answer ⌝ }
 {
     match answer {
         StartAnswer::Started => tell(0, 0, 0, 0),

@@ -34,34 +34,34 @@ use Rattle.attempt.proofs.Snapshot.{length-read, accepted, accepts, fil
 
 -- ---- the tests of `check`, in their order
 module _ (b : List ℕ) where
-  abbrev answered : Result ℕ
-  answered = checked (decodeTable b) (done (pairCount b))
+  abbrev checkAnswer : Result ℕ
+  checkAnswer = checked (decodeTable b) (done (pairCount b))
 
-  pub truncated : length b < 9 → answered ≡ refused refusal.AttemptTruncated
+  pub truncated : length b < 9 → checkAnswer ≡ refused refusal.AttemptTruncated
   truncated h = rw (lt-ltb (length b) 9 h)
 
   module _ (long : 9 ≤ length b) where
-    pub other-version : (getD b 0 0 ≡ 1 → ⊥) → answered ≡ refused (refusal.AttemptUnsupportedVersion (getD b 0 0))
+    pub other-version : (getD b 0 0 ≡ 1 → ⊥) → checkAnswer ≡ refused (refusal.AttemptUnsupportedVersion (getD b 0 0))
     other-version h = rw (le-ltb (length b) 9 long, ne-eqb (getD b 0 0) 1 h)
 
     module _ (version : getD b 0 0 ≡ 1) where
-      pub bad-length : ((length b - 9) % 12 ≡ 0 → ⊥) → answered ≡ refused (refusal.AttemptBadLength (length b))
+      pub bad-length : ((length b - 9) % 12 ≡ 0 → ⊥) → checkAnswer ≡ refused (refusal.AttemptBadLength (length b))
       bad-length h = rw (le-ltb (length b) 9 long, eq-eqb (getD b 0 0) 1 version, ne-eqb ((length b - 9) % 12) 0 h)
 
       module _ (whole : (length b - 9) % 12 ≡ 0) where
         pub count-mismatch : (numberAt 4 1 b ≡ pairCount b → ⊥)
-            → answered ≡ refused (refusal.CountMismatch (numberAt 4 1 b) (pairCount b))
+            → checkAnswer ≡ refused (refusal.CountMismatch (numberAt 4 1 b) (pairCount b))
         count-mismatch h =
             rw (le-ltb (length b) 9 long, eq-eqb (getD b 0 0) 1 version, eq-eqb ((length b - 9) % 12) 0 whole)
             (rw (ne-eqb (numberAt 4 1 b) (pairCount b) h))
 
         module _ (counted : numberAt 4 1 b ≡ pairCount b) where
-          pub bad-crc : isSealed b ≡ false → answered ≡ refused refusal.AttemptBadCrc
+          pub bad-crc : isSealed b ≡ false → checkAnswer ≡ refused refusal.AttemptBadCrc
           bad-crc h =
               rw (le-ltb (length b) 9 long, eq-eqb (getD b 0 0) 1 version, eq-eqb ((length b - 9) % 12) 0 whole)
               (rw (eq-eqb (numberAt 4 1 b) (pairCount b) counted, h))
 
-          pub framed : isSealed b ≡ true → answered ≡ checked (pairsTable (pairsIn b)) (done (pairCount b))
+          pub framed : isSealed b ≡ true → checkAnswer ≡ checked (pairsTable (pairsIn b)) (done (pairCount b))
           framed h =
               rw (le-ltb (length b) 9 long, eq-eqb (getD b 0 0) 1 version, eq-eqb ((length b - 9) % 12) 0 whole)
               (rw (eq-eqb (numberAt 4 1 b) (pairCount b) counted, h))
@@ -139,11 +139,11 @@ other-counted OutTooShort h = refl
 
 module _ (b : List ℕ) where
   -- the tests refused, or let n pairs through
-  refused-bytes : (q : Refusal) → refused q ≡ answered b → decodeAttempts b ≡ refused q
+  refused-bytes : (q : Refusal) → refused q ≡ checkAnswer b → decodeAttempts b ≡ refused q
   unfolding decodeAttempts
   refused-bytes q e = checked-refused (decodeTable b) (pairCount b) (done (pairsIn b)) q (sym e)
 
-  module _ (n : ℕ) (e : done n ≡ answered b) where
+  module _ (n : ℕ) (e : done n ≡ checkAnswer b) where
     passed : Passed (decodeTable b) × (pairCount b ≡ n)
     passed = checked-done (decodeTable b) (pairCount b) n (sym e)
 
@@ -164,12 +164,12 @@ module _ (b : List ℕ) where
     no-room lent short = rw decoded-bytes (fill-short (readPairs n 5 b) lent n (length-read n 5 b) short)
 
   -- ---- what `decode_pairs` answers
-  pub refuses : (error : AttemptSnapshotError) (r : Decoded) → refused (attemptError error) ≡ answered b → RefusedIs error r → DecodedIs b r
+  pub refuses : (error : AttemptSnapshotError) (r : Decoded) → refused (attemptError error) ≡ checkAnswer b → RefusedIs error r → DecodedIs b r
   refuses error r e k =
       let bytes = refused-bytes (attemptError error) e in
       record { is = rw (k .outcome-is, k .pairs, bytes); count = rw (k .outcome-is) (k .count) }
 
-  pub decodes : (n : ℕ) (pairs : List Pair) → done n ≡ answered b → entriesOf pairs ≡ readPairs n 5 b ++ drop n (entriesOf blank)
+  pub decodes : (n : ℕ) (pairs : List Pair) → done n ≡ checkAnswer b → entriesOf pairs ≡ readPairs n 5 b ++ drop n (entriesOf blank)
       → DecodedIs b (record { outcome = outcomes.Pairs n; pairs = pairs; count = n })
   decodes n pairs e g =
       let room : n ≤ length (entriesOf blank) = omega (arith, fits n e .0, length-map blank entryOf, length-blank) in
@@ -177,7 +177,7 @@ module _ (b : List ℕ) where
 
   -- ---- what `check_room` answers
   module _ (room : ℕ) where
-    pub room-refused : (error : AttemptSnapshotError) → refused (attemptError error) ≡ answered b → RoomIs b room (Refused error)
+    pub room-refused : (error : AttemptSnapshotError) → refused (attemptError error) ≡ checkAnswer b → RoomIs b room (Refused error)
     room-refused error e =
         record {
           is = λ lent size. rw (refused-bytes (attemptError error) e);
@@ -185,7 +185,7 @@ module _ (b : List ℕ) where
           fits = omega arith;
         }
 
-    module _ (n : ℕ) (e : done n ≡ answered b) where
+    module _ (n : ℕ) (e : done n ≡ checkAnswer b) where
       pub room-short : room < n → RoomIs b room OutTooShort
       room-short h =
           record {

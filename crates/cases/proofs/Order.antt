@@ -1,4 +1,4 @@
--- The order of refusals for every input, where a case would take long to compute: what comes behind the tests of a snapshot's frame,
+-- The order of refusals for every input, where a case would take long to compute: what comes after the tests of a snapshot's frame,
 -- of a start and of a journal's first group. Assumes nothing.
 use Prim.Native.Nat.{ℕ, suc}
 use mathlib.Core.Path.{_≡_}
@@ -18,18 +18,18 @@ use Rattle.journal.specs.Walks.{groupAt, group, unsound, walkOver, walkFrom, wa
 use Rattle.consumer.specs.State.{Configuration}
 use Rattle.starts.specs.Restart.{startTable, start, fresh, fromWalk, restart}
 
--- behind 6 to 9 the ranges are tested as those of a resumption: 10 and 11 range by range, then 12
-pub cursor-behind-its-frame : (b : List ℕ) → first (cursor.frameTable b) ≡ none
+-- after 6 to 9 the ranges are tested as those of a resumption: 10 and 11 range by range, then 12
+pub cursor-after-its-frame : (b : List ℕ) → first (cursor.frameTable b) ≡ none
     → decodeCursor b ≡ resumeWithAhead (cursorIn b .committed) (cursorIn b .ahead)
 unfolding decodeCursor resumeWithAhead
-cursor-behind-its-frame b e =
+cursor-after-its-frame b e =
     rw (first-none-before (cursor.frameTable b) (resumeTable (cursorIn b .committed) (cursorIn b .ahead)) e)
 
--- behind 13 to 17 come 18 for all the pairs in the bytes, then 19
-pub attempts-behind-their-frame : (b : List ℕ) → first (attempt.frameTable b) ≡ none
+-- after 13 to 17 come 18 for all the pairs in the bytes, then 19
+pub attempts-after-their-frame : (b : List ℕ) → first (attempt.frameTable b) ≡ none
     → decodeAttempts b ≡ checked (pairsTable (pairsIn b)) (done (pairsIn b))
 unfolding decodeAttempts
-attempts-behind-their-frame b e = rw (first-none-before (attempt.frameTable b) (pairsTable (pairsIn b)) e)
+attempts-after-their-frame b e = rw (first-none-before (attempt.frameTable b) (pairsTable (pairsIn b)) e)
 
 -- 1 to 4 of a restart are those of a start, and come before anything that is in the area
 pub restart-refused-as-a-start : (c : Configuration) (a : List ℕ) (r : Refusal) → start c (length a) ≡ refused r → restart c a ≡ refused r

@@ -54,7 +54,7 @@ pub attempts-rising : decodeAttempts (encodeAttempts1 (entry 0 1 ∷ entry 1 2 �
 unfolding decodeAttempts encodeAttempts1 isSealed bits unbits polynomial crc xor
 attempts-rising = refl
 
--- 19 for 129 pairs, behind 18 of the last one; not for 128
+-- 19 for 129 pairs, after 18 of the last one; not for 128
 abbrev tested : List (Entry ℕ) → Result (List (Entry ℕ))
 tested l = checked (pairsTable l) (done l)
 
@@ -67,7 +67,7 @@ as-many-pairs-as-fit = refl
 pub order-before-too-many : tested (countsFrom 128 0 ++ entry 127 1 ∷ []) ≡ refused (NotSorted 127 127)
 order-before-too-many = refl
 
--- 20 where the lent list has a place less than there are pairs, and behind 18; one of the very length is filled
+-- 20 where the lent list has a place less than there are pairs, and after 18; one of the very length is filled
 pub attempts-list-too-short : decodeInto (encodeAttempts1 (entry 0 1 ∷ entry 1 2 ∷ [])) (entry 9 9 ∷ []) .outcome ≡ refused OutTooShort
 unfolding decodeAttempts encodeAttempts1 isSealed bits unbits polynomial crc xor
 attempts-list-too-short = refl

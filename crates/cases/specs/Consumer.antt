@@ -13,14 +13,14 @@ use Rattle.cursor.specs.Ranges.{range}
 use Rattle.delivery.specs.Policy.{policy, Destination, Deliver}
 use Rattle.lease.specs.State.{Table}
 use Rattle.lease.specs.Operations.{extend}
-use Rattle.consumer.specs.State.{State, stateOf, seatAt}
+use Rattle.consumer.specs.State.{State, stateOf, nextGroupAt}
 use Rattle.consumer.specs.Calls.{HandOut, claim, ack, nack, progress, commit}
 use Rattle.consumer.specs.Questions.{waiting}
 use Rattle.cases.specs.States.{countsFrom, leasesFrom, rangesFrom, tableOf}
 
 -- limit 2, threshold 3, backoff 7, one group written
 abbrev consumer : Cursor → Table → ℕ → State
-consumer c t ceiling = stateOf c t ceiling (seatAt 2 2) 9216 (record { policy = policy 2 false (7 ∷ []) 3 })
+consumer c t ceiling = stateOf c t ceiling (nextGroupAt 2 2) 9216 (record { policy = policy 2 false (7 ∷ []) 3 })
 
 -- offsets 0 to 4 and offset 8 are settled
 abbrev five : Cursor
@@ -38,8 +38,8 @@ held next redeliveries = tableOf (leasesFrom 1 5) [] next redeliveries
 abbrev crowd : ℕ → ℕ → State
 crowd leases counts = with (tableOf (leasesFrom leases 10) (countsFrom counts 100) 1 0)
 
-abbrev handedOut : ℕ → ℕ → ℕ → Destination → Result HandOut
-handedOut o g n d = done (record { offset = o; generation = g; deliveries = n; destination = d })
+abbrev handsOut : ℕ → ℕ → ℕ → Destination → Result HandOut
+handsOut o g n d = done (record { offset = o; generation = g; deliveries = n; destination = d })
 
 -- ## claim
 -- 21 for MAX, and before 26; the offset below can be claimed
@@ -47,7 +47,7 @@ pub claim-of-the-last-offset : claim (consumer five (held 1 0) 1) MAX 100 .outco
 unfolding claim
 claim-of-the-last-offset = refl
 
-pub claim-below-the-last-offset : claim (with (held 1 0)) (MAX - 1) 100 .outcome ≡ handedOut (MAX - 1) 1 1 Deliver
+pub claim-below-the-last-offset : claim (with (held 1 0)) (MAX - 1) 100 .outcome ≡ handsOut (MAX - 1) 1 1 Deliver
 unfolding claim
 claim-below-the-last-offset = refl
 
@@ -60,11 +60,11 @@ pub claim-in-a-range : claim (with (tableOf [] [] 1 0)) 8 100 .outcome ≡ refus
 unfolding claim
 claim-in-a-range = refl
 
-pub claim-at-committed : claim (with (tableOf [] [] 1 0)) 5 100 .outcome ≡ handedOut 5 1 1 Deliver
+pub claim-at-committed : claim (with (tableOf [] [] 1 0)) 5 100 .outcome ≡ handsOut 5 1 1 Deliver
 unfolding claim
 claim-at-committed = refl
 
-pub claim-at-a-range-end : claim (with (tableOf [] [] 1 0)) 9 100 .outcome ≡ handedOut 9 1 1 Deliver
+pub claim-at-a-range-end : claim (with (tableOf [] [] 1 0)) 9 100 .outcome ≡ handsOut 9 1 1 Deliver
 unfolding claim
 claim-at-a-range-end = refl
 
@@ -83,7 +83,7 @@ pub claim-in-flight : claim (with (held 1 0)) 5 109 .outcome ≡ refused InFligh
 unfolding claim
 claim-in-flight = refl
 
-pub claim-at-the-deadline : claim (with (held 1 0)) 5 110 .outcome ≡ handedOut 5 1 2 Deliver
+pub claim-at-the-deadline : claim (with (held 1 0)) 5 110 .outcome ≡ handsOut 5 1 2 Deliver
 unfolding claim
 claim-at-the-deadline = refl
 
@@ -102,7 +102,7 @@ pub claim-at-the-ceiling : claim (with (held 4096 0)) 5 110 .outcome ≡ refused
 unfolding claim
 claim-at-the-ceiling = refl
 
-pub claim-below-the-ceiling : claim (with (held 4095 0)) 5 110 .outcome ≡ handedOut 5 4095 2 Deliver
+pub claim-below-the-ceiling : claim (with (held 4095 0)) 5 110 .outcome ≡ handsOut 5 4095 2 Deliver
 unfolding claim
 claim-below-the-ceiling = refl
 
@@ -111,7 +111,7 @@ pub claim-at-the-threshold : claim (with (held 1 3)) 6 110 .outcome ≡ refused 
 unfolding claim
 claim-at-the-threshold = refl
 
-pub claim-below-the-threshold : claim (with (held 1 2)) 5 110 .outcome ≡ handedOut 5 1 2 Deliver
+pub claim-below-the-threshold : claim (with (held 1 2)) 5 110 .outcome ≡ handsOut 5 1 2 Deliver
 unfolding claim
 claim-below-the-threshold = refl
 
@@ -138,11 +138,11 @@ pub claim-full-of-leases : claim (crowd 64 1) 100 110 .outcome ≡ refused Full
 unfolding claim
 claim-full-of-leases = refl
 
-pub claim-of-the-64th : claim (crowd 63 1) 100 110 .outcome ≡ handedOut 100 1 2 Deliver
+pub claim-of-the-64th : claim (crowd 63 1) 100 110 .outcome ≡ handsOut 100 1 2 Deliver
 unfolding claim
 claim-of-the-64th = refl
 
-pub claim-of-a-leased-one : claim (crowd 64 64) 10 110 .outcome ≡ handedOut 10 1 2 Deliver
+pub claim-of-a-leased-one : claim (crowd 64 64) 10 110 .outcome ≡ handsOut 10 1 2 Deliver
 unfolding claim
 claim-of-a-leased-one = refl
 
@@ -151,11 +151,11 @@ pub claim-full-together : claim (crowd 28 100) 5 110 .outcome ≡ refused Full
 unfolding claim
 claim-full-together = refl
 
-pub claim-of-the-128th : claim (crowd 28 99) 5 110 .outcome ≡ handedOut 5 1 1 Deliver
+pub claim-of-the-128th : claim (crowd 28 99) 5 110 .outcome ≡ handsOut 5 1 1 Deliver
 unfolding claim
 claim-of-the-128th = refl
 
-pub claim-of-a-carried-one : claim (crowd 28 100) 100 110 .outcome ≡ handedOut 100 1 2 Deliver
+pub claim-of-a-carried-one : claim (crowd 28 100) 100 110 .outcome ≡ handsOut 100 1 2 Deliver
 unfolding claim
 claim-of-a-carried-one = refl
 
@@ -228,7 +228,7 @@ unfolding progress extend
 progress-to-the-cap = refl
 
 -- ## Commit
--- 30 where a lease lies below the bound, be it due or not; a lease at the bound is none below it
+-- 30 where a lease lies below the bound, be it expired or not; a lease at the bound is none below it
 pub commit-held : commit (with (tableOf (leasesFrom 1 6) [] 1 0)) 7 .outcome ≡ refused Held
 unfolding commit
 commit-held = refl
@@ -247,7 +247,7 @@ unfolding commit
 commit-unchanged-before-held = refl
 
 -- ## the waiting list
--- 20 with a place less than there are; the carried offsets wait, and the leases that are due
+-- 20 with a place less than there are; the carried offsets wait, and the leases that are expired
 pub waiting-too-short : waiting (crowd 1 1) 110 1 ≡ refused OutTooShort
 waiting-too-short = refl
 

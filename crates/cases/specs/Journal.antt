@@ -17,10 +17,10 @@ use Rattle.delivery.specs.Policy.{policy}
 use Rattle.lease.specs.Counts.{allAttemptCounts}
 use Rattle.journal.specs.Area.{blockAt}
 use Rattle.journal.specs.Blocks.{headerBlock, bodyBlock}
-use Rattle.journal.specs.Sound.{isKind, formed, soundHeader, soundBody}
+use Rattle.journal.specs.Sound.{isKind, wellFormed, soundHeader, soundBody}
 use Rattle.journal.specs.Walks.{stop, groupAt, walkOver, walkFrom, payload}
 use Rattle.journal.specs.Answers.{fill, writeBlock, walkIn, readPayload}
-use Rattle.consumer.specs.State.{Configuration, State, stateOf, seatAt, badArea}
+use Rattle.consumer.specs.State.{Configuration, State, stateOf, nextGroupAt, badArea}
 use Rattle.checkpoint.specs.Checkpoint.{begin, step, writing}
 use Rattle.starts.specs.Restart.{start, fresh, readGroup, fromWalk, restart}
 use Rattle.cases.specs.States.{rangesFrom, leaseConfig, tableOf}
@@ -86,16 +86,16 @@ restart-bad-area-before-damaged = refl
 
 -- 5 with the first unsound body, counted from 0
 pub restart-first-body-damaged : restart accepted (headed (replicate 1024 0)) ≡ refused (Damaged 1)
-unfolding restart badArea fromWalk walkFrom walkOver groupAt soundHeader formed soundBody isKind isSealed blockAt headerBlock crc bits unbits polynomial xor
+unfolding restart badArea fromWalk walkFrom walkOver groupAt soundHeader wellFormed soundBody isKind isSealed blockAt headerBlock crc bits unbits polynomial xor
 restart-first-body-damaged = refl
 
 pub restart-second-body-damaged : restart accepted (headed (bodyBlock 1 1 (replicate 500 7) ++ replicate 512 0)) ≡ refused (Damaged 2)
-unfolding restart badArea fromWalk walkFrom walkOver groupAt soundHeader formed soundBody isKind isSealed blockAt headerBlock bodyBlock crc bits unbits polynomial xor
+unfolding restart badArea fromWalk walkFrom walkOver groupAt soundHeader wellFormed soundBody isKind isSealed blockAt headerBlock bodyBlock crc bits unbits polynomial xor
 restart-second-body-damaged = refl
 
 -- a header whose bodies the area has no room for is not sound, and what is no header damages nothing
 pub restart-header-without-room : restart accepted (headed (replicate 512 0)) ≡ done (fresh accepted 1024)
-unfolding restart badArea fromWalk walkFrom walkOver groupAt soundHeader formed isKind isSealed blockAt headerBlock crc bits unbits polynomial xor
+unfolding restart badArea fromWalk walkFrom walkOver groupAt soundHeader wellFormed isKind isSealed blockAt headerBlock crc bits unbits polynomial xor
 restart-header-without-room = refl
 
 -- the header of group 1 with snapshots of 13 and 9 bytes, and the group with these bytes as its payload
@@ -105,20 +105,20 @@ header = headerBlock 1 4096 13 9
 abbrev groupWith : List ℕ → List ℕ
 groupWith bytes = header ++ bodyBlock 1 1 bytes
 
--- behind 5, in the last group: the refusals of the cursor's snapshot, then those of the attempts'; here both are of version 0
-pub restart-cursor-before-attempts : readGroup accepted (groupWith (replicate 22 0)) 0 (seatAt 2 2) ≡ refused (CursorUnsupportedVersion 0)
+-- after 5, in the last group: the refusals of the cursor's snapshot, then those of the attempts'; here both are of version 0
+pub restart-cursor-before-attempts : readGroup accepted (groupWith (replicate 22 0)) 0 (nextGroupAt 2 2) ≡ refused (CursorUnsupportedVersion 0)
 unfolding blockAt headerBlock bodyBlock payload decodeCursor
 restart-cursor-before-attempts = refl
 
-pub restart-attempts-behind-cursor : readGroup accepted (groupWith (encodeCursor (cursor 5 []) ++ replicate 9 0)) 0 (seatAt 2 2) ≡ refused (AttemptUnsupportedVersion 0)
+pub restart-attempts-after-cursor : readGroup accepted (groupWith (encodeCursor (cursor 5 []) ++ replicate 9 0)) 0 (nextGroupAt 2 2) ≡ refused (AttemptUnsupportedVersion 0)
 unfolding blockAt headerBlock bodyBlock payload encodeCursor decodeCursor decodeAttempts isSealed crc bits unbits polynomial xor
-restart-attempts-behind-cursor = refl
+restart-attempts-after-cursor = refl
 
 -- ## begin
 -- 18 blocks of which so many are written, and so many ranges in the cursor
 abbrev written : ℕ → ℕ → State
 written block ranges =
-    stateOf (cursor 0 (rangesFrom ranges 1)) (tableOf [] [] 1 0) 4096 (seatAt 2 block) 9216 (accepted .settings)
+    stateOf (cursor 0 (rangesFrom ranges 1)) (tableOf [] [] 1 0) 4096 (nextGroupAt 2 block) 9216 (accepted .settings)
 
 -- 31 where a block less is left than a header and its body need; with as many, a record
 pub begin-journal-full : begin (written 17 0) ≡ refused JournalFull
@@ -173,7 +173,7 @@ unfolding walkIn
 walk-no-whole-blocks = refl
 
 pub walk-whole-blocks : walkIn 2 1 0 (replicate 1024 0) ≡ stop none 1 0
-unfolding walkIn walkFrom walkOver groupAt soundHeader formed isKind blockAt
+unfolding walkIn walkFrom walkOver groupAt soundHeader wellFormed isKind blockAt
 walk-whole-blocks = refl
 
 -- 4 for a payload behind the end, before 20; 20 with a byte less than the payload has

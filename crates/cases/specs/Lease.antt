@@ -26,9 +26,9 @@ pub lease-in-flight : claim (held 1) 5 109 .outcome ≡ refused InFlight
 unfolding claim
 lease-in-flight = refl
 
-pub lease-due-at-the-deadline : claim (held 1) 5 110 .outcome ≡ done (grantOf 5 1 2)
+pub lease-expired-at-the-deadline : claim (held 1) 5 110 .outcome ≡ done (grantOf 5 1 2)
 unfolding claim
-lease-due-at-the-deadline = refl
+lease-expired-at-the-deadline = refl
 
 -- 23 before 25
 pub lease-in-flight-before-exhausted : claim (held MAX) 5 109 .outcome ≡ refused InFlight
@@ -49,7 +49,7 @@ pub lease-exhausted-before-full : claim (crowd 64 MAX) 64 110 .outcome ≡ refus
 unfolding claim
 lease-exhausted-before-full = refl
 
--- 27 where there are 64 leases and the offset has none, due ones or not; not with 63, and not where it has one
+-- 27 where there are 64 leases and the offset has none, expired ones or not; not with 63, and not where it has one
 pub lease-full : claim (crowd 64 1) 64 110 .outcome ≡ refused Full
 unfolding claim
 lease-full = refl
@@ -63,7 +63,7 @@ unfolding claim
 lease-of-its-own-is-room = refl
 
 -- ## ack
--- 24 for another generation and for an offset without a lease; a lease that is due can be acked
+-- 24 for another generation and for an offset without a lease; a lease that is expired can be acked
 pub lease-ack-fenced : ack (held 1) 5 1 .outcome ≡ refused Fenced
 unfolding ack
 lease-ack-fenced = refl
@@ -82,7 +82,7 @@ pub lease-extend-fenced : extend (held 1) 5 1 125 .outcome ≡ refused Fenced
 unfolding extend
 lease-extend-fenced = refl
 
--- 28 at the cap, which is 25 behind the start of the attempt; one nanosecond before it the lease is extended up to it
+-- 28 at the cap, which is 25 after the start of the attempt; one nanosecond before it the lease is extended up to it
 pub lease-cap-reached : extend (held 1) 5 0 125 .outcome ≡ refused CapReached
 unfolding extend
 lease-cap-reached = refl

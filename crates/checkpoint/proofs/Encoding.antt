@@ -121,7 +121,7 @@ module _ (c : Consumer) (s : Sound c) (w : Writing) (e : EncodedIs c w) where
   pub record Lengths : Type 0 where
     pub cursor-len : w .«cursor_len» ≤ 2061
     pub attempt-len : w .«attempt_len» ≤ 1545
-    pub block : c .seat .block ≤ 128
+    pub block : c .next .block ≤ 128
     pub count : writes ≡ checkpoint.writes (view c)
 
   pub lengths : Lengths
@@ -134,26 +134,26 @@ module _ (c : Consumer) (s : Sound c) (w : Writing) (e : EncodedIs c w) where
         count = rw (add-one, p .total, e .encoded .cursor-len, e .encoded .attempt-len);
       }
 
-  pub begin-refused : blocksOf (view c) < c .seat .block + writes → BegunIs c (record { answer = JournalFull; writing = w })
+  pub begin-refused : blocksOf (view c) < c .next .block + writes → BegunIs c (record { answer = JournalFull; writing = w })
   unfolding begin
   begin-refused h =
       record {
-        is = rw (lt-ltb (blocksOf (view c)) (c .seat .block + suc (bodies (view c))) (rw (lengths .count) at h));
+        is = rw (lt-ltb (blocksOf (view c)) (c .next .block + suc (bodies (view c))) (rw (lengths .count) at h));
         sound = tt;
         kept = e .same;
       }
 
-  pub begin-done : c .seat .block + writes ≤ blocksOf (view c) → BegunIs c (record { answer = Begun writes; writing = w })
+  pub begin-done : c .next .block + writes ≤ blocksOf (view c) → BegunIs c (record { answer = Begun writes; writing = w })
   unfolding begin
   begin-done h =
-      let room : c .seat .block + suc (bodies (view c)) ≤ blocksOf (view c) = rw (lengths .count) at h in
+      let room : c .next .block + suc (bodies (view c)) ≤ blocksOf (view c) = rw (lengths .count) at h in
       record {
-        is = rw (e .same, e .none-written, le-ltb (blocksOf (view c)) (c .seat .block + suc (bodies (view c))) room);
+        is = rw (e .same, e .none-written, le-ltb (blocksOf (view c)) (c .next .block + suc (bodies (view c))) room);
         sound = (begun room, rw (e .same) (lengths .count));
         kept = e .same;
       }
     where
-      begun : c .seat .block + suc (bodies (view c)) ≤ blocksOf (view c) → SoundWriting w
+      begun : c .next .block + suc (bodies (view c)) ≤ blocksOf (view c) → SoundWriting w
       begun room =
           record {
             consumer = rw (e .same) s;

@@ -10,10 +10,10 @@ use Rattle.consumer.specs.State.{State, blocksOf}
 use Rattle.checkpoint.specs.Checkpoint.{bodies, Writing, writing, beginTable, begin}
 
 pub record BeginOpen (s : State) : Type 0 where
-  pub room : s .seat .block + suc (bodies s) ≤ blocksOf s
+  pub room : s .next .block + suc (bodies s) ≤ blocksOf s
 
 pub begin-open : (s : State) → Passed (beginTable s) → BeginOpen s
-begin-open s p = record { room = ltb-false (blocksOf s) (s .seat .block + suc (bodies s)) (p .0) }
+begin-open s p = record { room = ltb-false (blocksOf s) (s .next .block + suc (bodies s)) (p .0) }
 
 pub begin-says : (s : State) (w : Writing) → begin s ≡ done w → BeginOpen s × (writing s 0 ≡ w)
 unfolding begin

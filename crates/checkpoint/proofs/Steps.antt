@@ -1,5 +1,5 @@
 -- What a step makes of a sound record: its numbers fit the fields of a block, the block goes where the definition has it, and
--- behind the last write stands the flushed consumer. Assumes nothing.
+-- after the last write stands the flushed consumer. Assumes nothing.
 use Prim.Native.Nat.{ℕ, _+_, _/_, _≤_, _<_}
 use native.Mathlib.Omega.{arith}
 use native.Mathlib.Numerals.{add-one}
@@ -19,7 +19,7 @@ use Rattle.lease.specs.State as lease
 use Rattle.lease.specs.Rest.{attemptsFlushed}
 use Rattle.lease.specs.Answers.{Becomes}
 use Rattle.lease.specs.declared.LeaseTable.{LeaseTable}
-use Rattle.consumer.specs.State.{stateOf, seatAt}
+use Rattle.consumer.specs.State.{stateOf, nextGroupAt}
 use Rattle.consumer.specs.View.{settingsOf, view}
 use Rattle.consumer.specs.declared.Consumer.{Consumer}
 use Rattle.consumer.proofs.Area.{area-taken}
@@ -33,8 +33,8 @@ use Rattle.checkpoint.proofs.Valid.{flushed-valid}
 -- ## Numbers
 -- what the fields of the record and of its consumer are at most
 pub record Small (w : Writing) : Type 0 where
-  pub number : w .consumer .seat .number ≤ 129
-  pub block : w .consumer .seat .block ≤ 128
+  pub number : w .consumer .next .number ≤ 129
+  pub block : w .consumer .next .block ≤ 128
   pub cursor-len : w .«cursor_len» ≤ 2061
   pub attempt-len : w .«attempt_len» ≤ 1545
   pub written : w .written ≤ 8
@@ -57,7 +57,7 @@ small w s =
 -- the header that these numbers make
 pub header-of : (w : Writing) → SoundWriting w → (ceiling : ℕ) → ceiling ≡ newCeiling (view (w .consumer))
     → HeaderIs (view (w .consumer)) (block.Header (record {
-      number = w .consumer .seat .number;
+      number = w .consumer .next .number;
       ceiling = ceiling;
       «cursor_len» = w .«cursor_len»;
       «attempt_len» = w .«attempt_len»;
@@ -87,7 +87,7 @@ pub flushed-is : (c : Consumer) (n : ℕ) → Fitting c n → (t : LeaseTable) �
       cursor = c .cursor;
       table = t;
       ceiling = record { 0 = ceiling };
-      seat = record { number = c .seat .number + 1; block = c .seat .block + (n + 1) };
+      next = record { number = c .next .number + 1; block = c .next .block + (n + 1) };
       «area_len» = c .«area_len»;
       settings = c .settings;
     })
@@ -103,7 +103,7 @@ flushed-is c n f t b ceiling e =
           };
     }
   where
-    is : stateOf (cursor.view (c .cursor)) (lease.view t) ceiling (seatAt (c .seat .number + 1) (c .seat .block + (n + 1))) (c .«area_len») (settingsOf (c .settings))
+    is : stateOf (cursor.view (c .cursor)) (lease.view t) ceiling (nextGroupAt (c .next .number + 1) (c .next .block + (n + 1))) (c .«area_len») (settingsOf (c .settings))
         ≡ flushed (view c)
     is = rw (b .is, e, add-one n, f .count)
 
@@ -125,16 +125,16 @@ module _ (w : Writing) (s : SoundWriting w) (a : List ℕ) where
 
   module _ (area : length a ≡ w .consumer .«area_len») where
     -- the next body lies in the area
-    pub body-inside : w .written < bodies (view (w .consumer)) → Into w a (w .consumer .seat .block + (w .written + 1))
+    pub body-inside : w .written < bodies (view (w .consumer)) → Into w a (w .consumer .next .block + (w .written + 1))
     body-inside h = record { sound = s; area = area; inside = omega (arith, s .valid .room) }
 
     -- and so does the header
-    pub header-inside : Into w a (w .consumer .seat .block)
+    pub header-inside : Into w a (w .consumer .next .block)
     header-inside = record { sound = s; area = area; inside = omega (arith, s .valid .room) }
 
     pub step-last : (after : List ℕ) → bodies (view (w .consumer)) ≤ w .written → (v : Writing) → FlushedIs (w .consumer) (v .consumer)
-        → after ≡ writeAt a (w .consumer .seat .block) (headerOf (view (w .consumer)))
-        → SteppedIs w a (record { answer = Finished (w .consumer .seat .block); writing = v }) after
+        → after ≡ writeAt a (w .consumer .next .block) (headerOf (view (w .consumer)))
+        → SteppedIs w a (record { answer = Finished (w .consumer .next .block); writing = v }) after
     unfolding step
     step-last after h v f e =
         record {
@@ -144,8 +144,8 @@ module _ (w : Writing) (s : SoundWriting w) (a : List ℕ) where
         }
 
     pub step-body : (after : List ℕ) → w .written < bodies (view (w .consumer))
-        → after ≡ writeAt a (w .consumer .seat .block + (w .written + 1)) (bodyOf (view (w .consumer)) (w .written + 1))
-        → SteppedIs w a (record { answer = Wrote (w .consumer .seat .block + (w .written + 1)); writing = moved w }) after
+        → after ≡ writeAt a (w .consumer .next .block + (w .written + 1)) (bodyOf (view (w .consumer)) (w .written + 1))
+        → SteppedIs w a (record { answer = Wrote (w .consumer .next .block + (w .written + 1)); writing = moved w }) after
     unfolding step
     step-body after h e =
         record {

@@ -12,7 +12,7 @@ use Rattle.types.proofs.Table.{guarded-cases}
 use Rattle.lease.proofs.Valid.{valid-flushed}
 use Rattle.consumer.specs.State.{State}
 use Rattle.consumer.specs.Valid.{Valid}
-use Rattle.checkpoint.specs.Checkpoint.{bodies, flushed, Writing, begin, isLast, going, leftBy, Wrote, Lent, lent, stepTable, step}
+use Rattle.checkpoint.specs.Checkpoint.{bodies, flushed, Writing, begin, isLast, going, leftBy, BlockWritten, Lent, lent, stepTable, step}
 use Rattle.checkpoint.specs.Valid.{ValidWriting, ValidLeft}
 use Rattle.checkpoint.proofs.Open.{BeginOpen, begin-says}
 
@@ -51,4 +51,4 @@ module _ (w : Writing) (v : ValidWriting w) where
   pub step-valid : (a : List ℕ) → ValidLeft (step w a .state .left)
   unfolding step
   step-valid a =
-      guarded-cases (stepTable w a) (lent (going w) a) _ (λ (r : Answer Wrote Lent). ValidLeft (r .state .left)) (λ r e. v) (λ p. left-valid)
+      guarded-cases (stepTable w a) (lent (going w) a) _ (λ (r : Answer BlockWritten Lent). ValidLeft (r .state .left)) (λ r e. v) (λ p. left-valid)

@@ -14,7 +14,7 @@ use Rattle.lease.specs.Counts.{allAttemptCounts}
 use Rattle.lease.specs.Rest.{attemptsFlushed}
 use Rattle.journal.specs.Area.{writeAt}
 use Rattle.journal.specs.Blocks.{bodiesFor, chunkOf, headerBlock, bodyBlock}
-use Rattle.consumer.specs.State.{State, stateOf, seatAt, blocksOf}
+use Rattle.consumer.specs.State.{State, stateOf, nextGroupAt, blocksOf}
 
 -- ## what is written
 -- the cursor's snapshot and that of all attempt counts, and both as the payload
@@ -41,16 +41,16 @@ newCeiling s = sat64 (s .table .nextGeneration) 4096
 
 -- body j, counted from 1, and the header
 abbrev pub bodyOf : State → ℕ → List ℕ
-bodyOf s j = bodyBlock (s .seat .number) j (chunkOf j (payloadOf s))
+bodyOf s j = bodyBlock (s .next .number) j (chunkOf j (payloadOf s))
 
 abbrev pub headerOf : State → List ℕ
-headerOf s = headerBlock (s .seat .number) (newCeiling s) (length (cursorBytes s)) (length (attemptBytes s))
+headerOf s = headerBlock (s .next .number) (newCeiling s) (length (cursorBytes s)) (length (attemptBytes s))
 
 -- the state once the header is written: the ceiling and the counter change only now
 abbrev pub flushed : State → State
 flushed s =
     stateOf (s .cursor) (attemptsFlushed (s .table)) (newCeiling s)
-    (seatAt (s .seat .number + 1) (s .seat .block + suc (bodies s))) (s .size) (s .settings)
+    (nextGroupAt (s .next .number + 1) (s .next .block + suc (bodies s))) (s .size) (s .settings)
 
 -- ## begin
 -- the record: the state, and how many blocks are written
@@ -63,7 +63,7 @@ writing s n = record { state = s; written = n }
 
 -- 31: fewer blocks are left than the group needs
 abbrev pub beginTable : State → List Row
-beginTable s = ltb (blocksOf s) (s .seat .block + suc (bodies s)) ⇒ JournalFull ∷ []
+beginTable s = ltb (blocksOf s) (s .next .block + suc (bodies s)) ⇒ JournalFull ∷ []
 
 -- nothing is written yet; a refusal leaves the caller the state
 unfoldable pub begin : State → Result Writing
@@ -76,7 +76,7 @@ isLast w = leb (bodies (w .state)) (w .written)
 
 -- where the next block goes, and what it is: bodies 1 to n behind the header's place, then the header
 abbrev pub nextPlace : Writing → ℕ
-nextPlace w = cond (isLast w) (w .state .seat .block) (w .state .seat .block + suc (w .written))
+nextPlace w = cond (isLast w) (w .state .next .block) (w .state .next .block + suc (w .written))
 
 abbrev pub nextBlock : Writing → List ℕ
 nextBlock w = cond (isLast w) (headerOf (w .state)) (bodyOf (w .state) (suc (w .written)))
@@ -90,7 +90,7 @@ abbrev pub leftBy : Writing → Left
 leftBy w = cond (isLast w) (finished (flushed (w .state))) (going (writing (w .state) (suc (w .written))))
 
 -- a step answers its block and whether it was the last one; it leaves the record or the state, and the lent area
-pub record Wrote : Type 0 where
+pub record BlockWritten : Type 0 where
   pub block : ℕ
   pub last : Bool
 
@@ -106,7 +106,7 @@ abbrev pub stepTable : Writing → List ℕ → List Row
 stepTable w a = not (eqb (length a) (w .state .size)) ⇒ BadArea ∷ []
 
 -- the next block write, and no other
-unfoldable pub step : Writing → List ℕ → Answer Wrote Lent
+unfoldable pub step : Writing → List ℕ → Answer BlockWritten Lent
 step w a =
     guarded (stepTable w a) (lent (going w) a)
     (answer (done (record { block = nextPlace w; last = isLast w })) (lent (leftBy w) (writeAt a (nextPlace w) (nextBlock w))))

@@ -8,7 +8,7 @@ use Rattle.checkpoint.specs.Checkpoint.{bodies, Writing, Left, going, fi
 -- the state's invariant holds, its group fits, and no more bodies are written than it has
 pub record ValidWriting (w : Writing) : Type 0 where
   pub state : Valid (w .state)
-  pub room : w .state .seat .block + suc (bodies (w .state)) ≤ blocksOf (w .state)
+  pub room : w .state .next .block + suc (bodies (w .state)) ≤ blocksOf (w .state)
   pub few : w .written ≤ bodies (w .state)
 
 -- and of what a step leaves

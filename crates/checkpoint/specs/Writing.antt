@@ -13,7 +13,7 @@ use Rattle.journal.specs.declared.Block.{Block}
 use Rattle.consumer.specs.State.{State, blocksOf}
 use Rattle.consumer.specs.View.{view, Sound}
 use Rattle.consumer.specs.declared.Consumer.{Consumer}
-use Rattle.checkpoint.specs.Checkpoint.{cursorBytes, attemptBytes, payloadOf, bodies, writes, headerOf, flushed, writing, begin, Left, going, finished, Wrote, lent, step}
+use Rattle.checkpoint.specs.Checkpoint.{cursorBytes, attemptBytes, payloadOf, bodies, writes, headerOf, flushed, writing, begin, Left, going, finished, BlockWritten, lent, step}
 use Rattle.checkpoint.specs.Checkpoint as checkpoint
 use Rattle.checkpoint.specs.Valid.{ValidWriting}
 use Rattle.checkpoint.specs.declared.Writing.{Writing}
@@ -61,12 +61,12 @@ pub record EncodedIs (before : Consumer) (w : Writing) : Type 0 where
   pub encoded : Encoded (view before) (w .payload) (w .«cursor_len») (w .«attempt_len»)
 
 -- ## step
-abbrev pub stepOf : StepAnswer → Result Wrote
+abbrev pub stepOf : StepAnswer → Result BlockWritten
 stepOf (steps.Wrote block) = done (record { block = block; last = false })
 stepOf (steps.Finished block) = done (record { block = block; last = true })
 stepOf steps.BadArea = refused refusal.BadArea
 
--- what is left: behind the last write the consumer, else the record
+-- what is left: after the last write the consumer, else the record
 abbrev pub leftOf : StepAnswer → Writing → Left
 leftOf (steps.Wrote block) w = going (viewWriting w)
 leftOf (steps.Finished block) w = finished (view (w .consumer))
@@ -98,9 +98,9 @@ pub record HeaderIs (s : State) (b : Block) : Type 0 where
 pub record Fitting (c : Consumer) (n : ℕ) : Type 0 where
   pub sound : Sound c
   pub count : n ≡ bodies (view c)
-  pub room : c .seat .block + suc n ≤ blocksOf (view c)
+  pub room : c .next .block + suc n ≤ blocksOf (view c)
 
--- the consumer behind the last write
+-- the consumer after the last write
 pub record FlushedIs (before after : Consumer) : Type 0 where
   pub is : view after ≡ flushed (view before)
   pub sound : Sound after

@@ -59,7 +59,7 @@ pub struct Stepped {
     pub writing: Writing,
 }
 
-// The ceiling behind a checkpoint: 4,096 generations more, as far as there are any.
+// The ceiling after a checkpoint: 4,096 generations more, as far as there are any.
 fn new_ceiling(next: u64) -> u64
     ensures { λ r. ⌜ r ≡ sat64 next 4096 ⌝ }
 {
@@ -72,7 +72,7 @@ fn header_block(writing: Writing) -> Block
     ensures { λ r. ⌜ HeaderIs (view (writing .consumer)) r ⌝ }
 {
     Block::Header(Header {
-        number: writing.consumer.seat.number as u32,
+        number: writing.consumer.next.number as u32,
         ceiling: new_ceiling(writing.consumer.table.next_generation.0),
         cursor_len: writing.cursor_len as u16,
         attempt_len: writing.attempt_len as u16,
@@ -89,20 +89,20 @@ fn put_block(writing: Writing, at: usize, block: Block, area: &mut [u8])
     journal::write_block(area, at, block, &payload[..total]);
 }
 
-// The consumer behind the last write of a group with so many bodies.
+// The consumer after the last write of a group with so many bodies.
 fn flushed(mut consumer: Consumer, bodies: usize) -> Consumer
     requires { ⌜ Fitting consumer bodies ⌝ }
     ensures { λ r. ⌜ FlushedIs consumer r ⌝ }
 {
     let table = consumer.table;
     let ceiling = new_ceiling(table.next_generation.0);
-    let number = consumer.seat.number + 1;
-    let block = consumer.seat.block + (bodies + 1);
+    let number = consumer.next.number + 1;
+    let block = consumer.next.block + (bodies + 1);
     let cleared = table.note_attempts_flushed();
     consumer.table = cleared;
     consumer.ceiling.0 = ceiling;
-    consumer.seat.number = number;
-    consumer.seat.block = block;
+    consumer.next.number = number;
+    consumer.next.block = block;
     consumer
 }
 
@@ -185,7 +185,7 @@ pub fn begin(consumer: Consumer) -> Begun
 {
     let writing = encoded(consumer);
     let writes = bodies_of(writing.cursor_len, writing.attempt_len) + 1;
-    if consumer.area_len / 512 < consumer.seat.block + writes {
+    if consumer.area_len / 512 < consumer.next.block + writes {
         return Begun {
             answer: BeginAnswer::JournalFull,
             writing: writing,
@@ -210,7 +210,7 @@ impl Writing {
                 writing: self,
             };
         }
-        let first = self.consumer.seat.block;
+        let first = self.consumer.next.block;
         let bodies = bodies_of(self.cursor_len, self.attempt_len);
         let written = self.written;
         let mut writing = self;
@@ -224,7 +224,7 @@ impl Writing {
         }
         let index = written + 1;
         let block = first + index;
-        let number = self.consumer.seat.number as u32;
+        let number = self.consumer.next.number as u32;
         let body = Block::Body {
             number: number,
             index: index as u8,

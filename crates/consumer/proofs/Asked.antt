@@ -1,5 +1,5 @@
 -- What the questions owe their contracts: the count of an offset by its lease and its carried count, and the waiting list by the
--- carried offsets with the due ones behind them.
+-- carried offsets with the expired ones behind them.
 -- Assumes nothing.
 use Prim.Native.Nat.{ℕ, suc, _+_, _≤_, _<_}
 use native.Mathlib.Omega.{arith}
@@ -18,7 +18,7 @@ use Rattle.lease.specs.declared.Lease.{Lease}
 use Rattle.lease.specs.declared.LeaseTable.{LeaseTable}
 use Rattle.lease.specs.State.{carriedOf}
 use Rattle.lease.specs.Operations.{leaseOf}
-use Rattle.lease.specs.Rest.{dueOffsets}
+use Rattle.lease.specs.Rest.{expiredOffsets}
 use Rattle.consumer.specs.State.{State}
 use Rattle.consumer.specs.Questions.{keysOf, countOf}
 use Rattle.consumer.specs.Valid.{Valid}
@@ -47,14 +47,14 @@ module _ (t : LeaseTable) (n : ℕ) (size : n ≡ length (carriedOf t)) where
       ∙ take-take (length (carriedOf t)) (t .«carried_len») (t .«carried_offsets») (omega (arith, few, length-take (t .«carried_len») (t .«carried_offsets»)))
       ∙ ap (λ (k : ℕ). take k (t .«carried_offsets»)) (sym size)
 
--- ## the due offsets behind them
-due-few : (now : ℕ) (l : List (Entry Lease)) → length (dueOffsets now l) ≤ length l
-due-few now [] = omega arith
-due-few now (e ∷ l) = split (ltb now (e .value .deadline)) (λ q. rw q (omega (arith, due-few now l))) (λ q. rw q (omega (arith, due-few now l)))
+-- ## the expired offsets behind them
+expired-few : (now : ℕ) (l : List (Entry Lease)) → length (expiredOffsets now l) ≤ length l
+expired-few now [] = omega arith
+expired-few now (e ∷ l) = split (ltb now (e .value .deadline)) (λ q. rw q (omega (arith, expired-few now l))) (λ q. rw q (omega (arith, expired-few now l)))
 
 -- both fit one array
-pub both-fit : (s : State) → Valid s → (now n m : ℕ) → n ≡ length (s .table .carried) → m ≡ length (dueOffsets now (s .table .leases)) → n + m ≤ CARRIED
-both-fit s v now n m e f = omega (arith, due-few now (s .table .leases), v .together)
+pub both-fit : (s : State) → Valid s → (now n m : ℕ) → n ≡ length (s .table .carried) → m ≡ length (expiredOffsets now (s .table .leases)) → n + m ≤ CARRIED
+both-fit s v now n m e f = omega (arith, expired-few now (s .table .leases), v .together)
 
 -- the first i of the second list stand behind the n of the first
 pub record Behind (first more out : List ℕ) (n m i : ℕ) : Type 0 where

@@ -1,4 +1,4 @@
--- What a claim owes its contract: each of its tests in 01's order, what the whole test says, and the grant behind it.
+-- What a claim owes its contract: each of its tests in 01's order, what the whole test says, and the grant after it.
 -- Assumes nothing.
 use Prim.Native.Nat.{ℕ, _+_, _≤_, _<_}
 use native.Mathlib.Omega.{arith}
@@ -50,7 +50,7 @@ module _ (t : Table) (o : ℕ) where
       pub full-counts : lookup o (t .carried) ≡ none → leb CARRIED (length (t .leases) + length (t .carried)) ≡ isFull t o
       full-counts e = rw (no-lease, lt-leb LEASES (length (t .leases)) h, e)
 
--- ## the tests, each behind those before it that failed
+-- ## the tests, each after those before it that failed
 -- whether a claim may go on, from what the table calls claimable
 pub blocked : (b x : Bool) → b ≡ not x → not b ≡ true → x ≡ true
 blocked b true e h = refl
@@ -83,32 +83,32 @@ module _ (s : State) (o now : ℕ) where
       pub is-running : running (leaseOf (s .table) o) now ≡ true → Refuses InFlight
       is-running h = refuses-with InFlight (rw (ne-eqb o MAX last, unsettled, h))
 
-      module _ (due : running (leaseOf (s .table) o) now ≡ false) where
+      module _ (not-running : running (leaseOf (s .table) o) now ≡ false) where
         pub is-exhausted : s .table .nextGeneration ≡ MAX → Refuses Exhausted
         is-exhausted h =
-            refuses-with Exhausted (rw (ne-eqb o MAX last, unsettled, due, eq-eqb (s .table .nextGeneration) MAX h))
+            refuses-with Exhausted (rw (ne-eqb o MAX last, unsettled, not-running, eq-eqb (s .table .nextGeneration) MAX h))
 
         module _ (left : s .table .nextGeneration ≡ MAX → ⊥) where
           pub is-at-ceiling : s .ceiling ≤ s .table .nextGeneration → Refuses CheckpointDue
           is-at-ceiling h =
               refuses-with CheckpointDue
-              (rw (ne-eqb o MAX last, unsettled, due, ne-eqb (s .table .nextGeneration) MAX left, le-leb (s .ceiling) (s .table .nextGeneration) h))
+              (rw (ne-eqb o MAX last, unsettled, not-running, ne-eqb (s .table .nextGeneration) MAX left, le-leb (s .ceiling) (s .table .nextGeneration) h))
 
           module _ (below : s .table .nextGeneration < s .ceiling) where
             pub is-at-threshold : s .settings .policy .flushRedeliveries ≤ s .table .redeliveries → Refuses CheckpointDue
             is-at-threshold h =
                 refuses-with CheckpointDue
-                (rw (ne-eqb o MAX last, unsettled, due, ne-eqb (s .table .nextGeneration) MAX left, lt-leb (s .ceiling) (s .table .nextGeneration) below, le-leb (s .settings .policy .flushRedeliveries) (s .table .redeliveries) h))
+                (rw (ne-eqb o MAX last, unsettled, not-running, ne-eqb (s .table .nextGeneration) MAX left, lt-leb (s .ceiling) (s .table .nextGeneration) below, le-leb (s .settings .policy .flushRedeliveries) (s .table .redeliveries) h))
 
             module _ (few : s .table .redeliveries < s .settings .policy .flushRedeliveries) where
               pub is-full : isFull (s .table) o ≡ true → Refuses Full
               is-full h =
                   refuses-with Full
-                  (rw (ne-eqb o MAX last, unsettled, due, ne-eqb (s .table .nextGeneration) MAX left, lt-leb (s .ceiling) (s .table .nextGeneration) below, lt-leb (s .settings .policy .flushRedeliveries) (s .table .redeliveries) few) (rw h))
+                  (rw (ne-eqb o MAX last, unsettled, not-running, ne-eqb (s .table .nextGeneration) MAX left, lt-leb (s .ceiling) (s .table .nextGeneration) below, lt-leb (s .settings .policy .flushRedeliveries) (s .table .redeliveries) few) (rw h))
 
               pub is-open : isFull (s .table) o ≡ false → _≡_ {A = Option (Result HandOut)} none (asResult (first (claimTable s o now)))
               is-open h =
-                  rw (its-own, ne-eqb o MAX last, unsettled, due, ne-eqb (s .table .nextGeneration) MAX left, lt-leb (s .ceiling) (s .table .nextGeneration) below, lt-leb (s .settings .policy .flushRedeliveries) (s .table .redeliveries) few) (rw h)
+                  rw (its-own, ne-eqb o MAX last, unsettled, not-running, ne-eqb (s .table .nextGeneration) MAX left, lt-leb (s .ceiling) (s .table .nextGeneration) below, lt-leb (s .settings .policy .flushRedeliveries) (s .table .redeliveries) few) (rw h)
 
 -- ## what the whole test says
 pub open-passed : (ws : List Row) → none ≡ asResult (first ws) → Passed ws
@@ -136,8 +136,8 @@ pub handed : (token : LeaseToken) (n : ℕ) {d e : Destination} → done d ≡ d
 handed token n {d} {e} q = let same : d ≡ e = cc in rw same
 
 -- the hand-out that a grant of the table makes
-abbrev handedOut : Policy → Grant → HandOut
-handedOut p g =
+abbrev handOutBy : Policy → Grant → HandOut
+handOutBy p g =
     record {
       offset = g .offset;
       generation = g .generation;
@@ -182,6 +182,6 @@ module _ (c : Consumer) (ok : Sound c) (o now : ℕ) (fits : o ≤ MAX) (p : Pas
         let same : record { offset = token .offset .0; generation = token .generation .0; deliveries = n } ≡ granted t o = cc in
         let shows : view (holding c after) ≡ claimed (view c) o now =
         ap (λ (x : Answer Grant Table). withTable (view c) (x .state)) (e .is ∙ table-granted) in
-        rw (f ∙ ap (λ (x : Grant). done (handedOut (view c .settings .policy) x)) same, made)
+        rw (f ∙ ap (λ (x : Grant). done (handOutBy (view c .settings .policy) x)) same, made)
         (takes-effect c ok (claimTable (view c) o now) (handOut (view c) o) p shows
         (sound-with c ok (ok .cursor) (e .sound) shows (claimed-valid (view c) o now (ok .valid) (claim-open (view c) o now p) fits)))

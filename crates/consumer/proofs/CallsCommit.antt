@@ -17,7 +17,7 @@ use Rattle.lease.specs.State as state
 use Rattle.lease.specs.Rest.{releaseBelow}
 use Rattle.lease.specs.Answers as answers
 use Rattle.consumer.specs.State.{State, withBoth}
-use Rattle.consumer.specs.Calls.{callRows, commitTable, committedTo, commit}
+use Rattle.consumer.specs.Calls.{callRows, commitTable, withCommitted, commit}
 use Rattle.consumer.specs.View.{view, Sound, Answers, Commits, holdingBoth}
 use Rattle.consumer.specs.declared.Consumer.{Consumer}
 use Rattle.consumer.proofs.Open.{call-passed}
@@ -54,7 +54,7 @@ module _ (c : Consumer) (ok : Sound c) (bound : ℕ) where
       pub commit-done : (b : Consumer) → b ≡ holdingBoth c k t → Commits (done true) c b (commit (view c) bound)
       unfolding commit
       commit-done b made =
-          let shows : view (holdingBoth c k t) ≡ committedTo (view c) bound =
+          let shows : view (holdingBoth c k t) ≡ withCommitted (view c) bound =
           ap (λ (a : Answer Bool Cursor). withBoth (view c) (a .state) (state.view t)) (u .is)
           ∙ ap (withBoth (view c) (commitUpTo (view c .cursor) bound .state)) (e .is) in
           rw (made, in-front _, lt-leb bound (view c .cursor .committed) above)

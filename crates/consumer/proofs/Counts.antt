@@ -18,7 +18,7 @@ use Rattle.types.proofs.Entries.{absent, all-imply}
 use Rattle.cursor.specs.Cursor.{settled}
 use Rattle.lease.specs.declared.Lease.{Lease}
 use Rattle.lease.specs.State.{Counted}
-use Rattle.lease.specs.Operations.{leaseOf, handedOut, nextCount}
+use Rattle.lease.specs.Operations.{leaseOf, timesHandedOut, nextCount}
 use Rattle.lease.specs.Counts.{raiseAll, allAttemptCounts}
 use Rattle.consumer.specs.State.{State, countOr0}
 use Rattle.consumer.specs.Questions.{countOf}
@@ -70,13 +70,13 @@ module _ (P : ℕ → ℕ → Type 0) (larger : (o m n : ℕ) → P o m → P o 
 
 -- ## The count of an offset
 module _ (s : State) (v : Valid s) where
-  pub count-is : (o : ℕ) → countOf s o ≡ handedOut (leaseOf (s .table) o) (lookup o (s .table .carried))
+  pub count-is : (o : ℕ) → countOf s o ≡ timesHandedOut (leaseOf (s .table) o) (lookup o (s .table .carried))
   unfolding allAttemptCounts
   count-is o =
       ap countOr0 (raised-lookup 0 o (s .table .leases) (s .table .carried) (v .table .rising))
       ∙ go (leaseOf (s .table) o) (lookup o (s .table .carried)) (λ l e. v .leased o l e .alone)
     where
-      go : (x : Option Lease) (y : Option ℕ) → ((l : Lease) → x ≡ some l → y ≡ none) → countOr0 (merged x y) ≡ handedOut x y
+      go : (x : Option Lease) (y : Option ℕ) → ((l : Lease) → x ≡ some l → y ≡ none) → countOr0 (merged x y) ≡ timesHandedOut x y
       go none none alone = refl
       go none (some n) alone = refl
       go (some l) y alone = rw (alone l refl) (omega arith)
@@ -87,14 +87,14 @@ module _ (s : State) (v : Valid s) where
   pub carried-count : (o n : ℕ) → lookup o (s .table .carried) ≡ some n → countOf s o ≡ n
   carried-count o n e = count-is o ∙ go (leaseOf (s .table) o) refl
     where
-      go : (x : Option Lease) → leaseOf (s .table) o ≡ x → handedOut x (lookup o (s .table .carried)) ≡ n
+      go : (x : Option Lease) → leaseOf (s .table) o ≡ x → timesHandedOut x (lookup o (s .table .carried)) ≡ n
       go none q = rw e
       go (some l) q = absent (v .leased o l q .alone) e
 
   pub settled-count : (o : ℕ) → settled (s .cursor) o ≡ true → countOf s o ≡ 0
   settled-count o t = count-is o ∙ go (leaseOf (s .table) o) (lookup o (s .table .carried)) refl refl
     where
-      go : (x : Option Lease) (y : Option ℕ) → leaseOf (s .table) o ≡ x → lookup o (s .table .carried) ≡ y → handedOut x y ≡ 0
+      go : (x : Option Lease) (y : Option ℕ) → leaseOf (s .table) o ≡ x → lookup o (s .table .carried) ≡ y → timesHandedOut x y ≡ 0
       go none none e f = refl
       go none (some n) e f = absurd (true≢false (sym t ∙ v .carried o n f))
       go (some l) y e f = absurd (true≢false (sym t ∙ v .leased o l e .unsettled))

@@ -13,9 +13,9 @@ use Rattle.types.proofs.Cases.{split}
 use Rattle.types.proofs.Keyed.{lookup-put-same, lookup-put-other, lookup-delete-same, lookup-delete-other, lookup-update, lookup-drop-below, lookup-keep-above}
 use Rattle.cursor.specs.Cursor.{settled}
 use Rattle.lease.specs.declared.Lease.{Lease}
-use Rattle.lease.specs.Operations.{leaseOf, handedOut, dueAt, requeuedAs}
+use Rattle.lease.specs.Operations.{leaseOf, timesHandedOut, withDeadline, requeuedAs}
 use Rattle.consumer.specs.State.{State}
-use Rattle.consumer.specs.Calls.{claimed, acked, nacked, progressed, committedTo}
+use Rattle.consumer.specs.Calls.{claimed, acked, nacked, progressed, withCommitted}
 use Rattle.consumer.specs.Questions.{countOf}
 use Rattle.consumer.specs.Valid.{Valid}
 use Rattle.consumer.proofs.Open.{ClaimOpen, AckOpen, NackOpen, ProgressOpen}
@@ -41,7 +41,7 @@ acked-count s o g v p x =
 
 -- ## Nack and Progress: nothing of both
 module _ (s : State) (o : ℕ) (l : Lease) (held : leaseOf (s .table) o ≡ some l) (f : Lease → Lease) (same : f l .deliveries ≡ l .deliveries) where
-  updated-count : (x : ℕ) (c : Option ℕ) → handedOut (lookup x (update o f (s .table .leases))) c ≡ handedOut (leaseOf (s .table) x) c
+  updated-count : (x : ℕ) (c : Option ℕ) → timesHandedOut (lookup x (update o f (s .table .leases))) c ≡ timesHandedOut (leaseOf (s .table) x) c
   updated-count x c =
       rw (lookup-update x o f (s .table .leases))
       (split (eqb x o)
@@ -58,13 +58,13 @@ pub progressed-count : (s : State) (o g now deadline : ℕ) → Valid s → Prog
     → countOf (progressed s o deadline) x ≡ countOf s x
 progressed-count s o g now deadline v p x =
     count-is (progressed s o deadline) (progressed-valid s o g now deadline v p) x
-    ∙ updated-count s o (p .token .lease) (p .token .held) (dueAt deadline) refl x (lookup x (s .table .carried))
+    ∙ updated-count s o (p .token .lease) (p .token .held) (withDeadline deadline) refl x (lookup x (s .table .carried))
     ∙ sym (count-is s v x)
 
 -- ## Commit: what lies below the bound is settled, and its counts are gone
-pub committed-count : (s : State) (bound : ℕ) → Valid s → bound ≤ MAX → (x : ℕ) → countOf (committedTo s bound) x ≡ cond (ltb x bound) 0 (countOf s x)
+pub committed-count : (s : State) (bound : ℕ) → Valid s → bound ≤ MAX → (x : ℕ) → countOf (withCommitted s bound) x ≡ cond (ltb x bound) 0 (countOf s x)
 committed-count s bound v fits x =
-    count-is (committedTo s bound) (committed-valid s bound v fits) x
+    count-is (withCommitted s bound) (committed-valid s bound v fits) x
     ∙ split (ltb x bound)
     (λ e. rw (e, lookup-drop-below x bound (s .table .leases) e, lookup-drop-below x bound (s .table .carried) e))
     (λ e. rw (e, lookup-keep-above x bound (s .table .leases) e, lookup-keep-above x bound (s .table .carried) e) (sym (count-is s v x)))

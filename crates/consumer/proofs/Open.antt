@@ -19,7 +19,7 @@ use Rattle.lease.specs.declared.Lease.{Lease}
 use Rattle.lease.specs.State.{Table}
 use Rattle.lease.specs.Operations.{leaseOf, isNone, running, owns, tokenRow, capFrom, startOf, extended}
 use Rattle.consumer.specs.State.{State}
-use Rattle.consumer.specs.Calls.{callRows, tokenRows, HandOut, handOut, atCeiling, atThreshold, isFull, claimRows, claimTable, claimed, claim, isShed, ackRows, ackTable, acked, ack, nackDeadline, nackRows, nackTable, nacked, nack, progressRows, progressTable, progressed, progress, commitTable, committedTo, commit}
+use Rattle.consumer.specs.Calls.{callRows, tokenRows, HandOut, handOut, atCeiling, atThreshold, isFull, claimRows, claimTable, claimed, claim, isShed, ackRows, ackTable, acked, ack, nackDeadline, nackRows, nackTable, nacked, nack, progressRows, progressTable, progressed, progress, commitTable, withCommitted, commit}
 
 -- ## rows in front of every call
 -- there are none
@@ -52,15 +52,15 @@ module _ (t : Table) (o : ℕ) (full : isFull t o ≡ false) (no-lease : leaseOf
 pub claim-open : (s : State) (o now : ℕ) → Passed (claimTable s o now) → ClaimOpen s o now
 claim-open s o now p =
     let own = passed-append (callRows s) (claimRows s o now) p .1 in
-    let due = neither (atCeiling s) (atThreshold s) (own .1 .1 .1 .1 .0) in
+    let below = neither (atCeiling s) (atThreshold s) (own .1 .1 .1 .1 .0) in
     let full = own .1 .1 .1 .1 .1 .0 in
     record {
       not-last = eqb-false o MAX (own .0);
       unsettled = own .1 .0;
       not-running = own .1 .1 .0;
       generation-left = eqb-false (s .table .nextGeneration) MAX (own .1 .1 .1 .0);
-      below-ceiling = leb-false (s .ceiling) (s .table .nextGeneration) (due .0);
-      below-threshold = leb-false (s .settings .policy .flushRedeliveries) (s .table .redeliveries) (due .1);
+      below-ceiling = leb-false (s .ceiling) (s .table .nextGeneration) (below .0);
+      below-threshold = leb-false (s .settings .policy .flushRedeliveries) (s .table .redeliveries) (below .1);
       lease-room = room-for-lease (s .table) o full;
       count-room = room-for-count (s .table) o full;
     }
@@ -171,7 +171,7 @@ commit-open s bound e p = record { above = leb-false bound (s .cursor .committed
 pub commit-cases : (s : State) (bound : ℕ) (P : Answer Bool State → Type 0)
     → ((r : Refusal) → P (answer (refused r) s))
     → (bound ≤ s .cursor .committed → P (answer (done false) s))
-    → (CommitOpen s bound → P (answer (done true) (committedTo s bound)))
+    → (CommitOpen s bound → P (answer (done true) (withCommitted s bound)))
     → P (commit s bound)
 unfolding commit
 commit-cases s bound P refusal unchanged effect =

@@ -16,7 +16,7 @@ use Rattle.types.proofs.Entries.{absent}
 use Rattle.types.proofs.Lists.{times-append}
 use Rattle.lease.specs.declared.Lease.{Lease}
 use Rattle.lease.specs.Operations.{leaseOf, isNone}
-use Rattle.lease.specs.Rest.{overdue, dueOffsets}
+use Rattle.lease.specs.Rest.{isExpired, expiredOffsets}
 use Rattle.lease.proofs.Lookups.{expired-once}
 use Rattle.consumer.specs.State.{State}
 use Rattle.consumer.specs.Questions.{keysOf, waitingAt}
@@ -36,16 +36,16 @@ module _ (x : ℕ) where
 
 -- what waits at a clock
 abbrev pub waits : State → ℕ → ℕ → Bool
-waits s now x = not (isNone (lookup x (s .table .carried))) || overdue (leaseOf (s .table) x) now
+waits s now x = not (isNone (lookup x (s .table .carried))) || isExpired (leaseOf (s .table) x) now
 
 pub waiting-once : (s : State) → Valid s → (now x : ℕ) → times x (waitingAt s now) ≡ cond (waits s now x) 1 0
 waiting-once s v now x =
-    times-append x (keysOf (s .table .carried)) (dueOffsets now (s .table .leases))
+    times-append x (keysOf (s .table .carried)) (expiredOffsets now (s .table .leases))
     ∙ rw (times-carried x 0 (s .table .carried) (v .table .carried-rising), expired-once x now 0 (s .table .leases) (v .table .rising))
     (go (lookup x (s .table .carried)) (leaseOf (s .table) x) (λ l e. v .leased x l e .alone))
   where
     go : (c : Option ℕ) (y : Option Lease) → ((l : Lease) → y ≡ some l → c ≡ none)
-        → cond (not (isNone c)) 1 0 + cond (overdue y now) 1 0 ≡ cond (not (isNone c) || overdue y now) 1 0
+        → cond (not (isNone c)) 1 0 + cond (isExpired y now) 1 0 ≡ cond (not (isNone c) || isExpired y now) 1 0
     go none y alone = omega arith
     go (some n) none alone = refl
     go (some n) (some l) alone = absent (alone l refl) refl

@@ -23,10 +23,10 @@ use Rattle.cursor.proofs.Cursor as cursors
 use Rattle.lease.specs.declared.Lease.{Lease}
 use Rattle.lease.specs.State.{Table}
 use Rattle.lease.specs.State as leases
-use Rattle.lease.specs.Operations.{lease, deadlineFrom, leaseOf, isNone, nextCount, consumed, afterGrant, grant, dueAt, requeuedAs, extended}
+use Rattle.lease.specs.Operations.{lease, deadlineFrom, leaseOf, isNone, nextCount, consumed, afterGrant, grant, withDeadline, requeuedAs, extended}
 use Rattle.lease.proofs.Valid.{valid-grant, valid-ack, valid-requeue, valid-update, valid-release}
 use Rattle.consumer.specs.State.{State, withBoth}
-use Rattle.consumer.specs.Calls.{HandOut, claimed, claim, isShed, acked, ack, nackDeadline, nacked, nack, progressed, progress, committedTo, commit}
+use Rattle.consumer.specs.Calls.{HandOut, claimed, claim, isShed, acked, ack, nackDeadline, nacked, nack, progressed, progress, withCommitted, commit}
 use Rattle.consumer.specs.Valid.{Leased, Valid}
 use Rattle.consumer.proofs.Open.{ClaimOpen, claim-cases, AckOpen, ack-cases, NackOpen, nack-cases, ProgressOpen, progress-cases, commit-cases}
 
@@ -218,9 +218,9 @@ pub progressed-valid : (s : State) (o g now deadline : ℕ) → Valid s → Prog
 progressed-valid s o g now deadline v p =
     changed s (s .cursor) (progressed s o deadline .table) v (record {
       cursor = v .cursor;
-      table = valid-update (s .table) o (dueAt deadline) (λ l. refl) (v .table);
-      together = updated-together s o v (p .token .lease) (p .token .held) (dueAt deadline);
-      leased = updated-leased s o v (p .token .lease) (p .token .held) (dueAt deadline);
+      table = valid-update (s .table) o (withDeadline deadline) (λ l. refl) (v .table);
+      together = updated-together s o v (p .token .lease) (p .token .held) (withDeadline deadline);
+      leased = updated-leased s o v (p .token .lease) (p .token .held) (withDeadline deadline);
       carried = v .carried;
       under-ceiling = v .under-ceiling;
       counter = v .counter;
@@ -233,12 +233,12 @@ progress-valid s o g now v =
 
 -- ## Commit
 module _ (s : State) (bound : ℕ) (v : Valid s) where
-  pub committed-settled : (x : ℕ) → settled (committedTo s bound .cursor) x ≡ (ltb x bound || settled (s .cursor) x)
+  pub committed-settled : (x : ℕ) → settled (withCommitted s bound .cursor) x ≡ (ltb x bound || settled (s .cursor) x)
   committed-settled = cursors.settled-after-commit (s .cursor) bound (v .cursor)
 
-  pub committed-valid : bound ≤ MAX → Valid (committedTo s bound)
+  pub committed-valid : bound ≤ MAX → Valid (withCommitted s bound)
   committed-valid fits =
-      changed s (committedTo s bound .cursor) (committedTo s bound .table) v (record {
+      changed s (withCommitted s bound .cursor) (withCommitted s bound .table) v (record {
         cursor = cursors.commit-valid (s .cursor) bound (v .cursor) fits;
         table = valid-release (s .table) bound (v .table);
         together = omega (arith, v .together, length-dropBelow bound (s .table .leases), length-dropBelow bound (s .table .carried));

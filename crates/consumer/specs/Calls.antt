@@ -13,7 +13,7 @@ use Rattle.types.specs.Keyed.{lookup, update, delete, anyBelow}
 use Rattle.cursor.specs.Cursor.{settled, ackBounded, commitUpTo}
 use Rattle.delivery.specs.Policy.{Destination, disposition, effectiveNackDelay}
 use Rattle.lease.specs.State.{Table, withLeases}
-use Rattle.lease.specs.Operations.{leaseOf, isNone, running, capFrom, nextCount, grant, tokenRow, startOf, dueAt, extended, requeue}
+use Rattle.lease.specs.Operations.{leaseOf, isNone, running, capFrom, nextCount, grant, tokenRow, startOf, withDeadline, extended, requeue}
 use Rattle.lease.specs.Rest.{releaseBelow, deliveriesOf}
 use Rattle.consumer.specs.State.{State, withTable, withBoth, countOr0}
 
@@ -138,7 +138,7 @@ progressTable s o g now = tokenRows s o g ++ progressRows s o now
 
 -- Progress: the lease has a new deadline, which is the answer
 abbrev pub progressed : State → ℕ → ℕ → State
-progressed s o deadline = withTable s (withLeases (s .table) (update o (dueAt deadline) (s .table .leases)))
+progressed s o deadline = withTable s (withLeases (s .table) (update o (withDeadline deadline) (s .table .leases)))
 
 unfoldable pub progress : State → ℕ → ℕ → ℕ → Answer ℕ State
 progress s o g now =
@@ -151,12 +151,12 @@ abbrev pub commitTable : State → ℕ → List Row
 commitTable s bound = anyBelow bound (s .table .leases) ⇒ Held ∷ []
 
 -- everything below the bound is settled, and no count stays there
-abbrev pub committedTo : State → ℕ → State
-committedTo s bound = withBoth s (commitUpTo (s .cursor) bound .state) (releaseBelow (s .table) bound)
+abbrev pub withCommitted : State → ℕ → State
+withCommitted s bound = withBoth s (commitUpTo (s .cursor) bound .state) (releaseBelow (s .table) bound)
 
--- behind the rows of every call: false, which is Unchanged, where the bound is not above committed; then 30
+-- after the rows of every call: false, which is Unchanged, where the bound is not above committed; then 30
 unfoldable pub commit : State → ℕ → Answer Bool State
 commit s bound =
     guarded (callRows s) s
     (cond (leb bound (s .cursor .committed)) (answer (done false) s)
-    (guarded (commitTable s bound) s (answer (done true) (committedTo s bound))))
+    (guarded (commitTable s bound) s (answer (done true) (withCommitted s bound))))

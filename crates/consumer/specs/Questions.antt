@@ -10,7 +10,7 @@ use Rattle.types.specs.Keyed.{Entry, lookup}
 use Rattle.cursor.specs.Cursor.{settled}
 use Rattle.lease.specs.Operations.{leaseOf}
 use Rattle.lease.specs.Lookup.{leaseValues}
-use Rattle.lease.specs.Rest.{dueOffsets, inFlight}
+use Rattle.lease.specs.Rest.{expiredOffsets, inFlight}
 use Rattle.lease.specs.Counts.{allAttemptCounts}
 use Rattle.consumer.specs.State.{State, blocksOf, countOr0}
 use Rattle.consumer.specs.Calls.{atCeiling, atThreshold}
@@ -22,7 +22,7 @@ keysOf (e ∷ l) = e .key ∷ keysOf l
 
 -- carried offsets, and those whose lease's deadline has come
 abbrev pub waitingAt : State → ℕ → List ℕ
-waitingAt s now = keysOf (s .table .carried) ++ dueOffsets now (s .table .leases)
+waitingAt s now = keysOf (s .table .carried) ++ expiredOffsets now (s .table .leases)
 
 -- the waiting list at a clock, into a list of so many places: 20
 abbrev pub waiting : State → ℕ → ℕ → Result (List ℕ)
@@ -58,4 +58,4 @@ reply s (LeaseOf o) = done (leaseValues (leaseOf (s .table) o))
 reply s (CountOf o) = done (countOf s o ∷ [])
 reply s InFlight = done (inFlight (s .table) ∷ [])
 reply s IsDue = done (bit (atCeiling s) ∷ bit (atThreshold s) ∷ [])
-reply s BlocksLeft = done ((blocksOf s - s .seat .block) ∷ [])
+reply s BlocksLeft = done ((blocksOf s - s .next .block) ∷ [])

@@ -22,12 +22,12 @@ pub record Configuration : Type 0 where
   pub lease : LeaseConfig
 
 -- where the next checkpoint goes: its group number, and the block of its header
-pub record Seat : Type 0 where
+pub record NextGroup : Type 0 where
   pub number : ℕ
   pub block : ℕ
 
-abbrev pub seatAt : ℕ → ℕ → Seat
-seatAt number block = record { number = number; block = block }
+abbrev pub nextGroupAt : ℕ → ℕ → NextGroup
+nextGroupAt number block = record { number = number; block = block }
 
 -- the table has the leases with their times, the carried counts, the next generation and the redelivery counter; `size` is the
 -- length of the area in bytes
@@ -35,20 +35,20 @@ pub record State : Type 0 where
   pub cursor : Cursor
   pub table : Table
   pub ceiling : ℕ
-  pub seat : Seat
+  pub next : NextGroup
   pub size : ℕ
   pub settings : Settings
 
-abbrev pub stateOf : Cursor → Table → ℕ → Seat → ℕ → Settings → State
-stateOf c t ceiling seat size settings =
-    record { cursor = c; table = t; ceiling = ceiling; seat = seat; size = size; settings = settings }
+abbrev pub stateOf : Cursor → Table → ℕ → NextGroup → ℕ → Settings → State
+stateOf c t ceiling next size settings =
+    record { cursor = c; table = t; ceiling = ceiling; next = next; size = size; settings = settings }
 
 -- the state with another table, and with another cursor and another table
 abbrev pub withTable : State → Table → State
-withTable s t = stateOf (s .cursor) t (s .ceiling) (s .seat) (s .size) (s .settings)
+withTable s t = stateOf (s .cursor) t (s .ceiling) (s .next) (s .size) (s .settings)
 
 abbrev pub withBoth : State → Cursor → Table → State
-withBoth s c t = stateOf c t (s .ceiling) (s .seat) (s .size) (s .settings)
+withBoth s c t = stateOf c t (s .ceiling) (s .next) (s .size) (s .settings)
 
 -- no consumer is started on an area of so many bytes: 4
 unfoldable pub badArea : ℕ → Bool

@@ -45,5 +45,5 @@ pub record Valid (s : State) : Type 0 where
   pub fits : Fits (s .settings)
   pub accepted : Accepted (s .settings)
   pub area : badArea (s .size) ≡ false
-  pub within : s .seat .block ≤ blocksOf s
-  pub numbered : s .seat .number ≤ suc (s .seat .block)
+  pub within : s .next .block ≤ blocksOf s
+  pub numbered : s .next .number ≤ suc (s .next .block)

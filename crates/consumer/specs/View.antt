@@ -13,7 +13,7 @@ use Rattle.delivery.specs.Policy.{Destination, Deliver, DeadLetter}
 use Rattle.lease.specs.State as lease
 use Rattle.lease.specs.declared.LeaseTable.{LeaseTable}
 use Rattle.lease.specs.declared.LeaseToken.{LeaseToken}
-use Rattle.consumer.specs.State.{State, stateOf, seatAt}
+use Rattle.consumer.specs.State.{State, stateOf, nextGroupAt}
 use Rattle.consumer.specs.State as state
 use Rattle.consumer.specs.Calls.{HandOut}
 use Rattle.consumer.specs.Valid.{Valid}
@@ -37,7 +37,7 @@ settingsOf s = record { policy = delivery.view (s .delivery) }
 
 abbrev pub view : Consumer → State
 view c =
-    stateOf (cursor.view (c .cursor)) (lease.view (c .table)) (c .ceiling .0) (seatAt (c .seat .number) (c .seat .block))
+    stateOf (cursor.view (c .cursor)) (lease.view (c .table)) (c .ceiling .0) (nextGroupAt (c .next .number) (c .next .block))
     (c .«area_len») (settingsOf (c .settings))
 
 -- the arrays of the settings have room for what they count
@@ -74,7 +74,7 @@ holdingBoth c cursor table =
       cursor = cursor;
       table = table;
       ceiling = c .ceiling;
-      seat = c .seat;
+      next = c .next;
       «area_len» = c .«area_len»;
       settings = c .settings;
     }

@@ -142,13 +142,13 @@ impl Consumer {
     {
         let cursor = self.cursor;
         let ceiling = self.ceiling;
-        let seat = self.seat;
+        let next = self.next;
         let settings = self.settings;
         Consumer {
             cursor,
             table,
             ceiling,
-            seat,
+            next,
             area_len: self.area_len,
             settings,
         }
@@ -159,13 +159,13 @@ impl Consumer {
         ensures { λ r. ⌜ r ≡ holdingBoth self cursor table ⌝ }
     {
         let ceiling = self.ceiling;
-        let seat = self.seat;
+        let next = self.next;
         let settings = self.settings;
         Consumer {
             cursor,
             table,
             ceiling,
-            seat,
+            next,
             area_len: self.area_len,
             settings,
         }

@@ -25,7 +25,7 @@ pub struct Configuration {
 
 // Where the next checkpoint goes: its group number, and the block of its header.
 #[repr(C)]
-pub struct Seat {
+pub struct NextGroup {
     pub number: u64,
     pub block: usize,
 }
@@ -36,7 +36,7 @@ pub struct Consumer {
     pub cursor: AckCursor,
     pub table: LeaseTable,
     pub ceiling: Generation,
-    pub seat: Seat,
+    pub next: NextGroup,
     pub area_len: usize,
     pub settings: Settings,
 }

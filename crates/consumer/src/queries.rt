@@ -84,7 +84,7 @@ impl Consumer {
         requires { ⌜ Sound self ⌝ }
         ensures { λ r. ⌜ done (r ∷ []) ≡ reply (view self) BlocksLeft ⌝ }
     {
-        self.area_len / 512 - self.seat.block
+        self.area_len / 512 - self.next.block
     }
 
     // The waiting list at a clock, into a lent list from its first place on: the carried offsets, then those whose lease's deadline
@@ -111,16 +111,16 @@ impl Consumer {
     {
         let table = self.table;
         let n = table.carried();
-        let due = table.due(now);
+        let expired = table.expired_list(now);
         let mut offsets = table.carried_offsets;
         let mut i: usize = 0;
-        while i < due.len {
-            offsets[n + i] = due.offsets[i];
+        while i < expired.len {
+            offsets[n + i] = expired.offsets[i];
             i += 1;
         }
         OffsetList {
             offsets: offsets,
-            len: n + due.len,
+            len: n + expired.len,
         }
     }
 }

@@ -19,17 +19,17 @@ use Rattle.lease.specs.Operations as lease
 use Rattle.lease.specs.Operations.{nextCount, afterGrant}
 use Rattle.consumer.specs.State.{Configuration, State, withBoth}
 use Rattle.consumer.specs.Calls as consumer
-use Rattle.consumer.specs.Calls.{handOut, nackDeadline, progressed, committedTo}
+use Rattle.consumer.specs.Calls.{handOut, nackDeadline, withCommitted}
 use Rattle.consumer.specs.Questions.{countOf}
 use Rattle.consumer.specs.Valid.{Valid}
 use Rattle.consumer.proofs.Valid.{claimed-valid, acked-settled, acked-valid, nacked-valid, progressed-valid, committed-settled, committed-valid}
 use Rattle.consumer.proofs.Counts.{next-count}
 use Rattle.consumer.proofs.Effects.{claimed-count, acked-count, nacked-count, progressed-count, committed-count, unchanged-settled, unchanged-count}
 use Rattle.consumer.proofs.Open.{ClaimOpen, claim-cases, AckOpen, ack-cases, nack-cases, progress-cases, commit-cases}
-use Rattle.machine.specs.Calls.{Ask, claim, ack, term, nack, progress, commit, look, fits, u64, Event, claimed, acked, termed, nacked, extended, committed}
-use Rattle.machine.specs.Door.{idle, asked}
+use Rattle.machine.specs.Calls.{Ask, claim, ack, term, nack, progress, commit, look, fits, u64, Event, claimed, acked, termed, nacked, progressed, committed}
+use Rattle.machine.specs.Transitions.{idle, asked}
 use Rattle.crash_safety.specs.Effects.{only, below}
-use Rattle.crash_safety.specs.Book.{turnedTo, handedOut, settle}
+use Rattle.crash_safety.specs.Book.{withPage, withHandOut, settle}
 use Rattle.crash_safety.specs.Runs.{world}
 use Rattle.crash_safety.proofs.Law.{Ledger, ledger, noted, Law, Lawful}
 use Rattle.crash_safety.proofs.Runs.{Made, Answered}
@@ -58,7 +58,7 @@ module _ (c : Configuration) (n : ℕ) (l : Ledger) (s : State) (a : List ℕ) (
           size = now .size;
           settings = now .settings;
           ceiling = now .ceiling;
-          seat = now .seat;
+          next = now .next;
           agrees = agrees;
           redeliveries = r;
           floor = f;
@@ -77,7 +77,7 @@ module _ (c : Configuration) (n : ℕ) (l : Ledger) (s : State) (a : List ℕ) (
           under = omega (arith, p .below-threshold, now .redeliveries, ap (λ q. q .policy .flushRedeliveries) (now .settings));
         }
 
-    counts-after : (x : ℕ) → countOf (consumer.claimed s o clock) x ≡ handedOut (l .book .page) o .count x
+    counts-after : (x : ℕ) → countOf (consumer.claimed s o clock) x ≡ withHandOut (l .book .page) o .count x
     counts-after x = claimed-count s o clock (now .valid) p m x ∙ rw (now .agrees .counts x)
 
     raised : afterGrant (s .table .redeliveries) (nextCount (s .table) o)
@@ -102,7 +102,7 @@ module _ (c : Configuration) (n : ℕ) (l : Ledger) (s : State) (a : List ℕ) (
 
   -- the ledger with more offsets settled
   abbrev settledMore : (ℕ → Bool) → Ledger
-  settledMore named = ledger (turnedTo (l .book) (settle (l .book .page) named)) (l .redeliveries) (l .floor)
+  settledMore named = ledger (withPage (l .book) (settle (l .book .page) named)) (l .redeliveries) (l .floor)
 
   -- ## Ack and Term
   settles-one : (o g : ℕ) → AckOpen s o g → Inv c n (settledMore (only o)) (world (idle (consumer.acked s o)) a)
@@ -143,13 +143,13 @@ module _ (c : Configuration) (n : ℕ) (l : Ledger) (s : State) (a : List ℕ) (
             (omega (arith, now .floor));
       })
 
-  progress-kept : (o g clock : ℕ) → Kept (extended o g clock) (consumer.progress s o g clock)
+  progress-kept : (o g clock : ℕ) → Kept (progressed o g clock) (consumer.progress s o g clock)
   progress-kept o g clock =
-      progress-cases s o g clock (Kept (extended o g clock)) (λ r. record { says = (tt, tt, tt); keeps = inv })
+      progress-cases s o g clock (Kept (progressed o g clock)) (λ r. record { says = (tt, tt, tt); keeps = inv })
       (λ p. let deadline : ℕ = lease.extended (s .table) o clock in
       record {
         says = (tt, tt, tt);
-        keeps = with-ledger l (s .cursor) (progressed s o deadline .table) refl
+        keeps = with-ledger l (s .cursor) (consumer.progressed s o deadline .table) refl
             (progressed-valid s o g clock deadline (now .valid) p)
             (record {
               settles = now .agrees .settles;
@@ -172,9 +172,9 @@ module _ (c : Configuration) (n : ℕ) (l : Ledger) (s : State) (a : List ℕ) (
         (now .redeliveries)
         (now .floor)
 
-    moved : bound ≤ MAX → Inv c n (settledMore (below bound)) (world (idle (committedTo s bound)) a)
+    moved : bound ≤ MAX → Inv c n (settledMore (below bound)) (world (idle (withCommitted s bound)) a)
     moved m =
-        with-ledger (settledMore (below bound)) (committedTo s bound .cursor) (committedTo s bound .table) refl
+        with-ledger (settledMore (below bound)) (withCommitted s bound .cursor) (withCommitted s bound .table) refl
         (committed-valid s bound (now .valid) m)
         (record {
           settles = λ x. committed-settled s bound (now .valid) x ∙ ap (λ t. ltb x bound || t) (now .agrees .settles x);

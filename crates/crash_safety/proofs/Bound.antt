@@ -19,7 +19,7 @@ use Rattle.types.proofs.Cases.{split, neither}
 use Rattle.delivery.specs.Policy.{Policy, disposition}
 use Rattle.machine.specs.Calls.{Event}
 use Rattle.crash_safety.specs.Effects.{Effect, handing, settling, requeuing, renewing, restarting, nothing, effectOf}
-use Rattle.crash_safety.specs.Book.{Page, Book, handedOut, settle, turnedTo, renewed, wentBack, note}
+use Rattle.crash_safety.specs.Book.{Page, Book, withHandOut, settle, withPage, renewed, wentBack, note}
 use Rattle.crash_safety.specs.Demand3.{handed, forDelivery, delivers, counted, handOuts}
 use Rattle.crash_safety.proofs.Law.{Ledger, emptyLedger, noted, HandsOut, Law, Along, since}
 
@@ -70,7 +70,7 @@ module _ (p : Policy) (limited : 0 < p .maxDeliver) (fires : p .maxDeliver < MAX
     copy : (o : ℕ) → b .copy .settled o ≡ false → D o ≤ min (b .copy .count o) M + C * (N + 1) + r + 1
 
   module _ (b : Book) (D : ℕ → ℕ) (C r : ℕ) (k : Bounds b D C r) where
-    settles : (q : Page) → Fewer (b .page) q → Bounds (turnedTo b q) (λ o. D o + 0) (C + 0) r
+    settles : (q : Page) → Fewer (b .page) q → Bounds (withPage b q) (λ o. D o + 0) (C + 0) r
     settles q f =
         record {
           low = k .low;
@@ -117,7 +117,7 @@ module _ (p : Policy) (limited : 0 < p .maxDeliver) (fires : p .maxDeliver < MAX
       count-at : (x : ℕ) → eqb x o ≡ true → n ≡ sat32 (b .page .count x) 1
       count-at x t = rw (eqb-true x o t) counted
 
-      hands : Bounds (turnedTo b (handedOut (b .page) o)) (λ x. D x + cond (leb n M && eqb x o) 1 0) (C + 0) (cond (leb 2 n) (r + 1) r)
+      hands : Bounds (withPage b (withHandOut (b .page) o)) (λ x. D x + cond (leb n M && eqb x o) 1 0) (C + 0) (cond (leb 2 n) (r + 1) r)
       hands =
           record {
             low = split (leb 2 n) (λ t. rw t (omega arith)) (λ t. rw t (k .low));

@@ -14,11 +14,11 @@ use Rattle.consumer.specs.State.{Configuration, State, blocksOf}
 use Rattle.checkpoint.specs.Checkpoint as checkpoint
 use Rattle.checkpoint.specs.Checkpoint.{bodies, writes, bodyOf, headerOf, flushed}
 use Rattle.machine.specs.Calls.{begin, step, begun, stepped}
-use Rattle.machine.specs.Door.{idle, writing, Turn, door}
+use Rattle.machine.specs.Transitions.{idle, writing, After, transition}
 use Rattle.crash_safety.specs.Runs.{Item, call, World, world, next, after, run, ends}
 use Rattle.crash_safety.specs.Recovery as recovery
 use Rattle.crash_safety.specs.Recovery.{HasRoom}
-use Rattle.crash_safety.specs.Useful.{Wrote, began, steps, AllWrote}
+use Rattle.crash_safety.specs.Useful.{Accepted, began, steps, AllAccepted}
 use Rattle.crash_safety.proofs.Law.{Ledger}
 use Rattle.crash_safety.proofs.Runs.{run-made, ends-made}
 use Rattle.crash_safety.proofs.Invariant.{Saved, Journal, Stands, Written}
@@ -29,14 +29,14 @@ use Rattle.crash_safety.proofs.Writes.{none-written, body-journal, body
 -- the items lead from the one world to the other, and none of them is refused
 pub record Leads (c : Configuration) (w : World) (items : List Item) (v : World) : Type 0 where
   pub ends-there : (is : List Item) → ends c w (items ++ is) ≡ ends c v is
-  pub wrote : (is : List Item) → AllWrote (run c v is) → AllWrote (run c w (items ++ is))
+  pub wrote : (is : List Item) → AllAccepted (run c v is) → AllAccepted (run c w (items ++ is))
 
 leads-none : (c : Configuration) (w : World) → Leads c w [] w
 leads-none c w = record { ends-there = λ is. refl; wrote = λ is h. h }
 
-leads-one : (c : Configuration) (w : World) (i : Item) (items : List Item) (v : World) (t : Turn) → next c w i ≡ some t → Wrote (t .event)
+leads-one : (c : Configuration) (w : World) (i : Item) (items : List Item) (v : World) (t : After) → next c w i ≡ some t → Accepted (t .event)
     → Leads c (after t) items v → Leads c w (i ∷ items) v
-unfolding AllWrote
+unfolding AllAccepted
 leads-one c w i items v t e h l =
     record {
       ends-there = λ is. ends-made c w i (items ++ is) t e ∙ l .ends-there is;
@@ -74,14 +74,14 @@ module _ (c : Configuration) (n : ℕ) (v : Saved) (l : Ledger) (s : State) (now
     -- a step before the last
     module _ (more : k < bodies s) where
       abbrev longer : List ℕ
-      longer = writeAt a (s .seat .block + suc k) (bodyOf s (suc k))
+      longer = writeAt a (s .next .block + suc k) (bodyOf s (suc k))
 
       body-step : next c (at k a) (call step) ≡ some (record {
-        event = stepped (done (record { block = s .seat .block + suc k; last = false }));
+        event = stepped (done (record { block = s .next .block + suc k; last = false }));
         phase = writing (checkpoint.writing s (suc k));
         area = longer;
       })
-      unfolding next door checkpoint.step
+      unfolding next transition checkpoint.step
       body-step = rw (eq-eqb (length a) (s .size) same-length, lt-leb (bodies s) k more)
 
       midway-more : Midway (suc k) longer
@@ -94,14 +94,14 @@ module _ (c : Configuration) (n : ℕ) (v : Saved) (l : Ledger) (s : State) (now
     -- the last step
     module _ (all : bodies s ≤ k) where
       abbrev full : List ℕ
-      full = writeAt a (s .seat .block) (headerOf s)
+      full = writeAt a (s .next .block) (headerOf s)
 
       pub last-step : next c (at k a) (call step) ≡ some (record {
-        event = stepped (done (record { block = s .seat .block; last = true }));
+        event = stepped (done (record { block = s .next .block; last = true }));
         phase = idle (flushed s);
         area = full;
       })
-      unfolding next door checkpoint.step
+      unfolding next transition checkpoint.step
       last-step = rw (eq-eqb (length a) (s .size) same-length, le-leb (bodies s) k all)
 
       pub full-journal : Journal c n full (stored s)
@@ -127,8 +127,8 @@ module _ (c : Configuration) (n : ℕ) (v : Saved) (l : Ledger) (s : State) (now
       phase = writing (checkpoint.writing s 0);
       area = a;
     })
-    unfolding next door checkpoint.begin
-    begin-step = rw (le-ltb (blocksOf s) (s .seat .block + suc (bodies s)) room)
+    unfolding next transition checkpoint.begin
+    begin-step = rw (le-ltb (blocksOf s) (s .next .block + suc (bodies s)) room)
 
     midway-none : Midway 0 a
     midway-none = record { journal = journal; written = none-written s a (now .valid) room }

@@ -9,7 +9,7 @@ use Rattle.types.specs.Refusal.{done}
 use Rattle.consumer.specs.State.{Configuration, State}
 use Rattle.consumer.specs.Valid.{Fits}
 use Rattle.starts.specs.Restart.{start}
-use Rattle.crash_safety.specs.Runs.{Item, run, begins}
+use Rattle.crash_safety.specs.Runs.{Item, run, freshWorld}
 use Rattle.crash_safety.specs.Demand3.{Premises, Demand3}
 use Rattle.crash_safety.proofs.Law.{emptyLedger, noted, Law, Along, restarts-right}
 use Rattle.crash_safety.proofs.Generations.{none-shared}
@@ -26,10 +26,10 @@ limits c p = omega (arith, p .limit-not-0, p .limit-not-max, p .fits .limit-fits
 
 -- the events of every list obey the law
 lawfully : (c : Configuration) (n : ℕ) (s : State) (items : List Item) → Fits (c .settings) → start c n ≡ done s
-    → Along noted (Law (c .settings .policy)) emptyLedger (run c (begins s n) items)
+    → Along noted (Law (c .settings .policy)) emptyLedger (run c (freshWorld s n) items)
 lawfully c n s items f e =
     let b = begins-well c n s f e in
-    along noted (Law (c .settings .policy)) (Inv c n) c (item-kept c n (b .accepted)) items emptyLedger (begins s n) (b .inv)
+    along noted (Law (c .settings .policy)) (Inv c n) c (item-kept c n (b .accepted)) items emptyLedger (freshWorld s n) (b .inv)
 
 pub demand-3 : Demand3
 unfolding Demand3
@@ -38,8 +38,8 @@ demand-3 c n s items p e =
     record {
       bound = λ o. omega (
         arith,
-        rw (all-made c items (begins s n)) at (bounded (c .settings .policy) (limits c p .0) (limits c p .1) (run c (begins s n) items) obeyed o),
+        rw (all-made c items (freshWorld s n)) at (bounded (c .settings .policy) (limits c p .0) (limits c p .1) (run c (freshWorld s n) items) obeyed o),
       );
-      generations = none-shared (c .settings .policy) (run c (begins s n) items) emptyLedger obeyed;
-      found = restarts-right (c .settings .policy) (run c (begins s n) items) emptyLedger obeyed;
+      generations = none-shared (c .settings .policy) (run c (freshWorld s n) items) emptyLedger obeyed;
+      found = restarts-right (c .settings .policy) (run c (freshWorld s n) items) emptyLedger obeyed;
     }

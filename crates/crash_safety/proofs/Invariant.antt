@@ -12,43 +12,43 @@ use Rattle.types.specs.Refusal.{done}
 use Rattle.types.specs.Keyed.{Entry}
 use Rattle.cursor.specs.Cursor.{Cursor, settled}
 use Rattle.journal.specs.Area.{blockAt}
-use Rattle.journal.specs.Sound.{heads}
+use Rattle.journal.specs.Sound.{hasHeaderKind}
 use Rattle.journal.specs.Walks.{stop, walk}
-use Rattle.consumer.specs.State.{Configuration, State, Seat}
+use Rattle.consumer.specs.State.{Configuration, State, NextGroup}
 use Rattle.consumer.specs.Questions.{countOf}
 use Rattle.consumer.specs.Valid.{Valid}
 use Rattle.checkpoint.specs.Checkpoint.{Writing, bodyOf}
 use Rattle.checkpoint.specs.Valid.{ValidWriting}
 use Rattle.starts.specs.Restart.{resumed, origin, lastGroup}
-use Rattle.machine.specs.Door.{Phase, idle, writing, off}
+use Rattle.machine.specs.Transitions.{Phase, idle, writing, off}
 use Rattle.crash_safety.specs.Runs.{World}
 use Rattle.crash_safety.specs.Book.{Page}
 use Rattle.crash_safety.specs.Demand3.{Finds}
 use Rattle.crash_safety.proofs.Law.{Ledger}
 
 -- ## the journal
--- between blocks lo and hi the groups from number k₀ on, the last with its header at `last`, end at the seat; from there on no
--- block has kind 1 and a right check
-pub record Groups (a : List ℕ) (hi k₀ lo : ℕ) (last : Option ℕ) (seat : Seat) : Type 0 where
-  pub walks : walk a hi k₀ lo ≡ stop last (seat .number) (seat .block)
-  pub clear : (j : ℕ) → seat .block ≤ j → j < hi → heads (blockAt a j) ≡ false
+-- between blocks lo and hi the groups from number k₀ on, the last with its header at `last`, end where the next one goes;
+-- from there on no block has kind 1 and a right check
+pub record Groups (a : List ℕ) (hi k₀ lo : ℕ) (last : Option ℕ) (next : NextGroup) : Type 0 where
+  pub walks : walk a hi k₀ lo ≡ stop last (next .number) (next .block)
+  pub clear : (j : ℕ) → next .block ≤ j → j < hi → hasHeaderKind (blockAt a j) ≡ false
 
--- what the last group says, and the seat behind it
+-- what the last group says, and where the next one goes
 pub record Saved : Type 0 where
   pub cursor : Cursor
   pub counts : List (Entry ℕ)
   pub ceiling : ℕ
-  pub seat : Seat
+  pub next : NextGroup
 
 -- the state that a restart makes of it on an area of n bytes
 abbrev pub restored : Configuration → ℕ → Saved → State
-restored c n v = resumed c n (v .cursor) (v .counts) (v .ceiling) (v .seat)
+restored c n v = resumed c n (v .cursor) (v .counts) (v .ceiling) (v .next)
 
 pub record Journal (c : Configuration) (n : ℕ) (a : List ℕ) (v : Saved) : Type 0 where
   pub size : length a ≡ n
   pub last : Option ℕ
-  pub groups : Groups a (n / 512) (origin a .number) (origin a .block) last (v .seat)
-  pub reads : lastGroup c a last (v .seat) ≡ done (restored c n v)
+  pub groups : Groups a (n / 512) (origin a .number) (origin a .block) last (v .next)
+  pub reads : lastGroup c a last (v .next) ≡ done (restored c n v)
   pub valid : Valid (restored c n v)
 
 -- ## who can be called
@@ -63,7 +63,7 @@ pub record Stands (c : Configuration) (n : ℕ) (v : Saved) (l : Ledger) (s : St
   pub size : s .size ≡ n
   pub settings : s .settings ≡ c .settings
   pub ceiling : s .ceiling ≡ v .ceiling
-  pub seat : s .seat ≡ v .seat
+  pub next : s .next ≡ v .next
   pub agrees : Agrees (l .book .page) s
   pub redeliveries : s .table .redeliveries ≡ l .redeliveries
   pub floor : l .floor ≤ s .table .nextGeneration
@@ -71,7 +71,7 @@ pub record Stands (c : Configuration) (n : ℕ) (v : Saved) (l : Ledger) (s : St
 -- a record, whose first bodies stand behind the header's place
 pub record Written (a : List ℕ) (w : Writing) : Type 0 where
   pub valid : ValidWriting w
-  pub behind : (j : ℕ) → j < w .written → blockAt a (w .state .seat .block + suc j) ≡ bodyOf (w .state) (suc j)
+  pub behind : (j : ℕ) → j < w .written → blockAt a (w .state .next .block + suc j) ≡ bodyOf (w .state) (suc j)
 
 -- the state, a record, or nobody: then no generation was handed out that a restart's first one is not above
 abbrev pub Callable : Configuration → ℕ → Saved → Ledger → List ℕ → Phase → Type 0

@@ -11,13 +11,13 @@ use Rattle.consumer.specs.State.{Configuration}
 use Rattle.checkpoint.specs.Checkpoint as checkpoint
 use Rattle.starts.specs.Restart as restarts
 use Rattle.machine.specs.Calls.{Ask, ask, begin, step, restart, fits}
-use Rattle.machine.specs.Door.{Phase, idle, writing, off, Turn, asked, beganAs, steppedAs, restartedAs, door}
+use Rattle.machine.specs.Transitions.{Phase, idle, writing, off, After, asked, beganAs, steppedAs, restartedAs, transition}
 use Rattle.power_cut.specs.Cut.{Cut, cutOn}
 use Rattle.crash_safety.specs.Runs.{Item, call, stepOn, cut, keepsJournal, world, next}
 use Rattle.crash_safety.specs.Demand3.{restartIn}
 
 -- what has to be shown of the items that can be made beside a restart, which always can
-abbrev pub Shown : (Item → Option Turn → Type 0) → List ℕ → Phase → Type 0
+abbrev pub Shown : (Item → Option After → Type 0) → List ℕ → Phase → Type 0
 Shown N a (idle s) =
     ((q : Ask) → fits q ≡ true → N (call (ask q)) (asked s a q)) × N (call begin) (beganAs s a (checkpoint.begin s))
 Shown N a (writing w) =
@@ -26,10 +26,10 @@ Shown N a (writing w) =
     ((k : Cut) → N (cut k) (cutOn w a k))
 Shown N a off = Unit {0}
 
-module _ (c : Configuration) (N : Item → Option Turn → Type 0) (skip : (i : Item) → restartIn i ≡ 0 → N i none) where
+module _ (c : Configuration) (N : Item → Option After → Type 0) (skip : (i : Item) → restartIn i ≡ 0 → N i none) where
   pub next-cases : (p : Phase) (a : List ℕ) → N (call restart) (restartedAs p a (restarts.restart c a)) → Shown N a p
       → (i : Item) → N i (next c (world p a) i)
-  unfolding next door
+  unfolding next transition
   next-cases p a again shown (call restart) = again
   next-cases (idle s) a again shown (call (ask q)) =
       split (fits q) (λ t. rw t (shown .0 q t)) (λ t. rw t (skip (call (ask q)) refl))

@@ -16,7 +16,7 @@ use Rattle.cursor.proofs.Snapshot.{cursor-back}
 use Rattle.attempt.proofs.Snapshot.{attempts-back}
 use Rattle.lease.specs.Counts.{allAttemptCounts}
 use Rattle.journal.specs.Area.{blockAt, writeAt}
-use Rattle.journal.specs.Sound.{heads}
+use Rattle.journal.specs.Sound.{hasHeaderKind}
 use Rattle.journal.specs.Walks.{walk, payload}
 use Rattle.journal.specs.Blocks.{cursorLength, attemptLength, ceilingOf}
 use Rattle.journal.proofs.Area.{whole-says, write-length}
@@ -43,19 +43,19 @@ restart-finds c n a v accepted j =
 
 -- ## a block that is no header, behind the groups
 module _ (c : Configuration) (n : ℕ) (a : List ℕ) (w : Saved) (j : Journal c n a w) (i : ℕ) (b : List ℕ)
-    (from : w .seat .block ≤ i) (to : i < n / 512) (whole : length b ≡ 512) where
+    (from : w .next .block ≤ i) (to : i < n / 512) (whole : length b ≡ 512) where
   inside : 512 * i + 512 ≤ length a
   inside = omega (arith, j .size)
 
-  pub block-kept : heads b ≡ false → Journal c n (writeAt a i b) w
+  pub block-kept : hasHeaderKind b ≡ false → Journal c n (writeAt a i b) w
   block-kept h =
       let long : length (writeAt a i b) ≡ length a = write-length a i b inside whole in
       record {
         size = long ∙ j .size;
         last = j .last;
-        groups = groups-kept a (n / 512) 1 0 (j .last) (w .seat) (j .groups) i b inside whole (λ q. absurd (omega arith)) h;
-        reads = read-same a (n / 512) 1 0 (j .last) (w .seat) (j .groups) c (writeAt a i b) long
-            (write-outside a (n / 512) 1 0 (j .last) (w .seat) (j .groups) i b inside whole (λ q. absurd (omega arith)))
+        groups = groups-kept a (n / 512) 1 0 (j .last) (w .next) (j .groups) i b inside whole (λ q. absurd (omega arith)) h;
+        reads = read-same a (n / 512) 1 0 (j .last) (w .next) (j .groups) c (writeAt a i b) long
+            (write-outside a (n / 512) 1 0 (j .last) (w .next) (j .groups) i b inside whole (λ q. absurd (omega arith)))
             ∙ j .reads;
         valid = j .valid;
       }
@@ -68,7 +68,7 @@ stored s =
       cursor = s .cursor;
       counts = allAttemptCounts (s .table);
       ceiling = newCeiling s;
-      seat = flushed s .seat;
+      next = flushed s .next;
     }
 
 module _ (s : State) (v : Valid s) where
@@ -83,9 +83,9 @@ module _ (s : State) (v : Valid s) where
 
   -- the header's group reads as the state
   module _ (c : Configuration) (a : List ℕ) (i : ℕ) (header : blockAt a i ≡ headerOf s) (content : payload a i ≡ payloadOf s) where
-    reads-stored : readGroup c a i (flushed s .seat) ≡ done (restored c (length a) (stored s))
+    reads-stored : readGroup c a i (flushed s .next) ≡ done (restored c (length a) (stored s))
     reads-stored =
-        let k : ℕ = s .seat .number in
+        let k : ℕ = s .next .number in
         let lc-is : cursorLength (blockAt a i) ≡ lc = rw header (header-cursor k (newCeiling s) lc la (omega (arith, sizes .cursor-high))) in
         let la-is : attemptLength (blockAt a i) ≡ la = rw header (header-attempt k (newCeiling s) lc la (omega (arith, sizes .attempt-high))) in
         let ceiling-is : ceilingOf (blockAt a i) ≡ newCeiling s = rw header (header-ceiling k (newCeiling s) lc la (omega arith)) in
@@ -104,7 +104,7 @@ module _ (s : State) (v : Valid s) where
 
   -- the journal with the header
   module _ (c : Configuration) (n : ℕ) (size : s .size ≡ n) (settings : s .settings ≡ c .settings)
-      (room : s .seat .block + suc (bodies s) ≤ n / 512) where
+      (room : s .next .block + suc (bodies s) ≤ n / 512) where
     stored-valid : Valid (restored c n (stored s))
     stored-valid =
         resumed-valid c n
@@ -113,34 +113,34 @@ module _ (s : State) (v : Valid s) where
         (s .cursor)
         (allAttemptCounts (s .table))
         (newCeiling s)
-        (flushed s .seat)
+        (flushed s .next)
         (v .cursor)
         (record { rising = counts-rising s v; few = counts-few s v; counted = counts-counted s v; unsettled = counts-unsettled s v })
         (omega arith)
         (record { within = room; numbered = omega (arith, v .numbered) })
 
-    module _ (a : List ℕ) (w : Saved) (j : Journal c n a w) (seat : s .seat ≡ w .seat)
-        (behind : (i : ℕ) → i < bodies s → blockAt a (s .seat .block + suc i) ≡ bodyOf s (suc i)) where
-      groups : Groups a (n / 512) 1 0 (j .last) (s .seat)
-      groups = rw seat (j .groups)
+    module _ (a : List ℕ) (w : Saved) (j : Journal c n a w) (next : s .next ≡ w .next)
+        (behind : (i : ℕ) → i < bodies s → blockAt a (s .next .block + suc i) ≡ bodyOf s (suc i)) where
+      groups : Groups a (n / 512) 1 0 (j .last) (s .next)
+      groups = rw next (j .groups)
 
-      small : s .seat .number < 256 ^ 4
+      small : s .next .number < 256 ^ 4
       small = omega (arith, v .numbered, v .within, whole-says (s .size) (area-taken (s .size) (v .area)) .most)
 
       within : 512 * (n / 512) ≤ length a
       within = omega (arith, j .size)
 
-      pub header-kept : Journal c n (writeAt a (s .seat .block) (headerOf s)) (stored s)
+      pub header-kept : Journal c n (writeAt a (s .next .block) (headerOf s)) (stored s)
       header-kept =
-          let more = one-more a (n / 512) 1 0 (j .last) (s .seat) groups (newCeiling s) lc la (payloadOf s)
+          let more = one-more a (n / 512) 1 0 (j .last) (s .next) groups (newCeiling s) lc la (payloadOf s)
           (sizes .cursor-low) (sizes .cursor-high) (sizes .attempt-low) (sizes .attempt-high) (sizes .total) small room within behind in
-          let whole : length (headerOf s) ≡ 512 = header-length (s .seat .number) (newCeiling s) lc la in
-          let long : length (writeAt a (s .seat .block) (headerOf s)) ≡ n = write-length a (s .seat .block) (headerOf s) (omega (arith, within)) whole ∙ j .size in
+          let whole : length (headerOf s) ≡ 512 = header-length (s .next .number) (newCeiling s) lc la in
+          let long : length (writeAt a (s .next .block) (headerOf s)) ≡ n = write-length a (s .next .block) (headerOf s) (omega (arith, within)) whole ∙ j .size in
           record {
             size = long;
-            last = some (s .seat .block);
+            last = some (s .next .block);
             groups = more .groups;
-            reads = reads-stored c (writeAt a (s .seat .block) (headerOf s)) (s .seat .block) (more .header-is) (more .payload-is)
+            reads = reads-stored c (writeAt a (s .next .block) (headerOf s)) (s .next .block) (more .header-is) (more .payload-is)
                 ∙ ap (λ m. done (restored c m (stored s))) long;
             valid = stored-valid;
           }

@@ -5,7 +5,7 @@ use mathlib.Core.Option.{Option}
 use Rattle.types.specs.Table.{Passed}
 use Rattle.consumer.specs.State.{Configuration}
 use Rattle.starts.specs.Restart.{startTable}
-use Rattle.machine.specs.Door.{Phase, idle, writing, off, Turn}
+use Rattle.machine.specs.Transitions.{Phase, idle, writing, off, After}
 use Rattle.crash_safety.specs.Runs.{Item, World, world, next}
 use Rattle.crash_safety.proofs.Law.{Ledger, noted, Law}
 use Rattle.crash_safety.proofs.Runs.{Answered}
@@ -15,7 +15,7 @@ use Rattle.crash_safety.proofs.Asks.{ask-kept}
 use Rattle.crash_safety.proofs.Steps.{restart-kept, begin-kept, step-kept, elsewhere-kept, cut-kept}
 
 module _ (c : Configuration) (n : ℕ) (accepted : Passed (startTable c n)) (l : Ledger) where
-  abbrev Kept : Item → Option Turn → Type 0
+  abbrev Kept : Item → Option After → Type 0
   Kept i = Answered noted (Law (c .settings .policy)) (Inv c n) l
 
   kept : (p : Phase) (a : List ℕ) → Inv c n l (world p a) → Shown Kept a p

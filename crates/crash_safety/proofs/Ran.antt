@@ -20,8 +20,8 @@ use Rattle.starts.specs.Restart.{startTable, fresh, start}
 use Rattle.starts.specs.declared.StartAnswer.{StartAnswer}
 use Rattle.starts.specs.declared.StartAnswer.the-variants as answers
 use Rattle.machine.specs.Calls.{Call, step, restart, Event, restarted}
-use Rattle.machine.specs.Door.{Phase, idle, Turn, turn, restartedAs, door}
-use Rattle.machine.specs.View.{phaseAt, phaseOf, SoundAt, Sound, StartedIs, turnOf, CallKept, held, Held}
+use Rattle.machine.specs.Transitions.{Phase, idle, After, gives, restartedAs, transition}
+use Rattle.machine.specs.View.{phaseAt, phaseOf, SoundAt, Sound, StartedIs, afterOf, CallKept, held, Held}
 use Rattle.machine.specs.declared.calls.CallAnswer.{CallAnswer}
 use Rattle.machine.specs.declared.calls.CallAnswer.the-variants as answer
 use Rattle.machine.specs.declared.Machine.{Machine}
@@ -30,7 +30,7 @@ use Rattle.power_cut.specs.View as power
 use Rattle.power_cut.specs.View.{CutKept}
 use Rattle.power_cut.specs.declared.CutAnswer.{CutAnswer}
 use Rattle.power_cut.specs.declared.CutAnswer.the-variants as failure
-use Rattle.crash_safety.specs.Runs.{Item, call, stepOn, World, world, keepsJournal, next, after, run, ends, begins}
+use Rattle.crash_safety.specs.Runs.{Item, call, stepOn, World, world, keepsJournal, next, after, run, ends, freshWorld}
 use Rattle.crash_safety.specs.Demand3.{Demand3}
 use Rattle.crash_safety.specs.Ran.{seen, Ran, rests, calls, strays, cuts, reopens, IsRun, RanIsRun, Demand3Ran}
 use Rattle.crash_safety.proofs.Invariant.{Inv}
@@ -40,17 +40,17 @@ use Rattle.crash_safety.proofs.Demand3.{demand-3}
 
 -- ## one item
 -- what an item leaves, made or not
-abbrev Leaves : World → Option Turn → World → Type 0
+abbrev Leaves : World → Option After → World → Type 0
 Leaves w none v = v ≡ w
 Leaves w (some t) v = v ≡ after t
 
 module _ (c : state.Configuration) (w v : World) (i : Item) (is : List Item) where
-  sees-more : (es : List Event) (x : Option Turn) → next c w i ≡ x → Leaves w x v → run c v is ≡ es → run c w (i ∷ is) ≡ seen x es
+  sees-more : (es : List Event) (x : Option After) → next c w i ≡ x → Leaves w x v → run c v is ≡ es → run c w (i ∷ is) ≡ seen x es
   unfolding run
   sees-more es none e l h = rw (e, run, ← l) h
   sees-more es (some t) e l h = rw (e, run, ← l, h)
 
-  leaves-more : (x : Option Turn) → next c w i ≡ x → Leaves w x v → ends c w (i ∷ is) ≡ ends c v is
+  leaves-more : (x : Option After) → next c w i ≡ x → Leaves w x v → ends c w (i ∷ is) ≡ ends c v is
   unfolding ends
   leaves-more none e l = rw (e, ends, ← l)
   leaves-more (some t) e l = rw (e, ends, ← l)
@@ -60,7 +60,7 @@ worldOf h = world (phaseOf (h .machine)) (h .area)
 
 module _ (m m′ : Machine) (a : List ℕ) where
   called-leaves : (q : Call) (a′ out : List ℕ) (x : CallAnswer) → CallKept x (held m a) (held m′ a′)
-      → Leaves (world (phaseOf m) a) (turnOf q x m′ a′ out) (world (phaseOf m′) a′)
+      → Leaves (world (phaseOf m) a) (afterOf q x m′ a′ out) (world (phaseOf m′) a′)
   called-leaves q a′ out (answer.Asked x) k = refl
   called-leaves q a′ out (answer.Begun x) k = refl
   called-leaves q a′ out (answer.Stepped x) k = refl
@@ -68,20 +68,20 @@ module _ (m m′ : Machine) (a : List ℕ) where
   called-leaves q a′ out answer.NotNow k = ap worldOf k
 
   cut-leaves : (a′ : List ℕ) (x : CutAnswer) → CutKept x (held m a) (held m′ a′)
-      → Leaves (world (phaseOf m) a) (power.turnOf x m′ a′) (world (phaseOf m′) a′)
+      → Leaves (world (phaseOf m) a) (power.afterOf x m′ a′) (world (phaseOf m′) a′)
   cut-leaves a′ (failure.Failed header) k = refl
   cut-leaves a′ failure.NotNow k = ap worldOf k
 
   -- other memory is lent, and the journal stays
   stray-leaves : (q : Call) (b b′ out : List ℕ) (x : CallAnswer) → CallKept x (held m b) (held m′ b′)
-      → Leaves (world (phaseOf m) a) (keepsJournal a (turnOf q x m′ b′ out)) (world (phaseOf m′) a)
+      → Leaves (world (phaseOf m) a) (keepsJournal a (afterOf q x m′ b′ out)) (world (phaseOf m′) a)
   stray-leaves q b b′ out (answer.Asked x) k = refl
   stray-leaves q b b′ out (answer.Begun x) k = refl
   stray-leaves q b b′ out (answer.Stepped x) k = refl
   stray-leaves q b b′ out (answer.Restarted x) k = refl
   stray-leaves q b b′ out answer.NotNow k = ap (λ (h : Held). world (phaseOf (h .machine)) a) k
 
-seen-kept : (a : List ℕ) (x : Option Turn) (es : List Event) → seen (keepsJournal a x) es ≡ seen x es
+seen-kept : (a : List ℕ) (x : Option After) (es : List Event) → seen (keepsJournal a x) es ≡ seen x es
 seen-kept a none es = refl
 seen-kept a (some t) es = refl
 
@@ -92,7 +92,7 @@ module _ (m m′ : Machine) (a a′ : List ℕ) (i : Item) (is : List Item) (es 
   abbrev there : World
   there = world (phaseOf m′) a′
 
-  linked : (x : Option Turn) → next (configurationOf (m .configuration)) here i ≡ x → Leaves here x there → m′ .configuration ≡ m .configuration
+  linked : (x : Option After) → next (configurationOf (m .configuration)) here i ≡ x → Leaves here x there → m′ .configuration ≡ m .configuration
       → IsRun m′ a′ is es last end → IsRun m a (i ∷ is) (seen x es) last end
   linked x e l c h =
       record {
@@ -103,22 +103,22 @@ module _ (m m′ : Machine) (a a′ : List ℕ) (i : Item) (is : List Item) (es 
       }
 
 -- ## restarts
-same-turn : {t u : Turn} → some t ≡ some u → t .event ≡ u .event
-same-turn {t} {u} e = let same : t ≡ u = cc in ap (λ (v : Turn). v .event) same
+same-event : {t u : After} → some t ≡ some u → t .event ≡ u .event
+same-event {t} {u} e = let same : t ≡ u = cc in ap (λ (v : After). v .event) same
 
-same-answer : (x y : Result State) (p q : Phase) (a b : List ℕ) → turn (restarted x) p a ≡ turn (restarted y) q b → x ≡ y
-same-answer x y p q a b e = let seen : restarted x ≡ restarted y = same-turn e in cc
+same-answer : (x y : Result State) (p q : Phase) (a b : List ℕ) → gives (restarted x) p a ≡ gives (restarted y) q b → x ≡ y
+same-answer x y p q a b e = let seen : restarted x ≡ restarted y = same-event e in cc
 
 -- one that is not refused is the same whoever could be called before
-restarts-alike : (p q p′ : Phase) (a a′ : List ℕ) (v : State) (r : Result State) → turn (restarted (done v)) p′ a′ ≡ restartedAs q a r
-    → restartedAs p a r ≡ turn (restarted (done v)) p′ a′
+restarts-alike : (p q p′ : Phase) (a a′ : List ℕ) (v : State) (r : Result State) → gives (restarted (done v)) p′ a′ ≡ restartedAs q a r
+    → restartedAs p a r ≡ gives (restarted (done v)) p′ a′
 restarts-alike p q p′ a a′ v (refused f) e = refused-not-done (sym (same-answer (done v) (refused f) p′ q a′ a e))
 restarts-alike p q p′ a a′ v (done s) e = sym e
 
 -- ## every program
 runs : {m last : Machine} {a end : List ℕ} {is : List Item} {es : List Event} → Sound m → Ran m a is es last end
     → IsRun m a is es last end
-unfolding run ends next door
+unfolding run ends next transition
 runs s rests = record { sees = refl; leaves = refl; configuration = refl; sound = s }
 runs {m} {last} {a} {end} s (calls {is = is} {es = es} q out r a′ out′ h rest) =
     let k = h s in
@@ -126,7 +126,7 @@ runs {m} {last} {a} {end} s (calls {is = is} {es = es} q out r a′ out′ h res
     (called-leaves m (r .machine) a _ a′ out′ (r .answer) (k .kept)) (k .configuration) (runs (k .sound) rest)
 runs {m} {last} {a} {end} s (strays {is = is} {es = es} b out r b′ out′ other h rest) =
     let k = h s in
-    let x : Option Turn = turnOf step (r .answer) (r .machine) b′ out′ in
+    let x : Option After = afterOf step (r .answer) (r .machine) b′ out′ in
     rw (← seen-kept a x es)
     (linked m (r .machine) a a (stepOn b) is es last end (keepsJournal a x) (rw other (ap (keepsJournal a) (sym (k .is))))
     (stray-leaves m (r .machine) a step b b′ out′ (r .answer) (k .kept)) (k .configuration) (runs (k .sound) rest))
@@ -180,8 +180,8 @@ fresh-from s size r h e =
 
 -- a restart of a machine that is off is not refused where the journal can be read
 not-refused : (c : state.Configuration) (m m′ : Machine) (a a′ out : List ℕ) (s : State) (x : StartAnswer) (f : Refusal)
-    → restarts.restart c a ≡ done s → turnOf restart (answer.Restarted x) m′ a′ out ≡ door c (phaseOf m) a restart → startFault x ≡ some f → ⊥
-unfolding door
+    → restarts.restart c a ≡ done s → afterOf restart (answer.Restarted x) m′ a′ out ≡ transition c (phaseOf m) a restart → startFault x ≡ some f → ⊥
+unfolding transition
 not-refused c m m′ a a′ out s x f reads e g =
     refused-not-done (same-answer (refused f) (done s) (phaseOf m′) (idle s) a′ a (rw (g, reads) at e))
 
@@ -191,8 +191,8 @@ demand-3-ran s size r h e not-0 not-max is es last end p =
     let f = fresh-from s size r h e in
     let c : state.Configuration = configurationOf s in
     let ran = runs (h .sound) p in
-    let sees : run c (begins (f .state) size) is ≡ es = rw (h .configuration, f .phase) at (ran .sees) in
-    let leaves : ends c (begins (f .state) size) is ≡ world (phaseOf last) end = rw (h .configuration, f .phase) at (ran .leaves) in
+    let sees : run c (freshWorld (f .state) size) is ≡ es = rw (h .configuration, f .phase) at (ran .sees) in
+    let leaves : ends c (freshWorld (f .state) size) is ≡ world (phaseOf last) end = rw (h .configuration, f .phase) at (ran .leaves) in
     let there = reached c size (f .state) is (f .fits) (f .is) in
     let inv : Inv c size (there .ledger) (world (phaseOf last) end) = rw leaves at (there .inv) in
     record {

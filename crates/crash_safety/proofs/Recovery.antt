@@ -18,9 +18,9 @@ use Rattle.checkpoint.specs.Checkpoint.{bodies, headerOf, bodyOf, flushed, Writ
 use Rattle.starts.specs.Restart as restarts
 use Rattle.starts.specs.Restart.{startTable}
 use Rattle.machine.specs.Calls.{step, restart, restarted, failed}
-use Rattle.machine.specs.Door.{Phase, idle, writing, off, Turn, restartedAs, door}
+use Rattle.machine.specs.Transitions.{Phase, idle, writing, off, After, restartedAs, transition}
 use Rattle.power_cut.specs.Cut.{Cut, old, new, torn, isTorn, cutAt}
-use Rattle.crash_safety.specs.Runs.{Item, call, cut, World, world, next, after, run, ends, begins}
+use Rattle.crash_safety.specs.Runs.{Item, call, cut, World, world, next, after, run, ends, freshWorld}
 use Rattle.crash_safety.specs.Recovery.{DeterministicRecovery, begun, thenCut, HasRoom, WritesCount, EveryWriteCounts, EveryCutMade}
 use Rattle.crash_safety.proofs.Law.{Ledger}
 use Rattle.crash_safety.proofs.Runs.{run-made, ends-made, run-none, ends-none}
@@ -36,7 +36,7 @@ abbrev called : Phase → Result State → Phase
 called p (refused r) = p
 called p (done s) = idle s
 
-abbrev again : Phase → List ℕ → Result State → Turn
+abbrev again : Phase → List ℕ → Result State → After
 again p a r = record { event = restarted r; phase = called p r; area = a }
 
 restarted-again : (p : Phase) (a : List ℕ) (r : Result State) → restartedAs p a r ≡ some (again p a r)
@@ -48,7 +48,7 @@ module _ (c : Configuration) (w : World) where
   answer = restarts.restart c (w .journal)
 
   restart-made : next c w (call restart) ≡ some (again (w .phase) (w .journal) answer)
-  unfolding next door
+  unfolding next transition
   restart-made = restarted-again (w .phase) (w .journal) answer
 
   abbrev next-world : World
@@ -99,14 +99,14 @@ module _ (c : Configuration) (n : ℕ) (accepted : Passed (startTable c n)) (v :
     same-length : eqb (length (so-far .area)) (s .size) ≡ true
     same-length = eq-eqb (length (so-far .area)) (s .size) (so-far .midway .journal .size ∙ sym (now .size))
 
-    after-cut : (t : Turn) → next c mid (cut x) ≡ some t → ends c start (begun k ++ thenCut x) ≡ ends c (after t) (call restart ∷ [])
+    after-cut : (t : After) → next c mid (cut x) ≡ some t → ends c start (begun k ++ thenCut x) ≡ ends c (after t) (call restart ∷ [])
     after-cut t e = so-far .leads .ends-there (thenCut x) ∙ ends-made c mid (cut x) (call restart ∷ []) t e
 
   in-place : ends c start (call restart ∷ []) .phase ≡ idle (restored c n v)
   in-place = restart-gives c n accepted start v journal
 
   -- a cut that leaves the journal holding what it held
-  cut-unfinished : (k : ℕ) (h : k ≤ bodies s) (x : Cut) (t : Turn) → next c (mid k h x) (cut x) ≡ some t → Journal c n (t .area) v
+  cut-unfinished : (k : ℕ) (h : k ≤ bodies s) (x : Cut) (t : After) → next c (mid k h x) (cut x) ≡ some t → Journal c n (t .area) v
       → ends c start (begun k ++ thenCut x) .phase ≡ ends c start (call restart ∷ []) .phase
   cut-unfinished k h x t e j =
       ap (λ (u : World). u .phase) (after-cut k h x t e) ∙ restart-gives c n accepted (after t) v j ∙ sym in-place
@@ -132,7 +132,7 @@ module _ (c : Configuration) (n : ℕ) (accepted : Passed (startTable c n)) (v :
   cut-body k more =
       let h : k ≤ bodies s = omega arith in
       let b = so-far k h new in
-      let longer : List ℕ = writeAt (b .area) (s .seat .block + suc k) (bodyOf s (suc k)) in
+      let longer : List ℕ = writeAt (b .area) (s .next .block + suc k) (bodyOf s (suc k)) in
       cut-unfinished k h new (record { event = failed false; phase = off; area = longer }) (rw (same-length k h new, lt-leb (bodies s) k more))
       (body-journal c n v l (b .area) (checkpoint.writing s k) (b .midway .journal) now (b .midway .written) more)
 
@@ -143,7 +143,7 @@ module _ (c : Configuration) (n : ℕ) (accepted : Passed (startTable c n)) (v :
       let k : ℕ = bodies s in
       let h : k ≤ bodies s = omega arith in
       let b = so-far k h new in
-      let full : List ℕ = writeAt (b .area) (s .seat .block) (headerOf s) in
+      let full : List ℕ = writeAt (b .area) (s .next .block) (headerOf s) in
       let j : Journal c n full (stored s) = full-journal c n v l s now k (b .area) (b .midway) h in
       let made : next c (mid k h new) (cut new) ≡ some (record { event = failed true; phase = off; area = full }) = rw (same-length k h new, le-leb k k h) in
       ap (λ (u : World). u .phase) (after-cut k h new _ made)
@@ -170,7 +170,7 @@ pub every-write-counts : EveryWriteCounts
 unfolding EveryWriteCounts
 every-write-counts c n s items f e left here room =
     let r = reached c n s items f e in
-    let w = ends c (begins s n) items in
+    let w = ends c (freshWorld s n) items in
     writes-count c n (r .accepted) (r .ledger) (w .phase) (w .journal) left here room (r .inv)
 
 -- ## cuts
@@ -184,5 +184,5 @@ pub every-cut-made : EveryCutMade
 unfolding EveryCutMade
 every-cut-made c n s items f e w here =
     let r = reached c n s items f e in
-    let u = ends c (begins s n) items in
+    let u = ends c (freshWorld s n) items in
     cut-made c n (r .ledger) (u .phase) (u .journal) w here (r .inv)

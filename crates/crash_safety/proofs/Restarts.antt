@@ -14,10 +14,10 @@ use Rattle.consumer.specs.State.{Configuration, State}
 use Rattle.consumer.specs.Calls as consumer
 use Rattle.consumer.specs.Questions.{reply}
 use Rattle.checkpoint.specs.Checkpoint as checkpoint
-use Rattle.checkpoint.specs.Checkpoint.{Writing, isLast, Wrote, Lent}
+use Rattle.checkpoint.specs.Checkpoint.{Writing, isLast, BlockWritten, Lent}
 use Rattle.starts.specs.Restart as restarts
-use Rattle.machine.specs.Calls.{Ask, claim, ack, term, nack, progress, commit, look, Event, claimed, acked, termed, nacked, extended, committed, looked, stepped, failed}
-use Rattle.machine.specs.Door.{Phase, idle, writing, off, Turn, asked, beganAs, steppedAs, restartedAs}
+use Rattle.machine.specs.Calls.{Ask, claim, ack, term, nack, progress, commit, look, Event, claimed, acked, termed, nacked, progressed, committed, looked, stepped, failed}
+use Rattle.machine.specs.Transitions.{Phase, idle, writing, off, After, asked, beganAs, steppedAs, restartedAs}
 use Rattle.power_cut.specs.Cut.{Cut, old, new, torn, isTorn, cutAt, cutOn}
 use Rattle.crash_safety.specs.Runs.{Item, World, next, after, run}
 use Rattle.crash_safety.specs.Effects.{effectOf}
@@ -26,11 +26,11 @@ use Rattle.crash_safety.proofs.Bound.{isRestart, restartsSeen}
 use Rattle.crash_safety.proofs.Items.{Shown, next-cases}
 
 -- how many restarts an item makes
-abbrev made : Option Turn → ℕ
+abbrev made : Option After → ℕ
 made none = 0
 made (some t) = isRestart (effectOf (t .event))
 
-abbrev Counted : Item → Option Turn → Type 0
+abbrev Counted : Item → Option After → Type 0
 Counted i x = made x ≡ restartIn i
 
 restarted-made : (p : Phase) (a : List ℕ) (r : Result State) → made (restartedAs p a r) ≡ 1
@@ -49,7 +49,7 @@ asked-made s a (claim o now) = answered-made (claimed o now) (λ r. refl) (λ h.
 asked-made s a (ack o g) = answered-made (acked o g) (λ r. refl) (λ u. refl) (consumer.ack s o g .outcome)
 asked-made s a (term o g) = answered-made (termed o g) (λ r. refl) (λ u. refl) (consumer.ack s o g .outcome)
 asked-made s a (nack o g now d) = answered-made (nacked o g now d) (λ r. refl) (λ e. refl) (consumer.nack s o g now d .outcome)
-asked-made s a (progress o g now) = answered-made (extended o g now) (λ r. refl) (λ e. refl) (consumer.progress s o g now .outcome)
+asked-made s a (progress o g now) = answered-made (progressed o g now) (λ r. refl) (λ e. refl) (consumer.progress s o g now .outcome)
 asked-made s a (commit bound) = answered-made (committed bound) (λ r. refl) (λ m. refl) (consumer.commit s bound .outcome)
 asked-made s a (look x) = answered-made (looked x) (λ r. refl) (λ l. refl) (reply s x)
 
@@ -63,7 +63,7 @@ write-made : (event : Bool → Event) → isRestart (effectOf (event true)) ≡ 
 write-made event header body true = header
 write-made event header body false = body
 
-step-made : (r : Answer Wrote Lent) → made (steppedAs r) ≡ 0
+step-made : (r : Answer BlockWritten Lent) → made (steppedAs r) ≡ 0
 step-made r =
     answered-made stepped (λ f. refl)
     (λ w. write-made (λ last. stepped (done (record { block = w .block; last = last }))) refl refl (w .last)) (r .outcome)
@@ -92,8 +92,8 @@ unfolding run restartsSeen restartsIn
 all-made c [] w = refl
 all-made c (i ∷ is) w = go (next c w i) refl (all-made c is w) (λ t. all-made c is (after t))
   where
-    go : (x : Option Turn) → next c w i ≡ x → restartsSeen (run c w is) ≡ restartsIn is
-        → ((t : Turn) → restartsSeen (run c (after t) is) ≡ restartsIn is)
+    go : (x : Option After) → next c w i ≡ x → restartsSeen (run c w is) ≡ restartsIn is
+        → ((t : After) → restartsSeen (run c (after t) is) ≡ restartsIn is)
         → restartsSeen (run c w (i ∷ is)) ≡ restartIn i + restartsIn is
     go none e skip rest = rw (e, run) (omega (arith, skip, sym (ap made e) ∙ next-made c w i))
     go (some t) e skip rest = rw (e, run) (omega (arith, rest t, sym (ap made e) ∙ next-made c w i))

@@ -9,10 +9,10 @@ use Rattle.types.specs.Refusal.{refused, done}
 use Rattle.cursor.specs.Cursor.{settled}
 use Rattle.consumer.specs.State.{Configuration, State}
 use Rattle.machine.specs.Calls.{Event}
-use Rattle.machine.specs.Door.{Phase, idle, writing, off}
+use Rattle.machine.specs.Transitions.{Phase, idle, writing, off}
 use Rattle.crash_safety.specs.Effects.{Effect, handing, settling, requeuing, renewing, restarting, nothing, effectOf}
 use Rattle.crash_safety.specs.Book.{Book, emptyBook, note, bookAfter}
-use Rattle.crash_safety.specs.Runs.{world, begins, run, ends}
+use Rattle.crash_safety.specs.Runs.{world, freshWorld, run, ends}
 use Rattle.crash_safety.specs.Settled.{settles, settledIn, stateIn, NothingForgotten}
 use Rattle.crash_safety.proofs.Law.{Ledger}
 use Rattle.crash_safety.proofs.Invariant.{Inv}
@@ -64,6 +64,6 @@ pub nothing-forgotten : NothingForgotten
 unfolding NothingForgotten
 nothing-forgotten c n s items f e left here o t =
     let r = reached c n s items f e in
-    let w = ends c (begins s n) items in
-    all o (run c (begins s n) items) false emptyBook (record { page = λ q. q; copy = λ q. q })
+    let w = ends c (freshWorld s n) items in
+    all o (run c (freshWorld s n) items) false emptyBook (record { page = λ q. q; copy = λ q. q })
     (rw (← r .books) (sym (state-settled c n (r .ledger) (w .phase) (w .journal) left (r .inv) here o) ∙ t))

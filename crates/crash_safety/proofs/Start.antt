@@ -16,15 +16,15 @@ use Rattle.types.proofs.Table.{checked-done}
 use Rattle.cursor.specs.Cursor.{resume}
 use Rattle.journal.specs.Area.{blockAt}
 use Rattle.journal.specs.Blocks.{kindOf}
-use Rattle.journal.specs.Sound.{heads}
+use Rattle.journal.specs.Sound.{hasHeaderKind}
 use Rattle.journal.proofs.Sound.{other-kind}
-use Rattle.consumer.specs.State.{Configuration, State, seatAt}
+use Rattle.consumer.specs.State.{Configuration, State, nextGroupAt}
 use Rattle.consumer.specs.Valid.{Fits, Valid}
 use Rattle.starts.specs.Restart.{startTable, fresh, start}
 use Rattle.starts.proofs.Open.{start-open}
 use Rattle.starts.proofs.Valid.{fresh-valid}
 use Rattle.starts.proofs.Zeros.{walk-zeros}
-use Rattle.crash_safety.specs.Runs.{begins}
+use Rattle.crash_safety.specs.Runs.{freshWorld}
 use Rattle.crash_safety.specs.Book.{blank}
 use Rattle.crash_safety.specs.Demand3.{Finds}
 use Rattle.crash_safety.proofs.Law.{emptyLedger}
@@ -32,7 +32,7 @@ use Rattle.crash_safety.proofs.Invariant.{Saved, Journal, Inv}
 use Rattle.crash_safety.proofs.Steps.{restored-agrees}
 
 abbrev nothing : Saved
-nothing = record { cursor = resume 0; counts = []; ceiling = 0; seat = seatAt 1 0 }
+nothing = record { cursor = resume 0; counts = []; ceiling = 0; next = nextGroupAt 1 0 }
 
 -- no block of a zeroed area is a header
 zeroed-kind : (n j : ℕ) → 512 * j + 512 ≤ n → kindOf (blockAt (replicate n 0) j) ≡ 0
@@ -42,7 +42,7 @@ zeroed-kind n j h =
     rw (getD-take 512 (drop (512 * j) zeros) 0 0 (lit< tt), getD-drop (512 * j) zeros 0 0)
     (getD-replicate n (512 * j + 0) 0 0 (omega arith))
 
-zeroed-clear : (n j : ℕ) → 512 * j + 512 ≤ n → heads (blockAt (replicate n 0) j) ≡ false
+zeroed-clear : (n j : ℕ) → 512 * j + 512 ≤ n → hasHeaderKind (blockAt (replicate n 0) j) ≡ false
 zeroed-clear n j h = other-kind 1 (blockAt (replicate n 0) j) (λ q. omega (arith, zeroed-kind n j h))
 
 module _ (c : Configuration) (n : ℕ) (v : Valid (fresh c n)) where
@@ -56,7 +56,7 @@ module _ (c : Configuration) (n : ℕ) (v : Valid (fresh c n)) where
         valid = v;
       }
 
-  fresh-begins : Inv c n emptyLedger (begins (fresh c n) n)
+  fresh-begins : Inv c n emptyLedger (freshWorld (fresh c n) n)
   fresh-begins =
       record {
         saved = nothing;
@@ -67,7 +67,7 @@ module _ (c : Configuration) (n : ℕ) (v : Valid (fresh c n)) where
           size = refl;
           settings = refl;
           ceiling = refl;
-          seat = refl;
+          next = refl;
           agrees = restored-agrees c n nothing blank finds;
           redeliveries = refl;
           floor = omega arith;
@@ -83,7 +83,7 @@ module _ (c : Configuration) (n : ℕ) (v : Valid (fresh c n)) where
 -- what an accepted start gives: its tests passed, and the invariant holds
 pub record Begins (c : Configuration) (n : ℕ) (s : State) : Type 0 where
   pub accepted : Passed (startTable c n)
-  pub inv : Inv c n emptyLedger (begins s n)
+  pub inv : Inv c n emptyLedger (freshWorld s n)
 
 pub begins-well : (c : Configuration) (n : ℕ) (s : State) → Fits (c .settings) → start c n ≡ done s → Begins c n s
 unfolding start

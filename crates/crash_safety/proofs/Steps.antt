@@ -21,7 +21,7 @@ use Rattle.checkpoint.proofs.Open.{begin-says}
 use Rattle.checkpoint.proofs.Valid.{flushed-valid}
 use Rattle.starts.specs.Restart.{startTable}
 use Rattle.starts.specs.Restart as restarts
-use Rattle.machine.specs.Door.{Phase, idle, writing, off, Turn, beganAs, steppedAs, restartedAs}
+use Rattle.machine.specs.Transitions.{Phase, idle, writing, off, After, beganAs, steppedAs, restartedAs}
 use Rattle.crash_safety.specs.Book.{Page, renewed}
 use Rattle.power_cut.specs.Cut.{Cut, old, new, torn, isTorn, cutAt, cutOn}
 use Rattle.crash_safety.specs.Runs.{world, keepsJournal}
@@ -46,7 +46,7 @@ unfolding allAttemptCounts
 flushed-agrees s p g = record { settles = g .settles; counts = g .counts }
 
 module _ (c : Configuration) (n : ℕ) (l : Ledger) (a : List ℕ) where
-  abbrev Kept : Option Turn → Type 0
+  abbrev Kept : Option After → Type 0
   Kept = Answered noted (Law (c .settings .policy)) (Inv c n) l
 
   -- every generation handed out lies below the ceiling that a restart would begin at
@@ -70,7 +70,7 @@ module _ (c : Configuration) (n : ℕ) (l : Ledger) (a : List ℕ) where
               size = refl;
               settings = refl;
               ceiling = refl;
-              seat = refl;
+              next = refl;
               agrees = restored-agrees c n (inv .saved) (l .book .copy) (inv .finds);
               redeliveries = refl;
               floor = below-ceiling p inv;
@@ -110,7 +110,7 @@ module _ (c : Configuration) (n : ℕ) (l : Ledger) (a : List ℕ) where
     -- the next body
     module _ (more : w .written < bodies s) where
       abbrev longer : List ℕ
-      longer = writeAt a (s .seat .block + suc (w .written)) (bodyOf s (suc (w .written)))
+      longer = writeAt a (s .next .block + suc (w .written)) (bodyOf s (suc (w .written)))
 
       body-kept : Journal c n longer (inv .saved)
       body-kept = body-journal c n (inv .saved) l a w (inv .journal) now so-far more
@@ -127,7 +127,7 @@ module _ (c : Configuration) (n : ℕ) (l : Ledger) (a : List ℕ) where
     -- the header
     module _ (all : bodies s ≤ w .written) where
       abbrev full : List ℕ
-      full = writeAt a (s .seat .block) (headerOf s)
+      full = writeAt a (s .next .block) (headerOf s)
 
       full-kept : Journal c n full (stored s)
       full-kept = header-journal c n (inv .saved) l a w (inv .journal) now so-far all
@@ -143,7 +143,7 @@ module _ (c : Configuration) (n : ℕ) (l : Ledger) (a : List ℕ) where
               size = now .size;
               settings = now .settings;
               ceiling = refl;
-              seat = refl;
+              next = refl;
               agrees = flushed-agrees s (l .book .page) (now .agrees);
               redeliveries = refl;
               floor = now .floor;

@@ -19,7 +19,7 @@ use Rattle.consumer.proofs.Updates.{lookup-update-same, lookup-update-other}
 use Rattle.cursor.specs.Cursor.{settled}
 use Rattle.lease.specs.declared.Lease.{Lease}
 use Rattle.lease.specs.Operations as lease
-use Rattle.lease.specs.Operations.{leaseOf, owns, dueAt, requeuedAs, extend}
+use Rattle.lease.specs.Operations.{leaseOf, owns, withDeadline, requeuedAs, extend}
 use Rattle.consumer.specs.State.{Configuration, State}
 use Rattle.consumer.specs.Calls as consumer
 use Rattle.consumer.specs.Calls.{HandOut, handOut, nackDeadline}
@@ -29,10 +29,10 @@ use Rattle.checkpoint.specs.Checkpoint.{Writing, isLast}
 use Rattle.checkpoint.proofs.Open.{begin-says}
 use Rattle.starts.specs.Restart as restarts
 use Rattle.starts.specs.Restart.{startTable}
-use Rattle.machine.specs.Calls.{Ask, claim, ack, term, nack, progress, commit, look, Event, claimed, acked, termed, nacked, extended, committed}
-use Rattle.machine.specs.Door.{Phase, idle, writing, off, Turn, asked, beganAs, steppedAs, restartedAs}
+use Rattle.machine.specs.Calls.{Ask, claim, ack, term, nack, progress, commit, look, Event, claimed, acked, termed, nacked, progressed, committed}
+use Rattle.machine.specs.Transitions.{Phase, idle, writing, off, After, asked, beganAs, steppedAs, restartedAs}
 use Rattle.power_cut.specs.Cut.{Cut, old, new, torn, isTorn, cutAt, cutOn}
-use Rattle.crash_safety.specs.Runs.{Item, keepsJournal, World, world, next, run, begins}
+use Rattle.crash_safety.specs.Runs.{Item, keepsJournal, World, world, next, run, freshWorld}
 use Rattle.crash_safety.specs.Effects.{only, below, effectOf}
 use Rattle.crash_safety.specs.Tokens.{Tokens, noTokens, givesOut, givesUp, losesAll, tokensAfter, StaleRefused, TokenRight, TokensRight, NoStaleToken}
 use Rattle.crash_safety.proofs.Law.{Ledger, emptyLedger, noted, Law, Along}
@@ -159,16 +159,16 @@ nothing-given floor leases =
     }
 
 -- what an event tells of tokens
-abbrev told : Tokens → Event → Tokens
-told t e = tokensAfter t (effectOf e)
+abbrev tokensSeen : Tokens → Event → Tokens
+tokensSeen t e = tokensAfter t (effectOf e)
 
 -- ## each call
 abbrev Knows : Ledger → Tokens → World → Type 0
 Knows l t w = Known t (l .floor) (leasesOf (w .phase))
 
 module _ (c : Configuration) (n : ℕ) (l : Ledger) (t : Tokens) where
-  abbrev Next : Option Turn → Type 0
-  Next = Second noted told TokenRight Knows (l, t)
+  abbrev Next : Option After → Type 0
+  Next = Second noted tokensSeen TokenRight Knows (l, t)
 
   module _ (s : State) (a : List ℕ) (inv : Inv c n l (world (idle s) a)) (k : Known t (l .floor) (s .table .leases)) where
     abbrev Kept : {A : Type 0} → (Result A → Event) → Answer A State → Type 0
@@ -192,8 +192,8 @@ module _ (c : Configuration) (n : ℕ) (l : Ledger) (t : Tokens) where
     here = s .table .leases
 
     -- what is known after an answer
-    abbrev After : {A : Type 0} → (Result A → Event) → Answer A State → Type 0
-    After event r = Knows (noted l (event (r .outcome))) (told t (event (r .outcome))) (world (idle (r .state)) a)
+    abbrev Afterwards : {A : Type 0} → (Result A → Event) → Answer A State → Type 0
+    Afterwards event r = Knows (noted l (event (r .outcome))) (tokensSeen t (event (r .outcome))) (world (idle (r .state)) a)
 
     stale : {A : Type 0} (o g : ℕ) (x : Result A) → (owns (leaseOf (s .table) o) g ≡ false → x ≡ refused Fenced) → StaleRefused t o g x
     stale o g = stale-refused t (l .floor) here k o g
@@ -213,14 +213,14 @@ module _ (c : Configuration) (n : ℕ) (l : Ledger) (t : Tokens) where
     ack-knows o g =
         record {
           says = stale o g _ (ack-fenced o g);
-          keeps = ack-cases s o g (After (acked o g)) (λ r. k) (λ p. acked-up o);
+          keeps = ack-cases s o g (Afterwards (acked o g)) (λ r. k) (λ p. acked-up o);
         }
 
     term-knows : (o g : ℕ) → Kept (termed o g) (consumer.ack s o g)
     term-knows o g =
         record {
           says = stale o g _ (ack-fenced o g);
-          keeps = ack-cases s o g (After (termed o g)) (λ r. k) (λ p. acked-up o);
+          keeps = ack-cases s o g (Afterwards (termed o g)) (λ r. k) (λ p. acked-up o);
         }
 
     -- the generation that a nack takes is at least the floor, so that nobody was given it
@@ -237,16 +237,16 @@ module _ (c : Configuration) (n : ℕ) (l : Ledger) (t : Tokens) where
     nack-knows o g clock d =
         record {
           says = stale o g _ (λ e. nack-fenced o g e clock d);
-          keeps = nack-cases s o g clock d (After (nacked o g clock d)) (λ r. k)
+          keeps = nack-cases s o g clock d (Afterwards (nacked o g clock d)) (λ r. k)
               (λ p. nacked-up o g (nackDeadline s o clock d) (p .token));
         }
 
-    progress-knows : (o g clock : ℕ) → Kept (extended o g clock) (consumer.progress s o g clock)
+    progress-knows : (o g clock : ℕ) → Kept (progressed o g clock) (consumer.progress s o g clock)
     progress-knows o g clock =
         record {
           says = stale o g _ (λ e. progress-fenced o g e clock);
-          keeps = progress-cases s o g clock (After (extended o g clock)) (λ r. k)
-              (λ p. keeps-generation t (l .floor) here k o (p .token .lease) (dueAt (lease.extended (s .table) o clock)) (p .token .held) refl);
+          keeps = progress-cases s o g clock (Afterwards (progressed o g clock)) (λ r. k)
+              (λ p. keeps-generation t (l .floor) here k o (p .token .lease) (withDeadline (lease.extended (s .table) o clock)) (p .token .held) refl);
         }
 
     -- no lease lies below committed
@@ -263,7 +263,7 @@ module _ (c : Configuration) (n : ℕ) (l : Ledger) (t : Tokens) where
     commit-knows bound =
         record {
           says = tt;
-          keeps = commit-cases s bound (After (committed bound)) (λ r. k)
+          keeps = commit-cases s bound (Afterwards (committed bound)) (λ r. k)
               (λ h. gives-up t (l .floor) here k (below bound) here
               (λ x v e q d. Option·none-ne-some v (sym (none-below bound x h e) ∙ q))
               (λ x e. refl))
@@ -308,7 +308,7 @@ module _ (c : Configuration) (n : ℕ) (l : Ledger) (t : Tokens) where
     cut-knows : (x : Cut) → Next (cutOn w a x)
     cut-knows x = split (eqb (length a) (w .state .size)) (λ e. rw e (cut-at-knows x)) (λ e. rw e tt)
 
-  elsewhere-knows : (a : List ℕ) (x : Option Turn) → Next x → Next (keepsJournal a x)
+  elsewhere-knows : (a : List ℕ) (x : Option After) → Next x → Next (keepsJournal a x)
   elsewhere-knows a none h = tt
   elsewhere-knows a (some u) h = record { says = h .says; keeps = h .keeps }
 
@@ -334,7 +334,7 @@ module _ (c : Configuration) (n : ℕ) (l : Ledger) (t : Tokens) where
 -- ## every list
 module _ (c : Configuration) (n : ℕ) (accepted : Passed (startTable c n)) where
   abbrev fold : Ledger × Tokens → Event → Ledger × Tokens
-  fold = foldBoth noted told
+  fold = foldBoth noted tokensSeen
 
   abbrev Says : Ledger × Tokens → Event → Type 0
   Says = SaysBoth (Law (c .settings .policy)) TokenRight
@@ -344,7 +344,7 @@ module _ (c : Configuration) (n : ℕ) (accepted : Passed (startTable c n)) wher
 
   each : (b : Ledger × Tokens) (w : World) (i : Item) → Keeps b w → Answered fold Says Keeps b (next c w i)
   each b w i h =
-      beside noted told (Law (c .settings .policy)) TokenRight (Inv c n) Knows b (next c w i)
+      beside noted tokensSeen (Law (c .settings .policy)) TokenRight (Inv c n) Knows b (next c w i)
       (item-kept c n accepted (b .0) w i (h .0))
       (item-knows c n (b .0) (b .1) accepted w i (h .0) (h .1))
 
@@ -354,11 +354,11 @@ module _ (c : Configuration) (n : ℕ) (accepted : Passed (startTable c n)) wher
   tokens-right : (es : List Event) (l : Ledger) (t : Tokens) → Along fold Says (l, t) es → TokensRight t es
   unfolding Along TokensRight
   tokens-right [] l t h = tt
-  tokens-right (e ∷ es) l t h = (h .0 .1, tokens-right es (noted l e) (told t e) (h .1))
+  tokens-right (e ∷ es) l t h = (h .0 .1, tokens-right es (noted l e) (tokensSeen t e) (h .1))
 
 pub no-stale-token : NoStaleToken
 unfolding NoStaleToken
 no-stale-token c n s items f e =
     let b = begins-well c n s f e in
-    tokens-right c n (b .accepted) (run c (begins s n) items) emptyLedger noTokens
-    (all-along c n (b .accepted) items (begins s n) (b .inv, nothing-given 0 (s .table .leases)))
+    tokens-right c n (b .accepted) (run c (freshWorld s n) items) emptyLedger noTokens
+    (all-along c n (b .accepted) items (freshWorld s n) (b .inv, nothing-given 0 (s .table .leases)))

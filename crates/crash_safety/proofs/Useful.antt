@@ -19,8 +19,8 @@ use Rattle.types.proofs.Keyed.{lookup-all}
 use Rattle.cursor.specs.Cursor.{settled}
 use Rattle.lease.specs.declared.Lease.{Lease}
 use Rattle.lease.specs.State.{Counted}
-use Rattle.lease.specs.Operations.{leaseOf, isNone, running, handedOut}
-use Rattle.lease.specs.Rest.{overdue}
+use Rattle.lease.specs.Operations.{leaseOf, isNone, running, timesHandedOut}
+use Rattle.lease.specs.Rest.{isExpired}
 use Rattle.consumer.specs.State.{Configuration, State}
 use Rattle.consumer.specs.Calls.{callRows, HandOut, handOut, isFull, claimRows, claimTable, claim, atCeiling, atThreshold}
 use Rattle.consumer.specs.Questions.{waitingAt, countOf}
@@ -30,12 +30,12 @@ use Rattle.consumer.proofs.Counts.{count-is, lease-count, carried-count}
 use Rattle.consumer.proofs.Questions.{waiting-once}
 use Rattle.checkpoint.specs.Checkpoint as checkpoints
 use Rattle.checkpoint.specs.Checkpoint.{bodies, flushed}
-use Rattle.machine.specs.Door.{Phase, idle, writing}
+use Rattle.machine.specs.Transitions.{Phase, idle, writing}
 use Rattle.machine.specs.Calls.{step}
 use Rattle.crash_safety.specs.Book.{Page}
-use Rattle.crash_safety.specs.Runs.{call, World, world, run, ends, begins}
+use Rattle.crash_safety.specs.Runs.{call, World, world, run, ends, freshWorld}
 use Rattle.crash_safety.specs.Recovery.{begun, HasRoom}
-use Rattle.crash_safety.specs.Useful.{steps, AllWrote, checkpoint, Checkpointed, Claimable, waits, Useful, NotUseless}
+use Rattle.crash_safety.specs.Useful.{steps, AllAccepted, checkpoint, Checkpointed, Claimable, waitsByBook, Useful, NotUseless}
 use Rattle.crash_safety.proofs.Law.{Ledger}
 use Rattle.crash_safety.proofs.Invariant.{Agrees, Inv}
 use Rattle.crash_safety.proofs.Runs.{run-made, ends-made, ends-none}
@@ -59,7 +59,7 @@ module _ (s : State) (v : Valid s) where
       (p .not-last, (p .unsettled, (p .not-held, (p .generations, (nothing-due (p .generations), (p .room, tt)))))) in
       rw (guarded-passed (claimTable (flushed s) o now) (flushed s) _ passed)
 
-  -- 25 stands in front of 26, so that what is due after a checkpoint is never told
+  -- 25 stands in front of 26, so that after a checkpoint 26 is never answered
   never-due : (o now : ℕ) → claim (flushed s) o now .outcome ≡ refused CheckpointDue → ⊥
   unfolding claim
   never-due o now e =
@@ -84,14 +84,14 @@ module _ (s : State) (v : Valid s) where
 -- ## the waiting list
 module _ (s : State) (v : Valid s) (p : Page) (agrees : Agrees p s) (now o : ℕ) where
   -- what waits by the state waits by the book
-  waits-right : (not (isNone (lookup o (s .table .carried))) || overdue (leaseOf (s .table) o) now)
+  waits-right : (not (isNone (lookup o (s .table .carried))) || isExpired (leaseOf (s .table) o) now)
       ≡ (not (settled (s .cursor) o) && not (eqb (countOf s o) 0) && not (running (leaseOf (s .table) o) now))
   waits-right = go (leaseOf (s .table) o) refl (lookup o (s .table .carried)) refl
     where
       go : (x : Option Lease) → leaseOf (s .table) o ≡ x → (y : Option ℕ) → lookup o (s .table .carried) ≡ y
-          → (not (isNone y) || overdue x now) ≡ (not (settled (s .cursor) o) && not (eqb (countOf s o) 0) && not (running x now))
+          → (not (isNone y) || isExpired x now) ≡ (not (settled (s .cursor) o) && not (eqb (countOf s o) 0) && not (running x now))
       go none e none f =
-          let zero : countOf s o ≡ 0 = count-is s v o ∙ ap₂ handedOut e f in
+          let zero : countOf s o ≡ 0 = count-is s v o ∙ ap₂ timesHandedOut e f in
           rw (zero, and-false (not (settled (s .cursor) o)))
       go none e (some m) f =
           let fine = lookup-all Counted o m (s .table .carried) (v .table .carried-counted) f in
@@ -102,17 +102,17 @@ module _ (s : State) (v : Valid s) (p : Page) (agrees : Agrees p s) (now o : ℕ
           let no-count : y ≡ none = sym f ∙ own .alone in
           rw (no-count, own .unsettled, lease-count s v o k e, ne-eqb (k .deliveries) 0 (λ z. omega (arith, fine .once)))
 
-  waiting-right : times o (waitingAt s now) ≡ cond (waits p s now o) 1 0
+  waiting-right : times o (waitingAt s now) ≡ cond (waitsByBook p s now o) 1 0
   waiting-right = waiting-once s v now o ∙ rw (← agrees .settles o, ← agrees .counts o) (ap (λ (b : Bool). cond b 1 0) waits-right)
 
 -- ## a checkpoint
-none-wrote : (c : Configuration) (w : World) → AllWrote (run c w [])
-unfolding run AllWrote
+none-wrote : (c : Configuration) (w : World) → AllAccepted (run c w [])
+unfolding run AllAccepted
 none-wrote c w = tt
 
 module _ (c : Configuration) (n : ℕ) (l : Ledger) (s : State) (a : List ℕ) (inv : Inv c n l (world (idle s) a)) where
   checkpointed : HasRoom s → Checkpointed c (world (idle s) a) s
-  unfolding AllWrote
+  unfolding AllAccepted
   checkpointed room =
       let k : ℕ = bodies s in
       let h : k ≤ bodies s = omega arith in
@@ -144,5 +144,5 @@ pub not-useless : NotUseless
 unfolding NotUseless
 not-useless c n s items f e left here =
     let r = reached c n s items f e in
-    let w = ends c (begins s n) items in
+    let w = ends c (freshWorld s n) items in
     useful-after c n (r .ledger) (w .phase) (w .journal) left _ here (ap (λ b. b .page) (r .books)) (r .inv)

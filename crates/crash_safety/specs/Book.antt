@@ -29,16 +29,16 @@ abbrev pub emptyBook : Book
 emptyBook = record { page = blank; copy = blank }
 
 -- a hand-out adds 1 to the offset's count, at most to 4294967295
-abbrev pub handedOut : Page → ℕ → Page
-handedOut p o = record { settled = p .settled; count = λ x. cond (eqb x o) (sat32 (p .count x) 1) (p .count x) }
+abbrev pub withHandOut : Page → ℕ → Page
+withHandOut p o = record { settled = p .settled; count = λ x. cond (eqb x o) (sat32 (p .count x) 1) (p .count x) }
 
 -- offsets that a test names are settled, which drops their counts
 abbrev pub settle : Page → (ℕ → Bool) → Page
 settle p named = record { settled = λ x. named x || p .settled x; count = λ x. cond (named x) 0 (p .count x) }
 
 -- another page beside the same copy
-abbrev pub turnedTo : Book → Page → Book
-turnedTo b p = record { page = p; copy = b .copy }
+abbrev pub withPage : Book → Page → Book
+withPage b p = record { page = p; copy = b .copy }
 
 -- a header block wholly written renews the copy
 abbrev pub renewed : Book → Book
@@ -50,8 +50,8 @@ wentBack b = record { page = b .copy; copy = b .copy }
 
 -- what the book makes of an effect; all that is not named here changes nothing
 abbrev pub note : Book → Effect → Book
-note b (handing o h) = turnedTo b (handedOut (b .page) o)
-note b (settling named) = turnedTo b (settle (b .page) named)
+note b (handing o h) = withPage b (withHandOut (b .page) o)
+note b (settling named) = withPage b (settle (b .page) named)
 note b (requeuing o) = b
 note b renewing = renewed b
 note b (restarting (refused r)) = b

@@ -15,7 +15,7 @@ use Rattle.consumer.specs.Calls.{HandOut}
 use Rattle.consumer.specs.Valid.{Fits}
 use Rattle.starts.specs.Restart.{start}
 use Rattle.machine.specs.Calls.{ask, begin, step, restart, Event}
-use Rattle.crash_safety.specs.Runs.{Item, call, stepOn, cut, run, begins}
+use Rattle.crash_safety.specs.Runs.{Item, call, stepOn, cut, run, freshWorld}
 use Rattle.crash_safety.specs.Effects.{Effect, handing, settling, requeuing, renewing, restarting, nothing, effectOf}
 use Rattle.crash_safety.specs.Book.{Page, Book, emptyBook, note}
 
@@ -102,4 +102,4 @@ pub record Holds (c : Configuration) (items : List Item) (es : List Event) : Typ
 unfoldable pub Demand3 : Type 0
 Demand3 =
     (c : Configuration) (size : ℕ) (s : State) (items : List Item) → Premises c → start c size ≡ done s
-    → Holds c items (run c (begins s size) items)
+    → Holds c items (run c (freshWorld s size) items)

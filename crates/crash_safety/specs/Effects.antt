@@ -6,7 +6,7 @@ use lib.Dec.{ltb, eqb}
 use Rattle.types.specs.Refusal.{Result, refused, done}
 use Rattle.consumer.specs.State.{State}
 use Rattle.consumer.specs.Calls.{HandOut}
-use Rattle.machine.specs.Calls.{Event, claimed, acked, termed, nacked, extended, committed, looked, begun, stepped, restarted, failed}
+use Rattle.machine.specs.Calls.{Event, claimed, acked, termed, nacked, progressed, committed, looked, begun, stepped, restarted, failed}
 
 pub data Effect : Type 0 where
   -- the claimed offset is handed out, for delivery or as a dead letter
@@ -43,7 +43,7 @@ effectOf (claimed o now a) = unlessRefused a (handing o)
 effectOf (acked o g a) = unlessRefused a (λ u. settling (only o))
 effectOf (termed o g a) = unlessRefused a (λ u. settling (only o))
 effectOf (nacked o g now d a) = unlessRefused a (λ deadline. requeuing o)
-effectOf (extended o g now a) = nothing
+effectOf (progressed o g now a) = nothing
 effectOf (committed bound a) = unlessRefused a (λ moved. settling (below bound))
 effectOf (looked q a) = nothing
 effectOf (begun a) = nothing

@@ -1,5 +1,5 @@
 -- Demand 3 of machines, journals and answers as the code has them: what a program does through `Machine::start`, `Machine::off`,
--- `call` and `cut`, one behind the other, in the words of their contracts.
+-- `call` and `cut`, one after the other, in the words of their contracts.
 use Prim.Native.Nat.{ℕ}
 use mathlib.Core.Path.{_≡_}
 use mathlib.Core.Bool.{false}
@@ -14,9 +14,9 @@ use Rattle.starts.specs.Starting.{configurationOf, startFault}
 use Rattle.starts.specs.declared.StartAnswer.{StartAnswer}
 use Rattle.starts.specs.declared.StartAnswer.the-variants as start
 use Rattle.machine.specs.Calls.{step, restart, Event}
-use Rattle.machine.specs.Door.{Turn}
+use Rattle.machine.specs.Transitions.{After}
 use Rattle.machine.specs.Answers.{callOf}
-use Rattle.machine.specs.View.{phaseOf, Sound, StartedIs, OffIs, turnOf, CalledIs}
+use Rattle.machine.specs.View.{phaseOf, Sound, StartedIs, OffIs, afterOf, CalledIs}
 use Rattle.machine.specs.declared.calls.Call.{Call}
 use Rattle.machine.specs.declared.calls.CallAnswer.the-variants as answer
 use Rattle.machine.specs.declared.Machine.{Machine}
@@ -30,7 +30,7 @@ use Rattle.crash_safety.specs.Runs.{Item, call, stepOn, cut, world, run,
 use Rattle.crash_safety.specs.Demand3.{Holds}
 
 -- what is seen, in front of what is seen after it; of a call answered NotNow nothing is
-abbrev pub seen : Option Turn → List Event → List Event
+abbrev pub seen : Option After → List Event → List Event
 seen none es = es
 seen (some t) es = t .event ∷ es
 
@@ -43,25 +43,25 @@ pub data Ran : Machine → List ℕ → List Item → List Event → Machine →
       (q : Call) (out : List ℕ) (r : Called) (a′ out′ : List ℕ)
       → (Sound m → CalledIs m (callOf (length out) q) a out r a′ out′)
       → Ran (r .machine) a′ is es last end
-      → Ran m a (call (callOf (length out) q) ∷ is) (seen (turnOf (callOf (length out) q) (r .answer) (r .machine) a′ out′) es) last end
+      → Ran m a (call (callOf (length out) q) ∷ is) (seen (afterOf (callOf (length out) q) (r .answer) (r .machine) a′ out′) es) last end
   -- a step, lent memory of another length than the journal's
   strays : {m last : Machine} {a end : List ℕ} {is : List Item} {es : List Event}
       (b out : List ℕ) (r : Called) (b′ out′ : List ℕ) → eqb (length b) (length a) ≡ false
       → (Sound m → CalledIs m step b out r b′ out′)
       → Ran (r .machine) a is es last end
-      → Ran m a (stepOn b ∷ is) (seen (turnOf step (r .answer) (r .machine) b′ out′) es) last end
+      → Ran m a (stepOn b ∷ is) (seen (afterOf step (r .answer) (r .machine) b′ out′) es) last end
   -- a power failure in a step, lent the journal
   cuts : {m last : Machine} {a end : List ℕ} {is : List Item} {es : List Event}
       (k : Kind) (bytes : List ℕ) (r : Failed) (a′ : List ℕ)
       → (Sound m → CutIs m (cutOf k bytes) a r a′)
       → Ran (r .machine) a′ is es last end
-      → Ran m a (cut (cutOf k bytes) ∷ is) (seen (power.turnOf (r .answer) (r .machine) a′) es) last end
+      → Ran m a (cut (cutOf k bytes) ∷ is) (seen (power.afterOf (r .answer) (r .machine) a′) es) last end
   -- the program ends at any point and is started anew: a machine that is off, with the same configuration, goes on from the journal
   reopens : {m last : Machine} {a end : List ℕ} {is : List Item} {es : List Event}
       (m′ : Machine) (out : List ℕ) (r : Called) (a′ out′ : List ℕ) → OffIs (m .configuration) m′
       → (Sound m′ → CalledIs m′ restart a out r a′ out′) → r .answer ≡ answer.Restarted start.Started
       → Ran (r .machine) a′ is es last end
-      → Ran m a (call restart ∷ is) (seen (turnOf restart (r .answer) (r .machine) a′ out′) es) last end
+      → Ran m a (call restart ∷ is) (seen (afterOf restart (r .answer) (r .machine) a′ out′) es) last end
 
 -- ## it is the run
 pub record IsRun (m : Machine) (a : List ℕ) (is : List Item) (es : List Event) (last : Machine) (end : List ℕ) : Type 0 where

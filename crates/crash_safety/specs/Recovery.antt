@@ -13,9 +13,9 @@ use Rattle.consumer.specs.Valid.{Fits}
 use Rattle.checkpoint.specs.Checkpoint.{bodies, writes, Writing}
 use Rattle.starts.specs.Restart.{start}
 use Rattle.machine.specs.Calls.{begin, step, restart}
-use Rattle.machine.specs.Door.{idle, writing}
+use Rattle.machine.specs.Transitions.{idle, writing}
 use Rattle.power_cut.specs.Cut.{Cut, old, new, torn, isTorn, cutAt}
-use Rattle.crash_safety.specs.Runs.{Item, call, cut, World, next, run, ends, begins}
+use Rattle.crash_safety.specs.Runs.{Item, call, cut, World, next, run, ends, freshWorld}
 
 -- ## a restart
 pub record Deterministic (c : Configuration) (w : World) : Type 0 where
@@ -39,7 +39,7 @@ thenCut k = cut k ∷ call restart ∷ []
 
 -- the journal has room for one more group
 abbrev pub HasRoom : State → Type 0
-HasRoom s = s .seat .block + suc (bodies s) ≤ blocksOf s
+HasRoom s = s .next .block + suc (bodies s) ≤ blocksOf s
 
 pub record WritesCount (c : Configuration) (w : World) (s : State) : Type 0 where
   pub left-old : (k : ℕ) → k < writes s → ends c w (begun k ++ thenCut old) .phase ≡ ends c w (call restart ∷ []) .phase
@@ -53,13 +53,13 @@ pub record WritesCount (c : Configuration) (w : World) (s : State) : Type 0 wher
 unfoldable pub EveryWriteCounts : Type 0
 EveryWriteCounts =
     (c : Configuration) (size : ℕ) (s : State) (items : List Item) → Fits (c .settings) → start c size ≡ done s
-    → (left : State) → ends c (begins s size) items .phase ≡ idle left → HasRoom left
-    → WritesCount c (ends c (begins s size) items) left
+    → (left : State) → ends c (freshWorld s size) items .phase ≡ idle left → HasRoom left
+    → WritesCount c (ends c (freshWorld s size) items) left
 
 -- ## cuts
 -- the journal of a list always has the consumer's length, so that every step can be cut in each of its ways
 unfoldable pub EveryCutMade : Type 0
 EveryCutMade =
     (c : Configuration) (size : ℕ) (s : State) (items : List Item) → Fits (c .settings) → start c size ≡ done s
-    → (w : Writing) → ends c (begins s size) items .phase ≡ writing w
-    → (k : Cut) → next c (ends c (begins s size) items) (cut k) ≡ cutAt w (ends c (begins s size) items .journal) k
+    → (w : Writing) → ends c (freshWorld s size) items .phase ≡ writing w
+    → (k : Cut) → next c (ends c (freshWorld s size) items) (cut k) ≡ cutAt w (ends c (freshWorld s size) items .journal) k

@@ -8,7 +8,7 @@ use lib.Dec.{eqb}
 use lib.ListN.{length, replicate}
 use Rattle.consumer.specs.State.{Configuration, State}
 use Rattle.machine.specs.Calls.{Call, step, Event}
-use Rattle.machine.specs.Door.{Phase, idle, Turn, turn, door}
+use Rattle.machine.specs.Transitions.{Phase, idle, After, gives, transition}
 use Rattle.power_cut.specs.Cut.{Cut, powerCut}
 
 pub data Item : Type 0 where
@@ -28,24 +28,24 @@ abbrev pub world : Phase → List ℕ → World
 world p a = record { phase = p; journal = a }
 
 -- other memory is lent, so the journal stays as it is
-abbrev pub keepsJournal : List ℕ → Option Turn → Option Turn
+abbrev pub keepsJournal : List ℕ → Option After → Option After
 keepsJournal a none = none
-keepsJournal a (some t) = turn (t .event) (t .phase) a
+keepsJournal a (some t) = gives (t .event) (t .phase) a
 
-abbrev pub stepElsewhere : Configuration → World → List ℕ → Option Turn
+abbrev pub stepElsewhere : Configuration → World → List ℕ → Option After
 stepElsewhere c w b =
-    cond (eqb (length b) (length (w .journal))) none (keepsJournal (w .journal) (door c (w .phase) b step))
+    cond (eqb (length b) (length (w .journal))) none (keepsJournal (w .journal) (transition c (w .phase) b step))
 
 -- one item; `none`: it can't be made where it stands
-unfoldable pub next : Configuration → World → Item → Option Turn
-next c w (call q) = door c (w .phase) (w .journal) q
+unfoldable pub next : Configuration → World → Item → Option After
+next c w (call q) = transition c (w .phase) (w .journal) q
 next c w (stepOn b) = stepElsewhere c w b
 next c w (cut k) = powerCut (w .phase) (w .journal) k
 
-abbrev pub after : Turn → World
+abbrev pub after : After → World
 after t = world (t .phase) (t .area)
 
--- what is seen of a list. What can't be made where it stands is passed over: it is not seen and changes nothing
+-- what is seen of a list. What can't be made where it stands is skipped: it is not seen and changes nothing
 unfoldable pub run : Configuration → World → List Item → List Event
 run c w [] = []
 run c w (i ∷ is) = elim (next c w i) [ none ↦ run c w is | some t ↦ t .event ∷ run c (after t) is ]
@@ -56,5 +56,5 @@ ends c w [] = w
 ends c w (i ∷ is) = elim (next c w i) [ none ↦ ends c w is | some t ↦ ends c (after t) is ]
 
 -- a fresh consumer on a zeroed journal of so many bytes
-abbrev pub begins : State → ℕ → World
-begins s n = world (idle s) (replicate n 0)
+abbrev pub freshWorld : State → ℕ → World
+freshWorld s n = world (idle s) (replicate n 0)

@@ -11,9 +11,9 @@ use Rattle.consumer.specs.State.{Configuration, State}
 use Rattle.consumer.specs.Valid.{Fits}
 use Rattle.starts.specs.Restart.{start}
 use Rattle.machine.specs.Calls.{Event}
-use Rattle.machine.specs.Door.{Phase, idle, writing, off}
+use Rattle.machine.specs.Transitions.{Phase, idle, writing, off}
 use Rattle.crash_safety.specs.Effects.{Effect, handing, settling, requeuing, renewing, restarting, nothing, effectOf}
-use Rattle.crash_safety.specs.Runs.{Item, run, ends, begins}
+use Rattle.crash_safety.specs.Runs.{Item, run, ends, freshWorld}
 
 -- an Ack or a Term of the offset, or a Commit above it, that is not refused
 abbrev pub settles : Effect → ℕ → Bool
@@ -38,5 +38,5 @@ stateIn off = none
 unfoldable pub NothingForgotten : Type 0
 NothingForgotten =
     (c : Configuration) (size : ℕ) (s : State) (items : List Item) → Fits (c .settings) → start c size ≡ done s
-    → (left : State) → stateIn (ends c (begins s size) items .phase) ≡ some left
-    → (o : ℕ) → settled (left .cursor) o ≡ true → settledIn (run c (begins s size) items) o ≡ true
+    → (left : State) → stateIn (ends c (freshWorld s size) items .phase) ≡ some left
+    → (o : ℕ) → settled (left .cursor) o ≡ true → settledIn (run c (freshWorld s size) items) o ≡ true

@@ -13,9 +13,9 @@ use Rattle.consumer.specs.State.{Configuration, State}
 use Rattle.consumer.specs.Calls.{HandOut}
 use Rattle.consumer.specs.Valid.{Fits}
 use Rattle.starts.specs.Restart.{start}
-use Rattle.machine.specs.Calls.{Event, claimed, acked, termed, nacked, extended, committed, looked, begun, stepped, restarted, failed}
+use Rattle.machine.specs.Calls.{Event, claimed, acked, termed, nacked, progressed, committed, looked, begun, stepped, restarted, failed}
 use Rattle.crash_safety.specs.Effects.{Effect, handing, settling, requeuing, renewing, restarting, nothing, only, effectOf}
-use Rattle.crash_safety.specs.Runs.{Item, run, begins}
+use Rattle.crash_safety.specs.Runs.{Item, run, freshWorld}
 
 -- what the events tell of tokens, each an offset and a generation
 pub record Tokens : Type 0 where
@@ -66,7 +66,7 @@ TokenRight t (claimed o now a) = Unit {0}
 TokenRight t (acked o g a) = StaleRefused t o g a
 TokenRight t (termed o g a) = StaleRefused t o g a
 TokenRight t (nacked o g now d a) = StaleRefused t o g a
-TokenRight t (extended o g now a) = StaleRefused t o g a
+TokenRight t (progressed o g now a) = StaleRefused t o g a
 TokenRight t (committed bound a) = Unit {0}
 TokenRight t (looked q a) = Unit {0}
 TokenRight t (begun a) = Unit {0}
@@ -82,4 +82,4 @@ TokensRight t (e ∷ es) = TokenRight t e × TokensRight (tokensAfter t (effectO
 unfoldable pub NoStaleToken : Type 0
 NoStaleToken =
     (c : Configuration) (size : ℕ) (s : State) (items : List Item) → Fits (c .settings) → start c size ≡ done s
-    → TokensRight noTokens (run c (begins s size) items)
+    → TokensRight noTokens (run c (freshWorld s size) items)

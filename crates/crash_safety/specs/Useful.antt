@@ -19,20 +19,20 @@ use Rattle.checkpoint.specs.Checkpoint as checkpoints
 use Rattle.checkpoint.specs.Checkpoint.{writes, flushed}
 use Rattle.starts.specs.Restart.{start}
 use Rattle.machine.specs.Calls.{Event, begun, stepped}
-use Rattle.machine.specs.Door.{idle}
+use Rattle.machine.specs.Transitions.{idle}
 use Rattle.crash_safety.specs.Book.{Page, emptyBook, bookAfter}
-use Rattle.crash_safety.specs.Runs.{Item, World, run, ends, begins}
+use Rattle.crash_safety.specs.Runs.{Item, World, run, ends, freshWorld}
 use Rattle.crash_safety.specs.Recovery as recovery
 use Rattle.crash_safety.specs.Recovery.{HasRoom}
 
 -- a begin or a step that is not refused
-pub data Wrote : Event → Type 0 where
-  began : (writes : ℕ) → Wrote (begun (done writes))
-  steps : (w : checkpoints.Wrote) → Wrote (stepped (done w))
+pub data Accepted : Event → Type 0 where
+  began : (writes : ℕ) → Accepted (begun (done writes))
+  steps : (w : checkpoints.BlockWritten) → Accepted (stepped (done w))
 
-unfoldable pub AllWrote : List Event → Type 0
-AllWrote [] = Unit {0}
-AllWrote (e ∷ es) = Wrote e × AllWrote es
+unfoldable pub AllAccepted : List Event → Type 0
+AllAccepted [] = Unit {0}
+AllAccepted (e ∷ es) = Accepted e × AllAccepted es
 
 -- begin and a step for each block write
 abbrev pub checkpoint : State → List Item
@@ -40,7 +40,7 @@ checkpoint s = recovery.begun (writes s)
 
 -- the checkpoint is made, and the consumer is then its state with a new ceiling and a cleared counter
 pub record Checkpointed (c : Configuration) (w : World) (s : State) : Type 0 where
-  pub wrote : AllWrote (run c w (checkpoint s))
+  pub wrote : AllAccepted (run c w (checkpoint s))
   pub leaves : ends c w (checkpoint s) .phase ≡ idle (flushed s)
 
 -- nothing speaks against a claim of the offset: not 21, 22, 23, 25 or 27
@@ -52,19 +52,19 @@ pub record Claimable (s : State) (o now : ℕ) : Type 0 where
   pub room : isFull (s .table) o ≡ false
 
 -- an offset that waits at a clock, by the book
-abbrev pub waits : Page → State → ℕ → ℕ → Bool
-waits p s now o = not (p .settled o) && not (eqb (p .count o) 0) && not (running (leaseOf (s .table) o) now)
+abbrev pub waitsByBook : Page → State → ℕ → ℕ → Bool
+waitsByBook p s now o = not (p .settled o) && not (eqb (p .count o) 0) && not (running (leaseOf (s .table) o) now)
 
 pub record Useful (c : Configuration) (w : World) (s : State) (p : Page) : Type 0 where
   pub checkpoints : HasRoom s → Checkpointed c w s
   -- right after a checkpoint
   pub claims : (o now : ℕ) → Claimable s o now → claim (flushed s) o now .outcome ≡ done (handOut (flushed s) o)
   pub not-due : (o now : ℕ) → claim (flushed s) o now .outcome ≡ refused CheckpointDue → ⊥
-  pub waiting : (now o : ℕ) → times o (waitingAt s now) ≡ cond (waits p s now o) 1 0
+  pub waiting : (now o : ℕ) → times o (waitingAt s now) ≡ cond (waitsByBook p s now o) 1 0
 
 -- after every list that leaves a state
 unfoldable pub NotUseless : Type 0
 NotUseless =
     (c : Configuration) (size : ℕ) (s : State) (items : List Item) → Fits (c .settings) → start c size ≡ done s
-    → (left : State) → ends c (begins s size) items .phase ≡ idle left
-    → Useful c (ends c (begins s size) items) left (bookAfter emptyBook (run c (begins s size) items) .page)
+    → (left : State) → ends c (freshWorld s size) items .phase ≡ idle left
+    → Useful c (ends c (freshWorld s size) items) left (bookAfter emptyBook (run c (freshWorld s size) items) .page)

@@ -70,7 +70,7 @@ abbrev limit : List Range → List Row
 limit l = ltb RANGES (length l) ⇒ TooManyRuns ∷ []
 
 module _ (n : ℕ) (l : List Range) (b : Resuming) (t : Taken n l b) where
-  -- `take_range` behind a fault
+  -- `take_range` after a fault
   pub take-none : (e : AckCursorError) (start end : ℕ) → end ≤ MAX → b .outcome ≡ Refused e → Taken n (l ++ range start end ∷ []) b
   take-none e start end h q =
       let f : first (rangesTable n (l ++ range start end ∷ [])) ≡ some (rangesError e) =
@@ -82,7 +82,7 @@ module _ (n : ℕ) (l : List Range) (b : Resuming) (t : Taken n l b) where
         faultless = λ z. absurd (Option·none-ne-some (rangesError e) (sym z ∙ f));
       }
 
-  -- a fault is that of all ranges, whatever comes behind
+  -- a fault is that of all ranges, whatever comes after
   pub fault-of-all : (e : AckCursorError) (rest : List Range) → b .outcome ≡ Refused e → first (resumeTable n (l ++ rest)) ≡ some (rangesError e)
   fault-of-all e rest q =
       first-met-before (rangesTable n (l ++ rest)) (limit (l ++ rest)) (rangesError e)
@@ -118,7 +118,7 @@ module _ (n : ℕ) (l : List Range) (b : Resuming) (t : Taken n l b) where
           };
         }
 
-    -- behind the last range: they are few enough, or too many
+    -- after the last range: they are few enough, or too many
     pub too-many : 128 < b .taken → first (resumeTable n l) ≡ some TooManyRuns
     too-many h = first-none-before (rangesTable n l) (limit l) no-fault ∙ rw (lt-ltb RANGES (length l) (omega (arith, seen .count)))
 
@@ -145,7 +145,7 @@ module _ (n : ℕ) (l : List Range) (b : Resuming) (t : Taken n l b) where
           kept = rw q tt;
         }
 
-  -- `finish` behind a fault
+  -- `finish` after a fault
   pub finish-fault : (e : AckCursorError) (c : AckCursor) → Fresh 0 c → b .outcome ≡ Refused e → ResumedIs n l (record { outcome = b .outcome; cursor = c })
   unfolding resumeWithAhead
   finish-fault e c f q =

@@ -7,45 +7,45 @@ use Rattle.delivery.specs.Examples as delivery
 use Rattle.attempt.specs.Examples as attempts
 use Rattle.lease.specs.Examples as leases
 use Rattle.examples.specs.Consumer as consumers
-use Rattle.examples.specs.SettledExamples.{toldOf, Eleven, Twelve, SettledExamples}
+use Rattle.examples.specs.SettledExamples.{codeIn, Eleven, Twelve, SettledExamples}
 
-told-11 : (rest : List ℕ) → Eleven rest
-told-11 rest =
+code-11 : (rest : List ℕ) → Eleven rest
+code-11 rest =
     let e = cursors.example-11 rest in
-    record { is = e; length-30 = λ l. ap toldOf (e .length-30 l); length-29 = λ l. ap toldOf (e .length-29 l) }
+    record { is = e; length-30 = λ l. ap codeIn (e .length-30 l); length-29 = λ l. ap codeIn (e .length-29 l) }
 
-told-12 : (a b c d e f g h i : ℕ) → Twelve a b c d e f g h i
-told-12 a b c d e f g h i =
+code-12 : (a b c d e f g h i : ℕ) → Twelve a b c d e f g h i
+code-12 a b c d e f g h i =
     let x = attempts.example-12 a b c d e f g h i in
-    record { is = x; version-2 = ap toldOf (x .version-2); version-1 = ap toldOf (x .version-1) }
+    record { is = x; version-2 = ap codeIn (x .version-2); version-1 = ap codeIn (x .version-1) }
 
 pub settled-examples : SettledExamples
 settled-examples =
     record {
       one = cursors.example-1;
       two = cursors.example-2;
-      three = record { is = cursors.example-3; sheds = ap (λ a. toldOf (a .outcome)) (cursors.example-3 .one) };
+      three = record { is = cursors.example-3; sheds = ap (λ a. codeIn (a .outcome)) (cursors.example-3 .one) };
       four = cursors.example-4;
       five = record {
         is = cursors.example-5;
-        touching = ap toldOf (cursors.example-5 .touching);
-        empty = ap toldOf (cursors.example-5 .empty);
+        touching = ap codeIn (cursors.example-5 .touching);
+        empty = ap codeIn (cursors.example-5 .empty);
       };
       six = cursors.example-6;
-      seven = record { is = leases.example-7; at-109 = ap toldOf (leases.example-7 .at-109) };
+      seven = record { is = leases.example-7; at-109 = ap codeIn (leases.example-7 .at-109) };
       eight = record {
         is = leases.example-8;
-        at-125 = ap toldOf (leases.example-8 .at-125);
-        after-120 = ap toldOf (leases.example-8 .after-120);
+        at-125 = ap codeIn (leases.example-8 .at-125);
+        after-120 = ap codeIn (leases.example-8 .after-120);
       };
       nine = delivery.example-9;
       ten = delivery.example-10;
-      eleven = told-11;
-      twelve = told-12;
+      eleven = code-11;
+      twelve = code-12;
       thirteen = record {
         is = consumers.example-13;
-        started = ap (map toldOf) (consumers.example-13 .started);
-        always = λ c size now. ap toldOf (consumers.example-13 .always c size now);
+        started = ap (map codeIn) (consumers.example-13 .started);
+        always = λ c size now. ap codeIn (consumers.example-13 .always c size now);
       };
-      fourteen = record { is = consumers.example-14; answers = ap (map toldOf) (consumers.example-14 .answered) };
+      fourteen = record { is = consumers.example-14; answers = ap (map codeIn) (consumers.example-14 .answered) };
     }

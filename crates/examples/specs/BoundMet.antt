@@ -12,7 +12,7 @@ use Rattle.attempt.specs.Snapshot.{encodeAttempts1, decodeAttempts}
 use Rattle.lease.specs.Counts.{allAttemptCounts}
 use Rattle.journal.specs.Area.{blockAt, writeAt}
 use Rattle.journal.specs.Blocks.{headerBlock, bodyBlock}
-use Rattle.journal.specs.Sound.{isKind, formed, soundHeader, soundBody}
+use Rattle.journal.specs.Sound.{isKind, wellFormed, soundHeader, soundBody}
 use Rattle.journal.specs.Walks.{groupAt, walkOver, walkFrom, payload}
 use Rattle.consumer.specs.State.{badArea}
 use Rattle.consumer.specs.Calls as consumer
@@ -21,9 +21,9 @@ use Rattle.starts.specs.Restart as restarts
 use Rattle.starts.specs.Restart.{fresh, fromWalk}
 use Rattle.examples.specs.Consumer.{configuration}
 use Rattle.machine.specs.Calls.{claim, ask, begin, step, restart}
-use Rattle.machine.specs.Door.{door}
+use Rattle.machine.specs.Transitions.{transition}
 use Rattle.power_cut.specs.Cut.{torn}
-use Rattle.crash_safety.specs.Runs.{Item, call, cut, next, run, begins}
+use Rattle.crash_safety.specs.Runs.{Item, call, cut, next, run, freshWorld}
 use Rattle.crash_safety.specs.Demand3.{delivers, handOuts, restartsIn}
 
 -- a checkpoint; offset 0 is handed out twice; the power fails in the header of the next checkpoint; a restart, a checkpoint, and
@@ -37,7 +37,7 @@ items =
     ∷ call begin ∷ call step ∷ call step
     ∷ call (ask (claim 0 20)) ∷ call (ask (claim 0 30)) ∷ []
 
-pub bound-met : handOuts (delivers 0) (run configuration (begins (fresh configuration 9216) 9216) items)
+pub bound-met : handOuts (delivers 0) (run configuration (freshWorld (fresh configuration 9216) 9216) items)
     ≡ configuration .settings .policy .maxDeliver + restartsIn items * (configuration .settings .policy .flushRedeliveries + 1)
-unfolding handOuts restartsIn run next door consumer.claim checkpoint.begin checkpoint.step badArea restarts.restart fromWalk allAttemptCounts encodeCursor decodeCursor encodeAttempts1 decodeAttempts blockAt writeAt headerBlock bodyBlock isKind formed soundHeader soundBody groupAt walkOver walkFrom payload isSealed bits unbits polynomial crc xor
+unfolding handOuts restartsIn run next transition consumer.claim checkpoint.begin checkpoint.step badArea restarts.restart fromWalk allAttemptCounts encodeCursor decodeCursor encodeAttempts1 decodeAttempts blockAt writeAt headerBlock bodyBlock isKind wellFormed soundHeader soundBody groupAt walkOver walkFrom payload isSealed bits unbits polynomial crc xor
 bound-met = refl

@@ -17,9 +17,9 @@ use Rattle.delivery.specs.Policy.{policy, Destination, Deliver, DeadLetter}
 use Rattle.lease.specs.Counts.{allAttemptCounts}
 use Rattle.journal.specs.Area.{blockAt, writeAt}
 use Rattle.journal.specs.Blocks.{headerBlock, bodyBlock}
-use Rattle.journal.specs.Sound.{isKind, formed, soundHeader, soundBody}
+use Rattle.journal.specs.Sound.{isKind, wellFormed, soundHeader, soundBody}
 use Rattle.journal.specs.Walks.{groupAt, walkOver, walkFrom, payload}
-use Rattle.consumer.specs.State.{Configuration, State, seatAt, badArea}
+use Rattle.consumer.specs.State.{Configuration, State, nextGroupAt, badArea}
 use Rattle.consumer.specs.Calls.{HandOut, claim}
 use Rattle.checkpoint.specs.Checkpoint.{writes, begin, Left, going, finished, Lent, lent, step}
 use Rattle.starts.specs.Restart.{resumed, fresh, start, fromWalk, restart}
@@ -64,8 +64,8 @@ answers s a (checkpoints ∷ l) = onDone (begin s) (λ w. steps (writes s) (goin
 answers s a (claims now ∷ l) = claim s 0 now .outcome ∷ answers (claim s 0 now .state) a l
 answers s a (restarts ∷ l) = onDone (restart configuration a) (λ t. answers t a l)
 
-abbrev pub handedOut : ℕ → ℕ → Destination → Result HandOut
-handedOut generation deliveries destination =
+abbrev pub handsOut : ℕ → ℕ → Destination → Result HandOut
+handsOut generation deliveries destination =
     done (record { offset = 0; generation = generation; deliveries = deliveries; destination = destination })
 
 -- from a start on a zeroed area of 18 blocks
@@ -87,10 +87,10 @@ abbrev pub acts14 : List Act
 acts14 = checkpoints ∷ claims 0 ∷ claims 10 ∷ claims 20 ∷ checkpoints ∷ restarts ∷ checkpoints ∷ claims 30 ∷ []
 
 pub record Example14 : Type 0 where
-  pub answered : fromStart acts14 ≡ handedOut 0 1 Deliver ∷ handedOut 1 2 Deliver ∷ refused CheckpointDue ∷ handedOut 4098 3 DeadLetter ∷ []
+  pub answered : fromStart acts14 ≡ handsOut 0 1 Deliver ∷ handsOut 1 2 Deliver ∷ refused CheckpointDue ∷ handsOut 4098 3 DeadLetter ∷ []
 
 pub example-14 : Example14
-unfolding start claim begin step badArea restart fromWalk allAttemptCounts encodeCursor decodeCursor encodeAttempts1 decodeAttempts blockAt writeAt headerBlock bodyBlock isKind formed soundHeader soundBody groupAt walkOver walkFrom payload isSealed bits unbits polynomial crc xor
+unfolding start claim begin step badArea restart fromWalk allAttemptCounts encodeCursor decodeCursor encodeAttempts1 decodeAttempts blockAt writeAt headerBlock bodyBlock isKind wellFormed soundHeader soundBody groupAt walkOver walkFrom payload isSealed bits unbits polynomial crc xor
 example-14 = record { answered = refl }
 
 -- a foreign journal of one group, with a count of a settled offset, a zero and a count for MAX: a restart drops, drops and
@@ -99,6 +99,6 @@ abbrev foreign : List ℕ → List ℕ → List ℕ
 foreign b d = headerBlock 1 7 (length b) (length d) ++ bodyBlock 1 1 (b ++ d)
 
 pub foreign-counts : restart configuration (foreign (encodeCursor (cursor 5 [])) (encodeAttempts1 (entry 3 2 ∷ entry 6 0 ∷ entry 9 1 ∷ entry MAX 4 ∷ [])))
-    ≡ done (resumed configuration 1024 (cursor 5 []) (entry 9 1 ∷ entry MAX 4 ∷ []) 7 (seatAt 2 2))
-unfolding badArea restart fromWalk encodeCursor decodeCursor encodeAttempts1 decodeAttempts blockAt headerBlock bodyBlock isKind formed soundHeader soundBody groupAt walkOver walkFrom payload isSealed bits unbits polynomial crc xor
+    ≡ done (resumed configuration 1024 (cursor 5 []) (entry 9 1 ∷ entry MAX 4 ∷ []) 7 (nextGroupAt 2 2))
+unfolding badArea restart fromWalk encodeCursor decodeCursor encodeAttempts1 decodeAttempts blockAt headerBlock bodyBlock isKind wellFormed soundHeader soundBody groupAt walkOver walkFrom payload isSealed bits unbits polynomial crc xor
 foreign-counts = refl

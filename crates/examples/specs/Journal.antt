@@ -11,7 +11,7 @@ use Rattle.crc.specs.Crc32c.{bits, unbits, polynomial, crc}
 use Rattle.crc.specs.Seal.{isSealed}
 use Rattle.journal.specs.Area.{blockAt}
 use Rattle.journal.specs.Blocks.{headerBlock, bodyBlock}
-use Rattle.journal.specs.Sound.{isKind, formed, soundHeader, soundBody}
+use Rattle.journal.specs.Sound.{isKind, wellFormed, soundHeader, soundBody}
 use Rattle.journal.specs.Walks.{groupAt, stop, walkOver, walkFrom, walk, payload}
 
 abbrev pub bytes : List ℕ
@@ -38,7 +38,7 @@ unfolding bodyBlock crc bits unbits polynomial xor
 body-check = refl
 
 pub walked : walk area 2 1 0 ≡ stop (some 0) 2 2
-unfolding walkFrom walkOver groupAt soundHeader formed soundBody isKind isSealed blockAt headerBlock bodyBlock crc bits unbits polynomial xor
+unfolding walkFrom walkOver groupAt soundHeader wellFormed soundBody isKind isSealed blockAt headerBlock bodyBlock crc bits unbits polynomial xor
 walked = refl
 
 pub read : payload area 0 ≡ bytes

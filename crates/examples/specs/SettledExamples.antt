@@ -6,7 +6,7 @@ use mathlib.Core.Bool.{true}
 use mathlib.Core.List.{List, [], _∷_, map}
 use lib.ListN.{length}
 use Rattle.types.specs.Limits.{RANGES}
-use Rattle.types.specs.Refusal.{Told, told, Result, done, answered}
+use Rattle.types.specs.Refusal.{Code, code, Result, done, answered}
 use Rattle.types.specs.Table.{answer}
 use Rattle.cursor.specs.Ranges.{range}
 use Rattle.cursor.specs.Cursor.{cursor, resume, resumeWithAhead, ackBounded}
@@ -24,47 +24,47 @@ use Rattle.starts.specs.Restart.{fresh}
 use Rattle.examples.specs.Consumer.{claims, fromStart, acts14}
 use Rattle.examples.specs.Consumer as consumers
 
--- what a caller is told: a refusal's number and values, and 0 where nothing is refused
-abbrev pub toldOf : {A : Type 0} → Result A → Told
-toldOf r = answered (λ a. []) r
+-- the code of an answer: a refusal's number and values, and 0 where nothing is refused
+abbrev pub codeIn : {A : Type 0} → Result A → Code
+codeIn r = answered (λ a. []) r
 
 -- ## the examples with refusals
 pub record Three : Type 0 where
   pub is : cursors.Example3
-  pub sheds : toldOf (ackBounded (resume 0) 1 0 .outcome) ≡ told 29 []
+  pub sheds : codeIn (ackBounded (resume 0) 1 0 .outcome) ≡ code 29 []
 
 pub record Five : Type 0 where
   pub is : cursors.Example5
-  pub touching : toldOf (resumeWithAhead 5 (range 5 6 ∷ [])) ≡ told 11 (5 ∷ 5 ∷ [])
-  pub empty : toldOf (resumeWithAhead 5 (range 5 5 ∷ [])) ≡ told 10 (5 ∷ 5 ∷ [])
+  pub touching : codeIn (resumeWithAhead 5 (range 5 6 ∷ [])) ≡ code 11 (5 ∷ 5 ∷ [])
+  pub empty : codeIn (resumeWithAhead 5 (range 5 5 ∷ [])) ≡ code 10 (5 ∷ 5 ∷ [])
 
 pub record Seven : Type 0 where
   pub is : leases.Example7
-  pub at-109 : toldOf (claim leased 0 109 .outcome) ≡ told 23 []
+  pub at-109 : codeIn (claim leased 0 109 .outcome) ≡ code 23 []
 
 pub record Eight : Type 0 where
   pub is : leases.Example8
-  pub at-125 : toldOf (extend leased 0 0 125 .outcome) ≡ told 28 []
-  pub after-120 : toldOf (extend (extend leased 0 0 120 .state) 0 0 125 .outcome) ≡ told 28 []
+  pub at-125 : codeIn (extend leased 0 0 125 .outcome) ≡ code 28 []
+  pub after-120 : codeIn (extend (extend leased 0 0 120 .state) 0 0 125 .outcome) ≡ code 28 []
 
 pub record Eleven (rest : List ℕ) : Type 0 where
   pub is : cursors.Example11 rest
-  pub length-30 : length rest ≡ 29 → toldOf (decodeCursor (2 ∷ rest)) ≡ told 7 (30 ∷ [])
-  pub length-29 : length rest ≡ 28 → toldOf (decodeCursor (2 ∷ rest)) ≡ told 8 (2 ∷ [])
+  pub length-30 : length rest ≡ 29 → codeIn (decodeCursor (2 ∷ rest)) ≡ code 7 (30 ∷ [])
+  pub length-29 : length rest ≡ 28 → codeIn (decodeCursor (2 ∷ rest)) ≡ code 8 (2 ∷ [])
 
 pub record Twelve (a b c d e f g h i : ℕ) : Type 0 where
   pub is : attempts.Example12 a b c d e f g h i
-  pub version-2 : toldOf (decodeAttempts (2 ∷ a ∷ b ∷ c ∷ d ∷ e ∷ f ∷ g ∷ h ∷ i ∷ [])) ≡ told 14 (2 ∷ [])
-  pub version-1 : toldOf (decodeAttempts (1 ∷ a ∷ b ∷ c ∷ d ∷ e ∷ f ∷ g ∷ h ∷ i ∷ [])) ≡ told 15 (10 ∷ [])
+  pub version-2 : codeIn (decodeAttempts (2 ∷ a ∷ b ∷ c ∷ d ∷ e ∷ f ∷ g ∷ h ∷ i ∷ [])) ≡ code 14 (2 ∷ [])
+  pub version-1 : codeIn (decodeAttempts (1 ∷ a ∷ b ∷ c ∷ d ∷ e ∷ f ∷ g ∷ h ∷ i ∷ [])) ≡ code 15 (10 ∷ [])
 
 pub record Thirteen : Type 0 where
   pub is : consumers.Example13
-  pub started : map toldOf (fromStart (claims 0 ∷ [])) ≡ told 26 [] ∷ []
-  pub always : (c : Configuration) (size now : ℕ) → toldOf (consumer.claim (fresh c size) 0 now .outcome) ≡ told 26 []
+  pub started : map codeIn (fromStart (claims 0 ∷ [])) ≡ code 26 [] ∷ []
+  pub always : (c : Configuration) (size now : ℕ) → codeIn (consumer.claim (fresh c size) 0 now .outcome) ≡ code 26 []
 
 pub record Fourteen : Type 0 where
   pub is : consumers.Example14
-  pub answers : map toldOf (fromStart acts14) ≡ told 0 [] ∷ told 0 [] ∷ told 26 [] ∷ told 0 [] ∷ []
+  pub answers : map codeIn (fromStart acts14) ≡ code 0 [] ∷ code 0 [] ∷ code 26 [] ∷ code 0 [] ∷ []
 
 -- ## all of them
 pub record SettledExamples : Type 0 where

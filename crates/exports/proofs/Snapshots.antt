@@ -41,7 +41,7 @@ use Rattle.attempt.proofs.Codec.{decoded-refused, decoded-pairs}
 use Rattle.attempt.proofs.Snapshot.{decoded-few}
 use Rattle.exports.specs.Answers.{tells, refuses, one, Crossed, crossed, cross}
 use Rattle.exports.specs.Snapshots.{Columns, columns, startsOf, endsOf, keysOf, valuesOf, front, fill, encodeRanges, decodeRanges, decodePairs}
-use Rattle.exports.specs.declared.Told.{Told}
+use Rattle.exports.specs.declared.Code.{Code}
 use Rattle.exports.proofs.Columns.{entries-all, length-both}
 
 -- ## columns into lent ones
@@ -70,14 +70,14 @@ zipped-ends (x ∷ xs) [] h = absurd (omega arith)
 zipped-ends (x ∷ xs) (y ∷ ys) h = ap (λ (l : List ℕ). y ∷ l) (zipped-ends xs ys (suc-inj h))
 
 module _ (committed : ℕ) (ranges : List Range) (r : Resumed) (is : ResumedIs committed ranges r) (at : ℕ) (out : List ℕ) where
-  pub cursor-written : (w : Write) (after : List ℕ) (t : Told) → r .outcome ≡ resumes.Resumed
+  pub cursor-written : (w : Write) (after : List ℕ) (t : Code) → r .outcome ≡ resumes.Resumed
       → answer (outcomeOf w) after ≡ write at (encodeCursor (view (r .cursor))) out → t ≡ tells (answered one (outcomeOf w))
       → crossed t after ≡ cross one (encodeRanges committed ranges at out)
   cursor-written w after t q e u =
       let resumed : done (view (r .cursor)) ≡ resumeWithAhead committed ranges = rw q at (is .is) in
       rw (← resumed, ← e, u)
 
-  pub cursor-not-written : (error : AckCursorError) (t : Told) → r .outcome ≡ resumes.Refused error → t ≡ refuses (rangesError error)
+  pub cursor-not-written : (error : AckCursorError) (t : Code) → r .outcome ≡ resumes.Refused error → t ≡ refuses (rangesError error)
       → crossed t out ≡ cross one (encodeRanges committed ranges at out)
   cursor-not-written error t q u =
       let resumed : refused (rangesError error) ≡ resumeWithAhead committed ranges = rw q at (is .is) in
@@ -133,7 +133,7 @@ module _ (b : List ℕ) (r : cursor-decoded.Decoded) (is : cursors.DecodedIs b r
           rw (← said decodes.Restored q, short-right _ (columns (startsOf (view c .ahead)) (endsOf (view c .ahead))) (columns starts ends) (omega (arith, size-starts)) (omega (arith, size-ends)))
       go (decodes.Refused error) q = absurd (omega (arith, none-left error q))
 
-  pub cursor-listed : c .runs ≤ length starts → c .runs ≤ length ends → (s e : List ℕ) (t : Told)
+  pub cursor-listed : c .runs ≤ length starts → c .runs ≤ length ends → (s e : List ℕ) (t : Code)
       → s ≡ front (take (c .runs) (c .starts)) starts → e ≡ front (take (c .runs) (c .ends)) ends
       → t ≡ tells (answered (λ v. v) (unless (decodeFault (r .outcome)) (done (c .committed ∷ c .runs ∷ []))))
       → crossed t (columns s e) ≡ right
@@ -150,7 +150,7 @@ module _ (b : List ℕ) (r : cursor-decoded.Decoded) (is : cursors.DecodedIs b r
 -- ## pairs
 module _ (ks vs : List ℕ) (pairs : List Pair) (n m at : ℕ) (out : List ℕ) where
   pub pairs-written : n ≡ min (length ks) (length vs) → m ≡ min n 128 → entriesOf (take m pairs) ≡ take m (entries ks vs)
-      → (w : Encode) (after : List ℕ) (t : Told) → answer (encodeOf w) after ≡ encodeFirst n pairs at out → t ≡ tells (answered one (encodeOf w))
+      → (w : Encode) (after : List ℕ) (t : Code) → answer (encodeOf w) after ≡ encodeFirst n pairs at out → t ≡ tells (answered one (encodeOf w))
       → crossed t after ≡ cross one (encodeInto (entries ks vs) at out)
   pairs-written a h g w after t e u = rw u (ap (cross one) (e ∙ same))
     where
@@ -206,7 +206,7 @@ module _ (b : List ℕ) (r : Decoded) (is : DecodedIs b r) (offsets attempts : L
                 (omega (arith, decoded-pairs b r is l e .1, length-map l (λ e. e .value))),
           )
 
-  pub pairs-listed : r .count ≤ length offsets → r .count ≤ length attempts → (ks vs : List ℕ) (t : Told)
+  pub pairs-listed : r .count ≤ length offsets → r .count ≤ length attempts → (ks vs : List ℕ) (t : Code)
       → ks ≡ front (keysOf these) offsets → vs ≡ front (valuesOf these) attempts → t ≡ tells (answered one (decodeOf (r .outcome)))
       → crossed t (columns ks vs) ≡ listed
   pairs-listed h k ks vs t p q u = go (decodeAttempts b) refl

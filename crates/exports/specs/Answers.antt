@@ -5,14 +5,14 @@ use lib.ListN.{getD}
 use Rattle.types.specs.Refusal.{answered}
 use Rattle.types.specs.Refusal as refusal
 use Rattle.types.specs.Table.{Answer}
-use Rattle.exports.specs.declared.Told.{Told}
+use Rattle.exports.specs.declared.Code.{Code}
 
 -- the number and two places for the values, 0 where there are fewer
-abbrev pub tells : refusal.Told → Told
+abbrev pub tells : refusal.Code → Code
 tells t = record { number = t .number; first = getD (t .values) 0 0; second = getD (t .values) 1 0 }
 
 -- a refusal
-abbrev pub refuses : refusal.Refusal → Told
+abbrev pub refuses : refusal.Refusal → Code
 refuses r = tells (refusal.numbered r)
 
 -- a number as the one value of an outcome
@@ -21,11 +21,11 @@ one n = n ∷ []
 
 -- what a caller gets: the numbers, and lent memory
 pub record Crossed (S : Type 0) : Type 0 where
-  pub told : Told
+  pub code : Code
   pub lent : S
 
-abbrev pub crossed : {S : Type 0} → Told → S → Crossed S
-crossed t s = record { told = t; lent = s }
+abbrev pub crossed : {S : Type 0} → Code → S → Crossed S
+crossed t s = record { code = t; lent = s }
 
 -- an answer, given the values of its outcomes
 abbrev pub cross : {A S : Type 0} → (A → List ℕ) → Answer A S → Crossed S

@@ -33,16 +33,16 @@ use types::numbers::shorter;
 
 // 01's number of an answer, 0 where nothing is refused, and its values, 0 where there are fewer than two.
 #[repr(C)]
-pub struct Told {
+pub struct Code {
     pub number: u64,
     pub first: u64,
     pub second: u64,
 }
 
-fn numbered(number: u64, first: u64, second: u64) -> Told
+fn numbered(number: u64, first: u64, second: u64) -> Code
     ensures { λ r. ⌜ r ≡ record { number = number; first = first; second = second } ⌝ }
 {
-    Told {
+    Code {
         number,
         first,
         second,
@@ -50,7 +50,7 @@ fn numbered(number: u64, first: u64, second: u64) -> Told
 }
 
 // The refusals of ranges.
-fn ranges_told(error: AckCursorError) -> Told
+fn ranges_code(error: AckCursorError) -> Code
     ensures { λ r. ⌜ r ≡ refuses (rangesError error) ⌝ }
 {
     match error {
@@ -63,7 +63,7 @@ fn ranges_told(error: AckCursorError) -> Told
 }
 
 // The refusals of a cursor snapshot.
-fn snapshot_told(error: SnapshotError) -> Told
+fn snapshot_code(error: SnapshotError) -> Code
     ensures { λ r. ⌜ r ≡ refuses (snapshotError error) ⌝ }
 {
     match error {
@@ -71,22 +71,22 @@ fn snapshot_told(error: SnapshotError) -> Told
         SnapshotError::BadLength { len } => numbered(7, len as u64, 0),
         SnapshotError::UnsupportedVersion(version) => numbered(8, version as u64, 0),
         SnapshotError::BadCrc => numbered(9, 0, 0),
-        SnapshotError::Ranges(error) => ranges_told(error),
+        SnapshotError::Ranges(error) => ranges_code(error),
     }
 }
 
 // What a decoded cursor answers: its committed offset and the number of its ranges.
-fn cursor_told(outcome: cursor::Decode, committed: u64, runs: usize) -> Told
+fn cursor_code(outcome: cursor::Decode, committed: u64, runs: usize) -> Code
     ensures { λ r. ⌜ r ≡ tells (answered (λ v. v) (unless (decodeFault outcome) (done (committed ∷ runs ∷ [])))) ⌝ }
 {
     match outcome {
         cursor::Decode::Restored => numbered(0, committed, runs as u64),
-        cursor::Decode::Refused(error) => snapshot_told(error),
+        cursor::Decode::Refused(error) => snapshot_code(error),
     }
 }
 
 // What writing a cursor snapshot answers: the position behind it.
-fn write_told(outcome: Write) -> Told
+fn write_code(outcome: Write) -> Code
     ensures { λ r. ⌜ r ≡ tells (answered one (outcomeOf outcome)) ⌝ }
 {
     match outcome {
@@ -96,7 +96,7 @@ fn write_told(outcome: Write) -> Told
 }
 
 // What writing an attempt snapshot answers: the position behind it.
-fn encode_told(outcome: Encode) -> Told
+fn encode_code(outcome: Encode) -> Code
     ensures { λ r. ⌜ r ≡ tells (answered one (encodeOf outcome)) ⌝ }
 {
     match outcome {
@@ -107,7 +107,7 @@ fn encode_told(outcome: Encode) -> Told
 }
 
 // The refusals of an attempt snapshot.
-fn attempt_told(error: AttemptSnapshotError) -> Told
+fn attempt_told(error: AttemptSnapshotError) -> Code
     ensures { λ r. ⌜ r ≡ refuses (attemptError error) ⌝ }
 {
     match error {
@@ -129,7 +129,7 @@ fn attempt_told(error: AttemptSnapshotError) -> Told
 }
 
 // What decoded attempt counts answer: how many pairs there are.
-fn pairs_told(outcome: attempt::Decode) -> Told
+fn pairs_code(outcome: attempt::Decode) -> Code
     ensures { λ r. ⌜ r ≡ tells (answered one (decodeOf outcome)) ⌝ }
 {
     match outcome {
@@ -212,14 +212,14 @@ pub extern "C" fn ninotskev_encode_cursor<'a>(
     ends: &'a [u64],
     out: &mut [u8],
     at: usize,
-) -> Told
+) -> Code
     ensures { λ r. ⌜ crossed r (now (out .exit)) ≡ cross one (encodeRanges committed (zipped range (now (starts .entry)) (now (ends .entry))) at (now (out .entry))) ⌝ }
 {
     let resumed = AckCursor::resume_with_columns(Offset(committed), starts, ends);
     let outcome = resumed.outcome;
     match outcome {
-        Resume::Resumed => write_told(resumed.cursor.encode_snapshot(out, at)),
-        Resume::Refused(error) => ranges_told(error),
+        Resume::Resumed => write_code(resumed.cursor.encode_snapshot(out, at)),
+        Resume::Refused(error) => ranges_code(error),
     }
 }
 
@@ -230,7 +230,7 @@ pub extern "C" fn ninotskev_decode_cursor(
     input: &[u8],
     starts: &mut [u64],
     ends: &mut [u64],
-) -> Told
+) -> Code
     ensures { λ r. ⌜ crossed r (columns (now (starts .exit)) (now (ends .exit))) ≡ cross (λ v. v) (decodeRanges (now (input .entry)) (columns (now (starts .entry)) (now (ends .entry)))) ⌝ }
 {
     let decoded = AckCursor::decode_snapshot(input);
@@ -245,7 +245,7 @@ pub extern "C" fn ninotskev_decode_cursor(
     list_column(&cursor.starts, n, starts);
     list_column(&cursor.ends, n, ends);
     let outcome = decoded.outcome;
-    cursor_told(outcome, cursor.committed, n)
+    cursor_code(outcome, cursor.committed, n)
 }
 
 // Writes the snapshot of attempt counts, a pair for each place that both columns have, from a position on. Answers the
@@ -256,12 +256,12 @@ pub extern "C" fn ninotskev_encode_attempts<'a>(
     attempts: &'a [u32],
     out: &mut [u8],
     at: usize,
-) -> Told
+) -> Code
     ensures { λ r. ⌜ crossed r (now (out .exit)) ≡ cross one (encodeInto (entries (now (offsets .entry)) (now (attempts .entry))) at (now (out .entry))) ⌝ }
 {
     let n = shorter(offsets.len(), attempts.len());
     let pairs = gathered(offsets, attempts, shorter(n, PAIRS));
-    encode_told(attempt::encode_pairs(pairs, n, out, at))
+    encode_code(attempt::encode_pairs(pairs, n, out, at))
 }
 
 // Reads the snapshot of attempt counts, and puts its offsets and its counts at the front of two lent columns. Answers the
@@ -271,7 +271,7 @@ pub extern "C" fn ninotskev_decode_attempts(
     input: &[u8],
     offsets: &mut [u64],
     attempts: &mut [u32],
-) -> Told
+) -> Code
     ensures { λ r. ⌜ crossed r (columns (now (offsets .exit)) (now (attempts .exit))) ≡ cross (λ v. v) (decodePairs (now (input .entry)) (columns (now (offsets .entry)) (now (attempts .entry)))) ⌝ }
 {
     let decoded = attempt::decode_pairs(input);
@@ -286,5 +286,5 @@ pub extern "C" fn ninotskev_decode_attempts(
     list_offsets(pairs, n, offsets);
     list_attempts(pairs, n, attempts);
     let outcome = decoded.outcome;
-    pairs_told(outcome)
+    pairs_code(outcome)
 }

@@ -13,7 +13,7 @@ use Rattle.journal.specs.Area.{blockAt}
 use Rattle.journal.specs.Blocks.{bodyCount, payloadLength}
 use Rattle.journal.specs.Sound.{soundHeader}
 use Rattle.journal.specs.Walks.{Stop, stop, walkFrom, walk}
-use Rattle.journal.proofs.Sound.{formed-counted, says-header}
+use Rattle.journal.proofs.Sound.{well-formed-counted, says-header}
 use Rattle.journal.proofs.Walks.{Group, walk-ind, walk-ended}
 use Rattle.inspect.specs.Places.{placeAt}
 use Rattle.inspect.specs.declared.places.Place.the-variants as places
@@ -47,7 +47,7 @@ module _ (a : List ℕ) (hi : ℕ) where
   group-places k i e l p g =
       let b = blockAt a i in
       let f = g .header .form in
-      let c = formed-counted b f in
+      let c = well-formed-counted b f in
       let q : i + 1 ≡ suc i = omega arith in
       let s : placeAt a hi (i + 1) ≡ places.Body k 1 (bodyCount b) (payloadLength b) =
       rw (q, p, says-header hi k i b (g .header), f .count) in

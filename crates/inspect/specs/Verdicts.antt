@@ -72,11 +72,11 @@ openingTable kind k b =
     ∷ not (eqb (groupOf b) k) ⇒ Number
     ∷ []
 
--- those of a header behind these
+-- those of a header after these
 abbrev pub headerRestTable : ℕ → ℕ → List ℕ → List Row
 headerRestTable hi i b = not (zerosAt 2 2 b) ⇒ Zeros ∷ not (zerosAt 488 20 b) ⇒ Zeros ∷ sizesTable hi i b
 
--- those of body j behind these, with this many bytes used
+-- those of body j after these, with this many bytes used
 abbrev pub bodyRestTable : ℕ → ℕ → List ℕ → List Row
 bodyRestTable j used b =
     not (eqb (indexOf b) j) ⇒ Index

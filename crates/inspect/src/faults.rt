@@ -87,7 +87,7 @@ fn opening_verdict(block: &[u8], kind: u8, number: u64) -> Verdict
     Verdict::Sound
 }
 
-// The tests of a header behind those: zeros, then its sizes.
+// The tests of a header after those: zeros, then its sizes.
 fn header_rest(block: &[u8], hi: usize, at: usize) -> Verdict
     requires { ⌜ length (now block) ≡ 512 ⌝ }
     ensures { λ r. ⌜ r ≡ headerRest hi at (now (block .entry)) ⌝ }
@@ -112,7 +112,7 @@ pub fn header_verdict(block: &[u8], hi: usize, number: u64, at: usize) -> Verdic
     }
 }
 
-// The tests of a body behind the first ones: its index, the bytes used, and zeros behind them.
+// The tests of a body after the first ones: its index, the bytes used, and zeros behind them.
 fn body_rest(block: &[u8], index: usize, used: usize) -> Verdict
     requires { ⌜ length (now block) ≡ 512 ⌝ }
     ensures { λ r. ⌜ r ≡ bodyRest index used (now (block .entry)) ⌝ }

@@ -1,9 +1,9 @@
 // Refusals for people: the name that document 01 gives a number, and the values.
-use answers::Told;
+use answers::Code;
 use text::templates::fill;
 
 // The line's end behind a refusal's number. There is a row for each number, from 0 on, which is no refusal.
-pub fn refused(out: &mut [u8], at: usize, told: Told) -> usize {
+pub fn refused(out: &mut [u8], at: usize, code: Code) -> usize {
     fill(
         out,
         at,
@@ -39,7 +39,7 @@ pub fn refused(out: &mut [u8], at: usize, told: Told) -> usize {
         Shed\n|\
         Held\n|\
         JournalFull\n",
-        told.number as usize,
-        [told.first, told.second, 0, 0],
+        code.number as usize,
+        [code.first, code.second, 0, 0],
     )
 }

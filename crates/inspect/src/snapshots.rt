@@ -2,7 +2,7 @@
 use crate::refusals::refused;
 use crate::said::Said;
 use crate::said::says;
-use answers::Told;
+use answers::Code;
 use attempt::Decoded;
 use cursor::AckCursor;
 use cursor::Decode;
@@ -27,14 +27,14 @@ fn heading(
     at: usize,
     templates: &[u8],
     len: u64,
-    told: Told,
+    code: Code,
     first: u64,
     second: u64,
 ) -> usize {
-    let said = heading_said(len, told.number, first, second);
+    let said = heading_said(len, code.number, first, second);
     let numbers = said.numbers;
     let next = fill(out, at, templates, said.template, numbers);
-    refused(out, next, told)
+    refused(out, next, code)
 }
 
 // A line for each range ahead of committed.
@@ -51,8 +51,8 @@ fn ranges(out: &mut [u8], at: usize, cursor: AckCursor) -> usize {
 }
 
 // No refusal.
-fn read() -> Told {
-    Told {
+fn read() -> Code {
+    Code {
         number: 0,
         count: 0,
         first: 0,
@@ -60,14 +60,14 @@ fn read() -> Told {
     }
 }
 
-fn cursor_told(outcome: Decode) -> Told {
+fn cursor_code(outcome: Decode) -> Code {
     match outcome {
         Decode::Restored => read(),
         Decode::Refused(error) => answers::of_cursor(error),
     }
 }
 
-fn pairs_told(outcome: attempt::Decode) -> Told {
+fn pairs_code(outcome: attempt::Decode) -> Code {
     match outcome {
         attempt::Decode::Pairs(_) => read(),
         attempt::Decode::Refused(error) => answers::of_attempts(error),
@@ -84,7 +84,7 @@ pub fn cursor(out: &mut [u8], at: usize, bytes: &[u8]) -> usize {
         b"cursor snapshot of # bytes\ncommitted #\nranges ahead #\n|\
         cursor snapshot of # bytes\nrefused: # ",
         bytes.len() as u64,
-        cursor_told(outcome),
+        cursor_code(outcome),
         decoded.cursor.committed,
         decoded.cursor.runs as u64,
     );
@@ -115,7 +115,7 @@ pub fn attempts(out: &mut [u8], at: usize, bytes: &[u8]) -> usize {
         b"attempt snapshot of # bytes\npairs #\n|\
         attempt snapshot of # bytes\nrefused: # ",
         bytes.len() as u64,
-        pairs_told(outcome),
+        pairs_code(outcome),
         decoded.count as u64,
         0,
     );

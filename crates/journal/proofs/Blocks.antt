@@ -28,7 +28,7 @@ use Rattle.journal.specs.Blocks.{
 }
 use Rattle.journal.specs.Sound.{zerosAt}
 use Rattle.journal.specs.declared.Header.{Header}
-use Rattle.journal.specs.Answers.{headerIn, headerOf}
+use Rattle.journal.specs.Answers.{headerIn, headerBytes}
 
 module _ (k ceiling lc la : ℕ) where
   pub header-length : length (headerBlock k ceiling lc la) ≡ 512
@@ -75,7 +75,7 @@ module _ (k ceiling lc la : ℕ) where
 -- a header written says what it was given
 pub header-back : (h : Header)
     → h .number < 256 ^ 4 → h .ceiling < 256 ^ 8 → h .«cursor_len» < 256 ^ 2 → h .«attempt_len» < 256 ^ 2
-    → headerIn (headerOf h) ≡ h
+    → headerIn (headerBytes h) ≡ h
 header-back h k c l a =
     rw (
       header-number (h .number) (h .ceiling) (h .«cursor_len») (h .«attempt_len») k,

@@ -26,7 +26,7 @@ use Rattle.journal.specs.Blocks.{
   indexOf,
   usedOf,
 }
-use Rattle.journal.specs.Sound.{zerosAt, isKind, heads, formed, soundHeader, soundBody}
+use Rattle.journal.specs.Sound.{zerosAt, isKind, hasHeaderKind, wellFormed, soundHeader, soundBody}
 use Rattle.journal.proofs.Blocks.{
   header-length,
   header-kind,
@@ -78,8 +78,8 @@ unfolding isKind
 unchecked kind b e = rw (e, and-false (eqb (length b) 512 && eqb (kindOf b) kind))
 
 module _ (hi k i : ℕ) (b : List ℕ) where
-  pub headless : heads b ≡ false → soundHeader hi k i b ≡ false
-  unfolding soundHeader formed
+  pub headless : hasHeaderKind b ≡ false → soundHeader hi k i b ≡ false
+  unfolding soundHeader wellFormed
   headless e = rw e
 
   -- a block whose check fails, one of kind 2 and one of zeros
@@ -128,23 +128,23 @@ pub record Lengths (lc la : ℕ) : Type 0 where
   pub attempt-low : 9 ≤ la
   pub attempt-high : la ≤ 1545
 
-pub record Formed (b : List ℕ) : Type 0 where
-  pub head : heads b ≡ true
+pub record WellFormed (b : List ℕ) : Type 0 where
+  pub head : hasHeaderKind b ≡ true
   pub zeros : zerosAt 2 2 b ≡ true
   pub rest : zerosAt 488 20 b ≡ true
   pub lengths : Lengths (cursorLength b) (attemptLength b)
   pub count : bodyCount b ≡ bodiesFor (payloadLength b)
 
-pub formed-says : (b : List ℕ) → formed b ≡ true → Formed b
-unfolding formed
-formed-says b e =
+pub well-formed-says : (b : List ℕ) → wellFormed b ≡ true → WellFormed b
+unfolding wellFormed
+well-formed-says b e =
     let n = both _ (eqb (bodyCount b) (bodiesFor (payloadLength b))) e in
     let a₂ = both _ (leb (attemptLength b) 1545) (n .0) in
     let a₁ = both _ (leb 9 (attemptLength b)) (a₂ .0) in
     let c₂ = both _ (leb (cursorLength b) 2061) (a₁ .0) in
     let c₁ = both _ (leb 13 (cursorLength b)) (c₂ .0) in
     let z₂ = both _ (zerosAt 488 20 b) (c₁ .0) in
-    let z₁ = both (heads b) (zerosAt 2 2 b) (z₂ .0) in
+    let z₁ = both (hasHeaderKind b) (zerosAt 2 2 b) (z₂ .0) in
     record {
       head = z₁ .0;
       zeros = z₁ .1;
@@ -159,17 +159,17 @@ formed-says b e =
     }
 
 -- so it counts 1 to 8 bodies
-pub formed-counted : (b : List ℕ) → Formed b → Counted (bodyCount b) (payloadLength b)
-formed-counted b f =
+pub well-formed-counted : (b : List ℕ) → WellFormed b → Counted (bodyCount b) (payloadLength b)
+well-formed-counted b f =
     record {
       count = f .count;
       some-body = omega (arith, f .count, f .lengths);
       most = omega (arith, f .count, f .lengths);
     }
 
-pub says-formed : (b : List ℕ) → Formed b → formed b ≡ true
-unfolding formed
-says-formed b f =
+pub says-well-formed : (b : List ℕ) → WellFormed b → wellFormed b ≡ true
+unfolding wellFormed
+says-well-formed b f =
     rw (
       f .head,
       f .zeros,
@@ -181,8 +181,8 @@ says-formed b f =
       eq-eqb (bodyCount b) (bodiesFor (payloadLength b)) (f .count),
     )
 
-pub no-form : (b : List ℕ) → (Formed b → ⊥) → false ≡ formed b
-no-form b n = refuted (formed b) (λ e. n (formed-says b e))
+pub no-form : (b : List ℕ) → (WellFormed b → ⊥) → false ≡ wellFormed b
+no-form b n = refuted (wellFormed b) (λ e. n (well-formed-says b e))
 
 -- the body count by the lengths that were read
 pub count-read : (b : List ℕ) (n lc la : ℕ) → n ≡ bodiesFor (lc + la) → lc ≡ cursorLength b → la ≡ attemptLength b
@@ -190,7 +190,7 @@ pub count-read : (b : List ℕ) (n lc la : ℕ) → n ≡ bodiesFor (lc + la) �
 count-read b n lc la e c a = rw (← c, ← a) e
 
 pub record Header (hi k i : ℕ) (b : List ℕ) : Type 0 where
-  pub form : Formed b
+  pub form : WellFormed b
   pub number : groupOf b ≡ k
   pub fits : i + 1 + bodyCount b ≤ hi
 
@@ -198,10 +198,10 @@ module _ (hi k i : ℕ) (b : List ℕ) where
   pub header-says : soundHeader hi k i b ≡ true → Header hi k i b
   unfolding soundHeader
   header-says e =
-      let f = both (formed b && eqb (groupOf b) k) (leb (i + 1 + bodyCount b) hi) e in
-      let n = both (formed b) (eqb (groupOf b) k) (f .0) in
+      let f = both (wellFormed b && eqb (groupOf b) k) (leb (i + 1 + bodyCount b) hi) e in
+      let n = both (wellFormed b) (eqb (groupOf b) k) (f .0) in
       record {
-        form = formed-says b (n .0);
+        form = well-formed-says b (n .0);
         number = eqb-true (groupOf b) k (n .1);
         fits = leb-true (i + 1 + bodyCount b) hi (f .1);
       }
@@ -209,7 +209,7 @@ module _ (hi k i : ℕ) (b : List ℕ) where
   pub says-header : Header hi k i b → soundHeader hi k i b ≡ true
   unfolding soundHeader
   says-header h =
-      rw (says-formed b (h .form), eq-eqb (groupOf b) k (h .number)) (le-leb (i + 1 + bodyCount b) hi (h .fits))
+      rw (says-well-formed b (h .form), eq-eqb (groupOf b) k (h .number)) (le-leb (i + 1 + bodyCount b) hi (h .fits))
 
   pub no-header : (Header hi k i b → ⊥) → false ≡ soundHeader hi k i b
   no-header n = refuted (soundHeader hi k i b) (λ e. n (header-says e))
@@ -271,8 +271,8 @@ module _ (k j used : ℕ) (b : List ℕ) where
 
 -- ## What is written is sound
 module _ (k ceiling lc la : ℕ) where
-  pub header-heads : heads (headerBlock k ceiling lc la) ≡ true
-  header-heads =
+  pub header-has-kind : hasHeaderKind (headerBlock k ceiling lc la) ≡ true
+  header-has-kind =
       says-kind 1 (headerBlock k ceiling lc la) (record {
         whole = header-length k ceiling lc la;
         kind-is = header-kind k ceiling lc la;
@@ -280,12 +280,12 @@ module _ (k ceiling lc la : ℕ) where
       })
 
   module _ (allowed : Lengths lc la) where
-    pub header-formed : formed (headerBlock k ceiling lc la) ≡ true
-    header-formed =
+    pub header-well-formed : wellFormed (headerBlock k ceiling lc la) ≡ true
+    header-well-formed =
         let c : cursorLength (headerBlock k ceiling lc la) ≡ lc = header-cursor k ceiling lc la (omega arith) in
         let a : attemptLength (headerBlock k ceiling lc la) ≡ la = header-attempt k ceiling lc la (omega arith) in
-        says-formed (headerBlock k ceiling lc la) (record {
-          head = header-heads;
+        says-well-formed (headerBlock k ceiling lc la) (record {
+          head = header-has-kind;
           zeros = header-zeros k ceiling lc la;
           rest = header-rest k ceiling lc la;
           lengths = rw (c, a) allowed;
@@ -296,14 +296,14 @@ module _ (k ceiling lc la : ℕ) where
         → soundHeader hi k i (headerBlock k ceiling lc la) ≡ true
     header-sound hi i n h =
         says-header hi k i (headerBlock k ceiling lc la) (record {
-          form = formed-says (headerBlock k ceiling lc la) header-formed;
+          form = well-formed-says (headerBlock k ceiling lc la) header-well-formed;
           number = header-number k ceiling lc la n;
           fits = omega (arith, header-count k ceiling lc la (omega arith));
         })
 
 module _ (k j : ℕ) (chunk : List ℕ) (few : length chunk ≤ 500) where
-  pub body-heads : heads (bodyBlock k j chunk) ≡ false
-  body-heads = other-kind 1 (bodyBlock k j chunk) (λ q. omega (arith, body-kind k j chunk few))
+  pub body-other-kind : hasHeaderKind (bodyBlock k j chunk) ≡ false
+  body-other-kind = other-kind 1 (bodyBlock k j chunk) (λ q. omega (arith, body-kind k j chunk few))
 
   pub body-sound : k < 256 ^ 4 → j < 256 → soundBody k j (length chunk) (bodyBlock k j chunk) ≡ true
   body-sound n m =

@@ -32,7 +32,7 @@ use Rattle.journal.specs.Walks.{
 }
 use Rattle.journal.specs.Answers.{walkIn}
 use Rattle.journal.proofs.Area.{partAt, part-is}
-use Rattle.journal.proofs.Sound.{Header, header-says, formed-counted}
+use Rattle.journal.proofs.Sound.{Header, header-says, well-formed-counted}
 use Rattle.journal.proofs.Walks.{says-nothing, says-bodies, group-says, past-end, walk-turn}
 
 -- ## The bodies of a group
@@ -49,7 +49,7 @@ module _ (a : List ℕ) (k i n t : ℕ) where
       record { first = omega arith; most = omega arith; rest = rw e }
 
   module _ (j : ℕ) (s : Scanned j) where
-    -- what the test of body j told
+    -- what the test of body j found
     module _ (used : ℕ) (u : Bool) (h : j ≤ n)
         (is : used ≡ usedIn j n t)
         (test : u ≡ soundBody k j used (partAt a (i + j))) where
@@ -93,7 +93,7 @@ module _ (a : List ℕ) (hi k i : ℕ) where
       -- the bodies that the header counts lie in the area
       pub turn-counted : 512 * hi ≤ length a
           → Counted (bodyCount part) (lc + la) × (512 * (i + 1 + bodyCount part) ≤ length a)
-      turn-counted h = (rw (c, t) (formed-counted part (sound .form)), omega (arith, sound .fits))
+      turn-counted h = (rw (c, t) (well-formed-counted part (sound .form)), omega (arith, sound .fits))
 
       pub turn-bodies : (f : Found)
           → f ≡ orUnsound (firstUnsound a k i (bodyCount part) (lc + la) (bodyCount part) 1) (i + suc (bodyCount part))

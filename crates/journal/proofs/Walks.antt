@@ -14,7 +14,7 @@ use Rattle.types.proofs.Cases.{split}
 use Rattle.raw.specs.Bytes.{allZero}
 use Rattle.journal.specs.Area.{blockAt, writeAt, Same}
 use Rattle.journal.specs.Blocks.{usedIn, bodyCount, payloadLength}
-use Rattle.journal.specs.Sound.{heads, soundHeader, soundBody}
+use Rattle.journal.specs.Sound.{hasHeaderKind, soundHeader, soundBody}
 use Rattle.journal.specs.Walks.{
   firstUnsound,
   Found,
@@ -348,12 +348,12 @@ module _ (a : List ℕ) (hi lo k₀ : ℕ) (l : Option ℕ) (k e i : ℕ) (b : L
       ])
 
   -- so a body, a block whose check fails and one of zeros leave it as it was
-  pub walk-write-headless : heads b ≡ false → walk (writeAt a i b) hi k₀ lo ≡ stop l k e
+  pub walk-write-headless : hasHeaderKind b ≡ false → walk (writeAt a i b) hi k₀ lo ≡ stop l k e
   walk-write-headless n = walk-write (λ q. headless hi k e b n)
 
 -- one that is no header makes no block a header, wherever it is written
-pub write-headless : (a : List ℕ) (i : ℕ) (b : List ℕ) → 512 * i + 512 ≤ length a → length b ≡ 512 → heads b ≡ false
-    → (j : ℕ) → heads (blockAt a j) ≡ false → heads (blockAt (writeAt a i b) j) ≡ false
+pub write-headless : (a : List ℕ) (i : ℕ) (b : List ℕ) → 512 * i + 512 ≤ length a → length b ≡ 512 → hasHeaderKind b ≡ false
+    → (j : ℕ) → hasHeaderKind (blockAt a j) ≡ false → hasHeaderKind (blockAt (writeAt a i b) j) ≡ false
 write-headless a i b fits whole n j h =
     elim (ℕ-discrete j i) [
       | yes q ↦ rw (q, write-same a i b fits whole) n

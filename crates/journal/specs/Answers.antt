@@ -33,8 +33,8 @@ use Rattle.journal.specs.declared.Header.{Header}
 use Rattle.journal.specs.declared.Payload.{Payload}
 use Rattle.journal.specs.declared.Payload.the-variants as read
 use Rattle.journal.specs.declared.Payload.the-variants.{Read, OutTooShort}
-use Rattle.journal.specs.declared.Turn.{Turn}
-use Rattle.journal.specs.declared.Turn.the-variants.{Nothing, Unsound, Group}
+use Rattle.journal.specs.declared.GroupAt.{GroupAt}
+use Rattle.journal.specs.declared.GroupAt.the-variants.{Nothing, Unsound, Group}
 use Rattle.journal.specs.declared.Walked.{Walked}
 use Rattle.journal.specs.declared.Walked.the-variants as walked
 use Rattle.journal.specs.declared.Walked.the-variants.{Stopped, Damaged}
@@ -73,19 +73,19 @@ headerIn b =
       «attempt_len» = attemptLength b;
     }
 
-abbrev pub headerOf : Header → List ℕ
-headerOf h = headerBlock (h .number) (h .ceiling) (h .«cursor_len») (h .«attempt_len»)
+abbrev pub headerBytes : Header → List ℕ
+headerBytes h = headerBlock (h .number) (h .ceiling) (h .«cursor_len») (h .«attempt_len»)
 
 -- the block that is to be written, a body with its part of the payload
 abbrev pub blockOf : Block → List ℕ → List ℕ
-blockOf (block.Header h) payload = headerOf h
+blockOf (block.Header h) payload = headerBytes h
 blockOf (Body k j) payload = bodyBlock k j (chunkOf j payload)
 
 abbrev pub filledOf : Filled → Result (Unit {0})
 filledOf Written = done tt
 filledOf filled.BadArea = refused refusal.BadArea
 
-abbrev pub foundOf : Turn → Found
+abbrev pub foundOf : GroupAt → Found
 foundOf Nothing = nothing
 foundOf (Unsound j) = unsound j
 foundOf (Group e) = group e
@@ -99,7 +99,7 @@ walkedOf (Stopped last k i) = stop (lastOf last) k i
 walkedOf walked.BadArea = refused refusal.BadArea
 walkedOf (Damaged j) = damaged j
 
-abbrev pub payloadOf : Payload → Result ℕ
-payloadOf (Read n) = done n
-payloadOf read.BadArea = refused refusal.BadArea
-payloadOf OutTooShort = refused refusal.OutTooShort
+abbrev pub payloadRead : Payload → Result ℕ
+payloadRead (Read n) = done n
+payloadRead read.BadArea = refused refusal.BadArea
+payloadRead OutTooShort = refused refusal.OutTooShort

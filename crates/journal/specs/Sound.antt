@@ -28,19 +28,19 @@ unfoldable pub isKind : ℕ → List ℕ → Bool
 isKind kind b = eqb (length b) 512 && eqb (kindOf b) kind && isSealed b
 
 -- kind 1 and a right check: what could be taken for a header
-abbrev pub heads : List ℕ → Bool
-heads b = isKind 1 b
+abbrev pub hasHeaderKind : List ℕ → Bool
+hasHeaderKind b = isKind 1 b
 
 -- a header sound in all but its number and its fit
-unfoldable pub formed : List ℕ → Bool
-formed b =
-    heads b && zerosAt 2 2 b && zerosAt 488 20 b
+unfoldable pub wellFormed : List ℕ → Bool
+wellFormed b =
+    hasHeaderKind b && zerosAt 2 2 b && zerosAt 488 20 b
     && leb 13 (cursorLength b) && leb (cursorLength b) 2061 && leb 9 (attemptLength b) && leb (attemptLength b) 1545
     && eqb (bodyCount b) (bodiesFor (payloadLength b))
 
 -- a sound header at block i, where group k is expected and no group may pass block hi
 unfoldable pub soundHeader : ℕ → ℕ → ℕ → List ℕ → Bool
-soundHeader hi k i b = formed b && eqb (groupOf b) k && leb (i + 1 + bodyCount b) hi
+soundHeader hi k i b = wellFormed b && eqb (groupOf b) k && leb (i + 1 + bodyCount b) hi
 
 -- a sound body j of group k, with this many bytes used
 unfoldable pub soundBody : ℕ → ℕ → ℕ → List ℕ → Bool

@@ -9,9 +9,9 @@ ghost use Rattle.types.specs.Table.{answer};
 ghost use Rattle.crc.specs.Seal.{sealed};
 ghost use Rattle.journal.specs.Blocks.{bodiesFor, Counted, usedIn, chunkOf, opening, bodyBlock};
 ghost use Rattle.journal.specs.Area.{badLength, outside};
-ghost use Rattle.journal.specs.Sound.{isKind, heads, formed, soundHeader, soundBody};
+ghost use Rattle.journal.specs.Sound.{isKind, hasHeaderKind, wellFormed, soundHeader, soundBody};
 ghost use Rattle.journal.specs.Walks.{firstUnsound, orUnsound, groupAt, contents};
-ghost use Rattle.journal.specs.Answers.{fill, writeBlock, walkIn, readPayload, headerIn, headerOf, blockOf, filledOf, foundOf, walkedOf, payloadOf};
+ghost use Rattle.journal.specs.Answers.{fill, writeBlock, walkIn, readPayload, headerIn, headerBytes, blockOf, filledOf, foundOf, walkedOf, payloadRead};
 use types::numbers::shorter;
 
 // What the header of a group says: its number, the generation ceiling, and the lengths of the cursor snapshot and of
@@ -61,7 +61,7 @@ pub enum Payload {
 }
 
 // What one turn of the walk finds: no sound header, an unsound body's block, or the block behind a sound group.
-enum Turn {
+enum GroupAt {
     Nothing,
     Unsound(usize),
     Group(usize),
@@ -113,7 +113,7 @@ fn open_block(block: &mut [u8], kind: u8, second: u8, third: u16, number: u32)
 
 // Fills a block with the header of a group. A part of another length than 512 bytes is refused as 4.
 fn write_header(block: &mut [u8], header: Header) -> Filled
-    ensures { λ r. ⌜ answer (filledOf r) (now (block .exit)) ≡ fill (headerOf header) (now (block .entry)) ⌝ }
+    ensures { λ r. ⌜ answer (filledOf r) (now (block .exit)) ≡ fill (headerBytes header) (now (block .entry)) ⌝ }
 {
     if block.len() != 512 {
         return Filled::BadArea;
@@ -183,14 +183,14 @@ fn is_kind(block: &[u8], kind: u8) -> bool
 
 // Whether a block has kind 1 and a right check.
 pub fn is_head(block: &[u8]) -> bool
-    ensures { λ r. ⌜ r ≡ heads (now (block .entry)) ⌝ }
+    ensures { λ r. ⌜ r ≡ hasHeaderKind (now (block .entry)) ⌝ }
 {
     is_kind(block, 1)
 }
 
 // Whether a block is a header sound in all but its number and its fit.
-pub fn is_formed(block: &[u8]) -> bool
-    ensures { λ r. ⌜ r ≡ formed (now (block .entry)) ⌝ }
+pub fn is_well_formed(block: &[u8]) -> bool
+    ensures { λ r. ⌜ r ≡ wellFormed (now (block .entry)) ⌝ }
 {
     if !is_head(block) {
         return false;
@@ -226,7 +226,7 @@ pub fn is_formed(block: &[u8]) -> bool
 pub fn is_sound_header(block: &[u8], hi: usize, number: u64, at: usize) -> bool
     ensures { λ r. ⌜ r ≡ soundHeader hi number at (now (block .entry)) ⌝ }
 {
-    if !is_formed(block) {
+    if !is_well_formed(block) {
         return false;
     }
     let group = raw::read_u32(block, 4) as u64;
@@ -276,7 +276,7 @@ fn used_in(index: usize, bodies: usize, total: usize) -> u16
 }
 
 // The bodies of the group whose header stands at block `at`: the first unsound one, or the block behind them.
-fn bodies_at(area: &[u8], number: u64, at: usize, bodies: usize, total: usize) -> Turn
+fn bodies_at(area: &[u8], number: u64, at: usize, bodies: usize, total: usize) -> GroupAt
     requires { ⌜ Counted bodies total × (512 * (at + 1 + bodies) ≤ length (now area)) ⌝ }
     ensures { λ r. ⌜ foundOf r ≡ orUnsound (firstUnsound (now (area .entry)) number at bodies total bodies 1) (at + suc bodies) ⌝ }
 {
@@ -286,15 +286,15 @@ fn bodies_at(area: &[u8], number: u64, at: usize, bodies: usize, total: usize) -
         let to = from + 512;
         let used = used_in(j, bodies, total);
         if !is_sound_body(&area[from..to], number, j as u8, used) {
-            return Turn::Unsound(at + j);
+            return GroupAt::Unsound(at + j);
         }
         j += 1;
     }
-    Turn::Group(at + j)
+    GroupAt::Group(at + j)
 }
 
 // What stands at block `at`, where group `number` is expected: one turn of the walk.
-fn group_at(area: &[u8], hi: usize, number: u64, at: usize) -> Turn
+fn group_at(area: &[u8], hi: usize, number: u64, at: usize) -> GroupAt
     requires { ⌜ (at < hi) × (512 * hi ≤ length (now area)) ⌝ }
     ensures { λ r. ⌜ foundOf r ≡ groupAt (now (area .entry)) hi number at ⌝ }
 {
@@ -302,7 +302,7 @@ fn group_at(area: &[u8], hi: usize, number: u64, at: usize) -> Turn
     let to = from + 512;
     let block = &area[from..to];
     if !is_sound_header(block, hi, number, at) {
-        return Turn::Nothing;
+        return GroupAt::Nothing;
     }
     let bodies = block[1] as usize;
     let cursor_len = raw::read_u16(block, 16) as usize;
@@ -325,17 +325,17 @@ pub fn walk(area: &[u8], hi: usize, first_number: u64, first_block: usize) -> Wa
     let mut at = first_block;
     while at < end {
         match group_at(area, end, number, at) {
-            Turn::Nothing => {
+            GroupAt::Nothing => {
                 return Walked::Stopped {
                     last: last,
                     number: number,
                     block: at,
                 };
             }
-            Turn::Unsound(block) => {
+            GroupAt::Unsound(block) => {
                 return Walked::Damaged(block);
             }
-            Turn::Group(behind) => {
+            GroupAt::Group(behind) => {
                 last = LastGroup::At(at);
                 number += 1;
                 at = behind;
@@ -386,7 +386,7 @@ fn copy_payload(area: &[u8], first: usize, total: usize, out: &mut [u8])
 // has. It goes by the header's lengths and tests no check. A group that does not lie in the area is 4; a shorter `out`
 // is 20, and keeps what it held.
 pub fn read_payload(area: &[u8], at: usize, out: &mut [u8]) -> Payload
-    ensures { λ r. ⌜ answer (payloadOf r) (now (out .exit)) ≡ readPayload at (now (area .entry)) (now (out .entry)) ⌝ }
+    ensures { λ r. ⌜ answer (payloadRead r) (now (out .exit)) ≡ readPayload at (now (area .entry)) (now (out .entry)) ⌝ }
 {
     if outside(area.len(), at) {
         return Payload::BadArea;

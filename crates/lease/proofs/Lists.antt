@@ -14,7 +14,7 @@ use Rattle.types.proofs.Loops.{rest-more}
 use Rattle.types.proofs.Columns.{drop-used, drop-unused, entries-map}
 use Rattle.lease.specs.State.{Sound, view, leasesOf}
 use Rattle.lease.specs.Counts.{attemptCounts}
-use Rattle.lease.specs.Rest.{dueOffsets}
+use Rattle.lease.specs.Rest.{expiredOffsets}
 use Rattle.lease.specs.declared.Lease.{Lease}
 use Rattle.lease.specs.declared.LeaseTable.{LeaseTable}
 use Rattle.lease.proofs.Slots.{nil, Full}
@@ -28,13 +28,13 @@ pub counts-listed : (t : LeaseTable) (ks ns : List ℕ) (i : ℕ) → i ≡ t .l
 counts-listed t ks ns i e p q =
     rw (← e) (rw (p, q, ← map-take (λ (l : Lease). l .deliveries) i (t .leases)) (entries-map (λ (l : Lease). l .deliveries) (take i (t .offsets)) (take i (t .leases))))
 
--- ## the offsets of due leases
+-- ## the offsets of expired leases
 -- those before i are listed
 pub record Listing (t : LeaseTable) (now : ℕ) (offsets : List ℕ) (n i : ℕ) : Type 0 where
   pub inside : i ≤ t .len
   pub few : n ≤ i
   pub full-list : length offsets ≡ 128
-  pub is : take n offsets ++ dueOffsets now (drop i (leasesOf t)) ≡ dueOffsets now (leasesOf t)
+  pub is : take n offsets ++ expiredOffsets now (drop i (leasesOf t)) ≡ expiredOffsets now (leasesOf t)
   pub rest : drop n offsets ≡ drop n (replicate 128 0)
 
 module _ (t : LeaseTable) (full : Full t) (ok : Sound t) (now : ℕ) where
@@ -45,8 +45,8 @@ module _ (t : LeaseTable) (full : Full t) (ok : Sound t) (now : ℕ) where
   listing = record { inside = omega arith; few = omega arith; full-list = length-replicate {A = ℕ} 128 0; is = refl; rest = refl }
 
   module _ {offsets : List ℕ} {n i : ℕ} (inv : Listing t now offsets n i) (h : i < t .len) where
-    pub listing-due : getD (t .leases) i nil .deadline ≤ now → Listing t now (set offsets n (getD (t .offsets) i 0)) (n + 1) (i + 1)
-    listing-due d =
+    pub listing-expired : getD (t .leases) i nil .deadline ≤ now → Listing t now (set offsets n (getD (t .offsets) i 0)) (n + 1) (i + 1)
+    listing-expired d =
         let k : n < length offsets = omega (arith, inv .few, inv .full-list, ok .len) in
         record {
           inside = omega arith;
@@ -66,7 +66,7 @@ module _ (t : LeaseTable) (full : Full t) (ok : Sound t) (now : ℕ) where
           rest = inv .rest;
         }
 
-  pub due-listed : {offsets : List ℕ} {n i : ℕ} → Listing t now offsets n i → t .len ≤ i → take n offsets ≡ dueOffsets now (leasesOf t)
-  due-listed {offsets} {n} {i} inv h =
+  pub expired-listed : {offsets : List ℕ} {n i : ℕ} → Listing t now offsets n i → t .len ≤ i → take n offsets ≡ expiredOffsets now (leasesOf t)
+  expired-listed {offsets} {n} {i} inv h =
       let e : drop i (leasesOf t) ≡ [] = drop-unused nil (t .len) (t .offsets) (t .leases) (omega (arith, full .offsets, ok .len)) (omega (arith, full .leases, ok .len)) i h in
       sym (append-nil (take n offsets)) ∙ rw e at (inv .is)

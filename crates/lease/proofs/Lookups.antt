@@ -16,8 +16,8 @@ use Rattle.types.specs.Lists.{times}
 use Rattle.types.proofs.Cases.{split}
 use Rattle.types.proofs.Keyed.{lookup-under, lookup-put, lookup-delete, lookup-dropBelow, lookup-update, lookup-mapValues}
 use Rattle.lease.specs.State.{Table, withLeases}
-use Rattle.lease.specs.Operations.{lease, leaseOf, owns, deadlineFrom, nextCount, grant, claim, ack, dueAt, extended, extend, requeuedAs, requeue, nack}
-use Rattle.lease.specs.Rest.{releaseBelow, resealedAs, resealFromTo, overdue, deferRedelivery, shiftedBy, shiftDeadlines, dueOffsets}
+use Rattle.lease.specs.Operations.{lease, leaseOf, owns, deadlineFrom, nextCount, grant, claim, ack, withDeadline, extended, extend, requeuedAs, requeue, nack}
+use Rattle.lease.specs.Rest.{releaseBelow, resealedAs, resealFromTo, isExpired, deferRedelivery, shiftedBy, shiftDeadlines, expiredOffsets}
 use Rattle.lease.specs.Counts.{carry, carryAll}
 use Rattle.lease.specs.declared.Lease.{Lease}
 use Rattle.lease.proofs.Passed.{claim-cases, ack-cases, extend-cases, nack-cases}
@@ -58,8 +58,8 @@ module _ (t : Table) (j o : ℕ) where
   pub lease-after-update : (f : Lease → Lease) → leaseOf (withLeases t (update o f (t .leases))) j ≡ cond (eqb j o) (Option·map f (leaseOf t j)) (leaseOf t j)
   lease-after-update f = lookup-update j o f (t .leases)
 
-  pub lease-after-extend : (g now : ℕ) → LeaseAfter t j (cond (eqb j o) (Option·map (dueAt (extended t o now)) (leaseOf t j)) (leaseOf t j)) (extend t o g now)
-  lease-after-extend g now = extend-cases t o g now (LeaseAfter t j _) (λ r e. refl) (λ p. lease-after-update (dueAt (extended t o now)))
+  pub lease-after-extend : (g now : ℕ) → LeaseAfter t j (cond (eqb j o) (Option·map (withDeadline (extended t o now)) (leaseOf t j)) (leaseOf t j)) (extend t o g now)
+  lease-after-extend g now = extend-cases t o g now (LeaseAfter t j _) (λ r e. refl) (λ p. lease-after-update (withDeadline (extended t o now)))
 
   pub lease-after-reseal : (from to : ℕ) → leaseOf (resealFromTo t o from to .state) j
       ≡ cond (owns (leaseOf t o) from) (cond (eqb j o) (Option·map (resealedAs to) (leaseOf t j)) (leaseOf t j)) (leaseOf t j)
@@ -67,9 +67,9 @@ module _ (t : Table) (j o : ℕ) where
   lease-after-reseal from to = split (owns (leaseOf t o) from) (λ q. rw q (lease-after-update (resealedAs to))) (λ q. rw q)
 
   pub lease-after-defer : (now delay : ℕ) → leaseOf (deferRedelivery t o now delay .state) j
-      ≡ cond (overdue (leaseOf t o) now) (cond (eqb j o) (Option·map (dueAt (sat64 now delay)) (leaseOf t j)) (leaseOf t j)) (leaseOf t j)
+      ≡ cond (isExpired (leaseOf t o) now) (cond (eqb j o) (Option·map (withDeadline (sat64 now delay)) (leaseOf t j)) (leaseOf t j)) (leaseOf t j)
   unfolding deferRedelivery
-  lease-after-defer now delay = split (overdue (leaseOf t o) now) (λ q. rw q (lease-after-update (dueAt (sat64 now delay)))) (λ q. rw q)
+  lease-after-defer now delay = split (isExpired (leaseOf t o) now) (λ q. rw q (lease-after-update (withDeadline (sat64 now delay)))) (λ q. rw q)
 
   -- ## nack
   pub lease-after-requeue : (deadline : ℕ) → leaseOf (requeue t o deadline) j ≡ cond (eqb j o) (Option·map (requeuedAs (t .nextGeneration) deadline) (leaseOf t j)) (leaseOf t j)
@@ -89,13 +89,13 @@ module _ (t : Table) (j o : ℕ) where
   lease-after-shift delta = lookup-mapValues (shiftedBy delta) j (t .leases)
 
 -- ## the offsets whose leases have run out: each stands among them just once
-pub expired-once : (x now lo : ℕ) (l : List (Entry Lease)) → Rising lo l → times x (dueOffsets now l) ≡ cond (overdue (lookup x l) now) 1 0
+pub expired-once : (x now lo : ℕ) (l : List (Entry Lease)) → Rising lo l → times x (expiredOffsets now l) ≡ cond (isExpired (lookup x l) now) 1 0
 expired-once x now lo [] r = refl
 expired-once x now lo (e ∷ l) r =
     let rest = expired-once x now (suc (e .key)) l (r .1) in
     split (eqb x (e .key))
     (λ q.
-    let gone : times x (dueOffsets now l) ≡ 0 = rest ∙ rw (lookup-under (suc (e .key)) x l (r .1) (omega (arith, eqb-true x (e .key) q))) in
+    let gone : times x (expiredOffsets now l) ≡ 0 = rest ∙ rw (lookup-under (suc (e .key)) x l (r .1) (omega (arith, eqb-true x (e .key) q))) in
     split (ltb now (e .value .deadline)) (λ d. rw (q, d) gone) (λ d. rw (q, d, q, gone)))
     (λ q. split (ltb now (e .value .deadline)) (λ d. rw (q, d) rest) (λ d. rw (q, d, q) (omega (arith, rest))))
 
@@ -103,7 +103,7 @@ expired-once x now lo (e ∷ l) r =
 pub count-after-carry : (j o n : ℕ) (c : List (Entry ℕ)) → lookup j (carry o n c) ≡ cond (eqb n 0) (lookup j c) (cond (eqb j o) (some n) (lookup j c))
 count-after-carry j o n c = split (eqb n 0) (λ q. rw q) (λ q. rw q (lookup-put j o n c))
 
--- the last count of an offset in a list, those of 0 passed over, or else the one that it had
+-- the last count of an offset in a list, those of 0 skipped, or else the one that it had
 abbrev pub lastCount : ℕ → List (Entry ℕ) → Option ℕ → Option ℕ
 lastCount j [] had = had
 lastCount j (p ∷ ps) had = lastCount j ps (cond (eqb (p .value) 0) had (cond (eqb j (p .key)) (some (p .value)) had))

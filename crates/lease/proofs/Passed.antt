@@ -14,7 +14,7 @@ use Rattle.types.specs.Table.{first, Passed, Answer, answer}
 use Rattle.types.specs.Keyed.{update, delete}
 use Rattle.types.proofs.Table.{guarded-cases}
 use Rattle.lease.specs.State.{Table, withLeases}
-use Rattle.lease.specs.Operations.{leaseOf, running, owns, capFrom, startOf, dueAt, Grant, grant, granted, claimRows, claim, tokenRow, ack, extendRows, extended, extend, requeue, nackRows, nack}
+use Rattle.lease.specs.Operations.{leaseOf, running, owns, capFrom, startOf, withDeadline, Grant, grant, granted, claimRows, claim, tokenRow, ack, extendRows, extended, extend, requeue, nackRows, nack}
 use Rattle.lease.specs.declared.Lease.{Lease}
 
 -- ## the tables
@@ -73,10 +73,10 @@ module _ (t : Table) (o g : ℕ) (P : Answer (Unit {0}) Table → Type 0) where
 
 module _ (t : Table) (o g now : ℕ) (P : Answer ℕ Table → Type 0) where
   pub extend-cases : ((r : Refusal) → first (extendRows t o g now) ≡ some r → P (answer (refused r) t))
-      → (ExtendPassed t o g now → P (answer (done (extended t o now)) (withLeases t (update o (dueAt (extended t o now)) (t .leases))))) → P (extend t o g now)
+      → (ExtendPassed t o g now → P (answer (done (extended t o now)) (withLeases t (update o (withDeadline (extended t o now)) (t .leases))))) → P (extend t o g now)
   unfolding extend
   extend-cases r p =
-      guarded-cases (extendRows t o g now) t (answer (done (extended t o now)) (withLeases t (update o (dueAt (extended t o now)) (t .leases)))) P r
+      guarded-cases (extendRows t o g now) t (answer (done (extended t o now)) (withLeases t (update o (withDeadline (extended t o now)) (t .leases)))) P r
       (λ q. p (extend-passed t o g now q))
 
   pub nack-cases : (delay : ℕ) → ((r : Refusal) → first (nackRows t o g) ≡ some r → P (answer (refused r) t))

@@ -16,8 +16,8 @@ use Rattle.types.specs.Keyed.{update}
 use Rattle.types.proofs.Cases.{split}
 use Rattle.tables.specs.declared.Slot.{Slot}
 use Rattle.lease.specs.State.{Table, Sound, view, leasesOf, withLeases}
-use Rattle.lease.specs.Operations.{leaseOf, owns, dueAt}
-use Rattle.lease.specs.Rest.{resealedAs, resealFromTo, overdue, deferRedelivery, isClaimable, deliveries, pendingRedeliveryAttempt}
+use Rattle.lease.specs.Operations.{leaseOf, owns, withDeadline}
+use Rattle.lease.specs.Rest.{resealedAs, resealFromTo, isExpired, deferRedelivery, isClaimable, deliveries, pendingRedeliveryAttempt}
 use Rattle.lease.specs.Answers.{Tries}
 use Rattle.lease.specs.Helpers.{held}
 use Rattle.lease.specs.declared.Lease.{Lease}
@@ -33,19 +33,19 @@ pub run-out-or-running : (d now : ℕ) → leb d now ≡ not (ltb now d)
 run-out-or-running d now = split (ltb now d) (λ t. rw (t, lt-leb d now (ltb-true now d t))) (λ t. rw (t, le-leb d now (ltb-false now d t)))
 
 -- one that has was found
-pub overdue-found : (found : Bool) (l : Lease) (now : ℕ) → overdue (held found l) now ≡ true → found ≡ true
-overdue-found true l now h = refl
-overdue-found false l now h = absurd (true≢false (sym h))
+pub expired-found : (found : Bool) (l : Lease) (now : ℕ) → isExpired (held found l) now ≡ true → found ≡ true
+expired-found true l now h = refl
+expired-found false l now h = absurd (true≢false (sym h))
 
 module _ (s : Table) (o now : ℕ) where
-  pub none-overdue : leaseOf s o ≡ none → overdue (leaseOf s o) now ≡ false
-  none-overdue e = rw e
+  pub none-expired : leaseOf s o ≡ none → isExpired (leaseOf s o) now ≡ false
+  none-expired e = rw e
 
   module _ (l : Lease) (e : leaseOf s o ≡ some l) where
-    pub still-running : now < l .deadline → overdue (leaseOf s o) now ≡ false
+    pub still-running : now < l .deadline → isExpired (leaseOf s o) now ≡ false
     still-running h = rw (e, lt-ltb now (l .deadline) h)
 
-    pub run-out : l .deadline ≤ now → overdue (leaseOf s o) now ≡ true
+    pub run-out : l .deadline ≤ now → isExpired (leaseOf s o) now ≡ true
     run-out h = rw (e, le-ltb now (l .deadline) h)
 
     -- ## questions
@@ -76,16 +76,16 @@ module _ (t : LeaseTable) (ok : Sound t) (o : ℕ) (s : Slot) (look : Looks t o 
         }
 
   module _ (now delay d : ℕ) (is-d : d ≡ sat64 now delay) where
-    pub deferred-as : (due : Bool) → due ≡ overdue (held (s .found) old) now → (g : ℕ) → g ≡ cond due d (old .deadline)
-        → Tries due t (stored t (s .at) (dueAt g old)) (deferRedelivery (view t) o now delay)
+    pub deferred-as : (late : Bool) → late ≡ isExpired (held (s .found) old) now → (g : ℕ) → g ≡ cond late d (old .deadline)
+        → Tries late t (stored t (s .at) (withDeadline g old)) (deferRedelivery (view t) o now delay)
     unfolding deferRedelivery
     deferred-as false e g q =
-        subst (λ (u : LeaseTable). Tries false t u (deferRedelivery (view t) o now delay)) (sym (ap (λ (k : ℕ). stored t (s .at) (dueAt k old)) q ∙ stored-same t (s .at)))
+        subst (λ (u : LeaseTable). Tries false t u (deferRedelivery (view t) o now delay)) (sym (ap (λ (k : ℕ). stored t (s .at) (withDeadline k old)) q ∙ stored-same t (s .at)))
         (record { is = rw (look .is, ← e); sound = ok; kept = λ _. refl })
     deferred-as true e g q =
-        let m = shows-stored t ok o (s .at) (look .here (overdue-found (s .found) old now (sym e))) (dueAt g) in
+        let m = shows-stored t ok o (s .at) (look .here (expired-found (s .found) old now (sym e))) (withDeadline g) in
         record {
-          is = rw (look .is, ← e) (ap (answer (done true)) (m .is ∙ ap (λ (k : ℕ). withLeases (view t) (update o (dueAt k) (leasesOf t))) (q ∙ is-d)));
-          sound = sound-as m (valid-update (view t) o (dueAt g) (λ l. refl) (ok .valid));
+          is = rw (look .is, ← e) (ap (answer (done true)) (m .is ∙ ap (λ (k : ℕ). withLeases (view t) (update o (withDeadline k) (leasesOf t))) (q ∙ is-d)));
+          sound = sound-as m (valid-update (view t) o (withDeadline g) (λ l. refl) (ok .valid));
           kept = λ h. absurd (true≢false h);
         }

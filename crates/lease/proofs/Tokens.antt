@@ -17,7 +17,7 @@ use Rattle.types.specs.Zipped.{removed}
 use Rattle.types.proofs.Keyed.{update-put}
 use Rattle.tables.specs.declared.Slot.{Slot}
 use Rattle.lease.specs.State.{Table, Sound, view, leasesOf, withLeases}
-use Rattle.lease.specs.Operations.{owns, tokenRow, ack, capFrom, deadlineFrom, dueAt, extendRows, extended, extend, nackRows, requeuedAs, requeue, nack, extensionRows, requeueRows}
+use Rattle.lease.specs.Operations.{owns, tokenRow, ack, capFrom, deadlineFrom, withDeadline, extendRows, extended, extend, nackRows, requeuedAs, requeue, nack, extensionRows, requeueRows}
 use Rattle.lease.specs.Answers.{Answers}
 use Rattle.lease.specs.Helpers.{held, Extends, Requeues, rebuilt}
 use Rattle.lease.specs.declared.LeaseConfig.{LeaseConfig}
@@ -121,19 +121,19 @@ module _ (t : LeaseTable) (ok : Sound t) (o g : ℕ) (s : Slot) (look : Looks t 
   abbrev old : Lease
   old = getD (t .leases) (s .at) nil
 
-  pub extended-as : (now : ℕ) (out : Result ℕ) (d : ℕ) → Extends (t .config) (s .found) old g now out d → Answers out t (stored t (s .at) (dueAt d old)) (extend (view t) o g now)
+  pub extended-as : (now : ℕ) (out : Result ℕ) (d : ℕ) → Extends (t .config) (s .found) old g now out d → Answers out t (stored t (s .at) (withDeadline d old)) (extend (view t) o g now)
   unfolding extend
   extended-as now (refused r) d h =
-      subst (λ (u : LeaseTable). Answers (refused r) t u (extend (view t) o g now)) (sym (ap (λ (k : ℕ). stored t (s .at) (dueAt k old)) (h .1) ∙ stored-same t (s .at)))
+      subst (λ (u : LeaseTable). Answers (refused r) t u (extend (view t) o g now)) (sym (ap (λ (k : ℕ). stored t (s .at) (withDeadline k old)) (h .1) ∙ stored-same t (s .at)))
       (refuses t ok (extendRows (view t) o g now) r _ (subst (λ (l : Option Lease). first (extensionRows (t .config) l g now) ≡ some r) (sym (look .is)) (h .0)))
   extended-as now (done b) d h =
       let here = look .here (owned-found (s .found) old g (not-false _ (h .0 .0))) in
       let same : deadlineFrom (t .config) (old .«attempt_start») now ≡ extended (view t) o now = rw (here .is) in
-      subst (λ (n : ℕ). Answers (done n) t (stored t (s .at) (dueAt d old)) (extend (view t) o g now)) (sym (h .1 ∙ same))
+      subst (λ (n : ℕ). Answers (done n) t (stored t (s .at) (withDeadline d old)) (extend (view t) o g now)) (sym (h .1 ∙ same))
       (takes-effect t ok (extendRows (view t) o g now) (extended (view t) o now)
       (subst (λ (l : Option Lease). Passed (extensionRows (t .config) l g now)) (sym (look .is)) (h .0))
-      (subst (λ (n : ℕ). Shows (stored t (s .at) (dueAt d old)) (withLeases (view t) (update o (dueAt n) (leasesOf t)))) (h .2 ∙ same) (shows-stored t ok o (s .at) here (dueAt d)))
-      (valid-update (view t) o (dueAt (extended (view t) o now)) (λ v. refl) (ok .valid)))
+      (subst (λ (n : ℕ). Shows (stored t (s .at) (withDeadline d old)) (withLeases (view t) (update o (withDeadline n) (leasesOf t)))) (h .2 ∙ same) (shows-stored t ok o (s .at) here (withDeadline d)))
+      (valid-update (view t) o (withDeadline (extended (view t) o now)) (λ v. refl) (ok .valid)))
 
   -- ## nack
   abbrev next : ℕ

@@ -14,7 +14,7 @@ use Rattle.types.specs.Limits.{MAX, LEASES, CARRIED, sat32}
 use Rattle.types.specs.Keyed.{Entry, lookup, put, update, delete, Rising, All, mapValues}
 use Rattle.types.proofs.Keyed.{rising-put, length-put, length-put-old, all-put, rising-delete, length-delete, all-delete, rising-update, length-update, all-update, rising-dropBelow, length-dropBelow, all-dropBelow, rising-mapValues, length-mapValues, all-mapValues}
 use Rattle.lease.specs.State.{Table, withLeases, withCarried, startingAt, Counted, Valid}
-use Rattle.lease.specs.Operations.{leaseOf, isNone, handedOut, nextCount, consumed, grant, lease, requeue, requeuedAs, deadlineFrom}
+use Rattle.lease.specs.Operations.{leaseOf, isNone, timesHandedOut, nextCount, consumed, grant, lease, requeue, requeuedAs, deadlineFrom}
 use Rattle.lease.specs.Rest.{attemptsFlushed, releaseBelow, shiftedBy, shiftDeadlines}
 use Rattle.lease.specs.declared.LeaseConfig.{LeaseConfig}
 use Rattle.lease.specs.declared.Lease.{Lease}
@@ -130,7 +130,7 @@ valid-grant t o now h n f v =
     record {
       rising = rising-put 0 o new (t .leases) (omega arith) (v .rising);
       few = room o new (t .leases) (leaseOf t o) refl (v .rising) (v .few) f;
-      counted = all-put (λ k l. Counted k (l .deliveries)) o new (t .leases) (counted-next o (handedOut (leaseOf t o) (lookup o (t .carried))) h) (v .counted);
+      counted = all-put (λ k l. Counted k (l .deliveries)) o new (t .leases) (counted-next o (timesHandedOut (leaseOf t o) (lookup o (t .carried))) h) (v .counted);
       carried-rising = c .rising;
       carried-few = c .few;
       carried-counted = c .counted;

@@ -29,7 +29,7 @@ abbrev pub isNone : {A : Type 0} → Option A → Bool
 isNone none = true
 isNone (some a) = false
 
--- a lease runs before its deadline, and is due at the deadline itself
+-- a lease runs before its deadline, and is expired at the deadline itself
 abbrev pub running : Option Lease → ℕ → Bool
 running none now = false
 running (some l) now = ltb now (l .deadline)
@@ -49,13 +49,13 @@ deadlineFrom c start now = min (sat64 now (c .«visibility_nanos»)) (capFrom c 
 
 -- ## claim
 -- how often an offset was handed out before: as its lease says, or else its carried count
-abbrev pub handedOut : Option Lease → Option ℕ → ℕ
-handedOut (some l) c = l .deliveries
-handedOut none c = Option·getD c 0
+abbrev pub timesHandedOut : Option Lease → Option ℕ → ℕ
+timesHandedOut (some l) c = l .deliveries
+timesHandedOut none c = Option·getD c 0
 
 -- the count of the next hand-out
 abbrev pub nextCount : Table → ℕ → ℕ
-nextCount t o = sat32 (handedOut (leaseOf t o) (lookup o (t .carried))) 1
+nextCount t o = sat32 (timesHandedOut (leaseOf t o) (lookup o (t .carried))) 1
 
 -- a first lease takes its offset's count over from the carried ones
 abbrev pub consumed : Option Lease → ℕ → List (Entry ℕ) → List (Entry ℕ)
@@ -116,8 +116,8 @@ startOf none = 0
 startOf (some l) = l .«attempt_start»
 
 -- a lease with another deadline
-abbrev pub dueAt : ℕ → Lease → Lease
-dueAt deadline l = lease (l .generation .0) (l .«attempt_start») deadline (l .deliveries)
+abbrev pub withDeadline : ℕ → Lease → Lease
+withDeadline deadline l = lease (l .generation .0) (l .«attempt_start») deadline (l .deliveries)
 
 -- over the lease: 24, 28
 abbrev pub extensionRows : LeaseConfig → Option Lease → ℕ → ℕ → List Row
@@ -134,7 +134,7 @@ extended t o now = deadlineFrom (t .config) (startOf (leaseOf t o)) now
 unfoldable pub extend : Table → ℕ → ℕ → ℕ → Answer ℕ Table
 extend t o g now =
     guarded (extendRows t o g now) t
-    (answer (done (extended t o now)) (withLeases t (update o (dueAt (extended t o now)) (t .leases))))
+    (answer (done (extended t o now)) (withLeases t (update o (withDeadline (extended t o now)) (t .leases))))
 
 -- a lease given up until a deadline: a new generation fences its holder, and the count stays
 abbrev pub requeuedAs : ℕ → ℕ → Lease → Lease

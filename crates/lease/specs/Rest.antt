@@ -10,7 +10,7 @@ use Rattle.types.specs.Table.{Answer, answer}
 use Rattle.types.specs.Keyed.{Entry, update, dropBelow, mapValues}
 use Rattle.redeliveries.specs.Counter.{afterFlush}
 use Rattle.lease.specs.State.{Table, withLeases}
-use Rattle.lease.specs.Operations.{lease, leaseOf, isNone, running, owns, dueAt}
+use Rattle.lease.specs.Operations.{lease, leaseOf, isNone, running, owns, withDeadline}
 use Rattle.lease.specs.declared.Lease.{Lease}
 
 -- ## changes
@@ -34,15 +34,15 @@ resealFromTo t o from to =
     (answer (done true) (withLeases t (update o (resealedAs to) (t .leases))))
     (answer (done false) t)
 
--- a lease that is there and due
-abbrev pub overdue : Option Lease → ℕ → Bool
-overdue l now = not (isNone l) && not (running l now)
+-- a lease that is there and expired
+abbrev pub isExpired : Option Lease → ℕ → Bool
+isExpired l now = not (isNone l) && not (running l now)
 
--- a due lease put off by a delay, which no cap bounds; the answer says whether there was one
+-- an expired lease put off by a delay, which no cap bounds; the answer says whether there was one
 unfoldable pub deferRedelivery : Table → ℕ → ℕ → ℕ → Answer Bool Table
 deferRedelivery t o now delay =
-    cond (overdue (leaseOf t o) now)
-    (answer (done true) (withLeases t (update o (dueAt (sat64 now delay)) (t .leases))))
+    cond (isExpired (leaseOf t o) now)
+    (answer (done true) (withLeases t (update o (withDeadline (sat64 now delay)) (t .leases))))
     (answer (done false) t)
 
 -- a lease with its clock forward
@@ -54,7 +54,7 @@ abbrev pub shiftDeadlines : Table → ℕ → Table
 shiftDeadlines t delta = withLeases t (mapValues (shiftedBy delta) (t .leases))
 
 -- ## questions
--- how many leases there are, due or not
+-- how many leases there are, expired or not
 abbrev pub inFlight : Table → ℕ
 inFlight t = length (t .leases)
 
@@ -76,13 +76,13 @@ holdsActive t o g now = owns (leaseOf t o) g && running (leaseOf t o) now
 
 -- the count of a lease that the next claim would redeliver
 abbrev pub pendingRedeliveryAttempt : Table → ℕ → ℕ → Option ℕ
-pendingRedeliveryAttempt t o now = cond (overdue (leaseOf t o) now) (deliveriesOf (leaseOf t o)) none
+pendingRedeliveryAttempt t o now = cond (isExpired (leaseOf t o) now) (deliveriesOf (leaseOf t o)) none
 
--- the offsets of due leases, in their order
-abbrev pub dueOffsets : ℕ → List (Entry Lease) → List ℕ
-dueOffsets now [] = []
-dueOffsets now (e ∷ l) = cond (running (some (e .value)) now) (dueOffsets now l) (e .key ∷ dueOffsets now l)
+-- the offsets of expired leases, in their order
+abbrev pub expiredOffsets : ℕ → List (Entry Lease) → List ℕ
+expiredOffsets now [] = []
+expiredOffsets now (e ∷ l) = cond (running (some (e .value)) now) (expiredOffsets now l) (e .key ∷ expiredOffsets now l)
 
 -- those of a table, rising
 abbrev pub expired : Table → ℕ → List ℕ
-expired t now = dueOffsets now (t .leases)
+expired t now = expiredOffsets now (t .leases)

@@ -71,7 +71,7 @@ impl LeaseTable {
         requires { ⌜ Sound self ⌝ }
         ensures { λ r. ⌜ answer (listedOf r) (numbersOf (out .exit .now)) ≡ listed (expired (view self) now) (numbersOf (out .entry .now)) ⌝ }
     {
-        lent::list_offsets(self.due(now), out)
+        lent::list_offsets(self.expired_list(now), out)
     }
 
     // The counts that are carried before any pair is taken in.
@@ -148,7 +148,7 @@ impl LeaseTable {
     }
 
     // The offsets whose leases have run out, in an array.
-    pub fn due(self, now: u64) -> OffsetList
+    pub fn expired_list(self, now: u64) -> OffsetList
         requires { ⌜ Sound self ⌝ }
         ensures { λ r. ⌜ ListsOffsets r (expired (view self) now) ⌝ }
     {

@@ -12,7 +12,7 @@ ghost use Rattle.tables.specs.declared.Place.the-variants.{Missing};
 ghost use Rattle.lease.specs.Config.{nanos, fromMillis, defaultConfig};
 ghost use Rattle.lease.specs.State.{Sound, view, startingAt};
 ghost use Rattle.lease.specs.Operations.{lease, owns, grantOf, claim, ack, extend, nack, capFrom, deadlineFrom};
-ghost use Rattle.lease.specs.Rest.{attemptsFlushed, releaseBelow, resealFromTo, overdue, deferRedelivery, shiftedBy, shiftDeadlines, inFlight, isClaimable, deliveries, holdsActive, pendingRedeliveryAttempt};
+ghost use Rattle.lease.specs.Rest.{attemptsFlushed, releaseBelow, resealFromTo, isExpired, deferRedelivery, shiftedBy, shiftDeadlines, inFlight, isClaimable, deliveries, holdsActive, pendingRedeliveryAttempt};
 ghost use Rattle.lease.specs.Answers.{claimOf, ackOf, extendOf, nackOf, attemptsOf, Answers, Tries, Becomes};
 ghost use Rattle.lease.specs.Helpers.{held, Extends, Requeues, Shorter};
 use lookup::LeaseAt;
@@ -161,8 +161,8 @@ impl Lease {
     }
 
     // Whether a lease was found and has run out.
-    fn overdue(self, found: bool, now: u64) -> bool
-        ensures { λ r. ⌜ r ≡ overdue (held found self) now ⌝ }
+    fn is_expired(self, found: bool, now: u64) -> bool
+        ensures { λ r. ⌜ r ≡ isExpired (held found self) now ⌝ }
     {
         if found { self.deadline <= now } else { false }
     }
@@ -665,11 +665,11 @@ impl LeaseTable {
         let slot = tables::slot_of(&self.offsets, self.len, offset.0);
         let at = slot.at;
         let lease = self.leases[at];
-        let overdue = lease.overdue(slot.found, now);
+        let expired = lease.is_expired(slot.found, now);
         let deadline = numbers::saturating_add(now, delay_nanos);
-        self.leases[at].deadline = numbers::chosen(overdue, deadline, lease.deadline);
+        self.leases[at].deadline = numbers::chosen(expired, deadline, lease.deadline);
         Changed {
-            changed: overdue,
+            changed: expired,
             table: self,
         }
     }

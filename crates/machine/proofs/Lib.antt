@@ -1,3 +1,3 @@
 pub mod Fits
 pub mod Replies
-pub mod Turns
+pub mod Transitions

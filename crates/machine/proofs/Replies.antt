@@ -18,7 +18,7 @@ use Rattle.consumer.specs.Questions.{Question, Waiting, waitingAt, reply}
 use Rattle.consumer.specs.View.{view, Sound}
 use Rattle.consumer.specs.declared.Consumer.{Consumer}
 use Rattle.machine.specs.Calls.{look, looked}
-use Rattle.machine.specs.Door.{turn, idle}
+use Rattle.machine.specs.Transitions.{gives, idle}
 use Rattle.machine.specs.Answers.{askOf, firstPlaces, listOf, replyOf, answeredList, filledWith, listIn, argumentsIn, askedBy}
 use Rattle.machine.specs.View.{AskedIs, LookedIs}
 use Rattle.machine.specs.declared.calls.Ask as code
@@ -78,8 +78,8 @@ module _ {c : Consumer} {out out′ : List ℕ} where
   looked-asked {q} {r} ok h =
       record {
         is = λ a.
-            ap (λ (x : Question). turn (looked x (replyOf r out′)) (idle (view c)) a) (h .kind)
-            ∙ ap (λ (x : Result (List ℕ)). turn (looked q x) (idle (view c)) a) (h .is);
+            ap (λ (x : Question). gives (looked x (replyOf r out′)) (idle (view c)) a) (h .kind)
+            ∙ ap (λ (x : Result (List ℕ)). gives (looked q x) (idle (view c)) a) (h .is);
         sound = ok;
         kept = refl;
         lists = λ a. h .lists;

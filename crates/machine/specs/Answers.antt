@@ -15,8 +15,8 @@ use Rattle.consumer.specs.Questions.{Question, Waiting, Committed, IsSettled, L
 use Rattle.consumer.specs.View.{claimOf, settleOf, nackOf, progressOf, commitOf, Unmoved}
 use Rattle.checkpoint.specs.declared.BeginAnswer.{BeginAnswer}
 use Rattle.checkpoint.specs.declared.BeginAnswer.the-variants as begins
-use Rattle.machine.specs.Calls.{Ask, claim, ack, term, nack, progress, commit, look, Call, ask, begin, step, restart, Event, claimed, acked, termed, nacked, extended, committed, looked, begun, stepped, restarted, failed}
-use Rattle.machine.specs.Door.{Turn}
+use Rattle.machine.specs.Calls.{Ask, claim, ack, term, nack, progress, commit, look, Call, ask, begin, step, restart, Event, claimed, acked, termed, nacked, progressed, committed, looked, begun, stepped, restarted, failed}
+use Rattle.machine.specs.Transitions.{After}
 use Rattle.machine.specs.declared.calls.Question.the-variants as question
 use Rattle.machine.specs.declared.calls.Question as code
 use Rattle.machine.specs.declared.calls.Ask as code-ask
@@ -126,7 +126,7 @@ seenOf g (answer.Claimed a) out = claimed (g .offset) (g .clock) (claimOf a)
 seenOf g (answer.Acked a) out = acked (g .offset) (g .generation) (settleOf a)
 seenOf g (answer.Termed a) out = termed (g .offset) (g .generation) (settleOf a)
 seenOf g (answer.Nacked a) out = nacked (g .offset) (g .generation) (g .clock) (g .delay) (nackOf a)
-seenOf g (answer.Extended a) out = extended (g .offset) (g .generation) (g .clock) (progressOf a)
+seenOf g (answer.Progressed a) out = progressed (g .offset) (g .generation) (g .clock) (progressOf a)
 seenOf g (answer.Committed a) out = committed (g .offset) (commitOf a)
 seenOf g (answer.Looked a) out = looked (askedBy g a) (replyOf a out)
 
@@ -136,7 +136,7 @@ AskKept (answer.Claimed a) before after = Kept (claimOf a) before after
 AskKept (answer.Acked a) before after = Kept (settleOf a) before after
 AskKept (answer.Termed a) before after = Kept (settleOf a) before after
 AskKept (answer.Nacked a) before after = Kept (nackOf a) before after
-AskKept (answer.Extended a) before after = Kept (progressOf a) before after
+AskKept (answer.Progressed a) before after = Kept (progressOf a) before after
 AskKept (answer.Committed a) before after = Unmoved (commitOf a) before after
 AskKept (answer.Looked a) before after = after ≡ before
 
@@ -167,7 +167,7 @@ listSeen (claimed o now a) = []
 listSeen (acked o g a) = []
 listSeen (termed o g a) = []
 listSeen (nacked o g now d a) = []
-listSeen (extended o g now a) = []
+listSeen (progressed o g now a) = []
 listSeen (committed bound a) = []
 listSeen (looked q a) = listIn q a
 listSeen (begun a) = []
@@ -180,6 +180,6 @@ abbrev pub filledWith : List ℕ → List ℕ → List ℕ
 filledWith l out = l ++ drop (length l) out
 
 -- the lent list after a call
-abbrev pub outAfter : Option Turn → List ℕ → List ℕ
+abbrev pub outAfter : Option After → List ℕ → List ℕ
 outAfter none out = out
 outAfter (some t) out = filledWith (listSeen (t .event)) out

@@ -9,7 +9,7 @@ use Rattle.types.specs.Refusal.{Result}
 use Rattle.consumer.specs.State.{State}
 use Rattle.consumer.specs.Calls.{HandOut}
 use Rattle.consumer.specs.Questions.{Question, Waiting, IsSettled, LeaseOf, CountOf, Committed, InFlight, IsDue, BlocksLeft}
-use Rattle.checkpoint.specs.Checkpoint.{Wrote}
+use Rattle.checkpoint.specs.Checkpoint.{BlockWritten}
 
 -- what the state answers
 pub data Ask : Type 0 where
@@ -67,13 +67,13 @@ pub data Event : Type 0 where
   termed : ℕ → ℕ → Result (Unit {0}) → Event
   -- the answer is the deadline
   nacked : ℕ → ℕ → ℕ → Option ℕ → Result ℕ → Event
-  extended : ℕ → ℕ → ℕ → Result ℕ → Event
+  progressed : ℕ → ℕ → ℕ → Result ℕ → Event
   -- whether committed moved
   committed : ℕ → Result Bool → Event
   looked : Question → Result (List ℕ) → Event
   -- how many block writes are to come
   begun : Result ℕ → Event
-  stepped : Result Wrote → Event
+  stepped : Result BlockWritten → Event
   restarted : Result State → Event
   -- the power failed in a step; whether that left a header block new
   failed : Bool → Event

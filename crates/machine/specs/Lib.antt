@@ -1,4 +1,4 @@
 pub mod Calls
-pub mod Door
+pub mod Transitions
 pub mod Answers
 pub mod View

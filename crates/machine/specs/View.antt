@@ -18,7 +18,7 @@ use Rattle.checkpoint.specs.declared.StepAnswer.the-variants as steps
 use Rattle.starts.specs.Restart as restarts
 use Rattle.starts.specs.Starting.{configurationOf, startFault, startOf}
 use Rattle.machine.specs.Calls.{Ask, Call, ask, begin, step, restart, begun, stepped, restarted}
-use Rattle.machine.specs.Door.{Phase, idle, writing, off, Turn, turn, asked, door}
+use Rattle.machine.specs.Transitions.{Phase, idle, writing, off, After, gives, asked, transition}
 use Rattle.machine.specs.Answers.{replyOf, Arguments, noArguments, argumentsIn, argumentsOf, askedBy, seenOf, AskKept, begunOf, filledWith, listIn, outAfter}
 use Rattle.machine.specs.declared.calls.Reply.{Reply}
 use Rattle.machine.specs.declared.calls.Asked.{Asked}
@@ -31,7 +31,7 @@ use Rattle.machine.specs.declared.Started.{Started}
 -- ## calls on the state
 -- event and state are those that `asked` makes on whatever area, and the lent list is what the event says
 pub record AskedIs (before : Consumer) (q : Ask) (out : List ℕ) (r : Asked) (out′ : List ℕ) : Type 0 where
-  pub is : (a : List ℕ) → turn (seenOf (argumentsOf q) (r .answer) out′) (idle (view (r .consumer))) a ≡ asked (view before) a q
+  pub is : (a : List ℕ) → gives (seenOf (argumentsOf q) (r .answer) out′) (idle (view (r .consumer))) a ≡ asked (view before) a q
   pub sound : consumer.Sound (r .consumer)
   pub kept : AskKept (r .answer) before (r .consumer)
   pub lists : (a : List ℕ) → out′ ≡ outAfter (asked (view before) a q) out
@@ -78,7 +78,7 @@ pub record OffIs (s : Configuration) (m : Machine) : Type 0 where
   pub configuration : m .configuration ≡ s
   pub sound : Sound m
 
--- ## the door
+-- ## the step function
 -- the arguments of a call
 abbrev pub givenTo : Call → Arguments
 givenTo (ask q) = argumentsOf q
@@ -87,12 +87,12 @@ givenTo step = noArguments
 givenTo restart = noArguments
 
 -- what an answer, the machine and the lent memory beside it stand for
-abbrev pub turnOf : Call → CallAnswer → Machine → List ℕ → List ℕ → Option Turn
-turnOf q (answer.Asked a) m area out = turn (seenOf (givenTo q) a out) (phaseOf m) area
-turnOf q (answer.Begun a) m area out = turn (begun (begunOf a)) (phaseOf m) area
-turnOf q (answer.Stepped a) m area out = turn (stepped (stepOf a)) (phaseOf m) area
-turnOf q (answer.Restarted a) m area out = turn (restarted (startOf a (view (m .writing .consumer)))) (phaseOf m) area
-turnOf q answer.NotNow m area out = none
+abbrev pub afterOf : Call → CallAnswer → Machine → List ℕ → List ℕ → Option After
+afterOf q (answer.Asked a) m area out = gives (seenOf (givenTo q) a out) (phaseOf m) area
+afterOf q (answer.Begun a) m area out = gives (begun (begunOf a)) (phaseOf m) area
+afterOf q (answer.Stepped a) m area out = gives (stepped (stepOf a)) (phaseOf m) area
+afterOf q (answer.Restarted a) m area out = gives (restarted (startOf a (view (m .writing .consumer)))) (phaseOf m) area
+afterOf q answer.NotNow m area out = none
 
 -- a refusal, a question and NotNow give back the very thing that was handed in
 abbrev pub CallKept : {T : Type 0} → CallAnswer → T → T → Type 0
@@ -110,13 +110,13 @@ pub record Held : Type 0 where
 abbrev pub held : Machine → List ℕ → Held
 held m a = record { machine = m; area = a }
 
--- a call: answer, machine and area are what the door makes of machine, area and call, and the lent list is what the event says
+-- a call: answer, machine and area are what the transition makes of machine, area and call, and the lent list is what the event says
 pub record CalledIs (m : Machine) (q : Call) (a out : List ℕ) (r : Called) (a′ out′ : List ℕ) : Type 0 where
-  pub is : turnOf q (r .answer) (r .machine) a′ out′ ≡ door (configurationOf (m .configuration)) (phaseOf m) a q
+  pub is : afterOf q (r .answer) (r .machine) a′ out′ ≡ transition (configurationOf (m .configuration)) (phaseOf m) a q
   pub sound : Sound (r .machine)
   pub configuration : r .machine .configuration ≡ m .configuration
   pub kept : CallKept (r .answer) (held m a) (held (r .machine) a′)
-  pub lists : out′ ≡ outAfter (door (configurationOf (m .configuration)) (phaseOf m) a q) out
+  pub lists : out′ ≡ outAfter (transition (configurationOf (m .configuration)) (phaseOf m) a q) out
 
 -- ## parts
 -- a machine that writes nothing

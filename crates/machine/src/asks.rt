@@ -77,7 +77,7 @@ fn ask_progress(consumer: Consumer, token: LeaseToken, now: u64) -> Asked
     let answer = progressed.answer;
     let after = progressed.consumer;
     Asked {
-        answer: AskAnswer::Extended(answer),
+        answer: AskAnswer::Progressed(answer),
         consumer: after,
     }
 }

@@ -1,4 +1,4 @@
-// The calls that go through the door, and what they are answered.
+// The calls on a machine, and what they are answered.
 use checkpoint::BeginAnswer;
 use checkpoint::StepAnswer;
 use consumer::Consumer;
@@ -75,7 +75,7 @@ pub enum AskAnswer {
     Acked(SettleAnswer),
     Termed(SettleAnswer),
     Nacked(NackAnswer),
-    Extended(ProgressAnswer),
+    Progressed(ProgressAnswer),
     Committed(CommitAnswer),
     Looked(Reply),
 }

@@ -1,4 +1,4 @@
-// The one door to a consumer: every call of demand 3's lists is one `call` here, on the machine that the one before left. A call
+// The one way to call a consumer: every call of demand 3's lists is one `call` here, on the machine that the one before left. A call
 // that can't be made where it stands is answered NotNow and changes nothing.
 ghost use mathlib.Core.Path.{_≡_};
 ghost use mathlib.Core.List.{List};

@@ -51,7 +51,7 @@ fn take(line: &[u8], ops: &mut [u64], n: usize) -> usize
 }
 
 // Takes the next line in, or reads more. Of a line that is too long for the buffer the first byte is taken: it is none, or a comment.
-fn turn<'a>(buf: &'a mut [u8], ops: &'a mut [u64], reading: Reading) -> Reading
+fn next_line<'a>(buf: &'a mut [u8], ops: &'a mut [u64], reading: Reading) -> Reading
     requires { ⌜ Going (length (now buf)) (length (now ops)) reading ⌝ }
     ensures { λ r. ⌜ Going (length (now (buf .entry))) (length (now (ops .entry))) r ⌝ }
 {
@@ -98,7 +98,7 @@ fn read<'a>(buf: &'a mut [u8], ops: &'a mut [u64]) -> usize
     };
     let mut turns = u64::MAX;
     while 0 < turns {
-        reading = turn(buf, ops, reading);
+        reading = next_line(buf, ops, reading);
         if reading.ended {
             return reading.n;
         }
@@ -131,25 +131,25 @@ fn put_answer(out: &mut [u8], at: usize, answer: [u64; 6]) -> usize {
 }
 
 // Six numbers from a place on.
-fn six(told: &[u64], at: usize) -> [u64; 6]
-    requires { ⌜ at + 6 ≤ length (now told) ⌝ }
+fn six(answers: &[u64], at: usize) -> [u64; 6]
+    requires { ⌜ at + 6 ≤ length (now answers) ⌝ }
 {
     [
-        told[at],
-        told[at + 1],
-        told[at + 2],
-        told[at + 3],
-        told[at + 4],
-        told[at + 5],
+        answers[at],
+        answers[at + 1],
+        answers[at + 2],
+        answers[at + 3],
+        answers[at + 4],
+        answers[at + 5],
     ]
 }
 
 // Prints all answers.
-fn print(told: &[u64], out: &mut [u8]) {
+fn print(answers: &[u64], out: &mut [u8]) {
     let mut at: usize = 0;
     let mut from: usize = 0;
-    while 6 <= told.len() - from {
-        let answer = six(told, from);
+    while 6 <= answers.len() - from {
+        let answer = six(answers, from);
         from += 6;
         at = put_answer(out, at, answer);
     }
@@ -159,8 +159,8 @@ fn print(told: &[u64], out: &mut [u8]) {
 fn main() {
     let mut buf = io::large_buffer();
     let mut ops = [0u64; 20480];
-    let mut told = [0u64; 24576];
+    let mut answers = [0u64; 24576];
     let n = read(&mut buf, &mut ops);
-    let m = operations::ninotskev_operations(&ops[0..n], &mut told);
-    print(&told[0..m], &mut buf);
+    let m = operations::ninotskev_operations(&ops[0..n], &mut answers);
+    print(&answers[0..m], &mut buf);
 }

@@ -1,6 +1,6 @@
 // What an operation answers, in numbers: document 01's number, 0 where nothing was refused, and the values of a refusal or of an
 // outcome.
-use answers::Told;
+use answers::Code;
 use lease::Attempts;
 
 // The first `count` of a number and three values; an operation that is none answers none.
@@ -55,12 +55,12 @@ pub fn of_count(count: Attempts) -> Answer {
     }
 }
 
-pub fn of_told(told: Told) -> Answer {
-    if told.count == 0 {
-        return plain(told.number);
+pub fn of_code(code: Code) -> Answer {
+    if code.count == 0 {
+        return plain(code.number);
     }
-    if told.count == 1 {
-        return tell(2, told.number, told.first, 0);
+    if code.count == 1 {
+        return tell(2, code.number, code.first, 0);
     }
-    tell(3, told.number, told.first, told.second)
+    tell(3, code.number, code.first, code.second)
 }

@@ -43,7 +43,7 @@ fn list(op: Op, state: State) -> on_list::Done
         4 => on_list::decode(op, state.bytes, list),
         5 => on_list::counts(table.lease_counts()),
         6 => on_list::counts(table.all_counts()),
-        7 => on_list::offsets(table.due(op.w), op.x, list),
+        7 => on_list::offsets(table.expired_list(op.w), op.x, list),
         _ => on_list::left(list, answer::bad()),
     }
 }

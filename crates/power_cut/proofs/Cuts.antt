@@ -23,7 +23,7 @@ use Rattle.journal.proofs.Group.{chunk-few}
 use Rattle.consumer.specs.State.{blocksOf}
 use Rattle.consumer.specs.View.{view}
 use Rattle.consumer.proofs.Area.{area-taken}
-use Rattle.checkpoint.specs.Checkpoint.{payloadOf, bodies, isLast, nextPlace, nextBlock, leftBy, Wrote, Lent, lent, step}
+use Rattle.checkpoint.specs.Checkpoint.{payloadOf, bodies, isLast, nextPlace, nextBlock, leftBy, BlockWritten, Lent, lent, step}
 use Rattle.checkpoint.specs.Checkpoint as checkpoint
 use Rattle.checkpoint.specs.Writing.{viewWriting, SoundWriting, stepOf, SteppedIs}
 use Rattle.checkpoint.specs.declared.Writing.{Writing}
@@ -32,10 +32,10 @@ use Rattle.checkpoint.specs.declared.StepAnswer.{StepAnswer}
 use Rattle.checkpoint.specs.declared.StepAnswer.the-variants as steps
 use Rattle.checkpoint.proofs.Steps.{into-inside}
 use Rattle.machine.specs.Calls.{failed}
-use Rattle.machine.specs.Door.{off, turn}
+use Rattle.machine.specs.Transitions.{off, gives}
 use Rattle.machine.specs.View.{phaseOf, Sound}
 use Rattle.machine.specs.declared.Machine.{Machine}
-use Rattle.machine.proofs.Turns.{not-writing}
+use Rattle.machine.proofs.Transitions.{not-writing}
 use Rattle.power_cut.specs.Cut.{Cut, old, new, torn, isTorn, cutAt, powerCut}
 use Rattle.power_cut.specs.View.{cutOf, CutIs, Stepping, OffIs, placeOf, isHeader}
 use Rattle.power_cut.specs.declared.Kind.{Kind}
@@ -53,23 +53,23 @@ module _ (w : Writing) (a a′ : List ℕ) (same : length a ≡ w .consumer .«a
   abbrev v : checkpoint.Writing
   v = viewWriting w
 
-  abbrev wrote : Wrote
+  abbrev wrote : BlockWritten
   wrote = record { block = nextPlace v; last = isLast v }
 
   step-is : step v a ≡ answer (done wrote) (lent (leftBy v) (writeAt a (nextPlace v) (nextBlock v)))
   unfolding step
   step-is = rw (eq-eqb (length a) (w .consumer .«area_len») same)
 
-  told : (d : StepAnswer) → stepOf d ≡ done wrote → (placeOf d ≡ nextPlace v) × (isHeader d ≡ isLast v)
-  told (steps.Wrote block) e = (ap (λ (x : Wrote). x .block) (done-inj e), ap (λ (x : Wrote). x .last) (done-inj e))
-  told (steps.Finished block) e = (ap (λ (x : Wrote). x .block) (done-inj e), ap (λ (x : Wrote). x .last) (done-inj e))
-  told steps.BadArea e = refused-not-done e
+  step-says : (d : StepAnswer) → stepOf d ≡ done wrote → (placeOf d ≡ nextPlace v) × (isHeader d ≡ isLast v)
+  step-says (steps.Wrote block) e = (ap (λ (x : BlockWritten). x .block) (done-inj e), ap (λ (x : BlockWritten). x .last) (done-inj e))
+  step-says (steps.Finished block) e = (ap (λ (x : BlockWritten). x .block) (done-inj e), ap (λ (x : BlockWritten). x .last) (done-inj e))
+  step-says steps.BadArea e = refused-not-done e
 
   written : (r : Stepped) → SteppedIs w a r a′ → Written w a (r .answer) a′
   written r h =
       let e = h .is ∙ step-is in
-      let t = told (r .answer) (ap (λ (x : Answer Wrote Lent). x .outcome) e) in
-      record { place = t .0; header = t .1; area = ap (λ (x : Answer Wrote Lent). x .state .area) e }
+      let t = step-says (r .answer) (ap (λ (x : Answer BlockWritten Lent). x .outcome) e) in
+      record { place = t .0; header = t .1; area = ap (λ (x : Answer BlockWritten Lent). x .state .area) e }
 
 -- the block being written lies in the area, and is a block
 module _ (w : Writing) (s : SoundWriting w) where
@@ -123,7 +123,7 @@ module _ (m : Machine) (a : List ℕ) where
     stepping-sound = rw (i .phase) (i .sound)
 
     failed-off : (k : Cut) (header : Bool) (m′ : Machine) (a′ : List ℕ) → OffIs m m′
-        → turn (failed header) off a′ ≡ cutAt (viewWriting (m .writing)) a k
+        → gives (failed header) off a′ ≡ cutAt (viewWriting (m .writing)) a k
         → CutIs m k a (record { answer = answers.Failed header; machine = m′ }) a′
     failed-off k header m′ a′ o e =
         record { is = rw (o .phase) (e ∙ sym (on-record k)); sound = rw (o .phase) tt; configuration = o .configuration; kept = tt }

@@ -9,7 +9,7 @@ use Rattle.checkpoint.specs.Writing.{SoundWriting}
 use Rattle.checkpoint.specs.declared.StepAnswer.{StepAnswer}
 use Rattle.checkpoint.specs.declared.StepAnswer.the-variants as steps
 use Rattle.machine.specs.Calls.{failed}
-use Rattle.machine.specs.Door.{Turn, turn}
+use Rattle.machine.specs.Transitions.{After, gives}
 use Rattle.machine.specs.View.{phaseOf, Sound, held}
 use Rattle.machine.specs.declared.Machine.{Machine}
 use Rattle.power_cut.specs.Cut.{Cut, old, new, torn, powerCut}
@@ -25,9 +25,9 @@ cutOf kinds.Old bytes = old
 cutOf kinds.New bytes = new
 cutOf kinds.Torn bytes = torn bytes
 
-abbrev pub turnOf : CutAnswer → Machine → List ℕ → Option Turn
-turnOf (answers.Failed header) m a = turn (failed header) (phaseOf m) a
-turnOf answers.NotNow m a = none
+abbrev pub afterOf : CutAnswer → Machine → List ℕ → Option After
+afterOf (answers.Failed header) m a = gives (failed header) (phaseOf m) a
+afterOf answers.NotNow m a = none
 
 -- NotNow gives back the very thing that was handed in
 abbrev pub CutKept : {T : Type 0} → CutAnswer → T → T → Type 0
@@ -35,7 +35,7 @@ CutKept (answers.Failed header) before after = Unit {0}
 CutKept answers.NotNow before after = after ≡ before
 
 pub record CutIs (m : Machine) (k : Cut) (a : List ℕ) (r : Failed) (a′ : List ℕ) : Type 0 where
-  pub is : turnOf (r .answer) (r .machine) a′ ≡ powerCut (phaseOf m) a k
+  pub is : afterOf (r .answer) (r .machine) a′ ≡ powerCut (phaseOf m) a k
   pub sound : Sound (r .machine)
   pub configuration : r .machine .configuration ≡ m .configuration
   pub kept : CutKept (r .answer) (held m a) (held (r .machine) a′)

@@ -51,11 +51,11 @@ pub fn peek(len: usize, block: u64) -> Said {
 }
 
 // The block that a step wrote, by its answer in numbers; 128, which no journal has, where it wrote none.
-fn written(told: Numbers) -> usize {
-    if told.0 != 0 {
+fn written(code: Numbers) -> usize {
+    if code.0 != 0 {
         return 128;
     }
-    told.2 as usize
+    code.2 as usize
 }
 
 // What a step would leave of the block that it writes, with 1 added to the last byte, which is one of the check's.

@@ -81,7 +81,7 @@ fn answer<'a>(
 }
 
 // Answers the next line. Before more is read, all answers are written out, so that whoever waits for them gets them.
-fn turn<'a>(buf: &'a mut [u8], out: &'a mut [u8], area: &'a mut [u8], state: State) -> State
+fn next_line<'a>(buf: &'a mut [u8], out: &'a mut [u8], area: &'a mut [u8], state: State) -> State
     requires { ⌜ Going (length (now buf)) (length (now area)) state ⌝ }
     ensures { λ r. ⌜ Going (length (now (buf .entry))) (length (now (area .entry))) r ⌝ }
 {
@@ -120,7 +120,7 @@ fn run<'a>(buf: &'a mut [u8], out: &'a mut [u8], area: &'a mut [u8]) {
     };
     let mut turns = u64::MAX;
     while 0 < turns {
-        state = turn(buf, out, area, state);
+        state = next_line(buf, out, area, state);
         if state.ended {
             return;
         }

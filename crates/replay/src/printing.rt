@@ -70,15 +70,15 @@ pub fn with(template: usize, n: u64) -> Said {
 }
 
 // A refusal: 01's number and values. 255 is none of 01's: the call can't be made where it stands.
-pub fn refusal(told: Numbers) -> Said {
-    if told.0 == 255 {
+pub fn refusal(code: Numbers) -> Said {
+    if code.0 == 255 {
         return plain(NOT_NOW);
     }
-    let count = told.1;
+    let count = code.1;
     match count {
-        0 => says(REFUSED, told.0, 0, 0),
-        1 => says(REFUSED + 1, told.0, told.2, 0),
-        _ => says(REFUSED + 2, told.0, told.2, told.3),
+        0 => says(REFUSED, code.0, 0, 0),
+        1 => says(REFUSED + 1, code.0, code.2, 0),
+        _ => says(REFUSED + 2, code.0, code.2, code.3),
     }
 }
 
@@ -91,19 +91,19 @@ fn either(bit: u64, zero: usize, one: usize) -> usize {
 }
 
 // What a call of a form answered, in numbers; `offset` is the one that was claimed.
-pub fn answered(form: usize, offset: u64, told: Numbers) -> Said {
-    if told.0 != 0 {
-        return refusal(told);
+pub fn answer_said(form: usize, offset: u64, code: Numbers) -> Said {
+    if code.0 != 0 {
+        return refusal(code);
     }
     match form {
-        script::CLAIM => says(either(told.4, DELIVER, DEADLETTER), offset, told.2, told.3),
+        script::CLAIM => says(either(code.4, DELIVER, DEADLETTER), offset, code.2, code.3),
         script::ACK | script::TERM => plain(SETTLED),
-        script::NACK | script::NACK_AFTER => with(REQUEUED, told.2),
-        script::PROGRESS => with(EXTENDED, told.2),
-        script::COMMIT => plain(either(told.2, UNCHANGED, COMMITTED)),
-        script::WAITING => with(WAITING, told.1),
-        script::BEGIN => with(BEGUN, told.2),
-        script::STEP | script::STEP_ON => with(either(told.3, WROTE, DONE), told.2),
+        script::NACK | script::NACK_AFTER => with(REQUEUED, code.2),
+        script::PROGRESS => with(EXTENDED, code.2),
+        script::COMMIT => plain(either(code.2, UNCHANGED, COMMITTED)),
+        script::WAITING => with(WAITING, code.1),
+        script::BEGIN => with(BEGUN, code.2),
+        script::STEP | script::STEP_ON => with(either(code.3, WROTE, DONE), code.2),
         _ => plain(RESTARTED),
     }
 }

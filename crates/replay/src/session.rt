@@ -151,11 +151,11 @@ fn started(session: Session, configuration: Configuration, len: usize, most: usi
 {
     let started = Machine::start(configuration, len);
     let answer = started.answer;
-    let told = numbers::of_start(answer);
-    if told.0 != 0 {
+    let code = numbers::of_start(answer);
+    if code.0 != 0 {
         return Acted {
             session: session,
-            said: printing::refusal(told),
+            said: printing::refusal(code),
         };
     }
     if most < len {
@@ -197,12 +197,12 @@ fn start(session: Session, line: Line, area: &mut [u8]) -> Acted
 
 // ---- calls
 
-// How much of the area is the journal behind a call that was lent so much: a restart that isn't refused keeps what it was lent.
-fn len_after(form: usize, told: Numbers, len: usize, lent: usize) -> usize
+// How much of the area is the journal after a call that was lent so much: a restart that isn't refused keeps what it was lent.
+fn len_after(form: usize, code: Numbers, len: usize, lent: usize) -> usize
     requires { ⌜ lent ≤ len ⌝ }
     ensures { λ r. ⌜ r ≤ len ⌝ }
 {
-    if told.0 != 0 {
+    if code.0 != 0 {
         return len;
     }
     match form {
@@ -212,7 +212,7 @@ fn len_after(form: usize, told: Numbers, len: usize, lent: usize) -> usize
 }
 
 // What a call leaves that was lent so much, with its answer in numbers.
-fn behind(machine: Machine, line: Line, told: Numbers, len: usize, lent: usize) -> Acted
+fn after_call(machine: Machine, line: Line, code: Numbers, len: usize, lent: usize) -> Acted
     requires { ⌜ (Sound machine) × (lent ≤ len) ⌝ }
     ensures { λ r. ⌜ Ready len (r .session) ⌝ }
 {
@@ -220,9 +220,9 @@ fn behind(machine: Machine, line: Line, told: Numbers, len: usize, lent: usize) 
     Acted {
         session: Session {
             machine: machine,
-            len: len_after(form, told, len, lent),
+            len: len_after(form, code, len, lent),
         },
-        said: printing::answered(form, line.numbers[0], told),
+        said: printing::answer_said(form, line.numbers[0], code),
     }
 }
 
@@ -243,7 +243,7 @@ fn called(session: Session, call: Call, line: Line, area: &mut [u8], list: &mut 
     let called = machine::call(before, call, &mut area[..lent], list);
     let answer = called.answer;
     let after = called.machine;
-    behind(after, line, numbers::of_call(answer, list), len, lent)
+    after_call(after, line, numbers::of_call(answer, list), len, lent)
 }
 
 // The power fails in the step that is next.

@@ -1,2 +1,2 @@
-// What a Rust server calls: the door to a consumer, whose state stays in one place.
-pub mod door;
+// What a Rust server calls: a machine, whose state stays in one place.
+pub mod transitions;

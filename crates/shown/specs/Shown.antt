@@ -62,8 +62,8 @@ aheadOf c = cursor.view c .ahead
 -- generations, the redelivery counter, and where the next group goes
 abbrev pub numbersText : State → List (List ℕ)
 numbersText s =
-    filled (ascii " next # ceiling # counter # group #") (s .table .nextGeneration ∷ s .ceiling ∷ s .table .redeliveries ∷ s .seat .number ∷ [])
-    ++ filled (ascii " block #\n") (s .seat .block ∷ [])
+    filled (ascii " next # ceiling # counter # group #") (s .table .nextGeneration ∷ s .ceiling ∷ s .table .redeliveries ∷ s .next .number ∷ [])
+    ++ filled (ascii " block #\n") (s .next .block ∷ [])
 
 abbrev pub stateLine : State → List (List ℕ)
 stateLine s =

@@ -116,7 +116,7 @@ fn numbers(out: &mut [u8], at: usize, consumer: Consumer) -> usize
         consumer.table.next_generation.0,
         consumer.ceiling.0,
         wide(consumer.table.redeliveries_since_flush),
-        consumer.seat.number,
+        consumer.next.number,
     ];
     let next = fill(out, at, b" next # ceiling # counter # group #", 0, numbers);
     fill(
@@ -124,7 +124,7 @@ fn numbers(out: &mut [u8], at: usize, consumer: Consumer) -> usize
         next,
         b" block #\n",
         0,
-        [consumer.seat.block as u64, 0, 0, 0],
+        [consumer.next.block as u64, 0, 0, 0],
     )
 }
 

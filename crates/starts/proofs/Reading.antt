@@ -12,7 +12,7 @@ use Rattle.types.specs.Table.{Answer, answer}
 use Rattle.cursor.specs.Snapshot.{decodeCursor}
 use Rattle.attempt.specs.Snapshot.{decodeAttempts}
 use Rattle.journal.specs.Area.{blockAt}
-use Rattle.journal.specs.Answers.{headerIn, payloadOf, readPayload}
+use Rattle.journal.specs.Answers.{headerIn, payloadRead, readPayload}
 use Rattle.journal.specs.Blocks.{bodiesFor, cursorLength, attemptLength, ceilingOf, payloadLength}
 use Rattle.journal.specs.Walks.{payload}
 use Rattle.journal.specs.declared.Header.{Header}
@@ -21,9 +21,9 @@ use Rattle.journal.proofs.Area.{Inside, inside-says, partAt, part-is}
 use Rattle.journal.proofs.Group.{payload-length}
 use Rattle.consumer.specs.State.{State}
 use Rattle.consumer.specs.declared.Configuration.{Configuration}
-use Rattle.consumer.specs.declared.Seat.{Seat}
+use Rattle.consumer.specs.declared.NextGroup.{NextGroup}
 use Rattle.starts.specs.Restart.{fromSnapshots, readGroup}
-use Rattle.starts.specs.Starting.{keptOf, seatOf, Lies, ResumedIs}
+use Rattle.starts.specs.Starting.{keptOf, nextGroupOf, Lies, ResumedIs}
 use Rattle.starts.specs.declared.Started.{Started}
 
 module _ (a : List ℕ) (i : ℕ) (l : Lies a i) where
@@ -52,7 +52,7 @@ module _ (a : List ℕ) (i : ℕ) (l : Lies a i) where
     ceiling-said : h .ceiling ≡ ceilingOf (blockAt a i)
     ceiling-said = ap (λ (x : Header). x .ceiling) said
 
-    module _ (out after : List ℕ) (p : Payload) (room : length out ≡ 3606) (e : answer (payloadOf p) after ≡ readPayload i a out) where
+    module _ (out after : List ℕ) (p : Payload) (room : length out ≡ 3606) (e : answer (payloadRead p) after ≡ readPayload i a out) where
       lent : after ≡ payload a i ++ drop (payloadLength (blockAt a i)) out
       unfolding readPayload
       lent =
@@ -77,18 +77,18 @@ module _ (a : List ℕ) (i : ℕ) (l : Lies a i) where
           rw (n, cursor-said, lent, drop-append-le lc (payload a i) rest (omega (arith, payload-whole)))
           (take-append-le (attemptLength (blockAt a i)) (drop lc (payload a i)) rest (simp length-drop (omega (arith, payload-whole))))
 
-      module _ (s : Configuration) (seat : Seat) where
+      module _ (s : Configuration) (next : NextGroup) where
         same : fromSnapshots (keptOf s) (length a) (decodeCursor (take (h .«cursor_len») after))
             (decodeAttempts (take (h .«cursor_len» + h .«attempt_len» - h .«cursor_len») (drop (h .«cursor_len») after)))
-            (h .ceiling) (seatOf seat)
-            ≡ readGroup (keptOf s) a i (seatOf seat)
+            (h .ceiling) (nextGroupOf next)
+            ≡ readGroup (keptOf s) a i (nextGroupOf next)
         same = rw (first-part, second-part, ceiling-said)
 
         pub group-read : (r : Started)
             → ResumedIs s (length a)
             (fromSnapshots (keptOf s) (length a) (decodeCursor (take (h .«cursor_len») after))
             (decodeAttempts (take (h .«cursor_len» + h .«attempt_len» - h .«cursor_len») (drop (h .«cursor_len») after)))
-            (h .ceiling) (seatOf seat))
+            (h .ceiling) (nextGroupOf next))
             r
-            → ResumedIs s (length a) (readGroup (keptOf s) a i (seatOf seat)) r
+            → ResumedIs s (length a) (readGroup (keptOf s) a i (nextGroupOf next)) r
         group-read r = subst (λ (q : Result State). ResumedIs s (length a) q r) same

@@ -25,16 +25,16 @@ use Rattle.journal.specs.declared.Walked.the-variants as walked
 use Rattle.journal.proofs.Area.{says-inside, whole-says}
 use Rattle.journal.proofs.Sound.{Header}
 use Rattle.journal.proofs.Walks.{LastIs, at-once, behind, walk-ended}
-use Rattle.consumer.specs.State.{State, seatAt}
+use Rattle.consumer.specs.State.{State, nextGroupAt}
 use Rattle.consumer.specs.State as state
 use Rattle.consumer.specs.Valid.{Fits, Valid}
 use Rattle.consumer.specs.View.{view, Sound}
 use Rattle.consumer.specs.declared.Configuration.{Configuration}
-use Rattle.consumer.specs.declared.Seat.{Seat}
+use Rattle.consumer.specs.declared.NextGroup.{NextGroup}
 use Rattle.consumer.specs.declared.Consumer.{Consumer}
 use Rattle.consumer.proofs.Area.{area-taken}
 use Rattle.starts.specs.Restart.{startTable, readGroup, origin, fromWalk, restart}
-use Rattle.starts.specs.Starting.{configurationOf, keptOf, seatOf, startFault, FreshIs, StartedIs, Lies, WalkedIs, Parts, ResumedIs}
+use Rattle.starts.specs.Starting.{configurationOf, keptOf, nextGroupOf, startFault, FreshIs, StartedIs, Lies, WalkedIs, Parts, ResumedIs}
 use Rattle.starts.specs.declared.Started.{Started}
 use Rattle.starts.specs.declared.StartAnswer.{StartAnswer}
 use Rattle.starts.specs.declared.StartAnswer.the-variants as answers
@@ -69,7 +69,7 @@ module _ (a : List ℕ) where
   -- ## What each end of the walk is answered with
   module _ (s : Configuration) (w : Walked) where
     pub group-resumed : (l : LastGroup) (i k e : ℕ) → w ≡ walked.Stopped l k e → l ≡ At i
-        → (r : Started) → ResumedIs s (length a) (readGroup (keptOf s) a i (seatAt k e)) r
+        → (r : Started) → ResumedIs s (length a) (readGroup (keptOf s) a i (nextGroupAt k e)) r
         → ResumedIs s (length a) (fromWalk (keptOf s) a (walkedOf w)) r
     unfolding fromWalk
     group-resumed l i k e p q r h = rw (p, q) h
@@ -144,13 +144,13 @@ module _ (s : Configuration) (a : List ℕ) (d : StartAnswer) (e : startFault d 
     passed : Passed (startTable (configurationOf s) (length a))
     passed = first-none (startTable (configurationOf s) (length a)) untouched
 
-    pub walked-whole : (from : Seat) → seatOf from ≡ origin a
+    pub walked-whole : (from : NextGroup) → nextGroupOf from ≡ origin a
         → (w : Walked) → walkedOf w ≡ walkIn (length a / 512) (from .number) (from .block) a → WalkedIs a w
     unfolding walkIn
     walked-whole from begins w h =
         let area : badLength (length a) ≡ false = area-taken (length a) (kept-open s (length a) full f passed .area) in
         let all : min (blocks a) (blocks a) ≡ blocks a = omega arith in
-        record { area = area; is = rw (area, all, ap (λ (x : state.Seat). x .number) begins, ap (λ (x : state.Seat). x .block) begins) at h }
+        record { area = area; is = rw (area, all, ap (λ (x : state.NextGroup). x .number) begins, ap (λ (x : state.NextGroup). x .block) begins) at h }
 
     right-is : restart (configurationOf s) a ≡ fromWalk (keptOf s) a (walk a (blocks a) (origin a .number) (origin a .block))
     unfolding restart

@@ -32,10 +32,10 @@ use Rattle.lease.specs.declared.LeaseTable.{LeaseTable}
 use Rattle.consumer.specs.State.{State, stateOf}
 use Rattle.consumer.specs.View.{settingsOf}
 use Rattle.consumer.specs.declared.Configuration.{Configuration}
-use Rattle.consumer.specs.declared.Seat.{Seat}
+use Rattle.consumer.specs.declared.NextGroup.{NextGroup}
 use Rattle.consumer.specs.declared.Consumer.{Consumer}
 use Rattle.starts.specs.Restart.{unsettledCounts, fromSnapshots}
-use Rattle.starts.specs.Starting.{keptOf, FreshIs, CarriedIs, TableIs, consumerOf, seatOf, ResumedIs}
+use Rattle.starts.specs.Starting.{keptOf, FreshIs, CarriedIs, TableIs, consumerOf, nextGroupOf, ResumedIs}
 use Rattle.starts.specs.declared.Carried.{Carried}
 use Rattle.starts.specs.declared.StartAnswer.the-variants as answers
 
@@ -87,9 +87,9 @@ module _ (b : List ℕ) (r : cursors.Decoded) (is : restored.DecodedIs b r) wher
   cursor-read p = sym (is .is) ∙ ap (λ (d : cursors-decode.Decode). restored.decodeOf d (cursor.view (r .cursor))) p
 
 -- ## the two snapshots together
-module _ (s : Configuration) (size : ℕ) (cb ab : List ℕ) (ceiling : ℕ) (seat : Seat) where
+module _ (s : Configuration) (size : ℕ) (cb ab : List ℕ) (ceiling : ℕ) (next : NextGroup) where
   abbrev right : Result State
-  right = fromSnapshots (keptOf s) size (decodeCursor cb) (decodeAttempts ab) ceiling (seatOf seat)
+  right = fromSnapshots (keptOf s) size (decodeCursor cb) (decodeAttempts ab) ceiling (nextGroupOf next)
 
   pub cursor-refused : (error : SnapshotError) (c : Consumer) → decodeCursor cb ≡ refused (snapshotError error) → FreshIs s size c
       → ResumedIs s size right (record { answer = answers.Cursor error; consumer = c })
@@ -103,12 +103,12 @@ module _ (s : Configuration) (size : ℕ) (cb ab : List ℕ) (ceiling : ℕ) (se
     pub both-read : cursor.Sound k → (r : Decoded) (is : DecodedIs ab r) → Reads ab r is
         → (carried : Carried) → CarriedIs (unsettledCounts (cursor.view k) (entriesOf (take (r .count) (r .pairs)))) carried
         → (t : LeaseTable) → TableIs (s .lease) ceiling carried t
-        → ResumedIs s size right (record { answer = answers.Started; consumer = consumerOf k t ceiling seat size (s .settings) })
+        → ResumedIs s size right (record { answer = answers.Started; consumer = consumerOf k t ceiling next size (s .settings) })
     both-read sound r is q carried h t g =
         let counts = h .is ∙ ap (unsettledCounts (cursor.view k)) (q .pairs) in
         let table : lease.view t ≡ withCarried (startingAt (s .lease) ceiling) (unsettledCounts (cursor.view k) (q .list)) = g .is ∙ ap (withCarried (startingAt (s .lease) ceiling)) counts in
         record {
-          is = rw (e, q .bytes) (ap (λ (u : Table). done (stateOf (cursor.view k) u ceiling (seatOf seat) size (settingsOf (s .settings)))) table);
+          is = rw (e, q .bytes) (ap (λ (u : Table). done (stateOf (cursor.view k) u ceiling (nextGroupOf next) size (settingsOf (s .settings)))) table);
           beside =
               rw (e, q .bytes)
               (record {

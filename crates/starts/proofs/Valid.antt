@@ -31,7 +31,7 @@ use Rattle.journal.specs.Area.{blocks, blockAt}
 use Rattle.journal.specs.Blocks.{bodiesFor, ceilingOf, cursorLength, attemptLength, payloadLength, contentOf}
 use Rattle.journal.specs.Walks.{Stop, walk, contents, payload}
 use Rattle.journal.proofs.Walks.{walk-ended}
-use Rattle.consumer.specs.State.{Configuration, State, Seat, seatAt, countOr0}
+use Rattle.consumer.specs.State.{Configuration, State, NextGroup, nextGroupAt, countOr0}
 use Rattle.consumer.specs.Valid.{Fits, Valid}
 use Rattle.starts.specs.Restart.{startTable, resumed, fresh, start, isDropped, unsettledCounts, fromSnapshots, readGroup, origin, lastGroup, fromWalk, restart}
 use Rattle.starts.proofs.Open.{StartOpen, start-open, start-says}
@@ -45,15 +45,15 @@ pub record Carries (c : Cursor) (counts : List (Entry ℕ)) : Type 0 where
   pub unsettled : All (λ o n. settled c o ≡ false) counts
 
 -- where the next group goes lies in the area
-pub record SeatFits (size : ℕ) (seat : Seat) : Type 0 where
-  pub within : seat .block ≤ size / 512
-  pub numbered : seat .number ≤ suc (seat .block)
+pub record NextGroupFits (size : ℕ) (next : NextGroup) : Type 0 where
+  pub within : next .block ≤ size / 512
+  pub numbered : next .number ≤ suc (next .block)
 
 module _ (c : Configuration) (size : ℕ) (p : StartOpen c size) (f : Fits (c .settings)) where
-  pub resumed-valid : (cursor : Cursor) (counts : List (Entry ℕ)) (ceiling : ℕ) (seat : Seat)
-      → cursors.Valid cursor → Carries cursor counts → ceiling ≤ MAX → SeatFits size seat
-      → Valid (resumed c size cursor counts ceiling seat)
-  resumed-valid cursor counts ceiling seat v h fits at =
+  pub resumed-valid : (cursor : Cursor) (counts : List (Entry ℕ)) (ceiling : ℕ) (next : NextGroup)
+      → cursors.Valid cursor → Carries cursor counts → ceiling ≤ MAX → NextGroupFits size next
+      → Valid (resumed c size cursor counts ceiling next)
+  resumed-valid cursor counts ceiling next v h fits at =
       record {
         cursor = v;
         table = valid-carried (startingAt (c .lease) ceiling) counts (valid-start (c .lease) ceiling fits) (h .rising) (h .few) (h .counted);
@@ -72,7 +72,7 @@ module _ (c : Configuration) (size : ℕ) (p : StartOpen c size) (f : Fits (c .s
 
   pub fresh-valid : Valid (fresh c size)
   fresh-valid =
-      resumed-valid (resume 0) [] 0 (seatAt 1 0)
+      resumed-valid (resume 0) [] 0 (nextGroupAt 1 0)
       (record { fits = omega arith; above = tt; few = omega arith })
       (record { rising = tt; few = omega arith; counted = tt; unsettled = tt })
       (omega arith)
@@ -160,41 +160,41 @@ module _ (a : List ℕ) (h : IsBytes a) where
       bytes-take t (contents a (bodiesFor t) (suc i)) (bytes-contents (bodiesFor t) (suc i))
 
   module _ (c : Configuration) (s : State) (p : StartOpen c (length a)) (f : Fits (c .settings)) where
-    snapshots-valid : (x : Result Cursor) (y : Result (List (Entry ℕ))) (ceiling : ℕ) (seat : Seat)
+    snapshots-valid : (x : Result Cursor) (y : Result (List (Entry ℕ))) (ceiling : ℕ) (next : NextGroup)
         → ((cursor : Cursor) → x ≡ done cursor → cursors.Valid cursor)
         → ((cursor : Cursor) (l : List (Entry ℕ)) → y ≡ done l → Carries cursor (unsettledCounts cursor l))
-        → ceiling ≤ MAX → SeatFits (length a) seat → fromSnapshots c (length a) x y ceiling seat ≡ done s → Valid s
-    snapshots-valid (refused r) y ceiling seat v w fits at e = refused-not-done e
-    snapshots-valid (done cursor) (refused r) ceiling seat v w fits at e = refused-not-done e
-    snapshots-valid (done cursor) (done l) ceiling seat v w fits at e =
+        → ceiling ≤ MAX → NextGroupFits (length a) next → fromSnapshots c (length a) x y ceiling next ≡ done s → Valid s
+    snapshots-valid (refused r) y ceiling next v w fits at e = refused-not-done e
+    snapshots-valid (done cursor) (refused r) ceiling next v w fits at e = refused-not-done e
+    snapshots-valid (done cursor) (done l) ceiling next v w fits at e =
         rw (← done-inj e)
-        (resumed-valid c (length a) p f cursor (unsettledCounts cursor l) ceiling seat (v cursor refl) (w cursor l refl) fits at)
+        (resumed-valid c (length a) p f cursor (unsettledCounts cursor l) ceiling next (v cursor refl) (w cursor l refl) fits at)
 
-    group-valid : (i : ℕ) (seat : Seat) → SeatFits (length a) seat → readGroup c a i seat ≡ done s → Valid s
-    group-valid i seat at e =
+    group-valid : (i : ℕ) (next : NextGroup) → NextGroupFits (length a) next → readGroup c a i next ≡ done s → Valid s
+    group-valid i next at e =
         let lc = cursorLength (blockAt a i) in
         let la = attemptLength (blockAt a i) in
         let b : List ℕ = take lc (payload a i) in
         let d : List ℕ = take la (drop lc (payload a i)) in
         let hb : IsBytes b = bytes-take lc (payload a i) (bytes-payload i) in
         let hd : IsBytes d = bytes-take la (drop lc (payload a i)) (bytes-drop lc (payload a i) (bytes-payload i)) in
-        snapshots-valid (decodeCursor b) (decodeAttempts d) (ceilingOf (blockAt a i)) seat
+        snapshots-valid (decodeCursor b) (decodeAttempts d) (ceilingOf (blockAt a i)) next
         (λ cursor q. decoded-valid b cursor hb q)
         (λ cursor l q. carries cursor l (decoded-rising d l q) (decoded-fit d l hd q) (decoded-few d l q))
         (omega (arith, number-lt 8 8 (blockAt a i) (bytes-block i)))
         at
         e
 
-    last-valid : (last : Option ℕ) (seat : Seat) → SeatFits (length a) seat → lastGroup c a last seat ≡ done s → Valid s
-    last-valid none seat at e = rw (← done-inj e) (fresh-valid c (length a) p f)
-    last-valid (some i) seat at e = group-valid i seat at e
+    last-valid : (last : Option ℕ) (next : NextGroup) → NextGroupFits (length a) next → lastGroup c a last next ≡ done s → Valid s
+    last-valid none next at e = rw (← done-inj e) (fresh-valid c (length a) p f)
+    last-valid (some i) next at e = group-valid i next at e
 
     walked-valid : (w : Result Stop) → walk a (blocks a) (origin a .number) (origin a .block) ≡ w → fromWalk c a w ≡ done s → Valid s
     unfolding fromWalk
     walked-valid (refused r) q e = refused-not-done e
     walked-valid (done end) q e =
         let r = walk-ended a (blocks a) none (origin a .number) (origin a .block) (end .last) (end .number) (end .block) q in
-        last-valid (end .last) (seatAt (end .number) (end .block))
+        last-valid (end .last) (nextGroupAt (end .number) (end .block))
         (record { within = r .within (omega arith); numbered = omega (arith, r .numbered) })
         e
 

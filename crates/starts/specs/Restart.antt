@@ -17,7 +17,7 @@ use Rattle.lease.specs.State.{startingAt, withCarried}
 use Rattle.journal.specs.Area.{blocks, blockAt}
 use Rattle.journal.specs.Blocks.{cursorLength, attemptLength, ceilingOf}
 use Rattle.journal.specs.Walks.{Stop, walk, payload}
-use Rattle.consumer.specs.State.{Settings, Configuration, State, stateOf, Seat, seatAt, badArea}
+use Rattle.consumer.specs.State.{Settings, Configuration, State, stateOf, NextGroup, nextGroupAt, badArea}
 
 -- 1 to 3
 abbrev pub settingsTable : Settings → List Row
@@ -30,13 +30,13 @@ abbrev pub startTable : Configuration → ℕ → List Row
 startTable c n = settingsTable (c .settings) ++ (badArea n ⇒ BadArea ∷ [])
 
 -- a state without leases, whose generations begin at the ceiling, with the counter at 0
-abbrev pub resumed : Configuration → ℕ → Cursor → List (Entry ℕ) → ℕ → Seat → State
-resumed c size cursor counts ceiling seat =
-    stateOf cursor (withCarried (startingAt (c .lease) ceiling) counts) ceiling seat size (c .settings)
+abbrev pub resumed : Configuration → ℕ → Cursor → List (Entry ℕ) → ℕ → NextGroup → State
+resumed c size cursor counts ceiling next =
+    stateOf cursor (withCarried (startingAt (c .lease) ceiling) counts) ceiling next size (c .settings)
 
 -- nothing is settled, nothing carried, and the first group goes to block 0
 abbrev pub fresh : Configuration → ℕ → State
-fresh c size = resumed c size (resume 0) [] 0 (seatAt 1 0)
+fresh c size = resumed c size (resume 0) [] 0 (nextGroupAt 1 0)
 
 -- a fresh consumer for an area of so many zeroed bytes
 unfoldable pub start : Configuration → ℕ → Result State
@@ -53,33 +53,33 @@ unsettledCounts c [] = []
 unsettledCounts c (e ∷ l) = cond (isDropped c e) (unsettledCounts c l) (e ∷ unsettledCounts c l)
 
 -- from both snapshots as they were read, the cursor's first
-abbrev pub fromSnapshots : Configuration → ℕ → Result Cursor → Result (List (Entry ℕ)) → ℕ → Seat → Result State
-fromSnapshots c size (refused r) counts ceiling seat = refused r
-fromSnapshots c size (done cursor) (refused r) ceiling seat = refused r
-fromSnapshots c size (done cursor) (done counts) ceiling seat =
-    done (resumed c size cursor (unsettledCounts cursor counts) ceiling seat)
+abbrev pub fromSnapshots : Configuration → ℕ → Result Cursor → Result (List (Entry ℕ)) → ℕ → NextGroup → Result State
+fromSnapshots c size (refused r) counts ceiling next = refused r
+fromSnapshots c size (done cursor) (refused r) ceiling next = refused r
+fromSnapshots c size (done cursor) (done counts) ceiling next =
+    done (resumed c size cursor (unsettledCounts cursor counts) ceiling next)
 
 -- the group whose header stands at block i: 6 to 19
-abbrev pub readGroup : Configuration → List ℕ → ℕ → Seat → Result State
-readGroup c a i seat =
+abbrev pub readGroup : Configuration → List ℕ → ℕ → NextGroup → Result State
+readGroup c a i next =
     fromSnapshots c (length a)
     (decodeCursor (take (cursorLength (blockAt a i)) (payload a i)))
     (decodeAttempts (take (attemptLength (blockAt a i)) (drop (cursorLength (blockAt a i)) (payload a i))))
-    (ceilingOf (blockAt a i)) seat
+    (ceilingOf (blockAt a i)) next
 
 -- where the walk begins, and the group number that is expected there
-abbrev pub origin : List ℕ → Seat
-origin a = seatAt 1 0
+abbrev pub origin : List ℕ → NextGroup
+origin a = nextGroupAt 1 0
 
--- what the last group says, with the seat behind it, or a fresh consumer where there is none
-abbrev pub lastGroup : Configuration → List ℕ → Option ℕ → Seat → Result State
-lastGroup c a none seat = done (fresh c (length a))
-lastGroup c a (some i) seat = readGroup c a i seat
+-- what the last group says, with where the next one goes, or a fresh consumer where there is none
+abbrev pub lastGroup : Configuration → List ℕ → Option ℕ → NextGroup → Result State
+lastGroup c a none next = done (fresh c (length a))
+lastGroup c a (some i) next = readGroup c a i next
 
 -- from where the walk ended: 5, or the last group
 unfoldable pub fromWalk : Configuration → List ℕ → Result Stop → Result State
 fromWalk c a (refused r) = refused r
-fromWalk c a (done stop) = lastGroup c a (stop .last) (seatAt (stop .number) (stop .block))
+fromWalk c a (done stop) = lastGroup c a (stop .last) (nextGroupAt (stop .number) (stop .block))
 
 unfoldable pub restart : Configuration → List ℕ → Result State
 restart c a =

@@ -31,7 +31,7 @@ use Rattle.consumer.specs.State as state
 use Rattle.consumer.specs.View.{settingsOf, view, Sound}
 use Rattle.consumer.specs.declared.Settings.{Settings}
 use Rattle.consumer.specs.declared.Configuration.{Configuration}
-use Rattle.consumer.specs.declared.Seat.{Seat}
+use Rattle.consumer.specs.declared.NextGroup.{NextGroup}
 use Rattle.consumer.specs.declared.Consumer.{Consumer}
 use Rattle.starts.specs.Restart.{fresh, origin}
 use Rattle.starts.specs.declared.Carried.{Carried}
@@ -102,19 +102,19 @@ pub record TableIs (c : LeaseConfig) (ceiling : ℕ) (carried : Carried) (r : Le
   pub none : r .len ≡ 0
   pub len : r .«carried_len» ≡ carried .len
 
-abbrev pub consumerOf : AckCursor → LeaseTable → ℕ → Seat → ℕ → Settings → Consumer
-consumerOf cursor table ceiling seat size settings =
+abbrev pub consumerOf : AckCursor → LeaseTable → ℕ → NextGroup → ℕ → Settings → Consumer
+consumerOf cursor table ceiling next size settings =
     record {
       cursor = cursor;
       table = table;
       ceiling = record { 0 = ceiling };
-      seat = seat;
+      next = next;
       «area_len» = size;
       settings = settings;
     }
 
-abbrev pub seatOf : Seat → state.Seat
-seatOf seat = state.seatAt (seat .number) (seat .block)
+abbrev pub nextGroupOf : NextGroup → state.NextGroup
+nextGroupOf next = state.nextGroupAt (next .number) (next .block)
 
 -- a group lies in the area, with its header at a block, and its snapshots have lengths that 01 allows
 pub record Lies (a : List ℕ) (i : ℕ) : Type 0 where

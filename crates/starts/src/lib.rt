@@ -11,12 +11,12 @@ ghost use Rattle.attempt.specs.Snapshot.{decodeAttempts};
 ghost use Rattle.journal.specs.Answers.{walkedOf};
 ghost use Rattle.consumer.specs.State.{badArea};
 ghost use Rattle.starts.specs.Restart.{startTable, start, isDropped, unsettledCounts, fromSnapshots, readGroup, origin, fromWalk, restart};
-ghost use Rattle.starts.specs.Starting.{configurationOf, startFault, FreshIs, StartedIs, CarriedIs, TableIs, consumerOf, keptOf, seatOf, ResumedIs, Lies, WalkedIs};
+ghost use Rattle.starts.specs.Starting.{configurationOf, startFault, FreshIs, StartedIs, CarriedIs, TableIs, consumerOf, keptOf, nextGroupOf, ResumedIs, Lies, WalkedIs};
 use attempt::AttemptSnapshotError;
 use attempt::Decode;
 use consumer::Configuration;
 use consumer::Consumer;
-use consumer::Seat;
+use consumer::NextGroup;
 use cursor::AckCursor;
 use cursor::Decode as Snapshot;
 use cursor::SnapshotError;
@@ -88,7 +88,7 @@ fn fresh(configuration: Configuration, area_len: usize) -> Consumer
         cursor: AckCursor::new(),
         table: LeaseTable::starting_at(lease, Generation(0)),
         ceiling: Generation(0),
-        seat: Seat {
+        next: NextGroup {
             number: 1,
             block: 0,
         },
@@ -172,16 +172,16 @@ fn resumed(
     cursor: AckCursor,
     table: LeaseTable,
     ceiling: u64,
-    seat: Seat,
+    next: NextGroup,
 ) -> Consumer
-    ensures { λ r. ⌜ r ≡ consumerOf cursor table ceiling seat «area_len» (configuration .settings) ⌝ }
+    ensures { λ r. ⌜ r ≡ consumerOf cursor table ceiling next «area_len» (configuration .settings) ⌝ }
 {
     let settings = configuration.settings;
     Consumer {
         cursor: cursor,
         table: table,
         ceiling: Generation(ceiling),
-        seat: seat,
+        next: next,
         area_len: area_len,
         settings: settings,
     }
@@ -194,9 +194,9 @@ fn read_snapshots<'a>(
     cursor_bytes: &'a [u8],
     attempt_bytes: &'a [u8],
     ceiling: u64,
-    seat: Seat,
+    next: NextGroup,
 ) -> Started
-    ensures { λ r. ⌜ ResumedIs configuration «area_len» (fromSnapshots (keptOf configuration) «area_len» (decodeCursor (now («cursor_bytes» .entry))) (decodeAttempts (now («attempt_bytes» .entry))) ceiling (seatOf seat)) r ⌝ }
+    ensures { λ r. ⌜ ResumedIs configuration «area_len» (fromSnapshots (keptOf configuration) «area_len» (decodeCursor (now («cursor_bytes» .entry))) (decodeAttempts (now («attempt_bytes» .entry))) ceiling (nextGroupOf next)) r ⌝ }
 {
     let restored = AckCursor::decode_snapshot(cursor_bytes);
     let outcome = restored.outcome;
@@ -221,7 +221,7 @@ fn read_snapshots<'a>(
     let table = resumed_table(lease, ceiling, carried);
     Started {
         answer: StartAnswer::Started,
-        consumer: resumed(configuration, area_len, cursor, table, ceiling, seat),
+        consumer: resumed(configuration, area_len, cursor, table, ceiling, next),
     }
 }
 
@@ -233,10 +233,10 @@ fn read_both(
     middle: usize,
     end: usize,
     ceiling: u64,
-    seat: Seat,
+    next: NextGroup,
 ) -> Started
     requires { ⌜ (middle ≤ end) × (end ≤ length (now bytes)) ⌝ }
-    ensures { λ r. ⌜ ResumedIs configuration «area_len» (fromSnapshots (keptOf configuration) «area_len» (decodeCursor (take middle (now (bytes .entry)))) (decodeAttempts (take (end - middle) (drop middle (now (bytes .entry))))) ceiling (seatOf seat)) r ⌝ }
+    ensures { λ r. ⌜ ResumedIs configuration «area_len» (fromSnapshots (keptOf configuration) «area_len» (decodeCursor (take middle (now (bytes .entry)))) (decodeAttempts (take (end - middle) (drop middle (now (bytes .entry))))) ceiling (nextGroupOf next)) r ⌝ }
 {
     read_snapshots(
         configuration,
@@ -244,14 +244,14 @@ fn read_both(
         &bytes[..middle],
         &bytes[middle..end],
         ceiling,
-        seat,
+        next,
     )
 }
 
 // The consumer of the group whose header stands at a block.
-fn read_group(configuration: Configuration, area: &[u8], at: usize, seat: Seat) -> Started
+fn read_group(configuration: Configuration, area: &[u8], at: usize, next: NextGroup) -> Started
     requires { ⌜ Lies (now area) at ⌝ }
-    ensures { λ r. ⌜ ResumedIs configuration (length (now (area .entry))) (readGroup (keptOf configuration) (now (area .entry)) at (seatOf seat)) r ⌝ }
+    ensures { λ r. ⌜ ResumedIs configuration (length (now (area .entry))) (readGroup (keptOf configuration) (now (area .entry)) at (nextGroupOf next)) r ⌝ }
 {
     let from = 512 * at;
     let to = from + 512;
@@ -268,7 +268,7 @@ fn read_group(configuration: Configuration, area: &[u8], at: usize, seat: Seat) 
         middle,
         end,
         ceiling,
-        seat,
+        next,
     )
 }
 
@@ -285,11 +285,11 @@ fn resume_from(configuration: Configuration, area: &[u8], walked: Walked) -> Sta
             block,
         } => match last {
             LastGroup::At(at) => {
-                let seat = Seat {
+                let next = NextGroup {
                     number: number,
                     block: block,
                 };
-                return read_group(configuration, area, at, seat);
+                return read_group(configuration, area, at, next);
             }
             LastGroup::None => {
                 return Started {
@@ -314,10 +314,10 @@ fn resume_from(configuration: Configuration, area: &[u8], walked: Walked) -> Sta
 }
 
 // Where the walk over an area begins, and the group number that is expected there.
-pub fn origin(area: &[u8]) -> Seat
-    ensures { λ r. ⌜ seatOf r ≡ origin (now (area .entry)) ⌝ }
+pub fn origin(area: &[u8]) -> NextGroup
+    ensures { λ r. ⌜ nextGroupOf r ≡ origin (now (area .entry)) ⌝ }
 {
-    Seat {
+    NextGroup {
         number: 1,
         block: 0,
     }

@@ -1,6 +1,6 @@
 pub mod Columns
 pub mod Search
 pub mod Merge
-mod Turns
+mod Gaps
 pub mod Places
 pub mod Carried

@@ -1,5 +1,5 @@
 // Lines out of a lent buffer. `take_line` finds the next line among the bytes that are there, and says where more are needed;
-// `refill` reads them. A line that doesn't fit the buffer is passed over up to its end and answered as too long.
+// `refill` reads them. A line that doesn't fit the buffer is skipped up to its end and answered as too long.
 ghost use mathlib.Core.Path.{_≡_};
 ghost use Prim.Native.Nat.{_-_, _≤_};
 ghost use lib.ListN.{length, take, drop, getD};

@@ -33,9 +33,9 @@ module _ {M : Type 1} (𝓤 : URA M) (H : Heap 𝓤) (A : Atoms 𝓤) where
   abbrev pub Result : (X : RattleType) → (X .Denot → SProp 𝓤) → Val → Item 𝓤
   Result X P w = later (some (λ (r : X .Denot). (‵ ftrue ⊛ ‵ (X .own r (w ∷ []))) ⊛ raw (P r)))
 
-  pub told : Given 𝓤 H A → (X : RattleType) (P : X .Denot → SProp 𝓤) (F : X .Denot → Type 0) → ((r : X .Denot) → ent 𝓤 (P r) (fact 𝓤 (F r))) → (w : Val)
+  pub answers-as : Given 𝓤 H A → (X : RattleType) (P : X .Denot → SProp 𝓤) (F : X .Denot → Type 0) → ((r : X .Denot) → ent 𝓤 (P r) (fact 𝓤 (F r))) → (w : Val)
       → ent 𝓤 (mean 𝓤 H A (Result X P w)) (mean 𝓤 H A (Answer X F w))
-  told W X P F said w =
+  answers-as W X P F said w =
       qed W (Result X P w ∷ []) ∵ updating ! $ await ! tt $ pick ! (λ r. split ! $ move ! (1 ∷ []) $ use1 W (raw (fact 𝓤 (F r))) (said r) $ heard ! (F r) (λ p. split ! $ drop ! $
       facts ! X (Is X) (shows 𝓤 H A X) r (w ∷ []) (λ is. at-once ! $
       suffices ! _ (exI 𝓤 (λ (y : X .Denot). guard 𝓤 (Is X y (w ∷ []) × F y) (emp 𝓤)) r) $ check ! (is, p) $ nothing ! $ done !)))

@@ -65,7 +65,7 @@ use Rattle.types.proofs.lent.Listed.Laws as E′
 use Rattle.types.proofs.Scan.{map-set}
 use Rattle.types.proofs.Listing.{Written, counted-fits, none-written, one-more, all-written}
 use Rattle.types.proofs.Walk.{tests}
-use Rattle.types.proofs.Asking.{Answers, told, asks}
+use Rattle.types.proofs.Asking.{Answers, answers-as, asks}
 use Rattle.types.proofs.lent.count_of as count-of
 use Rattle.types.proofs.lent.count_of.Symbol.{name as #count-of}
 
@@ -165,7 +165,7 @@ module _ (S : Declared) (LS : LL.Laws S) (T : Declared) (LT : LL.Laws T) (PT : P
         record {
           Q = Count .post to;
           called = via 𝓤 (Count .pre to) (qed W [] ∵ nothing ! $ owned ! E.the-row (Is E.the-row) ((EL.makes E.the-type E′.the-plain) 𝓤 H A) r _ is $ fjoin ! $ nothing ! $ join ! $ nothing ! $ move ! (1 ∷ 0 ∷ []) $ done !) (known to);
-          gives = told 𝓤 H A W usize (ensured 𝓤 H A count-of.ended (count-of.clauses 𝓤 H A at-mem run) tt (r, tt) tt) (λ n. n ≡ counted (listedOf r))
+          gives = answers-as 𝓤 H A W usize (ensured 𝓤 H A count-of.ended (count-of.clauses 𝓤 H A at-mem run) tt (r, tt) tt) (λ n. n ≡ counted (listedOf r))
               (λ n. exE 𝓤 _ (λ ws. snd∗ 𝓤 (sem 𝓤 H A (lasts count-of.ended tt (r, tt) ws)) (fact 𝓤 (n ≡ counted (listedOf r)))));
         }
 

@@ -21,7 +21,7 @@ pub passed-none : (ws : List Row) → Passed ws → first ws ≡ none
 passed-none [] p = refl
 passed-none (w ∷ ws) p = rw (p .0) (passed-none ws (p .1))
 
--- a test that holds behind tests that failed is the one answered
+-- a test that holds after tests that failed is the one answered
 pub first-met : (ws vs : List Row) (w : Row) → Passed ws → w .test ≡ true → first (ws ++ w ∷ vs) ≡ some (w .refusal)
 first-met [] vs w p t = rw t
 first-met (u ∷ ws) vs w p t = rw (p .0) (first-met ws vs w (p .1) t)

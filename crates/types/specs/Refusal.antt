@@ -48,46 +48,46 @@ pub data Refusal : Type 0 where
   Held : Refusal
   JournalFull : Refusal
 
--- what a caller is told: 01's number, which is 0 where nothing was refused, and the values
-pub record Told : Type 0 where
+-- the code of an answer: 01's number, which is 0 where nothing was refused, and the values
+pub record Code : Type 0 where
   pub number : ℕ
   pub values : List ℕ
 
-abbrev pub told : ℕ → List ℕ → Told
-told n vs = record { number = n; values = vs }
+abbrev pub code : ℕ → List ℕ → Code
+code n vs = record { number = n; values = vs }
 
-abbrev pub numbered : Refusal → Told
-numbered UnlimitedDeliverNotAllowed = told 1 []
-numbered TooManySteps = told 2 []
-numbered ZeroThreshold = told 3 []
-numbered BadArea = told 4 []
-numbered (Damaged block) = told 5 (block ∷ [])
-numbered CursorTruncated = told 6 []
-numbered (CursorBadLength len) = told 7 (len ∷ [])
-numbered (CursorUnsupportedVersion version) = told 8 (version ∷ [])
-numbered CursorBadCrc = told 9 []
-numbered (EmptyRange start end) = told 10 (start ∷ end ∷ [])
-numbered (NotSortedDisjointAndAboveCommitted start prev-end) = told 11 (start ∷ prev-end ∷ [])
-numbered TooManyRuns = told 12 []
-numbered AttemptTruncated = told 13 []
-numbered (AttemptUnsupportedVersion version) = told 14 (version ∷ [])
-numbered (AttemptBadLength len) = told 15 (len ∷ [])
-numbered (CountMismatch declared actual) = told 16 (declared ∷ actual ∷ [])
-numbered AttemptBadCrc = told 17 []
-numbered (NotSorted offset prev-offset) = told 18 (offset ∷ prev-offset ∷ [])
-numbered TooManyPairs = told 19 []
-numbered OutTooShort = told 20 []
-numbered LastOffset = told 21 []
-numbered Settled = told 22 []
-numbered InFlight = told 23 []
-numbered Fenced = told 24 []
-numbered Exhausted = told 25 []
-numbered CheckpointDue = told 26 []
-numbered Full = told 27 []
-numbered CapReached = told 28 []
-numbered Shed = told 29 []
-numbered Held = told 30 []
-numbered JournalFull = told 31 []
+abbrev pub numbered : Refusal → Code
+numbered UnlimitedDeliverNotAllowed = code 1 []
+numbered TooManySteps = code 2 []
+numbered ZeroThreshold = code 3 []
+numbered BadArea = code 4 []
+numbered (Damaged block) = code 5 (block ∷ [])
+numbered CursorTruncated = code 6 []
+numbered (CursorBadLength len) = code 7 (len ∷ [])
+numbered (CursorUnsupportedVersion version) = code 8 (version ∷ [])
+numbered CursorBadCrc = code 9 []
+numbered (EmptyRange start end) = code 10 (start ∷ end ∷ [])
+numbered (NotSortedDisjointAndAboveCommitted start prev-end) = code 11 (start ∷ prev-end ∷ [])
+numbered TooManyRuns = code 12 []
+numbered AttemptTruncated = code 13 []
+numbered (AttemptUnsupportedVersion version) = code 14 (version ∷ [])
+numbered (AttemptBadLength len) = code 15 (len ∷ [])
+numbered (CountMismatch declared actual) = code 16 (declared ∷ actual ∷ [])
+numbered AttemptBadCrc = code 17 []
+numbered (NotSorted offset prev-offset) = code 18 (offset ∷ prev-offset ∷ [])
+numbered TooManyPairs = code 19 []
+numbered OutTooShort = code 20 []
+numbered LastOffset = code 21 []
+numbered Settled = code 22 []
+numbered InFlight = code 23 []
+numbered Fenced = code 24 []
+numbered Exhausted = code 25 []
+numbered CheckpointDue = code 26 []
+numbered Full = code 27 []
+numbered CapReached = code 28 []
+numbered Shed = code 29 []
+numbered Held = code 30 []
+numbered JournalFull = code 31 []
 
 -- refusals of one number differ in their values alone: they have as many, and with the same ones they are the same
 pub record OneKind (r q : Refusal) : Type 0 where
@@ -109,6 +109,6 @@ optional none = []
 optional (some n) = n ∷ []
 
 -- the number and the values of an answer, given the values of its outcomes
-abbrev pub answered : {A : Type 0} → (A → List ℕ) → Result A → Told
+abbrev pub answered : {A : Type 0} → (A → List ℕ) → Result A → Code
 answered values (refused r) = numbered r
-answered values (done a) = told 0 (values a)
+answered values (done a) = code 0 (values a)

@@ -1,4 +1,4 @@
--- The calls at the places of their numbers: behind a list there is none, and the door's list has the calls on the state in front.
+-- The calls at the places of their numbers: behind a list there is none, and the machine's list has the calls on the state in front.
 -- Assumes nothing.
 use Prim.Native.Nat.{ℕ, zero, suc, _≤_, _<_}
 use native.Mathlib.Omega.{arith}

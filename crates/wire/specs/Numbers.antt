@@ -5,13 +5,13 @@ use mathlib.Core.Bool.{Bool}
 use mathlib.Core.List.{List, [], _∷_}
 use mathlib.Core.Option.{Option, none, some}
 use lib.ListN.{length, getD}
-use Rattle.types.specs.Refusal.{Told, told, answered}
+use Rattle.types.specs.Refusal.{Code, code, answered}
 use Rattle.delivery.specs.Policy.{Destination, Deliver, DeadLetter}
 use Rattle.consumer.specs.Calls.{HandOut}
 use Rattle.consumer.specs.Questions.{Waiting, Committed, IsSettled, LeaseOf, CountOf, InFlight, IsDue, BlocksLeft, bit}
-use Rattle.checkpoint.specs.Checkpoint.{Wrote}
-use Rattle.machine.specs.Calls.{Ask, claim, ack, term, nack, progress, commit, look, Call, ask, begin, step, restart, Event, claimed, acked, termed, nacked, extended, committed, looked, begun, stepped, restarted, failed}
-use Rattle.machine.specs.Door.{Turn}
+use Rattle.checkpoint.specs.Checkpoint.{BlockWritten}
+use Rattle.machine.specs.Calls.{Ask, claim, ack, term, nack, progress, commit, look, Call, ask, begin, step, restart, Event, claimed, acked, termed, nacked, progressed, committed, looked, begun, stepped, restarted, failed}
+use Rattle.machine.specs.Transitions.{After}
 use Rattle.machine.specs.Answers.{askOf, callOf}
 use Rattle.wire.specs.declared.numbers.Numbers.{Numbers}
 use Rattle.wire.specs.declared.kinds.Asking.{Asking}
@@ -44,7 +44,7 @@ abbrev pub callingOf : ℕ → Calling → Option Call
 callingOf room (calling.Call q) = some (callOf room q)
 callingOf room calling.None = none
 
--- the calls of the door: those on the state, and behind them these
+-- the calls on a machine: those on the state, and behind them these
 abbrev pub asCalls : List Ask → List Call
 asCalls [] = begin ∷ step ∷ restart ∷ []
 asCalls (q ∷ l) = ask q ∷ asCalls l
@@ -57,12 +57,12 @@ abbrev pub numbers : ℕ → ℕ → ℕ → ℕ → ℕ → ℕ → Numbers
 numbers number count first second third fourth = record { 0 = number; 1 = count; 2 = first; 3 = second; 4 = third; 5 = fourth }
 
 -- 01's number, how many values there are, and the first four of them, 0 where there are fewer
-abbrev pub numbersOf : Told → Numbers
+abbrev pub numbersOf : Code → Numbers
 numbersOf t = numbers (t .number) (length (t .values)) (getD (t .values) 0 0) (getD (t .values) 1 0) (getD (t .values) 2 0) (getD (t .values) 3 0)
 
 -- a call that can't be made where it stands, or no call
 abbrev pub notNow : Numbers
-notNow = numbersOf (told 255 [])
+notNow = numbersOf (code 255 [])
 
 abbrev pub deadLetter : Destination → ℕ
 deadLetter Deliver = 0
@@ -81,7 +81,7 @@ oneValue n = n ∷ []
 abbrev pub bitValue : Bool → List ℕ
 bitValue b = bit b ∷ []
 
-abbrev pub wroteValues : Wrote → List ℕ
+abbrev pub wroteValues : BlockWritten → List ℕ
 wroteValues w = w .block ∷ bit (w .last) ∷ []
 
 abbrev pub values : List ℕ → List ℕ
@@ -93,15 +93,15 @@ seenNumbers (claimed o now r) = numbersOf (answered handOutValues r)
 seenNumbers (acked o g r) = numbersOf (answered noValues r)
 seenNumbers (termed o g r) = numbersOf (answered noValues r)
 seenNumbers (nacked o g now d r) = numbersOf (answered oneValue r)
-seenNumbers (extended o g now r) = numbersOf (answered oneValue r)
+seenNumbers (progressed o g now r) = numbersOf (answered oneValue r)
 seenNumbers (committed bound r) = numbersOf (answered bitValue r)
 seenNumbers (looked q r) = numbersOf (answered values r)
 seenNumbers (begun r) = numbersOf (answered oneValue r)
 seenNumbers (stepped r) = numbersOf (answered wroteValues r)
 seenNumbers (restarted r) = numbersOf (answered noValues r)
-seenNumbers (failed new) = numbersOf (told 0 [])
+seenNumbers (failed new) = numbersOf (code 0 [])
 
 -- what a call made, `none` where it can't be made or is no call
-abbrev pub numbersIn : Option Turn → Numbers
+abbrev pub numbersIn : Option After → Numbers
 numbersIn none = notNow
 numbersIn (some t) = seenNumbers (t .event)

@@ -16,7 +16,7 @@ pub enum Asking {
     None,
 }
 
-// A call of the door, or a number that is none.
+// A call on a machine, or a number that is none.
 pub enum Calling {
     Call(Call),
     None,
@@ -59,7 +59,7 @@ pub fn ask_of(kind: u64, a: u64, b: u64, c: u64, d: u64) -> Asking
     }
 }
 
-// The call of the door that a number is.
+// The call on a machine that a number is.
 pub fn call_of(kind: u64, a: u64, b: u64, c: u64, d: u64) -> Calling
     ensures { λ r. ⌜ ((room : ℕ) → callingOf room r ≡ callAt kind a b c d room) ⌝ }
 {

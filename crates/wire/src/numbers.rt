@@ -1,4 +1,4 @@
-// Answers in numbers: for each answer of the door, 01's number with its values.
+// Answers in numbers: for each answer of a machine, 01's number with its values.
 ghost use mathlib.Core.Path.{_≡_};
 ghost use Prim.Native.Nat.{ℕ};
 ghost use mathlib.Core.List.{List};
@@ -14,7 +14,7 @@ ghost use Rattle.starts.specs.Starting.{startFault};
 ghost use Rattle.lease.specs.Lookup.{leaseAt};
 ghost use Rattle.machine.specs.Answers.{begunOf, firstPlaces, listOf, replyOf, Arguments, seenOf};
 ghost use Rattle.machine.specs.Calls.{Call};
-ghost use Rattle.machine.specs.View.{turnOf};
+ghost use Rattle.machine.specs.View.{afterOf};
 ghost use Rattle.machine.specs.declared.Machine.{Machine};
 ghost use Rattle.wire.specs.Numbers.{numbersOf, values, handOutValues, noValues, oneValue, bitValue, wroteValues, seenNumbers, numbersIn};
 use attempt::AttemptSnapshotError;
@@ -279,15 +279,15 @@ pub fn of_ask(answer: AskAnswer, out: &[u64]) -> Numbers
         AskAnswer::Acked(answer) => of_settle(answer),
         AskAnswer::Termed(answer) => of_settle(answer),
         AskAnswer::Nacked(answer) => of_nack(answer),
-        AskAnswer::Extended(answer) => of_progress(answer),
+        AskAnswer::Progressed(answer) => of_progress(answer),
         AskAnswer::Committed(answer) => of_commit(answer),
         AskAnswer::Looked(reply) => of_reply(reply, out),
     }
 }
 
-// A call of the door; 255 where it can't be made where it stands.
+// A call on a machine; 255 where it can't be made where it stands.
 pub fn of_call(answer: CallAnswer, out: &[u64]) -> Numbers
-    ensures { λ r. ⌜ ((q : Call) (m : Machine) (a : List ℕ) → r ≡ numbersIn (turnOf q answer m a (now (out .entry)))) ⌝ }
+    ensures { λ r. ⌜ ((q : Call) (m : Machine) (a : List ℕ) → r ≡ numbersIn (afterOf q answer m a (now (out .entry)))) ⌝ }
 {
     match answer {
         CallAnswer::Asked(answer) => of_ask(answer, out),

@@ -19,18 +19,18 @@ pub struct Both {
 /// An answer of either side: the number and the values, and lent memory.
 #[derive(Debug, PartialEq)]
 struct Answer<M> {
-    told: [u64; 3],
+    code: [u64; 3],
     lent: M,
 }
 
-fn told(numbers: &[u64]) -> [u64; 3] {
-    let mut told = [0; 3];
-    told[..numbers.len()].copy_from_slice(numbers);
-    told
+fn code(numbers: &[u64]) -> [u64; 3] {
+    let mut code = [0; 3];
+    code[..numbers.len()].copy_from_slice(numbers);
+    code
 }
 
-fn given(told: rattle::Told) -> [u64; 3] {
-    [told.number, told.first, told.second]
+fn given(code: rattle::Code) -> [u64; 3] {
+    [code.number, code.first, code.second]
 }
 
 /// Two columns at the front of lent ones, where both fit.
@@ -38,7 +38,7 @@ fn listed(values: &[u64], left: &[u64], right: &[u64], lent: (Vec<u64>, Vec<u64>
     let (mut l, mut r) = lent;
     if l.len() < left.len() || r.len() < right.len() {
         return Answer {
-            told: told(&[codecs::OUT_TOO_SHORT]),
+            code: code(&[codecs::OUT_TOO_SHORT]),
             lent: (l, r),
         };
     }
@@ -47,7 +47,7 @@ fn listed(values: &[u64], left: &[u64], right: &[u64], lent: (Vec<u64>, Vec<u64>
     let mut numbers = vec![0];
     numbers.extend(values);
     Answer {
-        told: told(&numbers),
+        code: code(&numbers),
         lent: (l, r),
     }
 }
@@ -66,11 +66,11 @@ impl Both {
 
     pub fn check(&mut self, bytes: &[u8]) {
         let original = Answer {
-            told: told(&[ironbus::crc::crc32c(bytes).into()]),
+            code: code(&[ironbus::crc::crc32c(bytes).into()]),
             lent: (),
         };
         let rattle = Answer {
-            told: told(&[rattle::crc32c(bytes).into()]),
+            code: code(&[rattle::crc32c(bytes).into()]),
             lent: (),
         };
         self.same(original, rattle, || format!("the check of {bytes:?}"));
@@ -83,7 +83,7 @@ impl Both {
         let answer = rattle::decode_cursor(bytes, &mut starts, &mut ends);
         let original = match codecs::decode_cursor(bytes) {
             Err(refusal) => Answer {
-                told: told(&refusal),
+                code: code(&refusal),
                 lent,
             },
             Ok(cursor) => {
@@ -94,7 +94,7 @@ impl Both {
         self.same(
             original,
             Answer {
-                told: given(answer),
+                code: given(answer),
                 lent: (starts, ends),
             },
             || format!("cursor bytes {bytes:?} into {places:?} places"),
@@ -112,13 +112,13 @@ impl Both {
             Ok(cursor) => codecs::encode_cursor(&cursor, &mut expected, at as u64),
         };
         let original = Answer {
-            told: told(&refusal),
+            code: code(&refusal),
             lent: expected,
         };
         self.same(
             original,
             Answer {
-                told: given(answer),
+                code: given(answer),
                 lent: out,
             },
             || format!("a cursor at {committed} with {ranges:?} into {len} bytes at {at}"),
@@ -139,7 +139,7 @@ impl Both {
         let answer = rattle::decode_attempts(bytes, &mut offsets, &mut attempts);
         let original = match codecs::decode_attempts(bytes) {
             Err(refusal) => Answer {
-                told: told(&refusal),
+                code: code(&refusal),
                 lent,
             },
             Ok(pairs) => {
@@ -152,7 +152,7 @@ impl Both {
         self.same(
             original,
             Answer {
-                told: given(answer),
+                code: given(answer),
                 lent: (offsets, attempts),
             },
             || format!("attempt bytes {bytes:?} into {places:?} places"),
@@ -167,13 +167,13 @@ impl Both {
         let mut expected = lent_bytes(len);
         let refusal = codecs::encode_attempts(pairs, &mut expected, at as u64);
         let original = Answer {
-            told: told(&refusal),
+            code: code(&refusal),
             lent: expected,
         };
         self.same(
             original,
             Answer {
-                told: given(answer),
+                code: given(answer),
                 lent: out,
             },
             || format!("pairs {pairs:?} into {len} bytes at {at}"),

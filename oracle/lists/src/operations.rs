@@ -104,10 +104,10 @@ pub fn numbers(line: &str) -> [u64; OPERATION] {
 }
 
 /// An answer as numbers: how many it has, each of them, and the digest.
-pub fn answer(told: &[u64], digest: u32) -> [u64; ANSWER] {
+pub fn answer(values: &[u64], digest: u32) -> [u64; ANSWER] {
     let mut numbers = [0; ANSWER];
-    numbers[0] = told.len() as u64;
-    numbers[1..=told.len()].copy_from_slice(told);
+    numbers[0] = values.len() as u64;
+    numbers[1..=values.len()].copy_from_slice(values);
     numbers[ANSWER - 1] = digest.into();
     numbers
 }
@@ -117,7 +117,7 @@ pub fn line_of(answer: &[u64; ANSWER]) -> String {
     if answer[0] == 0 {
         return "bad".to_string();
     }
-    let told = &answer[1..=answer[0].min(4) as usize];
-    let words: Vec<String> = told.iter().chain(&answer[ANSWER - 1..]).map(u64::to_string).collect();
+    let values = &answer[1..=answer[0].min(4) as usize];
+    let words: Vec<String> = values.iter().chain(&answer[ANSWER - 1..]).map(u64::to_string).collect();
     words.join(" ")
 }

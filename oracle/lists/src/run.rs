@@ -2,7 +2,7 @@
 //! the limit, 01's refusal is answered and nothing changes: 2 (backoffs), 19 (carried counts), 27 (leases), and 29 for `ack`, which
 //! is `ack_bounded` at 128 ranges.
 use crate::codecs::{
-    decode_attempts, decode_cursor, encode_attempts, encode_cursor, resume_with_ahead, Told, OUT_TOO_SHORT, RANGES, TOO_MANY_PAIRS,
+    decode_attempts, decode_cursor, encode_attempts, encode_cursor, resume_with_ahead, Code, OUT_TOO_SHORT, RANGES, TOO_MANY_PAIRS,
 };
 use crate::operations::{answer, ANSWER};
 use crate::state::{read_table, starting_at, State, BYTES, ENTRIES};
@@ -17,18 +17,18 @@ const BACKOFFS: usize = 16;
 
 const TOO_MANY_STEPS: u64 = 2;
 
-fn option(value: Option<u64>) -> Told {
+fn option(value: Option<u64>) -> Code {
     match value {
         Some(value) => vec![0, 1, value],
         None => vec![0, 0],
     }
 }
 
-fn yes(value: bool) -> Told {
+fn yes(value: bool) -> Code {
     vec![0, value.into()]
 }
 
-fn bounded(answer: BoundedAck) -> Told {
+fn bounded(answer: BoundedAck) -> Code {
     match answer {
         BoundedAck::Recorded => vec![0, 1],
         BoundedAck::Duplicate => vec![0, 0],
@@ -46,11 +46,11 @@ fn token(offset: u64, generation: u64) -> LeaseToken {
 impl State {
     /// The answer to an operation, and the digest of what it leaves; none of its numbers where it is none.
     pub fn answer(&mut self, line: &str) -> [u64; ANSWER] {
-        let told = self.run(line).unwrap_or_default();
-        answer(&told, self.digest())
+        let code = self.run(line).unwrap_or_default();
+        answer(&code, self.digest())
     }
 
-    pub fn run(&mut self, line: &str) -> Option<Told> {
+    pub fn run(&mut self, line: &str) -> Option<Code> {
         let mut words = line.split(' ');
         let module = words.next()?;
         let operation = words.next()?;
@@ -75,7 +75,7 @@ impl State {
         (from <= to && to <= self.bytes.len() as u64).then_some(from as usize..to as usize)
     }
 
-    fn list(&mut self, operation: &str, numbers: &[u64]) -> Option<Told> {
+    fn list(&mut self, operation: &str, numbers: &[u64]) -> Option<Code> {
         match (operation, numbers) {
             ("new", &[]) => self.list.clear(),
             ("add", &[a, b]) if self.list.len() < ENTRIES => self.list.push((a, b)),
@@ -84,7 +84,7 @@ impl State {
         Some(vec![0])
     }
 
-    fn bytes(&mut self, operation: &str, numbers: &[u64]) -> Option<Told> {
+    fn bytes(&mut self, operation: &str, numbers: &[u64]) -> Option<Code> {
         match (operation, numbers) {
             ("new", &[n, v]) if n <= BYTES as u64 && v < 256 => self.bytes = vec![v as u8; n as usize],
             ("set", &[i, v]) if i < self.bytes.len() as u64 && v < 256 => self.bytes[i as usize] = v as u8,
@@ -104,7 +104,7 @@ impl State {
     }
 
     /// A list into lent memory of `room` places.
-    fn listed(&mut self, list: Vec<(u64, u64)>, room: u64) -> Option<Told> {
+    fn listed(&mut self, list: Vec<(u64, u64)>, room: u64) -> Option<Code> {
         if room > ENTRIES as u64 {
             return None;
         }
@@ -115,25 +115,25 @@ impl State {
         Some(vec![0, self.list.len() as u64])
     }
 
-    fn become_cursor(&mut self, answer: Result<AckCursor, Told>) -> Told {
+    fn become_cursor(&mut self, answer: Result<AckCursor, Code>) -> Code {
         match answer {
             Ok(cursor) => {
                 self.cursor = cursor;
                 vec![0]
             }
-            Err(told) => told,
+            Err(code) => code,
         }
     }
 
-    fn cursor(&mut self, operation: &str, numbers: &[u64]) -> Option<Told> {
+    fn cursor(&mut self, operation: &str, numbers: &[u64]) -> Option<Code> {
         Some(match (operation, numbers) {
             ("new", &[]) => self.become_cursor(Ok(AckCursor::new())),
             ("resume", &[x]) => self.become_cursor(Ok(AckCursor::resume(Offset::new(x)))),
             ("with", &[x]) => self.become_cursor(resume_with_ahead(x, self.list.clone())),
             ("ack", &[x]) => {
-                let told = bounded(self.cursor.clone().ack_bounded(Offset::new(x), RANGES));
-                if told[0] != 0 {
-                    return Some(told);
+                let code = bounded(self.cursor.clone().ack_bounded(Offset::new(x), RANGES));
+                if code[0] != 0 {
+                    return Some(code);
                 }
                 yes(self.cursor.ack(Offset::new(x)))
             }
@@ -158,7 +158,7 @@ impl State {
         self.list.iter().map(|&(offset, attempt)| (offset, attempt as u32)).collect()
     }
 
-    fn attempt(&mut self, operation: &str, numbers: &[u64]) -> Option<Told> {
+    fn attempt(&mut self, operation: &str, numbers: &[u64]) -> Option<Code> {
         match (operation, numbers) {
             ("encode", &[at]) => {
                 let pairs = self.pairs();
@@ -171,20 +171,20 @@ impl State {
                         pairs.into_iter().map(|(offset, attempt)| (offset, attempt.into())).collect(),
                         room,
                     ),
-                    Err(told) => (room <= ENTRIES as u64).then_some(told),
+                    Err(code) => (room <= ENTRIES as u64).then_some(code),
                 }
             }
             _ => None,
         }
     }
 
-    fn become_table(&mut self, table: LeaseTable) -> Told {
+    fn become_table(&mut self, table: LeaseTable) -> Code {
         self.table = table;
         vec![0]
     }
 
     /// The operations that change the lease table.
-    fn lease(&mut self, operation: &str, numbers: &[u64]) -> Option<Told> {
+    fn lease(&mut self, operation: &str, numbers: &[u64]) -> Option<Code> {
         let config = |visibility_nanos, hard_cap_nanos| LeaseConfig {
             visibility_nanos,
             hard_cap_nanos,
@@ -235,7 +235,7 @@ impl State {
         })
     }
 
-    fn claim(&mut self, x: u64, now: u64) -> Told {
+    fn claim(&mut self, x: u64, now: u64) -> Code {
         let mut table = self.table.clone();
         match table.claim(Offset::new(x), now) {
             Claim::InFlight => vec![23],
@@ -249,7 +249,7 @@ impl State {
     }
 
     /// The questions that leave the lease table as it is.
-    fn question(&mut self, operation: &str, numbers: &[u64]) -> Option<Told> {
+    fn question(&mut self, operation: &str, numbers: &[u64]) -> Option<Code> {
         let wide = |(offset, attempt): (u64, u32)| (offset, u64::from(attempt));
         Some(match (operation, numbers) {
             ("counts", &[]) => return self.listed(self.table.attempt_counts().into_iter().map(wide).collect(), ENTRIES as u64),
@@ -275,7 +275,7 @@ impl State {
         })
     }
 
-    fn delivery(&mut self, operation: &str, numbers: &[u64]) -> Option<Told> {
+    fn delivery(&mut self, operation: &str, numbers: &[u64]) -> Option<Code> {
         let small = |n: u64| u32::try_from(n).ok();
         Some(match (operation, numbers) {
             ("new", &[limit, opt_in]) if opt_in < 2 => {

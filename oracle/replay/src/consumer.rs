@@ -5,7 +5,7 @@ use ironbus::cursor::{AckCursor, BoundedAck};
 use ironbus::delivery::{DeliveryConfig, Disposition};
 use ironbus::lease::{AckOutcome, Claim, ExtendOutcome, LeaseConfig, LeaseTable, LeaseToken, NackOutcome};
 use ironbus::types::Offset;
-use lists::codecs::{decode_attempts, decode_cursor, Told, RANGES};
+use lists::codecs::{decode_attempts, decode_cursor, Code, RANGES};
 use lists::state::{read_table, starting_at, Table};
 
 const LEASES: usize = 64;
@@ -21,7 +21,7 @@ pub struct Settings {
 
 impl Settings {
     /// Refusals 1 to 3.
-    pub fn new(limit: u32, opt_in: bool, threshold: u32, lease: LeaseConfig, backoffs: &[u64]) -> Result<Settings, Told> {
+    pub fn new(limit: u32, opt_in: bool, threshold: u32, lease: LeaseConfig, backoffs: &[u64]) -> Result<Settings, Code> {
         let delivery = DeliveryConfig::new(limit, opt_in, backoffs.to_vec()).map_err(|_| vec![1])?;
         if backoffs.len() > BACKOFFS {
             return Err(vec![2]);
@@ -69,7 +69,7 @@ fn token(offset: u64, generation: u64) -> LeaseToken {
 
 impl Consumer {
     /// Restarts on an area whose length is tested; a fresh consumer is one restarted on a zeroed area.
-    pub fn restart(settings: &Settings, area: &[u8]) -> Result<Consumer, Told> {
+    pub fn restart(settings: &Settings, area: &[u8]) -> Result<Consumer, Code> {
         let found = walk(area)?;
         let (cursor, pairs, ceiling) = match &found.last {
             Some(stored) => {
@@ -97,7 +97,7 @@ impl Consumer {
     }
 
     /// Refusals 21, 22, 23, 25, 26, 27.
-    pub fn claim(&mut self, offset: u64, now: u64) -> Result<HandOut, Told> {
+    pub fn claim(&mut self, offset: u64, now: u64) -> Result<HandOut, Code> {
         let table = self.table();
         let leased = table.leases.iter().any(|lease| lease.offset == offset);
         let counted = table.carried.iter().any(|&(carried, _)| carried == offset);
@@ -133,7 +133,7 @@ impl Consumer {
     }
 
     /// Ack and Term: refusals 24, 29.
-    pub fn settle(&mut self, offset: u64, generation: u64) -> Result<(), Told> {
+    pub fn settle(&mut self, offset: u64, generation: u64) -> Result<(), Code> {
         let mut after = self.clone();
         if after.table.ack(&token(offset, generation)) == AckOutcome::Fenced {
             return Err(vec![24]);
@@ -146,7 +146,7 @@ impl Consumer {
     }
 
     /// Refusals 24, 25, 26. The answer is the new deadline.
-    pub fn nack(&mut self, offset: u64, generation: u64, now: u64, delay: Option<u64>) -> Result<u64, Told> {
+    pub fn nack(&mut self, offset: u64, generation: u64, now: u64, delay: Option<u64>) -> Result<u64, Code> {
         let token = token(offset, generation);
         let Some(attempt) = self.table.deliveries(&token) else {
             return Err(vec![24]);
@@ -167,7 +167,7 @@ impl Consumer {
     }
 
     /// Refusals 24, 28. The answer is the new deadline.
-    pub fn progress(&mut self, offset: u64, generation: u64, now: u64) -> Result<u64, Told> {
+    pub fn progress(&mut self, offset: u64, generation: u64, now: u64) -> Result<u64, Code> {
         match self.table.extend(&token(offset, generation), now) {
             ExtendOutcome::Extended(deadline) => Ok(deadline),
             ExtendOutcome::Fenced => Err(vec![24]),
@@ -176,7 +176,7 @@ impl Consumer {
     }
 
     /// Refusal 30. The answer is false where nothing changes.
-    pub fn commit(&mut self, bound: u64) -> Result<bool, Told> {
+    pub fn commit(&mut self, bound: u64) -> Result<bool, Code> {
         if bound <= self.cursor.committed().get() {
             return Ok(false);
         }
@@ -196,7 +196,7 @@ impl Consumer {
     }
 
     /// Refusal 31.
-    pub fn begin(&self) -> Result<Writing, Told> {
+    pub fn begin(&self) -> Result<Writing, Code> {
         let mut stored = Stored {
             ceiling: self.table().next_generation.saturating_add(GENERATIONS),
             cursor: Vec::new(),

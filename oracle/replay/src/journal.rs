@@ -1,6 +1,6 @@
 //! The journal: the walk of a restart and the block writes of a checkpoint.
 use crate::block::{bodies_for, body_block, header_block, sound_body, sound_header, Header, BLOCK, PAYLOAD, ROOM};
-use lists::codecs::Told;
+use lists::codecs::Code;
 
 pub const AREA: u64 = 65_536;
 
@@ -22,7 +22,7 @@ pub struct Found {
 }
 
 /// Refusal 4 for the area of a start or a restart.
-pub fn area_length(length: u64) -> Result<(), Told> {
+pub fn area_length(length: u64) -> Result<(), Code> {
     if length == 0 || length % BLOCK as u64 != 0 || length > AREA {
         return Err(vec![BAD_AREA]);
     }
@@ -34,7 +34,7 @@ pub fn block_of(area: &[u8], block: usize) -> &[u8] {
 }
 
 /// Walks from block 0 to the first block that is no sound header; the last group counts.
-pub fn walk(area: &[u8]) -> Result<Found, Told> {
+pub fn walk(area: &[u8]) -> Result<Found, Code> {
     let blocks = area.len() / BLOCK;
     let mut found = Found {
         last: None,
@@ -53,7 +53,7 @@ pub fn walk(area: &[u8]) -> Result<Found, Told> {
 }
 
 /// The content of the group whose sound header stands at the block; refusal 5 names the first body that is unsound.
-fn read_group(area: &[u8], at: usize, header: &Header) -> Result<Stored, Told> {
+fn read_group(area: &[u8], at: usize, header: &Header) -> Result<Stored, Code> {
     let total = header.cursor + header.attempts;
     let mut payload = Vec::new();
     for index in 1..=header.bodies {

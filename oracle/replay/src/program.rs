@@ -4,7 +4,7 @@ use crate::consumer::{Consumer, Settings, Writing};
 use crate::journal::{area_length, block_of};
 use crate::line::{read, Call, Left, Start};
 use ironbus::lease::LeaseConfig;
-use lists::codecs::Told;
+use lists::codecs::Code;
 
 pub enum Phase {
     Idle(Consumer),
@@ -28,8 +28,8 @@ pub struct Program {
 const NOT_NOW: &str = "not now";
 
 /// A refusal as a line.
-fn refused(told: Told) -> String {
-    format!("refused {}", words(&told))
+fn refused(code: Code) -> String {
+    format!("refused {}", words(&code))
 }
 
 fn words(numbers: &[u64]) -> String {
@@ -74,7 +74,7 @@ fn state(consumer: &Consumer) -> String {
 }
 
 /// A call on a consumer that has no record out.
-fn ask(consumer: &mut Consumer, call: &Call) -> Result<String, Told> {
+fn ask(consumer: &mut Consumer, call: &Call) -> Result<String, Code> {
     Ok(match *call {
         Call::Claim(offset, now) => {
             let answer = consumer.claim(offset, now)?;
@@ -98,7 +98,7 @@ fn ask(consumer: &mut Consumer, call: &Call) -> Result<String, Told> {
 }
 
 impl Started {
-    fn fresh(start: &Start) -> Result<Started, Told> {
+    fn fresh(start: &Start) -> Result<Started, Code> {
         let lease = LeaseConfig {
             visibility_nanos: start.visibility,
             hard_cap_nanos: start.cap,
@@ -139,7 +139,7 @@ impl Started {
                 self.phase = Phase::Writing(writing);
                 answer
             }
-            Err(told) => refused(told),
+            Err(code) => refused(code),
         }
     }
 
@@ -201,7 +201,7 @@ impl Started {
                 self.phase = Phase::Idle(consumer);
                 "restarted".to_string()
             }
-            Err(told) => refused(told),
+            Err(code) => refused(code),
         }
     }
 
@@ -242,7 +242,7 @@ impl Program {
                     self.started = Some(started);
                     "started".to_string()
                 }
-                Err(told) => refused(told),
+                Err(code) => refused(code),
             },
             Some(call) => match &mut self.started {
                 Some(started) => started.call(&call),

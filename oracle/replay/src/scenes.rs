@@ -240,7 +240,7 @@ pub fn ranges(maker: &mut Maker) {
     maker.say("state");
 }
 
-/// All generations of one checkpoint, and the nack and the claim behind them.
+/// All generations of one checkpoint, and the nack and the claim after them.
 pub fn spend(maker: &mut Maker) {
     maker.start("3 0 4294967295", 0, 25, 6, &[]);
     checkpoint(maker);

@@ -79,7 +79,7 @@ fn times() {
 
 /// Examples 13 and 14, and what the checkpoints of 14 left in the area.
 #[test]
-fn dead_letter_behind_a_restart() {
+fn dead_letter_after_a_restart() {
     play(
         "start 2 0 1 10 25 9216 => started
         claim 0 0 => refused 26

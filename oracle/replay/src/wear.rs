@@ -162,7 +162,7 @@ fn snapshots(maker: &mut Maker) -> (Vec<u8>, Vec<u8>) {
     (cursor_bytes(maker, cursor), attempt_bytes(maker, attempts))
 }
 
-/// Groups of a foreign hand behind some checkpoints, a restart on each, and what follows.
+/// Groups of a foreign hand after some checkpoints, a restart on each, and what follows.
 pub fn forged(maker: &mut Maker) {
     maker.start("3 0 2", 10, 25, 16, &[]);
     let groups = maker.random.below(3) as usize;

@@ -12,7 +12,7 @@ use Rattle.attempt.proofs.Reading.{truncated, other-version, bad-length
 use Rattle.attempt.proofs.check.Statement.{statement}
 use Rattle.attempt.proofs.check.Tie as tie
 
--- the bytes, and what the laws ask of them, behind the third test
+-- the bytes, and what the laws ask of them, after the third test
 abbrev bytes : tie.Else3 → List ℕ
 bytes c = c .before .before .before .before .before .args .input .now
 

@@ -25,7 +25,7 @@ abbrev μ-loop : tie.MeasureT-loop
 abbrev limit : tie.Start Inv-loop μ-loop → List Row
 limit s = limitTable (readPairs (s .args .count) 5 (s .args .input .now))
 
--- behind the loop only that row is left
+-- after the loop only that row is left
 end : (c : tie.After-loop Inv-loop μ-loop)
     → let s = c .before .before .before .before in let n = s .args .count in
     checked (limit s) (done n) ≡ checked (pairsTable (readPairs n 5 (s .args .input .now))) (done n)

@@ -1,4 +1,4 @@
--- `flushed` meets its contract: the counter starts anew, the ceiling and the seat move on. Assumes nothing.
+-- `flushed` meets its contract: the counter starts anew, the ceiling and the place of the next group move on. Assumes nothing.
 use borrow.Author.Needs.{needs}
 use Rattle.checkpoint.proofs.Steps.{flushed-is}
 use Rattle.checkpoint.proofs.flushed.Statement.{statement}

@@ -28,21 +28,21 @@ size s = runs-is (g s) (s .pre)
 small : (s : tie.Start) → s .args .x ≤ MAX
 small s = omega arith
 
--- what each arm was told
+-- where each arm stands
 abbrev start : tie.After-locate → tie.Start
 start l = l .before .before .before
 
-told-behind : (c : tie.After-spot) → Spotted (view (g (start (c .before .before)))) (start (c .before .before) .args .x) (Behind (c .spot .given .0 .0))
-told-behind c = let l = c .before .before in subst (Spotted (view (g (start l))) (start l .args .x)) (c .spot .given .1) (l .locate .ensures)
+spot-behind : (c : tie.After-spot) → Spotted (view (g (start (c .before .before)))) (start (c .before .before) .args .x) (Behind (c .spot .given .0 .0))
+spot-behind c = let l = c .before .before in subst (Spotted (view (g (start l))) (start l .args .x)) (c .spot .given .1) (l .locate .ensures)
 
-told-between : (c : tie.After-spot2) → Spotted (view (g (start (c .before .before)))) (start (c .before .before) .args .x) (Between (c .spot2 .given .0 .0))
-told-between c = let l = c .before .before in subst (Spotted (view (g (start l))) (start l .args .x)) (c .spot2 .given .1) (l .locate .ensures)
+spot-between : (c : tie.After-spot2) → Spotted (view (g (start (c .before .before)))) (start (c .before .before) .args .x) (Between (c .spot2 .given .0 .0))
+spot-between c = let l = c .before .before in subst (Spotted (view (g (start l))) (start l .args .x)) (c .spot2 .given .1) (l .locate .ensures)
 
-told-before : (c : tie.After-spot3) → Spotted (view (g (start (c .before .before)))) (start (c .before .before) .args .x) (Before (c .spot3 .given .0 .0))
-told-before c = let l = c .before .before in subst (Spotted (view (g (start l))) (start l .args .x)) (c .spot3 .given .1) (l .locate .ensures)
+spot-before : (c : tie.After-spot3) → Spotted (view (g (start (c .before .before)))) (start (c .before .before) .args .x) (Before (c .spot3 .given .0 .0))
+spot-before c = let l = c .before .before in subst (Spotted (view (g (start l))) (start l .args .x)) (c .spot3 .given .1) (l .locate .ensures)
 
-told-apart : (c : tie.After-spot4) → Spotted (view (g (start (c .before .before)))) (start (c .before .before) .args .x) (Apart (c .spot4 .given .0 .0))
-told-apart c = let l = c .before .before in subst (Spotted (view (g (start l))) (start l .args .x)) (c .spot4 .given .1) (l .locate .ensures)
+spot-apart : (c : tie.After-spot4) → Spotted (view (g (start (c .before .before)))) (start (c .before .before) .args .x) (Apart (c .spot4 .given .0 .0))
+spot-apart c = let l = c .before .before in subst (Spotted (view (g (start l))) (start l .args .x)) (c .spot4 .given .1) (l .locate .ensures)
 
 locate-requires : tie.Need-locate-requires
 locate-requires c κs = search needs
@@ -56,13 +56,13 @@ enum-known-spot c = search needs
 add-stretch : tie.Need-add-stretch
 add-stretch c =
     let p = c .before .before in
-    omega (arith, not-last (told-behind p .1) (small (start (p .before .before))))
+    omega (arith, not-last (spot-behind p .1) (small (start (p .before .before))))
 
 stretch-requires : tie.Need-stretch-requires
 stretch-requires c κs =
     let p = c .before .before in
     let s = start (p .before .before) in
-    omega (arith, told-behind p .0, size s, s .pre .sound .few)
+    omega (arith, spot-behind p .0, size s, s .pre .sound .few)
 
 recorded-requires : tie.Need-recorded-requires
 recorded-requires c κs = search needs
@@ -74,12 +74,12 @@ join-requires : tie.Need-join-requires
 join-requires c κs =
     let p = c .before .before .before in
     let s = start (p .before .before) in
-    (s .pre, omega (arith, told-between p .0, size s))
+    (s .pre, omega (arith, spot-between p .0, size s))
 
 sub-recorded : tie.Need-sub-recorded
 sub-recorded c =
     let p = c .before .before .before .before in
-    omega (arith, told-between p .0, size (start (p .before .before)))
+    omega (arith, spot-between p .0, size (start (p .before .before)))
 
 recorded-requires-2 : tie.Need-recorded-requires-2
 recorded-requires-2 c κs = search needs
@@ -90,12 +90,12 @@ enum-known-spot-3 c = search needs
 mul-starts : tie.Need-mul-starts
 mul-starts c =
     let s = start (c .before .before .before) in
-    omega (arith, told-before (c .before) .0, size s, s .pre .sound .few)
+    omega (arith, spot-before (c .before) .0, size s, s .pre .sound .few)
 
 element-write-starts : tie.Need-element-write-starts
 element-write-starts c =
     let s = start (c .before .before .before) in
-    omega (arith, told-before (c .before) .0, size s, s .pre .sound .few)
+    omega (arith, spot-before (c .before) .0, size s, s .pre .sound .few)
 
 recorded-requires-3 : tie.Need-recorded-requires-3
 recorded-requires-3 c κs = search needs
@@ -109,7 +109,7 @@ insert-128-requires c κs = search needs
 add-insert-128 : tie.Need-add-insert-128
 add-insert-128 c =
     let p = c .before .before .before .before .before .before in
-    omega (arith, not-last (told-apart p .1) (small (start (p .before .before))))
+    omega (arith, not-last (spot-apart p .1) (small (start (p .before .before))))
 
 insert-128-requires-2 : tie.Need-insert-128-requires-2
 insert-128-requires-2 c κs = search needs
@@ -128,9 +128,9 @@ returns c =
     let s = start (p .before .before) in
     let a = s .args in
     let at = p .spot4 .given .0 .0 in
-    let h : at ≤ a .runs = omega (arith, told-apart p .0, size s) in
+    let h : at ≤ a .runs = omega (arith, spot-apart p .0, size s) in
     noted (c .recorded4 .result) (c .recorded4 .ensures)
-    (landed-apart (g s) (a .x) (a .max-runs) (s .pre .sound) (small s) _ (omega arith) (told-apart p .1) (omega (arith, size s))
+    (landed-apart (g s) (a .x) (a .max-runs) (s .pre .sound) (small s) _ (omega arith) (spot-apart p .1) (omega (arith, size s))
     (ap (cursor (a .committed)) (ranges-inserted (a .runs) (a .starts .now) (a .ends .now) (long-starts (g s) (s .pre)) (long-ends (g s) (s .pre)) at _ _ (i .insert-128 .last .0) (c .before .insert-1282 .last .0)
     (put-in-front (a .runs) at (a .x) (a .starts .now) h (omega (arith, s .pre .starts)) (i .insert-128 .ensures))
     (put-in-front (a .runs) at (a .x + 1) (a .ends .now) h (omega (arith, s .pre .ends)) (c .before .insert-1282 .ensures)))))
@@ -147,15 +147,15 @@ returns-3 c =
     let s = start (p .before .before) in
     let a = s .args in
     noted (c .recorded .result) (c .recorded .ensures)
-    (landed-near (g s) (a .x) (a .max-runs) (s .pre .sound) (small s) _ (s .pre .sound .few) (told-behind p .1)
-    (stretched-is (a .runs) (a .starts .now) (a .ends .now) (long-starts (g s) (s .pre)) (long-ends (g s) (s .pre)) (a .committed) (p .spot .given .0 .0) _ (c .before .stretch .result) (c .before .stretch .last .1 .0) (omega (arith, told-behind p .0, size s)) (c .before .stretch .ensures)))
+    (landed-near (g s) (a .x) (a .max-runs) (s .pre .sound) (small s) _ (s .pre .sound .few) (spot-behind p .1)
+    (stretched-is (a .runs) (a .starts .now) (a .ends .now) (long-starts (g s) (s .pre)) (long-ends (g s) (s .pre)) (a .committed) (p .spot .given .0 .0) _ (c .before .stretch .result) (c .before .stretch .last .1 .0) (omega (arith, spot-behind p .0, size s)) (c .before .stretch .ensures)))
 
 returns-4 : tie.Need-returns-4
 returns-4 c =
     let p = c .before .before .before .before .before in
     let s = start (p .before .before) in
     noted (c .recorded2 .result) (c .recorded2 .ensures)
-    (landed-near (g s) (s .args .x) (s .args .max-runs) (s .pre .sound) (small s) _ (omega (arith, s .pre .sound .few)) (told-between p .1) (c .before .join .ensures))
+    (landed-near (g s) (s .args .x) (s .args .max-runs) (s .pre .sound) (small s) _ (omega (arith, s .pre .sound .few)) (spot-between p .1) (c .before .join .ensures))
 
 returns-5 : tie.Need-returns-5
 returns-5 c =
@@ -163,20 +163,20 @@ returns-5 c =
     let s = start (p .before .before) in
     let a = s .args in
     noted (c .recorded3 .result) (c .recorded3 .ensures)
-    (landed-near (g s) (a .x) (a .max-runs) (s .pre .sound) (small s) _ (s .pre .sound .few) (told-before p .1)
-    (ap (cursor (a .committed)) (ranges-start (a .runs) (a .starts .now) (a .ends .now) (long-starts (g s) (s .pre)) (long-ends (g s) (s .pre)) (p .spot3 .given .0 .0) (a .x) (omega (arith, told-before p .0, size s)))))
+    (landed-near (g s) (a .x) (a .max-runs) (s .pre .sound) (small s) _ (s .pre .sound .few) (spot-before p .1)
+    (ap (cursor (a .committed)) (ranges-start (a .runs) (a .starts .now) (a .ends .now) (long-starts (g s) (s .pre)) (long-ends (g s) (s .pre)) (p .spot3 .given .0 .0) (a .x) (omega (arith, spot-before p .0, size s)))))
 
 returns-6 : tie.Need-returns-6
 returns-6 c =
     let p = c .before .before .before in
     let s = start (p .before .before) in
-    shed (g s) (s .args .x) (s .args .max-runs) (s .pre .sound) (told-apart p .1) (omega (arith, size s))
+    shed (g s) (s .args .x) (s .args .max-runs) (s .pre .sound) (spot-apart p .1) (omega (arith, size s))
 
 returns-7 : tie.Need-returns-7
 returns-7 c =
     let p = c .before .before in
     let s = start (p .before .before) in
-    shed (g s) (s .args .x) (s .args .max-runs) (s .pre .sound) (told-apart p .1) (omega (arith, size s))
+    shed (g s) (s .args .x) (s .args .max-runs) (s .pre .sound) (spot-apart p .1) (omega (arith, size s))
 
 pub ack-in-place-spec : {M : Type 1} → statement M
 ack-in-place-spec =

@@ -42,8 +42,8 @@ list-attempts-requires c κs =
     let e = c .before .before .before .before .before .before in
     (few (e .before .before), e .if2 .left)
 
-pairs-told-requires : tie.Need-pairs-told-requires
-pairs-told-requires c κs = search needs
+pairs-code-requires : tie.Need-pairs-code-requires
+pairs-code-requires c κs = search needs
 
 same-length : tie.Need-same-length
 same-length c = search needs
@@ -59,7 +59,7 @@ returns-3 c =
     let k = e .before .before in
     let a = k .before .before .before .before .args in
     pairs-listed (a .input .now) (k .decode-pairs .result) (k .decode-pairs .ensures) (a .offsets .now) (a .attempts .now) (e .before .if1 .left) (e .if2 .left) _ _ _
-    (l₁ .list-offsets .ensures) (l₂ .list-attempts .ensures) (c .pairs-told .ensures)
+    (l₁ .list-offsets .ensures) (l₂ .list-attempts .ensures) (c .pairs-code .ensures)
 
 pub ninotskev-decode-attempts-spec : {M : Type 1} → statement M
 ninotskev-decode-attempts-spec =
@@ -72,7 +72,7 @@ ninotskev-decode-attempts-spec =
     returns-2
     list-offsets-requires
     list-attempts-requires
-    pairs-told-requires
+    pairs-code-requires
     same-length
     same-length-2
     returns-3)

@@ -36,8 +36,8 @@ list-column-requires c κs = search needs
 list-column-requires-2 : tie.Need-list-column-requires-2
 list-column-requires-2 c κs = search needs
 
-cursor-told-requires : tie.Need-cursor-told-requires
-cursor-told-requires c κs = search needs
+cursor-code-requires : tie.Need-cursor-code-requires
+cursor-code-requires c κs = search needs
 
 same-length : tie.Need-same-length
 same-length c = search needs
@@ -53,7 +53,7 @@ returns-3 c =
     let k = e .before .before .before in
     let a = k .before .before .before .before .args in
     cursor-listed (a .input .now) (k .decode-snapshot .result) (k .decode-snapshot .ensures) (whole k) (a .starts .now) (a .ends .now) (e .before .if1 .left) (e .if2 .left) _ _ _
-    (l₁ .list-column .ensures) (l₂ .list-column2 .ensures) (c .cursor-told .ensures)
+    (l₁ .list-column .ensures) (l₂ .list-column2 .ensures) (c .cursor-code .ensures)
 
 pub ninotskev-decode-cursor-spec : {M : Type 1} → statement M
 ninotskev-decode-cursor-spec =
@@ -66,7 +66,7 @@ ninotskev-decode-cursor-spec =
     returns-2
     list-column-requires
     list-column-requires-2
-    cursor-told-requires
+    cursor-code-requires
     same-length
     same-length-2
     returns-3)

@@ -3,21 +3,21 @@ use native.Mathlib.Omega.{arith}
 use mathlib.Core.Path.{sym, _∙_}
 use borrow.Author.Needs.{needs}
 use borrow.Author.Tests.{not-true, not-false}
-use Rattle.journal.proofs.Sound.{Formed, kind-says, formed-says, says-formed, says-header, no-header, differ}
+use Rattle.journal.proofs.Sound.{WellFormed, kind-says, well-formed-says, says-well-formed, says-header, no-header, differ}
 use Rattle.journal.proofs.is_sound_header.Statement.{statement}
 use Rattle.journal.proofs.is_sound_header.Tie as tie
 
-is-formed-requires : tie.Need-is-formed-requires
-is-formed-requires c κs = search needs
+is-well-formed-requires : tie.Need-is-well-formed-requires
+is-well-formed-requires c κs = search needs
 
 returns : tie.Need-returns
 returns c =
     no-header _ _ _ _
-    (λ h. differ (says-formed _ (h .form)) (sym (c .before .is-formed .ensures) ∙ not-true _ (c .if1 .taken)))
+    (λ h. differ (says-well-formed _ (h .form)) (sym (c .before .is-well-formed .ensures) ∙ not-true _ (c .if1 .taken)))
 
 -- the block has the form of a header
-form : (c : tie.Else1) → Formed (c .before .before .before .args .block .now)
-form c = formed-says _ (sym (c .before .is-formed .ensures) ∙ not-false _ (c .if1 .left))
+form : (c : tie.Else1) → WellFormed (c .before .before .before .args .block .now)
+form c = well-formed-says _ (sym (c .before .is-well-formed .ensures) ∙ not-false _ (c .if1 .left))
 
 read-u32-requires : tie.Need-read-u32-requires
 read-u32-requires c κs = search needs
@@ -56,7 +56,7 @@ pub is-sound-header-spec : {M : Type 1} → statement M
 is-sound-header-spec =
     tie.close
     (tie.spec
-    is-formed-requires
+    is-well-formed-requires
     returns
     read-u32-requires
     cast-group

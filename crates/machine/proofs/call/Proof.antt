@@ -1,7 +1,7 @@
 -- `call` meets its contract: each kind of call goes to its own function. Assumes nothing.
 use lib.ListN.{length}
 use borrow.Author.Needs.{needs}
-use Rattle.machine.proofs.Turns.{called-as}
+use Rattle.machine.proofs.Transitions.{called-as}
 use Rattle.machine.proofs.call.Statement.{statement}
 use Rattle.machine.proofs.call.Tie as tie
 

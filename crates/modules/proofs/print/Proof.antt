@@ -8,10 +8,10 @@ use Rattle.modules.proofs.print.Statement.{statement}
 use Rattle.modules.proofs.print.Tie as tie
 
 abbrev Inv-loop : tie.InvT-loop
-Inv-loop told out₀ at₀ from₀ out at from = (from ≤ length told) × (length out ≡ length out₀)
+Inv-loop answers out₀ at₀ from₀ out at from = (from ≤ length answers) × (length out ≡ length out₀)
 
 abbrev μ-loop : tie.MeasureT-loop
-μ-loop told out₀ at₀ from₀ out at from = length told - from
+μ-loop answers out₀ at₀ from₀ out at from = length answers - from
 
 loop-holds : tie.Need-loop-holds Inv-loop μ-loop
 loop-holds c = (omega arith, refl)

@@ -26,8 +26,8 @@ loop-holds c = (
   },
 )
 
-turn-requires : tie.Need-turn-requires Inv-loop μ-loop
-turn-requires c κs = search needs
+next-line-requires : tie.Need-next-line-requires Inv-loop μ-loop
+next-line-requires c κs = search needs
 
 same-length : tie.Need-same-length Inv-loop μ-loop
 same-length c = search needs
@@ -64,7 +64,7 @@ read-spec =
     μ-loop
     nothing-read-requires
     loop-holds
-    turn-requires
+    next-line-requires
     same-length
     same-length-2
     returns

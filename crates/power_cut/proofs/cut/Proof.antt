@@ -3,7 +3,7 @@ use native.Mathlib.Omega.{arith}
 use mathlib.Core.Path.{_≡_}
 use borrow.Author.Needs.{needs}
 use Rattle.power_cut.specs.View.{Stepping}
-use Rattle.machine.proofs.Turns.{sound-writing}
+use Rattle.machine.proofs.Transitions.{sound-writing}
 use Rattle.power_cut.proofs.Cuts.{not-stepping, other-length, cut-old, cut-as}
 use Rattle.power_cut.proofs.cut.Statement.{statement}
 use Rattle.power_cut.proofs.cut.Tie as tie

@@ -30,8 +30,8 @@ loop-holds c = (
   record { input = rw (c .before .nothing-read .ensures) (record { ordered = omega arith; inside = omega arith }); session = c .nothing-started .ensures _ },
 )
 
-turn-requires : tie.Need-turn-requires Inv-loop μ-loop
-turn-requires c κs = let l = c .before .before .before .before .loop in rw (l .inv .0, l .inv .2) (l .inv .3)
+next-line-requires : tie.Need-next-line-requires Inv-loop μ-loop
+next-line-requires c κs = let l = c .before .before .before .before .loop in rw (l .inv .0, l .inv .2) (l .inv .3)
 
 same-length : tie.Need-same-length Inv-loop μ-loop
 same-length c = search needs
@@ -54,7 +54,7 @@ loop-less c = omega arith
 loop-again : tie.Need-loop-again Inv-loop μ-loop
 loop-again c =
     let l = c .before .before .before .before .before .before .before .before .before .before .before .before .loop in
-    (search needs, search needs, search needs, rw (l .inv .0, l .inv .2) at (c .before .before .before .before .before .before .before .turn .ensures))
+    (search needs, search needs, search needs, rw (l .inv .0, l .inv .2) at (c .before .before .before .before .before .before .before .next-line .ensures))
 
 same-length-4 : tie.Need-same-length-4 Inv-loop μ-loop
 same-length-4 c = c .before .loop .inv .0
@@ -77,7 +77,7 @@ run-spec =
     nothing-read-requires
     nothing-started-requires
     loop-holds
-    turn-requires
+    next-line-requires
     same-length
     same-length-2
     same-length-3

@@ -3,7 +3,7 @@ use mathlib.Core.Path.{refl, ap₂}
 use borrow.Author.Needs.{needs}
 use Rattle.cursor.specs.Cursor.{Cursor}
 use Rattle.lease.specs.State.{Table}
-use Rattle.consumer.specs.State.{stateOf, seatAt}
+use Rattle.consumer.specs.State.{stateOf, nextGroupAt}
 use Rattle.consumer.specs.View.{settingsOf}
 use Rattle.starts.proofs.fresh.Statement.{statement}
 use Rattle.starts.proofs.fresh.Tie as tie
@@ -18,7 +18,7 @@ returns : tie.Need-returns
 returns c =
     let a = c .before .before .before .before .args in
     record {
-      is = ap₂ (λ (k : Cursor) (t : Table). stateOf k t 0 (seatAt 1 0) (a .area-len) (settingsOf (a .configuration .settings))) (c .before .new .ensures .is) (c .starting-at .ensures .is);
+      is = ap₂ (λ (k : Cursor) (t : Table). stateOf k t 0 (nextGroupAt 1 0) (a .area-len) (settingsOf (a .configuration .settings))) (c .before .new .ensures .is) (c .starting-at .ensures .is);
       cursor = c .before .new .ensures .sound;
       table = c .starting-at .ensures .sound;
       settings = refl;

@@ -64,7 +64,7 @@ returns c =
     let s = h .before .before .before in
     group-read (s .args .area .now) (s .args .at) (s .pre) (h .read-header .result) (h .read-header .ensures) _
     (p .read-payload .last .1 .1 .0) (p .read-payload .result) refl (p .read-payload .ensures) (s .args .configuration)
-    (s .args .seat) (c .read-both .result) (c .read-both .ensures)
+    (s .args .next) (c .read-both .result) (c .read-both .ensures)
 
 pub read-group-spec : {M : Type 1} → statement M
 read-group-spec =

@@ -22,7 +22,7 @@ returns c =
     let o = c .before .before in
     let d = o .before .before in
     let a = d .before .before .before .args in
-    cursor-refused (a .configuration) (a .area-len) (a .cursor-bytes .now) (a .attempt-bytes .now) (a .ceiling) (a .seat) _ _ (cursor-said (a .cursor-bytes .now) (d .decode-snapshot .result) (d .decode-snapshot .ensures) _ (o .outcome .given .1)) (c .fresh .ensures)
+    cursor-refused (a .configuration) (a .area-len) (a .cursor-bytes .now) (a .attempt-bytes .now) (a .ceiling) (a .next) _ _ (cursor-said (a .cursor-bytes .now) (d .decode-snapshot .result) (d .decode-snapshot .ensures) _ (o .outcome .given .1)) (c .fresh .ensures)
 
 abbrev start : tie.After-enum-told → tie.Start
 start t = t .before .before .before .before .before
@@ -51,22 +51,22 @@ returns-2 c =
     let p = o .before .before in
     let t = p .before in
     let a = start t .args in
-    attempts-refused (a .configuration) (a .area-len) (a .cursor-bytes .now) (a .attempt-bytes .now) (a .ceiling) (a .seat) (t .before .before .decode-snapshot .result .cursor) (restored t) _ _ (attempts-said (a .attempt-bytes .now) (p .decode-pairs .result) (p .decode-pairs .ensures) _ (o .pairs .given .1)) (c .fresh2 .ensures)
+    attempts-refused (a .configuration) (a .area-len) (a .cursor-bytes .now) (a .attempt-bytes .now) (a .ceiling) (a .next) (t .before .before .decode-snapshot .result .cursor) (restored t) _ _ (attempts-said (a .attempt-bytes .now) (p .decode-pairs .result) (p .decode-pairs .ensures) _ (o .pairs .given .1)) (c .fresh2 .ensures)
 
 enum-told-2 : tie.Need-enum-told-2
 enum-told-2 c = search needs
 
 -- the pairs that were read
-abbrev told : tie.After-enum-told2 → tie.After-enum-told
-told q = q .before .before .before
+abbrev before-pairs : tie.After-enum-told2 → tie.After-enum-told
+before-pairs q = q .before .before .before
 
-pairs-of : (q : tie.After-enum-told2) → Reads (start (told q) .args .attempt-bytes .now) (q .before .before .decode-pairs .result) (q .before .before .decode-pairs .ensures)
-pairs-of q = attempts-read (start (told q) .args .attempt-bytes .now) (q .before .before .decode-pairs .result) (q .before .before .decode-pairs .ensures) (q .enum-told2 .given .0 .0) (q .enum-told2 .given .1)
+pairs-of : (q : tie.After-enum-told2) → Reads (start (before-pairs q) .args .attempt-bytes .now) (q .before .before .decode-pairs .result) (q .before .before .decode-pairs .ensures)
+pairs-of q = attempts-read (start (before-pairs q) .args .attempt-bytes .now) (q .before .before .decode-pairs .result) (q .before .before .decode-pairs .ensures) (q .enum-told2 .given .0 .0) (q .enum-told2 .given .1)
 
 carry-requires : tie.Need-carry-requires
 carry-requires c κs =
     let q = c .before .before in
-    (told q .before .before .decode-snapshot .ensures .sound, pairs-of q .few)
+    (before-pairs q .before .before .decode-snapshot .ensures .sound, pairs-of q .few)
 
 resumed-table-requires : tie.Need-resumed-table-requires
 resumed-table-requires c κs = search needs
@@ -78,10 +78,10 @@ returns-3 : tie.Need-returns-3
 returns-3 c =
     let k = c .before .before .before in
     let q = k .before .before .before in
-    let t = told q in
+    let t = before-pairs q in
     let a = start t .args in
     rw (c .resumed .ensures)
-    (both-read (a .configuration) (a .area-len) (a .cursor-bytes .now) (a .attempt-bytes .now) (a .ceiling) (a .seat) _ (restored t) (t .before .before .decode-snapshot .ensures .sound) _ (q .before .before .decode-pairs .ensures) (pairs-of q) _ (k .carry .ensures) _ (c .before .resumed-table .ensures))
+    (both-read (a .configuration) (a .area-len) (a .cursor-bytes .now) (a .attempt-bytes .now) (a .ceiling) (a .next) _ (restored t) (t .before .before .decode-snapshot .ensures .sound) _ (q .before .before .decode-pairs .ensures) (pairs-of q) _ (k .carry .ensures) _ (c .before .resumed-table .ensures))
 
 pub read-snapshots-spec : {M : Type 1} → statement M
 read-snapshots-spec =

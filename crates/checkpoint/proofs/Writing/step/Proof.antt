@@ -1,4 +1,4 @@
--- `Writing::step` meets its contract: an area of another length is refused, behind all bodies the header is written, and else
+-- `Writing::step` meets its contract: an area of another length is refused, after all bodies the header is written, and else
 -- the next body. Assumes nothing.
 use Prim.Native.Nat.{_≤_, _<_}
 use native.Mathlib.Omega.{arith}
@@ -64,7 +64,7 @@ returns-2 c =
     let s = begun e in
     let a = s .args in
     step-last (a .self) (s .pre) (a .area .now) (area e) (p .put-block .last .1 .1 .1 .0) (all-written (h .before)) _ (c .flushed .ensures)
-    (p .put-block .ensures ∙ ap (writeAt (a .area .now) (a .self .consumer .seat .block)) (h .header-block .ensures .is (payloadOf (view (a .self .consumer)))))
+    (p .put-block .ensures ∙ ap (writeAt (a .area .now) (a .self .consumer .next .block)) (h .header-block .ensures .is (payloadOf (view (a .self .consumer)))))
 
 -- ---- a body
 add-index : tie.Need-add-index

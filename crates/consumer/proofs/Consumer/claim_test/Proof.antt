@@ -46,21 +46,21 @@ returns-3 c =
     is-running (view (a .self)) (a .offset .0) (a .now) (e .if1 .left) (unsettled (k .before))
     (blocked (k .is-claimable .result) _ (k .is-claimable .ensures) (c .if3 .taken))
 
-due : (c : tie.Else3) → let a = start (first c) .args in running (leaseOf (view (a .self) .table) (a .offset .0)) (a .now) ≡ false
-due c = unblocked (c .before .is-claimable .result) _ (c .before .is-claimable .ensures) (c .if3 .left)
+not-running : (c : tie.Else3) → let a = start (first c) .args in running (leaseOf (view (a .self) .table) (a .offset .0)) (a .now) ≡ false
+not-running c = unblocked (c .before .is-claimable .result) _ (c .before .is-claimable .ensures) (c .if3 .left)
 
 returns-4 : tie.Need-returns-4
 returns-4 c =
     let d = c .before in
     let a = start (first d) .args in
-    is-exhausted (view (a .self)) (a .offset .0) (a .now) (first d .if1 .left) (unsettled (second d)) (due d) (c .if4 .taken)
+    is-exhausted (view (a .self)) (a .offset .0) (a .now) (first d .if1 .left) (unsettled (second d)) (not-running d) (c .if4 .taken)
 
 returns-5 : tie.Need-returns-5
 returns-5 c =
     let g = c .before .before in
     let d = g .before in
     let a = start (first d) .args in
-    is-at-ceiling (view (a .self)) (a .offset .0) (a .now) (first d .if1 .left) (unsettled (second d)) (due d) (g .if4 .left) (omega (arith, c .if5 .taken))
+    is-at-ceiling (view (a .self)) (a .offset .0) (a .now) (first d .if1 .left) (unsettled (second d)) (not-running d) (g .if4 .left) (omega (arith, c .if5 .taken))
 
 returns-6 : tie.Need-returns-6
 returns-6 c =
@@ -68,7 +68,7 @@ returns-6 c =
     let g = h .before .before in
     let d = g .before in
     let a = start (first d) .args in
-    is-at-threshold (view (a .self)) (a .offset .0) (a .now) (first d .if1 .left) (unsettled (second d)) (due d) (g .if4 .left) (omega (arith, h .if5 .left))
+    is-at-threshold (view (a .self)) (a .offset .0) (a .now) (first d .if1 .left) (unsettled (second d)) (not-running d) (g .if4 .left) (omega (arith, h .if5 .left))
     (c .if6 .taken)
 
 is-full-requires : tie.Need-is-full-requires
@@ -82,7 +82,7 @@ returns-7 c =
     let g = h .before .before in
     let d = g .before in
     let a = start (first d) .args in
-    is-full (view (a .self)) (a .offset .0) (a .now) (first d .if1 .left) (unsettled (second d)) (due d) (g .if4 .left) (omega (arith, h .if5 .left))
+    is-full (view (a .self)) (a .offset .0) (a .now) (first d .if1 .left) (unsettled (second d)) (not-running d) (g .if4 .left) (omega (arith, h .if5 .left))
     (k .if6 .left) (sym (f .is-full .ensures) ∙ c .if7 .taken)
 
 returns-8 : tie.Need-returns-8
@@ -93,7 +93,7 @@ returns-8 c =
     let g = h .before .before in
     let d = g .before in
     let a = start (first d) .args in
-    is-open (view (a .self)) (a .offset .0) (a .now) (first d .if1 .left) (unsettled (second d)) (due d) (g .if4 .left) (omega (arith, h .if5 .left))
+    is-open (view (a .self)) (a .offset .0) (a .now) (first d .if1 .left) (unsettled (second d)) (not-running d) (g .if4 .left) (omega (arith, h .if5 .left))
     (k .if6 .left) (sym (f .is-full .ensures) ∙ c .if7 .left)
 
 pub claim-test-spec : {M : Type 1} → statement M

@@ -1,4 +1,4 @@
--- `Consumer::grant` meets its contract: the test refuses, or the grant behind it takes effect. Assumes nothing.
+-- `Consumer::grant` meets its contract: the test refuses, or the grant after it takes effect. Assumes nothing.
 use mathlib.Core.Path.{sym, ap, _∙_}
 use borrow.Author.Needs.{needs}
 use Rattle.consumer.specs.Calls.{claimTable}

@@ -24,7 +24,7 @@ use denote.Triple.Table.{entered, cited}
 use denote.Triple.Walked.{says}
 use Rattle.types.specs.Lists.{offsetsIn}
 use Rattle.types.proofs.lent.OffsetList as G
-use Rattle.types.proofs.Asking.{told}
+use Rattle.types.proofs.Asking.{answers-as}
 use Rattle.types.proofs.lent.list_offsets as fill
 use Rattle.types.proofs.lent.list_offsets.Symbol as fill-def
 use Rattle.types.proofs.lent.list_offsets.Symbol.{name as #fill}
@@ -57,7 +57,7 @@ module _ {M : Type 1} (𝓤 : URA M) (H : Heap 𝓤) (A : Atoms 𝓤) (mem : Mem
       record {
         Q = Core .post to;
         called = via 𝓤 (Core .pre to) (qed W [] ∵ says ! fine $ nothing ! $ frame ! $ nothing ! $ owned ! u64 (Is u64) (uint-makes 𝓤 H A W w64) now _ (refl, now-fits) $ fjoin ! $ owned ! S.the-row (Is S.the-row) ((LL.makes S.the-type S′.the-plain) 𝓤 H A) t _ is $ fjoin ! $ done !) (known to);
-        gives = told 𝓤 H A W G.the-row (ensured 𝓤 H A core.ended (core.clauses 𝓤 H A mem run) tt (t, (now, tt)) tt) (λ c. offsetsIn c ≡ waitingAt (view t) now)
+        gives = answers-as 𝓤 H A W G.the-row (ensured 𝓤 H A core.ended (core.clauses 𝓤 H A mem run) tt (t, (now, tt)) tt) (λ c. offsetsIn c ≡ waitingAt (view t) now)
             (λ c. exE 𝓤 _ (λ ws. snd∗ 𝓤 (sem 𝓤 H A (lasts core.ended tt (t, (now, tt)) ws)) (fact 𝓤 (offsetsIn c ≡ waitingAt (view t) now))));
       }
 

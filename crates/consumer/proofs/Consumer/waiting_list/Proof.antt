@@ -1,4 +1,4 @@
--- `Consumer::waiting_list` meets its contract. The loop's invariant: behind the carried offsets stand the first i due ones.
+-- `Consumer::waiting_list` meets its contract. The loop's invariant: behind the carried offsets stand the first i expired ones.
 -- Assumes nothing.
 use Prim.Native.Nat.{_+_, _-_, _≤_}
 use native.Mathlib.Omega.{arith}
@@ -13,29 +13,29 @@ use Rattle.consumer.proofs.Consumer.waiting_list.Statement.{statement}
 use Rattle.consumer.proofs.Consumer.waiting_list.Tie as tie
 
 abbrev Inv-loop : tie.InvT-loop
-Inv-loop now n due offsets₀ i₀ offsets i = Behind offsets₀ (due .offsets) offsets n (due .len) i
+Inv-loop now n expired offsets₀ i₀ offsets i = Behind offsets₀ (expired .offsets) offsets n (expired .len) i
 
 abbrev μ-loop : tie.MeasureT-loop
-μ-loop now n due offsets₀ i₀ offsets i = due .len - i
+μ-loop now n expired offsets₀ i₀ offsets i = expired .len - i
 
 -- both lists fit one array
-due-full : (c : tie.After-due Inv-loop μ-loop) → length (c .due .result .offsets) ≡ CARRIED
-due-full c = search needs
+expired-full : (c : tie.After-expired-list Inv-loop μ-loop) → length (c .expired-list .result .offsets) ≡ CARRIED
+expired-full c = search needs
 
 offsets-full : (c : tie.Start Inv-loop μ-loop) → length (c .args .self .table .«carried_offsets») ≡ CARRIED
 offsets-full c = search needs
 
-room : (c : tie.After-due Inv-loop μ-loop) → c .before .carried .result + c .due .result .len ≤ CARRIED
+room : (c : tie.After-expired-list Inv-loop μ-loop) → c .before .carried .result + c .expired-list .result .len ≤ CARRIED
 room c =
     let s = c .before .before .before in
-    let size = length-take-le (c .due .result .len) (c .due .result .offsets) (omega (arith, due-full c, c .due .ensures .few)) in
-    both-fit (view (s .args .self)) (s .pre .valid) (s .args .now) (c .before .carried .result) (c .due .result .len) (c .before .carried .ensures) (sym size ∙ ap length (c .due .ensures .is))
+    let size = length-take-le (c .expired-list .result .len) (c .expired-list .result .offsets) (omega (arith, expired-full c, c .expired-list .ensures .few)) in
+    both-fit (view (s .args .self)) (s .pre .valid) (s .args .now) (c .before .carried .result) (c .expired-list .result .len) (c .before .carried .ensures) (sym size ∙ ap length (c .expired-list .ensures .is))
 
 carried-requires : tie.Need-carried-requires Inv-loop μ-loop
 carried-requires c κs = search needs
 
-due-requires : tie.Need-due-requires Inv-loop μ-loop
-due-requires c κs = search needs
+expired-list-requires : tie.Need-expired-list-requires Inv-loop μ-loop
+expired-list-requires c κs = search needs
 
 loop-holds : tie.Need-loop-holds Inv-loop μ-loop
 loop-holds c = behind _ _ _ _
@@ -65,7 +65,7 @@ loop-again : tie.Need-loop-again Inv-loop μ-loop
 loop-again c =
     let l = c .before .before in
     let d = l .before .before in
-    behind-more _ _ _ _ (c .before .loop-test .taken) (omega (arith, room d, due-full d)) (omega (arith, room d, offsets-full (d .before .before .before))) (l .loop .inv)
+    behind-more _ _ _ _ (c .before .loop-test .taken) (omega (arith, room d, expired-full d)) (omega (arith, room d, offsets-full (d .before .before .before))) (l .loop .inv)
 
 add-t20 : tie.Need-add-t20 Inv-loop μ-loop
 add-t20 c = omega (arith, room (c .before .before .before))
@@ -75,7 +75,7 @@ returns c =
     let d = c .before .before .before in
     let s = d .before .before .before in
     both _ _ _ _ (c .loop-test .left) (c .before .loop .inv)
-    ∙ rw (← carried-keys (s .args .self .table) (d .before .carried .result) (d .before .carried .ensures), d .due .ensures .is)
+    ∙ rw (← carried-keys (s .args .self .table) (d .before .carried .result) (d .before .carried .ensures), d .expired-list .ensures .is)
 
 pub waiting-list-spec : {M : Type 1} → statement M
 waiting-list-spec =
@@ -84,7 +84,7 @@ waiting-list-spec =
     Inv-loop
     μ-loop
     carried-requires
-    due-requires
+    expired-list-requires
     loop-holds
     mul-offsets
     element-copy-out-offsets

@@ -31,7 +31,7 @@ use Rattle.cursor.specs.View.{view, Sound}
 use Rattle.cursor.specs.declared.Range.{Range}
 use Rattle.cursor.specs.declared.AckCursor.{AckCursor}
 use Rattle.types.proofs.Walk.{map-same}
-use Rattle.types.proofs.Asking.{Answers, told}
+use Rattle.types.proofs.Asking.{Answers, answers-as}
 use Rattle.types.proofs.Filling.{lists}
 use Rattle.types.proofs.lent.Listed as E
 use Rattle.cursor.proofs.Range as T
@@ -74,7 +74,7 @@ module _ {M : Type 1} (𝓤 : URA M) (H : Heap 𝓤) (A : Atoms 𝓤) (mem : Mem
         record {
           Q = Fits .post to;
           called = via 𝓤 (Fits .pre to) (qed W [] ∵ says ! fine $ nothing ! $ frame ! $ nothing ! $ owned ! usize (Is usize) (uint-makes 𝓤 H A W w64) n _ (refl, n-fits) $ fjoin ! $ owned ! G.the-row (Is G.the-row) ((LL.makes G.the-type G′.the-plain) 𝓤 H A) g _ is $ fjoin ! $ done !) (known to);
-          gives = told 𝓤 H A W E.the-row (ensured 𝓤 H A room-for.ended (room-for.clauses 𝓤 H A mem run) tt (g, (n, tt)) tt) (λ r. listedOf r ≡ roomFor (length (view g .ahead)) n)
+          gives = answers-as 𝓤 H A W E.the-row (ensured 𝓤 H A room-for.ended (room-for.clauses 𝓤 H A mem run) tt (g, (n, tt)) tt) (λ r. listedOf r ≡ roomFor (length (view g .ahead)) n)
               (λ r. exE 𝓤 _ (λ ws. snd∗ 𝓤 (sem 𝓤 H A (lasts room-for.ended tt (g, (n, tt)) ws)) (fact 𝓤 (listedOf r ≡ roomFor (length (view g .ahead)) n))));
         }
 
@@ -84,7 +84,7 @@ module _ {M : Type 1} (𝓤 : URA M) (H : Heap 𝓤) (A : Atoms 𝓤) (mem : Mem
         record {
           Q = Get .post to;
           called = via 𝓤 (Get .pre to) (qed W [] ∵ says ! (fine, inside) $ nothing ! $ frame ! $ nothing ! $ owned ! usize (Is usize) (uint-makes 𝓤 H A W w64) i _ (refl, i-fits) $ fjoin ! $ owned ! G.the-row (Is G.the-row) ((LL.makes G.the-type G′.the-plain) 𝓤 H A) g _ is $ fjoin ! $ done !) (known to);
-          gives = told 𝓤 H A W T.the-row (ensured 𝓤 H A range-at.ended (range-at.clauses 𝓤 H A mem run) tt (g, (i, tt)) tt) (λ p. p ≡ getD (view g .ahead) i (range 0 0))
+          gives = answers-as 𝓤 H A W T.the-row (ensured 𝓤 H A range-at.ended (range-at.clauses 𝓤 H A mem run) tt (g, (i, tt)) tt) (λ p. p ≡ getD (view g .ahead) i (range 0 0))
               (λ p. exE 𝓤 _ (λ ws. snd∗ 𝓤 (sem 𝓤 H A (lasts range-at.ended tt (g, (i, tt)) ws)) (fact 𝓤 (p ≡ getD (view g .ahead) i (range 0 0)))));
         }
 

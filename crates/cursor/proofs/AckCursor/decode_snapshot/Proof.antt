@@ -49,7 +49,7 @@ take-ranges-requires c κs =
     let t = c .before .before .before in
     (frame-fits (bytes (t .before .before)) (framed t) .1, refl, refl)
 
--- behind the frame it is the ranges that answer
+-- after the frame it is the ranges that answer
 ranges : (c : tie.After-take-ranges) → resumeFault (c .take-ranges .result) ≡ first (decodeTable (bytes (c .before .before .before .before .before .before)))
 ranges c =
     let u = c .before .before .before in

@@ -92,7 +92,7 @@ loop-again c =
       rw (t .enum-told .given .1) at (taken k _ _ _ (c .note-range .ensures .0) (c .note-range .ensures .1) (c .note-range .ensures .2)),
     )
 
--- behind the loop all of them are taken
+-- after the loop all of them are taken
 all : (c : tie.After-loop Inv-loop μ-loop) → let l = c .before .loop in let a = c .before .before .before .args in
     Taken (a .committed) (readRanges (a .n) 9 (a .input .now)) (underWay (a .committed) (l .starts) (l .ends) (l .taken) (l .last))
 all c =

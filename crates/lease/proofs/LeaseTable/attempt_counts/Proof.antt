@@ -20,7 +20,7 @@ use denote.Triple.Table.{entered, cited}
 use denote.Triple.Walked.{says}
 use Rattle.types.specs.Lists.{countsIn}
 use Rattle.types.proofs.lent.AttemptCounts as G
-use Rattle.types.proofs.Asking.{told}
+use Rattle.types.proofs.Asking.{answers-as}
 use Rattle.types.proofs.lent.list_pairs as fill
 use Rattle.types.proofs.lent.list_pairs.Symbol as fill-def
 use Rattle.types.proofs.lent.list_pairs.Symbol.{name as #fill}
@@ -53,7 +53,7 @@ module _ {M : Type 1} (𝓤 : URA M) (H : Heap 𝓤) (A : Atoms 𝓤) (mem : Mem
       record {
         Q = Core .post to;
         called = via 𝓤 (Core .pre to) (qed W [] ∵ says ! fine $ nothing ! $ frame ! $ nothing ! $ owned ! S.the-row (Is S.the-row) ((LL.makes S.the-type S′.the-plain) 𝓤 H A) t _ is $ fjoin ! $ done !) (known to);
-        gives = told 𝓤 H A W G.the-row (ensured 𝓤 H A core.ended (core.clauses 𝓤 H A mem run) tt (t, tt) tt) (λ c. countsIn c ≡ attemptCounts (view t))
+        gives = answers-as 𝓤 H A W G.the-row (ensured 𝓤 H A core.ended (core.clauses 𝓤 H A mem run) tt (t, tt) tt) (λ c. countsIn c ≡ attemptCounts (view t))
             (λ c. exE 𝓤 _ (λ ws. lists-counts 𝓤 (sem 𝓤 H A (lasts core.ended tt (t, tt) ws)) c (attemptCounts (view t))));
       }
 

@@ -12,8 +12,8 @@ use Rattle.lease.proofs.Slots.{Full, Carried, carried, uncarried}
 use Rattle.lease.proofs.LeaseTable.carried_count.Statement.{statement}
 use Rattle.lease.proofs.LeaseTable.carried_count.Tie as tie
 
-abbrev told : Option ℕ → Result (List ℕ)
-told n = done (optional n)
+abbrev answers-as : Option ℕ → Result (List ℕ)
+answers-as n = done (optional n)
 
 full : (c : tie.Start) → Full (c .args .t1)
 full c = record { offsets = search needs; leases = search (needs, length-mapped); carried-offsets = search needs; carried-counts = search needs }
@@ -36,7 +36,7 @@ enum-told c = search needs
 returns : tie.Need-returns
 returns c =
     let s = c .before .before .before .before .before .before in
-    ap told (sym (uncarried (s .args .t1) (full s) (s .pre) (c .before .before .find .ensures) (c .enum-told .given .1) .is))
+    ap answers-as (sym (uncarried (s .args .t1) (full s) (s .pre) (c .before .before .find .ensures) (c .enum-told .given .1) .is))
 
 mul-t8 : tie.Need-mul-t8
 mul-t8 c = let p = c .before in omega (arith, here p .inside, start p .pre .carried-len)
@@ -45,7 +45,7 @@ element-copy-out-t11 : tie.Need-element-copy-out-t11
 element-copy-out-t11 c = let p = c .before in omega (arith, here p .inside, start p .pre .carried-len)
 
 returns-2 : tie.Need-returns-2
-returns-2 c = ap told (sym (here (c .before .before) .is))
+returns-2 c = ap answers-as (sym (here (c .before .before) .is))
 
 pub carried-count-spec : {M : Type 1} → statement M
 carried-count-spec =

@@ -23,8 +23,8 @@ mul-lease c = place-in-memory (look c .inside)
 element-copy-out-lease : tie.Need-element-copy-out-lease
 element-copy-out-lease c = look c .inside
 
-overdue-requires : tie.Need-overdue-requires
-overdue-requires c κs = search needs
+is-expired-requires : tie.Need-is-expired-requires
+is-expired-requires c κs = search needs
 
 saturating-add-requires : tie.Need-saturating-add-requires
 saturating-add-requires c κs = search needs
@@ -44,7 +44,7 @@ returns c =
     let o = c .before .before .before in
     let p = o .before .before in
     let s = p .before .before .before .before in
-    deferred-as (s .args .t1) (s .pre) (s .args .offset .0) (p .slot-of .result) (look p) (s .args .now) (s .args .delay-nanos) (d .result) (d .ensures) (o .overdue .result) (o .overdue .ensures) (c .before .chosen .result) (c .before .chosen .ensures)
+    deferred-as (s .args .t1) (s .pre) (s .args .offset .0) (p .slot-of .result) (look p) (s .args .now) (s .args .delay-nanos) (d .result) (d .ensures) (o .is-expired .result) (o .is-expired .ensures) (c .before .chosen .result) (c .before .chosen .ensures)
 
 pub defer-redelivery-spec : {M : Type 1} → statement M
 defer-redelivery-spec =
@@ -53,7 +53,7 @@ defer-redelivery-spec =
     slot-of-requires
     mul-lease
     element-copy-out-lease
-    overdue-requires
+    is-expired-requires
     saturating-add-requires
     chosen-requires
     mul-self

@@ -14,8 +14,8 @@ use Rattle.lease.proofs.Slots.{Full, Leased, leased, free}
 use Rattle.lease.proofs.LeaseTable.lease_of.Statement.{statement}
 use Rattle.lease.proofs.LeaseTable.lease_of.Tie as tie
 
-abbrev told : Option Lease → Result (List ℕ)
-told l = done (leaseValues l)
+abbrev answers-as : Option Lease → Result (List ℕ)
+answers-as l = done (leaseValues l)
 
 full : (c : tie.Start) → Full (c .args .t1)
 full c = record { offsets = search needs; leases = search (needs, length-mapped); carried-offsets = search needs; carried-counts = search needs }
@@ -38,7 +38,7 @@ enum-told c = search needs
 returns : tie.Need-returns
 returns c =
     let s = c .before .before .before .before .before .before in
-    ap told (sym (free (s .args .t1) (full s) (s .pre) (c .before .before .find .ensures) (c .enum-told .given .1) .is))
+    ap answers-as (sym (free (s .args .t1) (full s) (s .pre) (c .before .before .find .ensures) (c .enum-told .given .1) .is))
 
 mul-t8 : tie.Need-mul-t8
 mul-t8 c = let p = c .before in in-memory (here p .inside) (start p .pre .len)
@@ -47,7 +47,7 @@ element-copy-out-t11 : tie.Need-element-copy-out-t11
 element-copy-out-t11 c = let p = c .before in in-use (here p .inside) (start p .pre .len)
 
 returns-2 : tie.Need-returns-2
-returns-2 c = ap told (sym (here (c .before .before) .is))
+returns-2 c = ap answers-as (sym (here (c .before .before) .is))
 
 pub lease-of-spec : {M : Type 1} → statement M
 lease-of-spec =

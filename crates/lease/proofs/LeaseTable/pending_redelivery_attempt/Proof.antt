@@ -3,7 +3,7 @@
 use borrow.Author.Needs.{needs}
 use Rattle.lease.specs.State.{view}
 use Rattle.lease.proofs.Found.{found-lease, found-none}
-use Rattle.lease.proofs.Questions.{none-overdue, still-running, pending}
+use Rattle.lease.proofs.Questions.{none-expired, still-running, pending}
 use Rattle.lease.proofs.LeaseTable.pending_redelivery_attempt.Statement.{statement}
 use Rattle.lease.proofs.LeaseTable.pending_redelivery_attempt.Tie as tie
 
@@ -19,7 +19,7 @@ enum-told c = search needs
 returns : tie.Need-returns
 returns c =
     let s = c .before .before .before in
-    rw (none-overdue (view (s .args .self)) (s .args .offset .0) (s .args .now) (found-none (view (s .args .self)) (s .args .offset .0) (c .before .before .lease-of .ensures) (c .enum-told .given .1)))
+    rw (none-expired (view (s .args .self)) (s .args .offset .0) (s .args .now) (found-none (view (s .args .self)) (s .args .offset .0) (c .before .before .lease-of .ensures) (c .enum-told .given .1)))
 
 returns-2 : tie.Need-returns-2
 returns-2 c =

@@ -2,7 +2,7 @@
 use mathlib.Core.Path.{_≡_}
 use native.Mathlib.Omega.{arith}
 use borrow.Author.Needs.{needs}
-use Rattle.machine.proofs.Turns.{not-begun, sound-idle, begin-refused, begin-done}
+use Rattle.machine.proofs.Transitions.{not-begun, sound-idle, begin-refused, begin-done}
 use Rattle.machine.proofs.Machine.begin.Statement.{statement}
 use Rattle.machine.proofs.Machine.begin.Tie as tie
 

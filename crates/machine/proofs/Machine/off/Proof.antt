@@ -1,6 +1,6 @@
 -- `Machine::off` meets its contract. Assumes nothing.
 use borrow.Author.Needs.{needs}
-use Rattle.machine.proofs.Turns.{rests-off}
+use Rattle.machine.proofs.Transitions.{rests-off}
 use Rattle.machine.proofs.Machine.off.Statement.{statement}
 use Rattle.machine.proofs.Machine.off.Tie as tie
 

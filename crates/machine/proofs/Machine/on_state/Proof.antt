@@ -7,7 +7,7 @@ use borrow.Author.Needs.{needs}
 use Rattle.machine.specs.Calls.{fits}
 use Rattle.machine.specs.Answers.{askOf}
 use Rattle.machine.proofs.Fits.{ask-fits}
-use Rattle.machine.proofs.Turns.{not-asked, sound-idle, asked-called}
+use Rattle.machine.proofs.Transitions.{not-asked, sound-idle, asked-called}
 use Rattle.machine.proofs.Machine.on_state.Statement.{statement}
 use Rattle.machine.proofs.Machine.on_state.Tie as tie
 

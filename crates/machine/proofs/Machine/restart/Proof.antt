@@ -1,6 +1,6 @@
 -- `Machine::restart` meets its contract: a refusal keeps the machine, and else it rests on what the journal has. Assumes nothing.
 use borrow.Author.Needs.{needs}
-use Rattle.machine.proofs.Turns.{restart-refused, restart-done}
+use Rattle.machine.proofs.Transitions.{restart-refused, restart-done}
 use Rattle.machine.proofs.Machine.restart.Statement.{statement}
 use Rattle.machine.proofs.Machine.restart.Tie as tie
 

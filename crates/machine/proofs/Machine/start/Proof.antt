@@ -1,6 +1,6 @@
 -- `Machine::start` meets its contract: a fresh machine, or one that is off beside a refusal. Assumes nothing.
 use borrow.Author.Needs.{needs}
-use Rattle.machine.proofs.Turns.{start-refused, start-done}
+use Rattle.machine.proofs.Transitions.{start-refused, start-done}
 use Rattle.machine.proofs.Machine.start.Statement.{statement}
 use Rattle.machine.proofs.Machine.start.Tie as tie
 

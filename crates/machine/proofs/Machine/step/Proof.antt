@@ -2,7 +2,7 @@
 use mathlib.Core.Path.{_≡_}
 use native.Mathlib.Omega.{arith}
 use borrow.Author.Needs.{needs}
-use Rattle.machine.proofs.Turns.{not-stepped, sound-writing, step-called}
+use Rattle.machine.proofs.Transitions.{not-stepped, sound-writing, step-called}
 use Rattle.machine.proofs.Machine.step.Statement.{statement}
 use Rattle.machine.proofs.Machine.step.Tie as tie
 

@@ -2,7 +2,7 @@
 use mathlib.Core.Path.{refl, ap}
 use borrow.Author.Needs.{needs}
 use Rattle.machine.specs.Calls.{acked}
-use Rattle.machine.specs.Door.{answered}
+use Rattle.machine.specs.Transitions.{answeredAs}
 use Rattle.machine.proofs.asks.ask_ack.Statement.{statement}
 use Rattle.machine.proofs.asks.ask_ack.Tie as tie
 
@@ -14,7 +14,7 @@ returns c out =
     let h = c .before .ack .ensures in
     let g = c .before .before .args in
     record {
-      is = λ a. ap (answered a (acked (g .token .offset .0) (g .token .generation .0))) (h .is);
+      is = λ a. ap (answeredAs a (acked (g .token .offset .0) (g .token .generation .0))) (h .is);
       sound = h .sound;
       kept = h .kept;
       lists = λ a. refl;

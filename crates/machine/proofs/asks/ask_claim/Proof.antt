@@ -2,7 +2,7 @@
 use mathlib.Core.Path.{refl, ap}
 use borrow.Author.Needs.{needs}
 use Rattle.machine.specs.Calls.{claimed}
-use Rattle.machine.specs.Door.{answered}
+use Rattle.machine.specs.Transitions.{answeredAs}
 use Rattle.machine.proofs.asks.ask_claim.Statement.{statement}
 use Rattle.machine.proofs.asks.ask_claim.Tie as tie
 
@@ -14,7 +14,7 @@ returns c out =
     let h = c .before .claim .ensures in
     let g = c .before .before .args in
     record {
-      is = λ a. ap (answered a (claimed (g .offset .0) (g .now))) (h .is);
+      is = λ a. ap (answeredAs a (claimed (g .offset .0) (g .now))) (h .is);
       sound = h .sound;
       kept = h .kept;
       lists = λ a. refl;

@@ -2,7 +2,7 @@
 use mathlib.Core.Path.{refl, ap}
 use borrow.Author.Needs.{needs}
 use Rattle.machine.specs.Calls.{committed}
-use Rattle.machine.specs.Door.{answered}
+use Rattle.machine.specs.Transitions.{answeredAs}
 use Rattle.machine.proofs.asks.ask_commit.Statement.{statement}
 use Rattle.machine.proofs.asks.ask_commit.Tie as tie
 
@@ -14,7 +14,7 @@ returns c out =
     let h = c .before .commit .ensures in
     let g = c .before .before .args in
     record {
-      is = λ a. ap (answered a (committed (g .bound .0))) (h .is);
+      is = λ a. ap (answeredAs a (committed (g .bound .0))) (h .is);
       sound = h .sound;
       kept = h .kept;
       lists = λ a. refl;

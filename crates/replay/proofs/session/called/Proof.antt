@@ -29,8 +29,8 @@ call-requires c κs = search needs
 of-call-requires : tie.Need-of-call-requires
 of-call-requires c κs = search needs
 
-behind-requires : tie.Need-behind-requires
-behind-requires c κs = search needs
+after-call-requires : tie.Need-after-call-requires
+after-call-requires c κs = search needs
 
 same-length : tie.Need-same-length
 same-length c = search needs
@@ -41,8 +41,8 @@ same-length-2 c = search needs
 returns-2 : tie.Need-returns-2
 returns-2 c =
     record {
-      machine = c .behind .ensures .machine;
-      inside = omega (arith, c .behind .ensures .inside, c .before .before .before .before .before .before .before .before .before .before .before .before .before .before .before .before .pre .inside);
+      machine = c .after-call .ensures .machine;
+      inside = omega (arith, c .after-call .ensures .inside, c .before .before .before .before .before .before .before .before .before .before .before .before .before .before .before .before .pre .inside);
     }
 
 pub called-spec : {M : Type 1} → statement M
@@ -56,7 +56,7 @@ called-spec =
     slice-aggregate-call
     call-requires
     of-call-requires
-    behind-requires
+    after-call-requires
     same-length
     same-length-2
     returns-2)

@@ -29,7 +29,7 @@ use Rattle.types.specs.Identifiers.{offset}
 use Rattle.types.specs.Lists.{roomFor, listedOf, numbersOf, offsetsIn}
 use Rattle.types.specs.declared.Offset.{Offset}
 use Rattle.types.specs.declared.lent.OffsetList.{OffsetList}
-use Rattle.types.proofs.Asking.{Answers, told}
+use Rattle.types.proofs.Asking.{Answers, answers-as}
 use Rattle.types.proofs.Filling.{lists}
 use Rattle.types.proofs.lent.Listed as E
 use Rattle.types.proofs.Offset as T
@@ -72,7 +72,7 @@ module _ {M : Type 1} (𝓤 : URA M) (H : Heap 𝓤) (A : Atoms 𝓤) (mem : Mem
         record {
           Q = Fits .post to;
           called = via 𝓤 (Fits .pre to) (qed W [] ∵ nothing ! $ owned ! usize (Is usize) (uint-makes 𝓤 H A W w64) n _ (refl, n-fits) $ fjoin ! $ owned ! G.the-row (Is G.the-row) ((LL.makes G.the-type G′.the-plain) 𝓤 H A) g _ is $ fjoin ! $ nothing ! $ join ! $ nothing ! $ move ! (1 ∷ 0 ∷ []) $ done !) (known to);
-          gives = told 𝓤 H A W E.the-row (ensured 𝓤 H A offsets-fit.ended (offsets-fit.clauses 𝓤 H A mem run) tt (g, (n, tt)) tt) (λ r. listedOf r ≡ roomFor (length (offsetsIn g)) n)
+          gives = answers-as 𝓤 H A W E.the-row (ensured 𝓤 H A offsets-fit.ended (offsets-fit.clauses 𝓤 H A mem run) tt (g, (n, tt)) tt) (λ r. listedOf r ≡ roomFor (length (offsetsIn g)) n)
               (λ r. exE 𝓤 _ (λ ws. snd∗ 𝓤 (sem 𝓤 H A (lasts offsets-fit.ended tt (g, (n, tt)) ws)) (fact 𝓤 (listedOf r ≡ roomFor (length (offsetsIn g)) n))));
         }
 
@@ -82,7 +82,7 @@ module _ {M : Type 1} (𝓤 : URA M) (H : Heap 𝓤) (A : Atoms 𝓤) (mem : Mem
         record {
           Q = Get .post to;
           called = via 𝓤 (Get .pre to) (qed W [] ∵ says ! inside $ nothing ! $ frame ! $ nothing ! $ owned ! usize (Is usize) (uint-makes 𝓤 H A W w64) i _ (refl, i-fits) $ fjoin ! $ owned ! G.the-row (Is G.the-row) ((LL.makes G.the-type G′.the-plain) 𝓤 H A) g _ is $ fjoin ! $ done !) (known to);
-          gives = told 𝓤 H A W T.the-row (ensured 𝓤 H A offset-at.ended (offset-at.clauses 𝓤 H A mem run) tt (g, (i, tt)) tt) (λ p. p .0 ≡ getD (offsetsIn g) i 0)
+          gives = answers-as 𝓤 H A W T.the-row (ensured 𝓤 H A offset-at.ended (offset-at.clauses 𝓤 H A mem run) tt (g, (i, tt)) tt) (λ p. p .0 ≡ getD (offsetsIn g) i 0)
               (λ p. exE 𝓤 _ (λ ws. snd∗ 𝓤 (sem 𝓤 H A (lasts offset-at.ended tt (g, (i, tt)) ws)) (fact 𝓤 (p .0 ≡ getD (offsetsIn g) i 0))));
         }
 

@@ -28,7 +28,7 @@ use denote.Triple.Walked.{says}
 use Rattle.types.specs.Keyed.{entry}
 use Rattle.types.specs.Lists.{roomFor, listedOf, pair, entryOf, entriesOf, countsIn}
 use Rattle.types.specs.declared.lent.AttemptCounts.{AttemptCounts}
-use Rattle.types.proofs.Asking.{Answers, told}
+use Rattle.types.proofs.Asking.{Answers, answers-as}
 use Rattle.types.proofs.Filling.{lists}
 use Rattle.types.proofs.lent.Listed as E
 use Rattle.types.proofs.Pair as T
@@ -71,7 +71,7 @@ module _ {M : Type 1} (𝓤 : URA M) (H : Heap 𝓤) (A : Atoms 𝓤) (mem : Mem
         record {
           Q = Fits .post to;
           called = via 𝓤 (Fits .pre to) (qed W [] ∵ nothing ! $ owned ! usize (Is usize) (uint-makes 𝓤 H A W w64) n _ (refl, n-fits) $ fjoin ! $ owned ! G.the-row (Is G.the-row) ((LL.makes G.the-type G′.the-plain) 𝓤 H A) g _ is $ fjoin ! $ nothing ! $ join ! $ nothing ! $ move ! (1 ∷ 0 ∷ []) $ done !) (known to);
-          gives = told 𝓤 H A W E.the-row (ensured 𝓤 H A counts-fit.ended (counts-fit.clauses 𝓤 H A mem run) tt (g, (n, tt)) tt) (λ r. listedOf r ≡ roomFor (length (countsIn g)) n)
+          gives = answers-as 𝓤 H A W E.the-row (ensured 𝓤 H A counts-fit.ended (counts-fit.clauses 𝓤 H A mem run) tt (g, (n, tt)) tt) (λ r. listedOf r ≡ roomFor (length (countsIn g)) n)
               (λ r. exE 𝓤 _ (λ ws. snd∗ 𝓤 (sem 𝓤 H A (lasts counts-fit.ended tt (g, (n, tt)) ws)) (fact 𝓤 (listedOf r ≡ roomFor (length (countsIn g)) n))));
         }
 
@@ -81,7 +81,7 @@ module _ {M : Type 1} (𝓤 : URA M) (H : Heap 𝓤) (A : Atoms 𝓤) (mem : Mem
         record {
           Q = Get .post to;
           called = via 𝓤 (Get .pre to) (qed W [] ∵ says ! inside $ nothing ! $ frame ! $ nothing ! $ owned ! usize (Is usize) (uint-makes 𝓤 H A W w64) i _ (refl, i-fits) $ fjoin ! $ owned ! G.the-row (Is G.the-row) ((LL.makes G.the-type G′.the-plain) 𝓤 H A) g _ is $ fjoin ! $ done !) (known to);
-          gives = told 𝓤 H A W T.the-row (ensured 𝓤 H A pair-at.ended (pair-at.clauses 𝓤 H A mem run) tt (g, (i, tt)) tt) (λ p. entryOf p ≡ getD (countsIn g) i (entry 0 0))
+          gives = answers-as 𝓤 H A W T.the-row (ensured 𝓤 H A pair-at.ended (pair-at.clauses 𝓤 H A mem run) tt (g, (i, tt)) tt) (λ p. entryOf p ≡ getD (countsIn g) i (entry 0 0))
               (λ p. exE 𝓤 _ (λ ws. snd∗ 𝓤 (sem 𝓤 H A (lasts pair-at.ended tt (g, (i, tt)) ws)) (fact 𝓤 (entryOf p ≡ getD (countsIn g) i (entry 0 0)))));
         }
 

@@ -1,4 +1,4 @@
--- `call_of` meets its contract: the door's own calls stand behind those on the state. Assumes nothing.
+-- `call_of` meets its contract: the machine's own calls stand behind those on the state. Assumes nothing.
 use Prim.Native.Nat.{ℕ}
 use mathlib.Core.Path.{sym, ap, _∙_}
 use mathlib.Core.Option.{Option}
@@ -9,8 +9,8 @@ use borrow.Author.Needs.{needs}
 use Rattle.wire.proofs.kinds.call_of.Statement.{statement}
 use Rattle.wire.proofs.kinds.call_of.Tie as tie
 
-abbrev told : ℕ → ℕ → ℕ → ℕ → ℕ → ℕ → Option Call
-told a b c d room kind = callAt kind a b c d room
+abbrev as-numbers : ℕ → ℕ → ℕ → ℕ → ℕ → ℕ → Option Call
+as-numbers a b c d room kind = callAt kind a b c d room
 
 ask-of-requires : tie.Need-ask-of-requires
 ask-of-requires c κs = search needs
@@ -22,13 +22,13 @@ enum-told : tie.Need-enum-told
 enum-told c = search needs
 
 returns : tie.Need-returns
-returns c room = ap (told (c .before .args .a) (c .before .args .b) (c .before .args .c) (c .before .args .d) room) (sym (c .match .keys1))
+returns c room = ap (as-numbers (c .before .args .a) (c .before .args .b) (c .before .args .c) (c .before .args .d) room) (sym (c .match .keys1))
 
 returns-2 : tie.Need-returns-2
-returns-2 c room = ap (told (c .before .args .a) (c .before .args .b) (c .before .args .c) (c .before .args .d) room) (sym (c .match .keys2))
+returns-2 c room = ap (as-numbers (c .before .args .a) (c .before .args .b) (c .before .args .c) (c .before .args .d) room) (sym (c .match .keys2))
 
 returns-3 : tie.Need-returns-3
-returns-3 c room = ap (told (c .before .args .a) (c .before .args .b) (c .before .args .c) (c .before .args .d) room) (sym (c .match .keys3))
+returns-3 c room = ap (as-numbers (c .before .args .a) (c .before .args .b) (c .before .args .c) (c .before .args .d) room) (sym (c .match .keys3))
 
 returns-4 : tie.Need-returns-4
 returns-4 c room =

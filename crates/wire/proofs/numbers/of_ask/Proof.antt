@@ -10,8 +10,8 @@ use Rattle.wire.specs.Numbers.{seenNumbers}
 use Rattle.wire.proofs.numbers.of_ask.Statement.{statement}
 use Rattle.wire.proofs.numbers.of_ask.Tie as tie
 
-abbrev told : Arguments → List ℕ → AskAnswer → Numbers
-told g out a = seenNumbers (seenOf g a out)
+abbrev as-numbers : Arguments → List ℕ → AskAnswer → Numbers
+as-numbers g out a = seenNumbers (seenOf g a out)
 
 enum-known-answer : tie.Need-enum-known-answer
 enum-known-answer c = search needs
@@ -56,25 +56,25 @@ of-reply-requires : tie.Need-of-reply-requires
 of-reply-requires c κs = search needs
 
 returns : tie.Need-returns
-returns c g = c .of-claim .ensures ∙ ap (told g (c .before .before .before .before .before .args .out .now)) (sym (c .before .before .answer .given .1))
+returns c g = c .of-claim .ensures ∙ ap (as-numbers g (c .before .before .before .before .before .args .out .now)) (sym (c .before .before .answer .given .1))
 
 returns-2 : tie.Need-returns-2
-returns-2 c g = c .of-settle .ensures ∙ ap (told g (c .before .before .before .before .before .args .out .now)) (sym (c .before .before .answer2 .given .1))
+returns-2 c g = c .of-settle .ensures ∙ ap (as-numbers g (c .before .before .before .before .before .args .out .now)) (sym (c .before .before .answer2 .given .1))
 
 returns-3 : tie.Need-returns-3
-returns-3 c g = c .of-settle2 .ensures ∙ ap (told g (c .before .before .before .before .before .args .out .now)) (sym (c .before .before .answer3 .given .1))
+returns-3 c g = c .of-settle2 .ensures ∙ ap (as-numbers g (c .before .before .before .before .before .args .out .now)) (sym (c .before .before .answer3 .given .1))
 
 returns-4 : tie.Need-returns-4
-returns-4 c g = c .of-nack .ensures ∙ ap (told g (c .before .before .before .before .before .args .out .now)) (sym (c .before .before .answer4 .given .1))
+returns-4 c g = c .of-nack .ensures ∙ ap (as-numbers g (c .before .before .before .before .before .args .out .now)) (sym (c .before .before .answer4 .given .1))
 
 returns-5 : tie.Need-returns-5
-returns-5 c g = c .of-progress .ensures ∙ ap (told g (c .before .before .before .before .before .args .out .now)) (sym (c .before .before .answer5 .given .1))
+returns-5 c g = c .of-progress .ensures ∙ ap (as-numbers g (c .before .before .before .before .before .args .out .now)) (sym (c .before .before .answer5 .given .1))
 
 returns-6 : tie.Need-returns-6
-returns-6 c g = c .of-commit .ensures ∙ ap (told g (c .before .before .before .before .before .args .out .now)) (sym (c .before .before .answer6 .given .1))
+returns-6 c g = c .of-commit .ensures ∙ ap (as-numbers g (c .before .before .before .before .before .args .out .now)) (sym (c .before .before .answer6 .given .1))
 
 returns-7 : tie.Need-returns-7
-returns-7 c g = c .of-reply .ensures ∙ ap (told g (c .before .before .before .before .before .args .out .now)) (sym (c .before .before .answer7 .given .1))
+returns-7 c g = c .of-reply .ensures ∙ ap (as-numbers g (c .before .before .before .before .before .args .out .now)) (sym (c .before .before .answer7 .given .1))
 
 pub of-ask-spec : {M : Type 1} → statement M
 of-ask-spec =

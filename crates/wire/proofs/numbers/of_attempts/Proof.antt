@@ -9,8 +9,8 @@ use Rattle.wire.specs.Numbers.{numbersOf}
 use Rattle.wire.proofs.numbers.of_attempts.Statement.{statement}
 use Rattle.wire.proofs.numbers.of_attempts.Tie as tie
 
-abbrev told : AttemptSnapshotError → Numbers
-told e = numbersOf (numbered (attemptError e))
+abbrev as-numbers : AttemptSnapshotError → Numbers
+as-numbers e = numbersOf (numbered (attemptError e))
 
 enum-told : tie.Need-enum-told
 enum-told c = search needs
@@ -40,25 +40,25 @@ enum-told-3 : tie.Need-enum-told-3
 enum-told-3 c = search needs
 
 returns : tie.Need-returns
-returns c = ap told (sym (c .enum-told .given .1))
+returns c = ap as-numbers (sym (c .enum-told .given .1))
 
 returns-2 : tie.Need-returns-2
-returns-2 c = ap told (sym (c .before .error .given .1))
+returns-2 c = ap as-numbers (sym (c .before .error .given .1))
 
 returns-3 : tie.Need-returns-3
-returns-3 c = ap told (sym (c .before .error2 .given .1))
+returns-3 c = ap as-numbers (sym (c .before .error2 .given .1))
 
 returns-4 : tie.Need-returns-4
-returns-4 c = ap told (sym (c .before .error3 .given .1))
+returns-4 c = ap as-numbers (sym (c .before .error3 .given .1))
 
 returns-5 : tie.Need-returns-5
-returns-5 c = ap told (sym (c .enum-told2 .given .1))
+returns-5 c = ap as-numbers (sym (c .enum-told2 .given .1))
 
 returns-6 : tie.Need-returns-6
-returns-6 c = ap told (sym (c .before .error4 .given .1))
+returns-6 c = ap as-numbers (sym (c .before .error4 .given .1))
 
 returns-7 : tie.Need-returns-7
-returns-7 c = ap told (sym (c .enum-told3 .given .1))
+returns-7 c = ap as-numbers (sym (c .enum-told3 .given .1))
 
 pub of-attempts-spec : {M : Type 1} → statement M
 of-attempts-spec =

@@ -9,8 +9,8 @@ use Rattle.wire.specs.Numbers.{numbersOf, oneValue}
 use Rattle.wire.proofs.numbers.of_begin.Statement.{statement}
 use Rattle.wire.proofs.numbers.of_begin.Tie as tie
 
-abbrev told : BeginAnswer → Numbers
-told a = numbersOf (answered oneValue (begunOf a))
+abbrev as-numbers : BeginAnswer → Numbers
+as-numbers a = numbersOf (answered oneValue (begunOf a))
 
 enum-known-answer : tie.Need-enum-known-answer
 enum-known-answer c = search needs
@@ -19,10 +19,10 @@ enum-told : tie.Need-enum-told
 enum-told c = search needs
 
 returns : tie.Need-returns
-returns c = ap told (sym (c .before .answer .given .1))
+returns c = ap as-numbers (sym (c .before .answer .given .1))
 
 returns-2 : tie.Need-returns-2
-returns-2 c = ap told (sym (c .enum-told .given .1))
+returns-2 c = ap as-numbers (sym (c .enum-told .given .1))
 
 pub of-begin-spec : {M : Type 1} → statement M
 of-begin-spec = tie.close (tie.spec enum-known-answer enum-told returns returns-2)

@@ -6,7 +6,7 @@ use borrow.Author.Needs.{needs}
 use Rattle.consumer.specs.View.{view}
 use Rattle.starts.specs.Starting.{startFault}
 use Rattle.machine.specs.Calls.{Call}
-use Rattle.machine.specs.View.{turnOf, givenTo}
+use Rattle.machine.specs.View.{afterOf, givenTo}
 use Rattle.machine.specs.declared.Machine.{Machine}
 use Rattle.machine.specs.declared.calls.CallAnswer.{CallAnswer}
 use Rattle.wire.specs.Numbers.{numbersIn}
@@ -15,8 +15,8 @@ use Rattle.wire.proofs.Starts.{start-numbers}
 use Rattle.wire.proofs.numbers.of_call.Statement.{statement}
 use Rattle.wire.proofs.numbers.of_call.Tie as tie
 
-abbrev told : Call → Machine → List ℕ → List ℕ → CallAnswer → Numbers
-told q m a out r = numbersIn (turnOf q r m a out)
+abbrev as-numbers : Call → Machine → List ℕ → List ℕ → CallAnswer → Numbers
+as-numbers q m a out r = numbersIn (afterOf q r m a out)
 
 enum-known-answer : tie.Need-enum-known-answer
 enum-known-answer c = search needs
@@ -46,19 +46,19 @@ enum-told : tie.Need-enum-told
 enum-told c = search needs
 
 returns : tie.Need-returns
-returns c q m a = c .of-ask .ensures (givenTo q) ∙ ap (told q m a (c .before .before .before .before .before .args .out .now)) (sym (c .before .before .answer .given .1))
+returns c q m a = c .of-ask .ensures (givenTo q) ∙ ap (as-numbers q m a (c .before .before .before .before .before .args .out .now)) (sym (c .before .before .answer .given .1))
 
 returns-2 : tie.Need-returns-2
-returns-2 c q m a = c .of-begin .ensures ∙ ap (told q m a (c .before .before .before .before .before .args .out .now)) (sym (c .before .before .answer2 .given .1))
+returns-2 c q m a = c .of-begin .ensures ∙ ap (as-numbers q m a (c .before .before .before .before .before .args .out .now)) (sym (c .before .before .answer2 .given .1))
 
 returns-3 : tie.Need-returns-3
-returns-3 c q m a = c .of-step .ensures ∙ ap (told q m a (c .before .before .before .before .before .args .out .now)) (sym (c .before .before .answer3 .given .1))
+returns-3 c q m a = c .of-step .ensures ∙ ap (as-numbers q m a (c .before .before .before .before .before .args .out .now)) (sym (c .before .before .answer3 .given .1))
 
 returns-4 : tie.Need-returns-4
-returns-4 c q m a = c .of-start .ensures ∙ start-numbers (startFault (c .before .before .answer4 .given .0 .0)) (view (m .writing .consumer)) ∙ ap (told q m a (c .before .before .before .before .before .args .out .now)) (sym (c .before .before .answer4 .given .1))
+returns-4 c q m a = c .of-start .ensures ∙ start-numbers (startFault (c .before .before .answer4 .given .0 .0)) (view (m .writing .consumer)) ∙ ap (as-numbers q m a (c .before .before .before .before .before .args .out .now)) (sym (c .before .before .answer4 .given .1))
 
 returns-5 : tie.Need-returns-5
-returns-5 c q m a = ap (told q m a (c .before .before .before .args .out .now)) (sym (c .enum-told .given .1))
+returns-5 c q m a = ap (as-numbers q m a (c .before .before .before .args .out .now)) (sym (c .enum-told .given .1))
 
 pub of-call-spec : {M : Type 1} → statement M
 of-call-spec =

@@ -9,8 +9,8 @@ use Rattle.wire.specs.Numbers.{numbersOf, handOutValues}
 use Rattle.wire.proofs.numbers.of_claim.Statement.{statement}
 use Rattle.wire.proofs.numbers.of_claim.Tie as tie
 
-abbrev told : ClaimAnswer → Numbers
-told a = numbersOf (answered handOutValues (claimOf a))
+abbrev as-numbers : ClaimAnswer → Numbers
+as-numbers a = numbersOf (answered handOutValues (claimOf a))
 
 enum-known-answer : tie.Need-enum-known-answer
 enum-known-answer c = search needs
@@ -43,28 +43,28 @@ enum-told-6 : tie.Need-enum-told-6
 enum-told-6 c = search needs
 
 returns : tie.Need-returns
-returns c = ap told (sym (c .before .answer .given .1))
+returns c = ap as-numbers (sym (c .before .answer .given .1))
 
 returns-2 : tie.Need-returns-2
-returns-2 c = ap told (sym (c .before .answer2 .given .1))
+returns-2 c = ap as-numbers (sym (c .before .answer2 .given .1))
 
 returns-3 : tie.Need-returns-3
-returns-3 c = ap told (sym (c .enum-told .given .1))
+returns-3 c = ap as-numbers (sym (c .enum-told .given .1))
 
 returns-4 : tie.Need-returns-4
-returns-4 c = ap told (sym (c .enum-told2 .given .1))
+returns-4 c = ap as-numbers (sym (c .enum-told2 .given .1))
 
 returns-5 : tie.Need-returns-5
-returns-5 c = ap told (sym (c .enum-told3 .given .1))
+returns-5 c = ap as-numbers (sym (c .enum-told3 .given .1))
 
 returns-6 : tie.Need-returns-6
-returns-6 c = ap told (sym (c .enum-told4 .given .1))
+returns-6 c = ap as-numbers (sym (c .enum-told4 .given .1))
 
 returns-7 : tie.Need-returns-7
-returns-7 c = ap told (sym (c .enum-told5 .given .1))
+returns-7 c = ap as-numbers (sym (c .enum-told5 .given .1))
 
 returns-8 : tie.Need-returns-8
-returns-8 c = ap told (sym (c .enum-told6 .given .1))
+returns-8 c = ap as-numbers (sym (c .enum-told6 .given .1))
 
 pub of-claim-spec : {M : Type 1} → statement M
 of-claim-spec =

@@ -9,8 +9,8 @@ use Rattle.wire.specs.Numbers.{numbersOf, bitValue}
 use Rattle.wire.proofs.numbers.of_commit.Statement.{statement}
 use Rattle.wire.proofs.numbers.of_commit.Tie as tie
 
-abbrev told : CommitAnswer → Numbers
-told a = numbersOf (answered bitValue (commitOf a))
+abbrev as-numbers : CommitAnswer → Numbers
+as-numbers a = numbersOf (answered bitValue (commitOf a))
 
 enum-told : tie.Need-enum-told
 enum-told c = search needs
@@ -22,13 +22,13 @@ enum-told-3 : tie.Need-enum-told-3
 enum-told-3 c = search needs
 
 returns : tie.Need-returns
-returns c = ap told (sym (c .enum-told .given .1))
+returns c = ap as-numbers (sym (c .enum-told .given .1))
 
 returns-2 : tie.Need-returns-2
-returns-2 c = ap told (sym (c .enum-told2 .given .1))
+returns-2 c = ap as-numbers (sym (c .enum-told2 .given .1))
 
 returns-3 : tie.Need-returns-3
-returns-3 c = ap told (sym (c .enum-told3 .given .1))
+returns-3 c = ap as-numbers (sym (c .enum-told3 .given .1))
 
 pub of-commit-spec : {M : Type 1} → statement M
 of-commit-spec = tie.close (tie.spec enum-told enum-told-2 enum-told-3 returns returns-2 returns-3)

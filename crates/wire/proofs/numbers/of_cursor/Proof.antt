@@ -9,8 +9,8 @@ use Rattle.wire.specs.Numbers.{numbersOf}
 use Rattle.wire.proofs.numbers.of_cursor.Statement.{statement}
 use Rattle.wire.proofs.numbers.of_cursor.Tie as tie
 
-abbrev told : SnapshotError → Numbers
-told a = numbersOf (numbered (snapshotError a))
+abbrev as-numbers : SnapshotError → Numbers
+as-numbers a = numbersOf (numbered (snapshotError a))
 
 enum-told : tie.Need-enum-told
 enum-told c = search needs
@@ -34,19 +34,19 @@ of-ranges-requires : tie.Need-of-ranges-requires
 of-ranges-requires c κs = search needs
 
 returns : tie.Need-returns
-returns c = ap told (sym (c .enum-told .given .1))
+returns c = ap as-numbers (sym (c .enum-told .given .1))
 
 returns-2 : tie.Need-returns-2
-returns-2 c = ap told (sym (c .before .error .given .1))
+returns-2 c = ap as-numbers (sym (c .before .error .given .1))
 
 returns-3 : tie.Need-returns-3
-returns-3 c = ap told (sym (c .before .error2 .given .1))
+returns-3 c = ap as-numbers (sym (c .before .error2 .given .1))
 
 returns-4 : tie.Need-returns-4
-returns-4 c = ap told (sym (c .enum-told2 .given .1))
+returns-4 c = ap as-numbers (sym (c .enum-told2 .given .1))
 
 returns-5 : tie.Need-returns-5
-returns-5 c = c .of-ranges .ensures ∙ ap told (sym (c .before .before .error3 .given .1))
+returns-5 c = c .of-ranges .ensures ∙ ap as-numbers (sym (c .before .before .error3 .given .1))
 
 pub of-cursor-spec : {M : Type 1} → statement M
 of-cursor-spec =

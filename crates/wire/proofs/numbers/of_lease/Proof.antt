@@ -9,8 +9,8 @@ use Rattle.wire.specs.Numbers.{numbersOf, values}
 use Rattle.wire.proofs.numbers.of_lease.Statement.{statement}
 use Rattle.wire.proofs.numbers.of_lease.Tie as tie
 
-abbrev told : LeaseAt → Numbers
-told l = numbersOf (answered values (leaseAt l))
+abbrev as-numbers : LeaseAt → Numbers
+as-numbers l = numbersOf (answered values (leaseAt l))
 
 enum-known-lease : tie.Need-enum-known-lease
 enum-known-lease c = search needs
@@ -22,10 +22,10 @@ enum-told : tie.Need-enum-told
 enum-told c = search needs
 
 returns : tie.Need-returns
-returns c = ap told (sym (c .before .before .lease .given .1))
+returns c = ap as-numbers (sym (c .before .before .lease .given .1))
 
 returns-2 : tie.Need-returns-2
-returns-2 c = ap told (sym (c .enum-told .given .1))
+returns-2 c = ap as-numbers (sym (c .enum-told .given .1))
 
 pub of-lease-spec : {M : Type 1} → statement M
 of-lease-spec = tie.close (tie.spec enum-known-lease cast-t4 enum-told returns returns-2)

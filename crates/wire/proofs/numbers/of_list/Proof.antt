@@ -12,8 +12,8 @@ use Rattle.wire.proofs.Places.{first-length, same-numbers}
 use Rattle.wire.proofs.numbers.of_list.Statement.{statement}
 use Rattle.wire.proofs.numbers.of_list.Tie as tie
 
-abbrev told : List ℕ → Listed → Numbers
-told out l = numbersOf (answered values (listOf l out))
+abbrev as-numbers : List ℕ → Listed → Numbers
+as-numbers out l = numbersOf (answered values (listOf l out))
 
 enum-known-listed : tie.Need-enum-known-listed
 enum-known-listed c = search needs
@@ -22,7 +22,7 @@ enum-told : tie.Need-enum-told
 enum-told c = search needs
 
 returns : tie.Need-returns
-returns c = ap (told (c .before .before .before .args .out .now)) (sym (c .enum-told .given .1))
+returns c = ap (as-numbers (c .before .before .before .args .out .now)) (sym (c .enum-told .given .1))
 
 place-requires : tie.Need-place-requires
 place-requires c κs = search needs
@@ -42,7 +42,7 @@ returns-2 c =
     let out = d .before .before .before .before .args .out .now in
     same-numbers (sym (first-length (d .before .listed .given .0 .0) out)) (c .before .before .before .place .ensures)
     (c .before .before .place2 .ensures) (c .before .place3 .ensures) (c .place4 .ensures)
-    ∙ ap (told out) (sym (d .before .listed .given .1))
+    ∙ ap (as-numbers out) (sym (d .before .listed .given .1))
 
 pub of-list-spec : {M : Type 1} → statement M
 of-list-spec =

@@ -9,8 +9,8 @@ use Rattle.wire.specs.Numbers.{numbersOf, oneValue}
 use Rattle.wire.proofs.numbers.of_nack.Statement.{statement}
 use Rattle.wire.proofs.numbers.of_nack.Tie as tie
 
-abbrev told : NackAnswer → Numbers
-told a = numbersOf (answered oneValue (nackOf a))
+abbrev as-numbers : NackAnswer → Numbers
+as-numbers a = numbersOf (answered oneValue (nackOf a))
 
 enum-known-answer : tie.Need-enum-known-answer
 enum-known-answer c = search needs
@@ -25,16 +25,16 @@ enum-told-3 : tie.Need-enum-told-3
 enum-told-3 c = search needs
 
 returns : tie.Need-returns
-returns c = ap told (sym (c .before .answer .given .1))
+returns c = ap as-numbers (sym (c .before .answer .given .1))
 
 returns-2 : tie.Need-returns-2
-returns-2 c = ap told (sym (c .enum-told .given .1))
+returns-2 c = ap as-numbers (sym (c .enum-told .given .1))
 
 returns-3 : tie.Need-returns-3
-returns-3 c = ap told (sym (c .enum-told2 .given .1))
+returns-3 c = ap as-numbers (sym (c .enum-told2 .given .1))
 
 returns-4 : tie.Need-returns-4
-returns-4 c = ap told (sym (c .enum-told3 .given .1))
+returns-4 c = ap as-numbers (sym (c .enum-told3 .given .1))
 
 pub of-nack-spec : {M : Type 1} → statement M
 of-nack-spec =

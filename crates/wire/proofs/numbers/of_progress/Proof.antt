@@ -9,8 +9,8 @@ use Rattle.wire.specs.Numbers.{numbersOf, oneValue}
 use Rattle.wire.proofs.numbers.of_progress.Statement.{statement}
 use Rattle.wire.proofs.numbers.of_progress.Tie as tie
 
-abbrev told : ProgressAnswer → Numbers
-told a = numbersOf (answered oneValue (progressOf a))
+abbrev as-numbers : ProgressAnswer → Numbers
+as-numbers a = numbersOf (answered oneValue (progressOf a))
 
 enum-known-answer : tie.Need-enum-known-answer
 enum-known-answer c = search needs
@@ -22,13 +22,13 @@ enum-told-2 : tie.Need-enum-told-2
 enum-told-2 c = search needs
 
 returns : tie.Need-returns
-returns c = ap told (sym (c .before .answer .given .1))
+returns c = ap as-numbers (sym (c .before .answer .given .1))
 
 returns-2 : tie.Need-returns-2
-returns-2 c = ap told (sym (c .enum-told .given .1))
+returns-2 c = ap as-numbers (sym (c .enum-told .given .1))
 
 returns-3 : tie.Need-returns-3
-returns-3 c = ap told (sym (c .enum-told2 .given .1))
+returns-3 c = ap as-numbers (sym (c .enum-told2 .given .1))
 
 pub of-progress-spec : {M : Type 1} → statement M
 of-progress-spec =

@@ -9,8 +9,8 @@ use Rattle.wire.specs.Numbers.{numbersOf}
 use Rattle.wire.proofs.numbers.of_ranges.Statement.{statement}
 use Rattle.wire.proofs.numbers.of_ranges.Tie as tie
 
-abbrev told : AckCursorError → Numbers
-told a = numbersOf (numbered (rangesError a))
+abbrev as-numbers : AckCursorError → Numbers
+as-numbers a = numbersOf (numbered (rangesError a))
 
 enum-known-error : tie.Need-enum-known-error
 enum-known-error c = search needs
@@ -22,13 +22,13 @@ enum-told : tie.Need-enum-told
 enum-told c = search needs
 
 returns : tie.Need-returns
-returns c = ap told (sym (c .before .error .given .1))
+returns c = ap as-numbers (sym (c .before .error .given .1))
 
 returns-2 : tie.Need-returns-2
-returns-2 c = ap told (sym (c .before .error2 .given .1))
+returns-2 c = ap as-numbers (sym (c .before .error2 .given .1))
 
 returns-3 : tie.Need-returns-3
-returns-3 c = ap told (sym (c .enum-told .given .1))
+returns-3 c = ap as-numbers (sym (c .enum-told .given .1))
 
 pub of-ranges-spec : {M : Type 1} → statement M
 of-ranges-spec =

@@ -12,8 +12,8 @@ use Rattle.wire.proofs.Places.{same-numbers}
 use Rattle.wire.proofs.numbers.of_reply.Statement.{statement}
 use Rattle.wire.proofs.numbers.of_reply.Tie as tie
 
-abbrev told : List ℕ → Reply → Numbers
-told out r = numbersOf (answered values (replyOf r out))
+abbrev as-numbers : List ℕ → Reply → Numbers
+as-numbers out r = numbersOf (answered values (replyOf r out))
 
 enum-known-reply : tie.Need-enum-known-reply
 enum-known-reply c = search needs
@@ -58,28 +58,28 @@ enum-known-reply-8 : tie.Need-enum-known-reply-8
 enum-known-reply-8 c = search needs
 
 returns : tie.Need-returns
-returns c = c .of-list .ensures ∙ ap (told (c .before .before .before .before .before .args .out .now)) (sym (c .before .before .reply .given .1))
+returns c = c .of-list .ensures ∙ ap (as-numbers (c .before .before .before .before .before .args .out .now)) (sym (c .before .before .reply .given .1))
 
 returns-2 : tie.Need-returns-2
-returns-2 c = ap (told (c .before .before .before .before .args .out .now)) (sym (c .before .reply2 .given .1))
+returns-2 c = ap (as-numbers (c .before .before .before .before .args .out .now)) (sym (c .before .reply2 .given .1))
 
 returns-3 : tie.Need-returns-3
-returns-3 c = same-numbers refl (c .bit-of .ensures) refl refl refl ∙ ap (told (c .before .before .before .before .before .args .out .now)) (sym (c .before .before .reply3 .given .1))
+returns-3 c = same-numbers refl (c .bit-of .ensures) refl refl refl ∙ ap (as-numbers (c .before .before .before .before .before .args .out .now)) (sym (c .before .before .reply3 .given .1))
 
 returns-4 : tie.Need-returns-4
-returns-4 c = c .of-lease .ensures ∙ ap (told (c .before .before .before .before .before .args .out .now)) (sym (c .before .before .reply4 .given .1))
+returns-4 c = c .of-lease .ensures ∙ ap (as-numbers (c .before .before .before .before .before .args .out .now)) (sym (c .before .before .reply4 .given .1))
 
 returns-5 : tie.Need-returns-5
-returns-5 c = ap (told (c .before .before .before .before .args .out .now)) (sym (c .before .reply5 .given .1))
+returns-5 c = ap (as-numbers (c .before .before .before .before .args .out .now)) (sym (c .before .reply5 .given .1))
 
 returns-6 : tie.Need-returns-6
-returns-6 c = ap (told (c .before .before .before .before .args .out .now)) (sym (c .before .reply6 .given .1))
+returns-6 c = ap (as-numbers (c .before .before .before .before .args .out .now)) (sym (c .before .reply6 .given .1))
 
 returns-7 : tie.Need-returns-7
-returns-7 c = same-numbers refl (c .before .bit-of2 .ensures) (c .bit-of3 .ensures) refl refl ∙ ap (told (c .before .before .before .before .before .before .args .out .now)) (sym (c .before .before .before .reply7 .given .1))
+returns-7 c = same-numbers refl (c .before .bit-of2 .ensures) (c .bit-of3 .ensures) refl refl ∙ ap (as-numbers (c .before .before .before .before .before .before .args .out .now)) (sym (c .before .before .before .reply7 .given .1))
 
 returns-8 : tie.Need-returns-8
-returns-8 c = ap (told (c .before .before .before .before .args .out .now)) (sym (c .before .reply8 .given .1))
+returns-8 c = ap (as-numbers (c .before .before .before .before .args .out .now)) (sym (c .before .reply8 .given .1))
 
 pub of-reply-spec : {M : Type 1} → statement M
 of-reply-spec =

@@ -10,8 +10,8 @@ use Rattle.wire.specs.Numbers.{numbersOf, noValues}
 use Rattle.wire.proofs.numbers.of_start.Statement.{statement}
 use Rattle.wire.proofs.numbers.of_start.Tie as tie
 
-abbrev told : StartAnswer → Numbers
-told a = numbersOf (answered noValues (unless (startFault a) (done (tt {0}))))
+abbrev as-numbers : StartAnswer → Numbers
+as-numbers a = numbersOf (answered noValues (unless (startFault a) (done (tt {0}))))
 
 enum-told : tie.Need-enum-told
 enum-told c = search needs
@@ -44,28 +44,28 @@ of-attempts-requires : tie.Need-of-attempts-requires
 of-attempts-requires c κs = search needs
 
 returns : tie.Need-returns
-returns c = ap told (sym (c .enum-told .given .1))
+returns c = ap as-numbers (sym (c .enum-told .given .1))
 
 returns-2 : tie.Need-returns-2
-returns-2 c = ap told (sym (c .enum-told2 .given .1))
+returns-2 c = ap as-numbers (sym (c .enum-told2 .given .1))
 
 returns-3 : tie.Need-returns-3
-returns-3 c = ap told (sym (c .enum-told3 .given .1))
+returns-3 c = ap as-numbers (sym (c .enum-told3 .given .1))
 
 returns-4 : tie.Need-returns-4
-returns-4 c = ap told (sym (c .enum-told4 .given .1))
+returns-4 c = ap as-numbers (sym (c .enum-told4 .given .1))
 
 returns-5 : tie.Need-returns-5
-returns-5 c = ap told (sym (c .enum-told5 .given .1))
+returns-5 c = ap as-numbers (sym (c .enum-told5 .given .1))
 
 returns-6 : tie.Need-returns-6
-returns-6 c = ap told (sym (c .before .answer .given .1))
+returns-6 c = ap as-numbers (sym (c .before .answer .given .1))
 
 returns-7 : tie.Need-returns-7
-returns-7 c = c .of-cursor .ensures ∙ ap told (sym (c .before .before .answer2 .given .1))
+returns-7 c = c .of-cursor .ensures ∙ ap as-numbers (sym (c .before .before .answer2 .given .1))
 
 returns-8 : tie.Need-returns-8
-returns-8 c = c .of-attempts .ensures ∙ ap told (sym (c .before .before .answer3 .given .1))
+returns-8 c = c .of-attempts .ensures ∙ ap as-numbers (sym (c .before .before .answer3 .given .1))
 
 pub of-start-spec : {M : Type 1} → statement M
 of-start-spec =

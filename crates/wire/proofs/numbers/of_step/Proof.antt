@@ -9,8 +9,8 @@ use Rattle.wire.specs.Numbers.{numbersOf, wroteValues}
 use Rattle.wire.proofs.numbers.of_step.Statement.{statement}
 use Rattle.wire.proofs.numbers.of_step.Tie as tie
 
-abbrev told : StepAnswer → Numbers
-told a = numbersOf (answered wroteValues (stepOf a))
+abbrev as-numbers : StepAnswer → Numbers
+as-numbers a = numbersOf (answered wroteValues (stepOf a))
 
 enum-known-answer : tie.Need-enum-known-answer
 enum-known-answer c = search needs
@@ -22,13 +22,13 @@ enum-told : tie.Need-enum-told
 enum-told c = search needs
 
 returns : tie.Need-returns
-returns c = ap told (sym (c .before .answer .given .1))
+returns c = ap as-numbers (sym (c .before .answer .given .1))
 
 returns-2 : tie.Need-returns-2
-returns-2 c = ap told (sym (c .before .answer2 .given .1))
+returns-2 c = ap as-numbers (sym (c .before .answer2 .given .1))
 
 returns-3 : tie.Need-returns-3
-returns-3 c = ap told (sym (c .enum-told .given .1))
+returns-3 c = ap as-numbers (sym (c .enum-told .given .1))
 
 pub of-step-spec : {M : Type 1} → statement M
 of-step-spec =
