@@ -107,7 +107,7 @@ fn encode_code(outcome: Encode) -> Code
 }
 
 // The refusals of an attempt snapshot.
-fn attempt_told(error: AttemptSnapshotError) -> Code
+fn attempt_code(error: AttemptSnapshotError) -> Code
     ensures { λ r. ⌜ r ≡ refuses (attemptError error) ⌝ }
 {
     match error {
@@ -134,7 +134,7 @@ fn pairs_code(outcome: attempt::Decode) -> Code
 {
     match outcome {
         attempt::Decode::Pairs(count) => numbered(0, count as u64, 0),
-        attempt::Decode::Refused(error) => attempt_told(error),
+        attempt::Decode::Refused(error) => attempt_code(error),
     }
 }
 

@@ -12,16 +12,16 @@ numbered-requires c κs = search needs
 enum-known-outcome-2 : tie.Need-enum-known-outcome-2
 enum-known-outcome-2 c = search needs
 
-attempt-told-requires : tie.Need-attempt-told-requires
-attempt-told-requires c κs = search needs
+attempt-code-requires : tie.Need-attempt-code-requires
+attempt-code-requires c κs = search needs
 
 returns : tie.Need-returns
 returns c = rw (c .before .before .outcome .given .1) (c .numbered .ensures)
 
 returns-2 : tie.Need-returns-2
-returns-2 c = rw (c .before .before .outcome2 .given .1) (c .attempt-told .ensures)
+returns-2 c = rw (c .before .before .outcome2 .given .1) (c .attempt-code .ensures)
 
 pub pairs-code-spec : {M : Type 1} → statement M
 pairs-code-spec =
     tie.close
-    (tie.spec enum-known-outcome numbered-requires enum-known-outcome-2 attempt-told-requires returns returns-2)
+    (tie.spec enum-known-outcome numbered-requires enum-known-outcome-2 attempt-code-requires returns returns-2)

@@ -1,7 +1,7 @@
--- `attempt_told` meets its contract: each case has its number and its values. Assumes nothing.
+-- `attempt_code` meets its contract: each case has its number and its values. Assumes nothing.
 use borrow.Author.Needs.{needs}
-use Rattle.exports.proofs.attempt_told.Statement.{statement}
-use Rattle.exports.proofs.attempt_told.Tie as tie
+use Rattle.exports.proofs.attempt_code.Statement.{statement}
+use Rattle.exports.proofs.attempt_code.Tie as tie
 
 enum-told : tie.Need-enum-told
 enum-told c = search needs
@@ -72,8 +72,8 @@ returns-6 c = rw (c .before .before .error4 .given .1) (c .numbered6 .ensures)
 returns-7 : tie.Need-returns-7
 returns-7 c = rw (c .before .enum-told3 .given .1) (c .numbered7 .ensures)
 
-pub attempt-told-spec : {M : Type 1} → statement M
-attempt-told-spec =
+pub attempt-code-spec : {M : Type 1} → statement M
+attempt-code-spec =
     tie.close
     (tie.spec
     enum-told
