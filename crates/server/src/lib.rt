@@ -1,2 +1,2 @@
 // What a Rust server calls: a machine, whose state stays in one place.
-pub mod transitions;
+pub mod calls;

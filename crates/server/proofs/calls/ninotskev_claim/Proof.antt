@@ -63,10 +63,10 @@ use Rattle.transitions.proofs.claim as claim
 use Rattle.transitions.proofs.claim.Symbol as claim-def
 use Rattle.transitions.proofs.claim.Symbol.{name as #transitions·claim}
 use Rattle.transitions.proofs.claim.Met as claim-thm
-use Rattle.server.proofs.transitions.ninotskev_claim.Key.{name as #self}
-use Rattle.server.proofs.transitions.ninotskev_claim as f
-use Rattle.server.proofs.transitions.ninotskev_claim.Statement as stated
-use Rattle.server.proofs.transitions.ninotskev_claim.Code as code
+use Rattle.server.proofs.calls.ninotskev_claim.Key.{name as #self}
+use Rattle.server.proofs.calls.ninotskev_claim as f
+use Rattle.server.proofs.calls.ninotskev_claim.Statement as stated
+use Rattle.server.proofs.calls.ninotskev_claim.Code as code
 
 abbrev Arg : Type 0
 Arg = RefT Machine × (RefT Numbers × (ℕ × (ℕ × (Unit {0}))))

@@ -63,10 +63,10 @@ use Rattle.transitions.proofs.ask as ask
 use Rattle.transitions.proofs.ask.Symbol as ask-def
 use Rattle.transitions.proofs.ask.Symbol.{name as #transitions·ask}
 use Rattle.transitions.proofs.ask.Met as ask-thm
-use Rattle.server.proofs.transitions.ninotskev_ask.Key.{name as #self}
-use Rattle.server.proofs.transitions.ninotskev_ask as f
-use Rattle.server.proofs.transitions.ninotskev_ask.Statement as stated
-use Rattle.server.proofs.transitions.ninotskev_ask.Code as code
+use Rattle.server.proofs.calls.ninotskev_ask.Key.{name as #self}
+use Rattle.server.proofs.calls.ninotskev_ask as f
+use Rattle.server.proofs.calls.ninotskev_ask.Statement as stated
+use Rattle.server.proofs.calls.ninotskev_ask.Code as code
 
 abbrev Arg : Type 0
 Arg = RefT Machine × (RefT Numbers × (ℕ × (ℕ × (ℕ × (ℕ × (ℕ × (RefT (List ℕ) × (Unit {0}))))))))

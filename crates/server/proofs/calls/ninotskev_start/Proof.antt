@@ -55,10 +55,10 @@ use Rattle.transitions.proofs.start as start
 use Rattle.transitions.proofs.start.Symbol as start-def
 use Rattle.transitions.proofs.start.Symbol.{name as #transitions·start}
 use Rattle.transitions.proofs.start.Met as start-thm
-use Rattle.server.proofs.transitions.ninotskev_start.Key.{name as #self}
-use Rattle.server.proofs.transitions.ninotskev_start as f
-use Rattle.server.proofs.transitions.ninotskev_start.Statement as stated
-use Rattle.server.proofs.transitions.ninotskev_start.Code as code
+use Rattle.server.proofs.calls.ninotskev_start.Key.{name as #self}
+use Rattle.server.proofs.calls.ninotskev_start as f
+use Rattle.server.proofs.calls.ninotskev_start.Statement as stated
+use Rattle.server.proofs.calls.ninotskev_start.Code as code
 
 abbrev Arg : Type 0
 Arg = RefT Machine × (RefT Numbers × (RefT Configuration × (ℕ × (Unit {0}))))

@@ -56,10 +56,10 @@ use Rattle.transitions.proofs.call as call
 use Rattle.transitions.proofs.call.Symbol as call-def
 use Rattle.transitions.proofs.call.Symbol.{name as #transitions·call}
 use Rattle.transitions.proofs.call.Met as call-thm
-use Rattle.server.proofs.transitions.ninotskev_call.Key.{name as #self}
-use Rattle.server.proofs.transitions.ninotskev_call as f
-use Rattle.server.proofs.transitions.ninotskev_call.Statement as stated
-use Rattle.server.proofs.transitions.ninotskev_call.Code as code
+use Rattle.server.proofs.calls.ninotskev_call.Key.{name as #self}
+use Rattle.server.proofs.calls.ninotskev_call as f
+use Rattle.server.proofs.calls.ninotskev_call.Statement as stated
+use Rattle.server.proofs.calls.ninotskev_call.Code as code
 
 abbrev Arg : Type 0
 Arg = RefT Machine × (RefT Numbers × (ℕ × (ℕ × (ℕ × (ℕ × (ℕ × (RefT (List ℕ) × (RefT (List ℕ) × (Unit {0})))))))))

@@ -46,10 +46,10 @@ use Rattle.machine.proofs.Machine.off as off
 use Rattle.machine.proofs.Machine.off.Symbol as off-def
 use Rattle.machine.proofs.Machine.off.Symbol.{name as #machine·Machine·off}
 use Rattle.machine.proofs.Machine.off.Met as off-thm
-use Rattle.server.proofs.transitions.ninotskev_off.Key.{name as #self}
-use Rattle.server.proofs.transitions.ninotskev_off as f
-use Rattle.server.proofs.transitions.ninotskev_off.Statement as stated
-use Rattle.server.proofs.transitions.ninotskev_off.Code as code
+use Rattle.server.proofs.calls.ninotskev_off.Key.{name as #self}
+use Rattle.server.proofs.calls.ninotskev_off as f
+use Rattle.server.proofs.calls.ninotskev_off.Statement as stated
+use Rattle.server.proofs.calls.ninotskev_off.Code as code
 
 abbrev Arg : Type 0
 Arg = RefT Machine × (RefT Configuration × (Unit {0}))

@@ -65,10 +65,10 @@ use Rattle.transitions.proofs.ack as ack
 use Rattle.transitions.proofs.ack.Symbol as ack-def
 use Rattle.transitions.proofs.ack.Symbol.{name as #transitions·ack}
 use Rattle.transitions.proofs.ack.Met as ack-thm
-use Rattle.server.proofs.transitions.ninotskev_ack.Key.{name as #self}
-use Rattle.server.proofs.transitions.ninotskev_ack as f
-use Rattle.server.proofs.transitions.ninotskev_ack.Statement as stated
-use Rattle.server.proofs.transitions.ninotskev_ack.Code as code
+use Rattle.server.proofs.calls.ninotskev_ack.Key.{name as #self}
+use Rattle.server.proofs.calls.ninotskev_ack as f
+use Rattle.server.proofs.calls.ninotskev_ack.Statement as stated
+use Rattle.server.proofs.calls.ninotskev_ack.Code as code
 
 abbrev Arg : Type 0
 Arg = RefT Machine × (RefT Numbers × (ℕ × (ℕ × (Unit {0}))))
