@@ -1,6 +1,6 @@
 //! The proved library, and the only unsafe code of this crate.
 //!
-//! `crates/server/src/transition.rt` of the repository has the functions with their contracts. They take the state behind `&mut`
+//! `crates/server/src/calls.rt` of the repository has the functions with their contracts. They take the state behind `&mut`
 //! and require one thing, the invariant of the state that every start, restart and call is proved to leave. So a [`Machine`] is
 //! made here by a start or a restart alone, nothing outside this file sees its fields, and the structs below are laid out as
 //! the library's, field by field, which `tests` at the end compares.
@@ -87,7 +87,7 @@ pub(crate) struct Numbers {
     pub(crate) values: [u64; 4],
 }
 
-/// The calls on a consumer, by their numbers in `crates/wire/specs/Numbers.antt`.
+/// The calls on a consumer, by their numbers in `crates/wire/specs/Kinds.antt`.
 #[derive(Clone, Copy, Debug, PartialEq, Eq)]
 #[cfg_attr(
     not(test),

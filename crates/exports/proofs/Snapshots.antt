@@ -9,7 +9,7 @@ use lib.ListN.{length, take, length-map}
 use lib.Seq.{length-take-le}
 use borrow.Author.Tests.{lt-ltb, le-ltb, ltb-false}
 use Rattle.types.specs.Limits.{PAIRS}
-use Rattle.types.specs.Refusal.{Refusal, Result, refused, done, OutTooShort, answered}
+use Rattle.types.specs.Refusal.{Refusal, Result, refused, done, OutTooShort, numbered, answered}
 use Rattle.types.specs.Table.{answer, unless}
 use Rattle.types.specs.Keyed.{Entry, entries}
 use Rattle.types.specs.Zipped.{zipped}
@@ -39,9 +39,10 @@ use Rattle.attempt.specs.declared.Encode.{Encode}
 use Rattle.attempt.specs.declared.Decoded.{Decoded}
 use Rattle.attempt.proofs.Codec.{decoded-refused, decoded-pairs}
 use Rattle.attempt.proofs.Snapshot.{decoded-few}
-use Rattle.exports.specs.Answers.{tells, refuses, one, Crossed, crossed, cross}
+use Rattle.answers.specs.Numbers.{numbersOf, oneValue, values}
+use Rattle.answers.specs.declared.Numbers.{Numbers}
+use Rattle.exports.specs.Answers.{Crossed, crossed, cross}
 use Rattle.exports.specs.Snapshots.{Columns, columns, startsOf, endsOf, keysOf, valuesOf, front, fill, encodeRanges, decodeRanges, decodePairs}
-use Rattle.exports.specs.declared.Code.{Code}
 use Rattle.exports.proofs.Columns.{entries-all, length-both}
 
 -- ## columns into lent ones
@@ -70,15 +71,15 @@ zipped-ends (x ∷ xs) [] h = absurd (omega arith)
 zipped-ends (x ∷ xs) (y ∷ ys) h = ap (λ (l : List ℕ). y ∷ l) (zipped-ends xs ys (suc-inj h))
 
 module _ (committed : ℕ) (ranges : List Range) (r : Resumed) (is : ResumedIs committed ranges r) (at : ℕ) (out : List ℕ) where
-  pub cursor-written : (w : Write) (after : List ℕ) (t : Code) → r .outcome ≡ resumes.Resumed
-      → answer (outcomeOf w) after ≡ write at (encodeCursor (view (r .cursor))) out → t ≡ tells (answered one (outcomeOf w))
-      → crossed t after ≡ cross one (encodeRanges committed ranges at out)
+  pub cursor-written : (w : Write) (after : List ℕ) (t : Numbers) → r .outcome ≡ resumes.Resumed
+      → answer (outcomeOf w) after ≡ write at (encodeCursor (view (r .cursor))) out → t ≡ numbersOf (answered oneValue (outcomeOf w))
+      → crossed t after ≡ cross oneValue (encodeRanges committed ranges at out)
   cursor-written w after t q e u =
       let resumed : done (view (r .cursor)) ≡ resumeWithAhead committed ranges = rw q at (is .is) in
       rw (← resumed, ← e, u)
 
-  pub cursor-not-written : (error : AckCursorError) (t : Code) → r .outcome ≡ resumes.Refused error → t ≡ refuses (rangesError error)
-      → crossed t out ≡ cross one (encodeRanges committed ranges at out)
+  pub cursor-not-written : (error : AckCursorError) (t : Numbers) → r .outcome ≡ resumes.Refused error → t ≡ numbersOf (numbered (rangesError error))
+      → crossed t out ≡ cross oneValue (encodeRanges committed ranges at out)
   cursor-not-written error t q u =
       let resumed : refused (rangesError error) ≡ resumeWithAhead committed ranges = rw q at (is .is) in
       rw (← resumed, u)
@@ -88,7 +89,7 @@ module _ (b : List ℕ) (r : cursor-decoded.Decoded) (is : cursors.DecodedIs b r
   c = r .cursor
 
   abbrev right : Crossed Columns
-  right = cross (λ v. v) (decodeRanges b (columns starts ends))
+  right = cross values (decodeRanges b (columns starts ends))
 
   even : length (take (c .runs) (c .starts)) ≡ length (take (c .runs) (c .ends))
   even = size-starts ∙ sym size-ends
@@ -118,24 +119,24 @@ module _ (b : List ℕ) (r : cursor-decoded.Decoded) (is : cursors.DecodedIs b r
   none-left : (error : _) → r .outcome ≡ decodes.Refused error → c .runs ≡ 0
   none-left error q = ap (λ (k : AckCursor). k .runs) (rw q at (is .kept))
 
-  pub starts-short : length starts < c .runs → crossed (refuses OutTooShort) (columns starts ends) ≡ right
+  pub starts-short : length starts < c .runs → crossed (numbersOf (numbered OutTooShort)) (columns starts ends) ≡ right
   starts-short h = go (r .outcome) refl
     where
-      go : (o : cursor-decode.Decode) → r .outcome ≡ o → crossed (refuses OutTooShort) (columns starts ends) ≡ right
+      go : (o : cursor-decode.Decode) → r .outcome ≡ o → crossed (numbersOf (numbered OutTooShort)) (columns starts ends) ≡ right
       go decodes.Restored q = rw (← said decodes.Restored q, short-left _ (columns (startsOf (view c .ahead)) (endsOf (view c .ahead))) (columns starts ends) (omega (arith, size-starts)))
       go (decodes.Refused error) q = absurd (omega (arith, none-left error q))
 
-  pub ends-short : c .runs ≤ length starts → length ends < c .runs → crossed (refuses OutTooShort) (columns starts ends) ≡ right
+  pub ends-short : c .runs ≤ length starts → length ends < c .runs → crossed (numbersOf (numbered OutTooShort)) (columns starts ends) ≡ right
   ends-short k h = go (r .outcome) refl
     where
-      go : (o : cursor-decode.Decode) → r .outcome ≡ o → crossed (refuses OutTooShort) (columns starts ends) ≡ right
+      go : (o : cursor-decode.Decode) → r .outcome ≡ o → crossed (numbersOf (numbered OutTooShort)) (columns starts ends) ≡ right
       go decodes.Restored q =
           rw (← said decodes.Restored q, short-right _ (columns (startsOf (view c .ahead)) (endsOf (view c .ahead))) (columns starts ends) (omega (arith, size-starts)) (omega (arith, size-ends)))
       go (decodes.Refused error) q = absurd (omega (arith, none-left error q))
 
-  pub cursor-listed : c .runs ≤ length starts → c .runs ≤ length ends → (s e : List ℕ) (t : Code)
+  pub cursor-listed : c .runs ≤ length starts → c .runs ≤ length ends → (s e : List ℕ) (t : Numbers)
       → s ≡ front (take (c .runs) (c .starts)) starts → e ≡ front (take (c .runs) (c .ends)) ends
-      → t ≡ tells (answered (λ v. v) (unless (decodeFault (r .outcome)) (done (c .committed ∷ c .runs ∷ []))))
+      → t ≡ numbersOf (answered values (unless (decodeFault (r .outcome)) (done (c .committed ∷ c .runs ∷ []))))
       → crossed t (columns s e) ≡ right
   cursor-listed h k s e t p q u = go (r .outcome) refl
     where
@@ -150,9 +151,9 @@ module _ (b : List ℕ) (r : cursor-decoded.Decoded) (is : cursors.DecodedIs b r
 -- ## pairs
 module _ (ks vs : List ℕ) (pairs : List Pair) (n m at : ℕ) (out : List ℕ) where
   pub pairs-written : n ≡ min (length ks) (length vs) → m ≡ min n 128 → entriesOf (take m pairs) ≡ take m (entries ks vs)
-      → (w : Encode) (after : List ℕ) (t : Code) → answer (encodeOf w) after ≡ encodeFirst n pairs at out → t ≡ tells (answered one (encodeOf w))
-      → crossed t after ≡ cross one (encodeInto (entries ks vs) at out)
-  pairs-written a h g w after t e u = rw u (ap (cross one) (e ∙ same))
+      → (w : Encode) (after : List ℕ) (t : Numbers) → answer (encodeOf w) after ≡ encodeFirst n pairs at out → t ≡ numbersOf (answered oneValue (encodeOf w))
+      → crossed t after ≡ cross oneValue (encodeInto (entries ks vs) at out)
+  pairs-written a h g w after t e u = rw u (ap (cross oneValue) (e ∙ same))
     where
       size : length (entries ks vs) ≡ n
       size = length-both ks vs ∙ sym a
@@ -169,7 +170,7 @@ module _ (ks vs : List ℕ) (pairs : List Pair) (n m at : ℕ) (out : List ℕ) 
 
 module _ (b : List ℕ) (r : Decoded) (is : DecodedIs b r) (offsets attempts : List ℕ) where
   abbrev listed : Crossed Columns
-  listed = cross (λ v. v) (decodePairs b (columns offsets attempts))
+  listed = cross values (decodePairs b (columns offsets attempts))
 
   abbrev these : List (Entry ℕ)
   these = entriesOf (take (r .count) (r .pairs))
@@ -185,18 +186,18 @@ module _ (b : List ℕ) (r : Decoded) (is : DecodedIs b r) (offsets attempts : L
       go (refused q) e = omega (arith, none-left-over q e)
       go (done l) e = omega (arith, decoded-pairs b r is l e .1, decoded-few b l e)
 
-  pub offsets-short : length offsets < r .count → crossed (refuses OutTooShort) (columns offsets attempts) ≡ listed
+  pub offsets-short : length offsets < r .count → crossed (numbersOf (numbered OutTooShort)) (columns offsets attempts) ≡ listed
   offsets-short h = go (decodeAttempts b) refl
     where
-      go : (a : Result (List (Entry ℕ))) → decodeAttempts b ≡ a → crossed (refuses OutTooShort) (columns offsets attempts) ≡ listed
+      go : (a : Result (List (Entry ℕ))) → decodeAttempts b ≡ a → crossed (numbersOf (numbered OutTooShort)) (columns offsets attempts) ≡ listed
       go (refused q) e = absurd (omega (arith, none-left-over q e))
       go (done l) e =
           rw (e, short-left (length l ∷ []) (columns (keysOf l) (valuesOf l)) (columns offsets attempts) (omega (arith, decoded-pairs b r is l e .1, length-map l (λ e. e .key))))
 
-  pub attempts-short : r .count ≤ length offsets → length attempts < r .count → crossed (refuses OutTooShort) (columns offsets attempts) ≡ listed
+  pub attempts-short : r .count ≤ length offsets → length attempts < r .count → crossed (numbersOf (numbered OutTooShort)) (columns offsets attempts) ≡ listed
   attempts-short k h = go (decodeAttempts b) refl
     where
-      go : (a : Result (List (Entry ℕ))) → decodeAttempts b ≡ a → crossed (refuses OutTooShort) (columns offsets attempts) ≡ listed
+      go : (a : Result (List (Entry ℕ))) → decodeAttempts b ≡ a → crossed (numbersOf (numbered OutTooShort)) (columns offsets attempts) ≡ listed
       go (refused q) e = absurd (omega (arith, none-left-over q e))
       go (done l) e =
           rw (
@@ -206,8 +207,8 @@ module _ (b : List ℕ) (r : Decoded) (is : DecodedIs b r) (offsets attempts : L
                 (omega (arith, decoded-pairs b r is l e .1, length-map l (λ e. e .value))),
           )
 
-  pub pairs-listed : r .count ≤ length offsets → r .count ≤ length attempts → (ks vs : List ℕ) (t : Code)
-      → ks ≡ front (keysOf these) offsets → vs ≡ front (valuesOf these) attempts → t ≡ tells (answered one (decodeOf (r .outcome)))
+  pub pairs-listed : r .count ≤ length offsets → r .count ≤ length attempts → (ks vs : List ℕ) (t : Numbers)
+      → ks ≡ front (keysOf these) offsets → vs ≡ front (valuesOf these) attempts → t ≡ numbersOf (answered oneValue (decodeOf (r .outcome)))
       → crossed t (columns ks vs) ≡ listed
   pairs-listed h k ks vs t p q u = go (decodeAttempts b) refl
     where

@@ -2,141 +2,25 @@
 // and a length, a list of ranges or pairs as a column for each field. Nothing is required of a caller but that its slices
 // are there, and that one that is written to overlaps no other.
 ghost use mathlib.Core.Path.{_≡_};
-ghost use mathlib.Core.List.{[], _∷_};
 ghost use Prim.Native.Nat.{_≤_};
 ghost use lib.ListN.{length, take};
-ghost use Rattle.types.specs.Refusal.{done, answered};
-ghost use Rattle.types.specs.Table.{unless};
 ghost use Rattle.types.specs.Keyed.{entries};
 ghost use Rattle.types.specs.Zipped.{zipped};
-ghost use Rattle.raw.specs.Bytes.{outcomeOf};
 ghost use Rattle.crc.specs.Crc32c.{crc};
 ghost use Rattle.cursor.specs.Ranges.{range};
-ghost use Rattle.cursor.specs.Answers.{rangesError, snapshotError, decodeFault};
 ghost use Rattle.attempt.specs.Snapshot.{encodeInto};
 ghost use Rattle.types.specs.Lists.{entriesOf};
-ghost use Rattle.attempt.specs.Codec.{encodeOf, attemptError, decodeOf};
-ghost use Rattle.exports.specs.Answers.{tells, refuses, one, crossed, cross};
+ghost use Rattle.answers.specs.Numbers.{oneValue, values};
+ghost use Rattle.exports.specs.Answers.{crossed, cross};
 ghost use Rattle.exports.specs.Snapshots.{columns, keysOf, valuesOf, front, encodeRanges, decodeRanges, decodePairs};
-use attempt::AttemptSnapshotError;
-use attempt::Encode;
+use answers::Numbers;
 use cursor::AckCursor;
-use cursor::AckCursorError;
 use cursor::Resume;
-use cursor::SnapshotError;
-use raw::Write;
 use types::Offset;
 use types::Pair;
 use types::limits::PAIRS;
 use types::limits::RANGES;
 use types::numbers::shorter;
-
-// 01's number of an answer, 0 where nothing is refused, and its values, 0 where there are fewer than two.
-#[repr(C)]
-pub struct Code {
-    pub number: u64,
-    pub first: u64,
-    pub second: u64,
-}
-
-fn numbered(number: u64, first: u64, second: u64) -> Code
-    ensures { λ r. ⌜ r ≡ record { number = number; first = first; second = second } ⌝ }
-{
-    Code {
-        number,
-        first,
-        second,
-    }
-}
-
-// The refusals of ranges.
-fn ranges_code(error: AckCursorError) -> Code
-    ensures { λ r. ⌜ r ≡ refuses (rangesError error) ⌝ }
-{
-    match error {
-        AckCursorError::EmptyRange { start, end } => numbered(10, start, end),
-        AckCursorError::NotSortedDisjointAndAboveCommitted { start, prev_end } => {
-            numbered(11, start, prev_end)
-        }
-        AckCursorError::TooManyRuns => numbered(12, 0, 0),
-    }
-}
-
-// The refusals of a cursor snapshot.
-fn snapshot_code(error: SnapshotError) -> Code
-    ensures { λ r. ⌜ r ≡ refuses (snapshotError error) ⌝ }
-{
-    match error {
-        SnapshotError::Truncated => numbered(6, 0, 0),
-        SnapshotError::BadLength { len } => numbered(7, len as u64, 0),
-        SnapshotError::UnsupportedVersion(version) => numbered(8, version as u64, 0),
-        SnapshotError::BadCrc => numbered(9, 0, 0),
-        SnapshotError::Ranges(error) => ranges_code(error),
-    }
-}
-
-// What a decoded cursor answers: its committed offset and the number of its ranges.
-fn cursor_code(outcome: cursor::Decode, committed: u64, runs: usize) -> Code
-    ensures { λ r. ⌜ r ≡ tells (answered (λ v. v) (unless (decodeFault outcome) (done (committed ∷ runs ∷ [])))) ⌝ }
-{
-    match outcome {
-        cursor::Decode::Restored => numbered(0, committed, runs as u64),
-        cursor::Decode::Refused(error) => snapshot_code(error),
-    }
-}
-
-// What writing a cursor snapshot answers: the position behind it.
-fn write_code(outcome: Write) -> Code
-    ensures { λ r. ⌜ r ≡ tells (answered one (outcomeOf outcome)) ⌝ }
-{
-    match outcome {
-        Write::Next(pos) => numbered(0, pos as u64, 0),
-        Write::OutTooShort => numbered(20, 0, 0),
-    }
-}
-
-// What writing an attempt snapshot answers: the position behind it.
-fn encode_code(outcome: Encode) -> Code
-    ensures { λ r. ⌜ r ≡ tells (answered one (encodeOf outcome)) ⌝ }
-{
-    match outcome {
-        Encode::Next(pos) => numbered(0, pos as u64, 0),
-        Encode::TooManyPairs => numbered(19, 0, 0),
-        Encode::OutTooShort => numbered(20, 0, 0),
-    }
-}
-
-// The refusals of an attempt snapshot.
-fn attempt_code(error: AttemptSnapshotError) -> Code
-    ensures { λ r. ⌜ r ≡ refuses (attemptError error) ⌝ }
-{
-    match error {
-        AttemptSnapshotError::Truncated => numbered(13, 0, 0),
-        AttemptSnapshotError::UnsupportedVersion(version) => numbered(14, version as u64, 0),
-        AttemptSnapshotError::BadLength { len } => numbered(15, len as u64, 0),
-        AttemptSnapshotError::CountMismatch { declared, actual } => numbered(
-            16,
-            declared as u64,
-            actual,
-        ),
-        AttemptSnapshotError::BadCrc => numbered(17, 0, 0),
-        AttemptSnapshotError::NotSorted {
-            offset,
-            prev_offset,
-        } => numbered(18, offset, prev_offset),
-        AttemptSnapshotError::TooManyPairs => numbered(19, 0, 0),
-    }
-}
-
-// What decoded attempt counts answer: how many pairs there are.
-fn pairs_code(outcome: attempt::Decode) -> Code
-    ensures { λ r. ⌜ r ≡ tells (answered one (decodeOf outcome)) ⌝ }
-{
-    match outcome {
-        attempt::Decode::Pairs(count) => numbered(0, count as u64, 0),
-        attempt::Decode::Refused(error) => attempt_code(error),
-    }
-}
 
 // Puts the first n numbers of a column at the front of a lent one.
 fn list_column(column: &[u64; RANGES], n: usize, out: &mut [u64])
@@ -212,14 +96,14 @@ pub extern "C" fn ninotskev_encode_cursor<'a>(
     ends: &'a [u64],
     out: &mut [u8],
     at: usize,
-) -> Code
-    ensures { λ r. ⌜ crossed r (now (out .exit)) ≡ cross one (encodeRanges committed (zipped range (now (starts .entry)) (now (ends .entry))) at (now (out .entry))) ⌝ }
+) -> Numbers
+    ensures { λ r. ⌜ crossed r (now (out .exit)) ≡ cross oneValue (encodeRanges committed (zipped range (now (starts .entry)) (now (ends .entry))) at (now (out .entry))) ⌝ }
 {
     let resumed = AckCursor::resume_with_columns(Offset(committed), starts, ends);
     let outcome = resumed.outcome;
     match outcome {
-        Resume::Resumed => write_code(resumed.cursor.encode_snapshot(out, at)),
-        Resume::Refused(error) => ranges_code(error),
+        Resume::Resumed => answers::of_write(resumed.cursor.encode_snapshot(out, at)),
+        Resume::Refused(error) => answers::of_ranges(error),
     }
 }
 
@@ -230,22 +114,22 @@ pub extern "C" fn ninotskev_decode_cursor(
     input: &[u8],
     starts: &mut [u64],
     ends: &mut [u64],
-) -> Code
-    ensures { λ r. ⌜ crossed r (columns (now (starts .exit)) (now (ends .exit))) ≡ cross (λ v. v) (decodeRanges (now (input .entry)) (columns (now (starts .entry)) (now (ends .entry)))) ⌝ }
+) -> Numbers
+    ensures { λ r. ⌜ crossed r (columns (now (starts .exit)) (now (ends .exit))) ≡ cross values (decodeRanges (now (input .entry)) (columns (now (starts .entry)) (now (ends .entry)))) ⌝ }
 {
     let decoded = AckCursor::decode_snapshot(input);
     let cursor = decoded.cursor;
     let n = cursor.runs;
     if starts.len() < n {
-        return numbered(20, 0, 0);
+        return Numbers(20, 0, 0, 0, 0, 0);
     }
     if ends.len() < n {
-        return numbered(20, 0, 0);
+        return Numbers(20, 0, 0, 0, 0, 0);
     }
     list_column(&cursor.starts, n, starts);
     list_column(&cursor.ends, n, ends);
     let outcome = decoded.outcome;
-    cursor_code(outcome, cursor.committed, n)
+    answers::of_decode_cursor(outcome, cursor.committed, n)
 }
 
 // Writes the snapshot of attempt counts, a pair for each place that both columns have, from a position on. Answers the
@@ -256,12 +140,12 @@ pub extern "C" fn ninotskev_encode_attempts<'a>(
     attempts: &'a [u32],
     out: &mut [u8],
     at: usize,
-) -> Code
-    ensures { λ r. ⌜ crossed r (now (out .exit)) ≡ cross one (encodeInto (entries (now (offsets .entry)) (now (attempts .entry))) at (now (out .entry))) ⌝ }
+) -> Numbers
+    ensures { λ r. ⌜ crossed r (now (out .exit)) ≡ cross oneValue (encodeInto (entries (now (offsets .entry)) (now (attempts .entry))) at (now (out .entry))) ⌝ }
 {
     let n = shorter(offsets.len(), attempts.len());
     let pairs = gathered(offsets, attempts, shorter(n, PAIRS));
-    encode_code(attempt::encode_pairs(pairs, n, out, at))
+    answers::of_encode(attempt::encode_pairs(pairs, n, out, at))
 }
 
 // Reads the snapshot of attempt counts, and puts its offsets and its counts at the front of two lent columns. Answers the
@@ -271,20 +155,20 @@ pub extern "C" fn ninotskev_decode_attempts(
     input: &[u8],
     offsets: &mut [u64],
     attempts: &mut [u32],
-) -> Code
-    ensures { λ r. ⌜ crossed r (columns (now (offsets .exit)) (now (attempts .exit))) ≡ cross (λ v. v) (decodePairs (now (input .entry)) (columns (now (offsets .entry)) (now (attempts .entry)))) ⌝ }
+) -> Numbers
+    ensures { λ r. ⌜ crossed r (columns (now (offsets .exit)) (now (attempts .exit))) ≡ cross values (decodePairs (now (input .entry)) (columns (now (offsets .entry)) (now (attempts .entry)))) ⌝ }
 {
     let decoded = attempt::decode_pairs(input);
     let n = decoded.count;
     if offsets.len() < n {
-        return numbered(20, 0, 0);
+        return Numbers(20, 0, 0, 0, 0, 0);
     }
     if attempts.len() < n {
-        return numbered(20, 0, 0);
+        return Numbers(20, 0, 0, 0, 0, 0);
     }
     let pairs = decoded.pairs;
     list_offsets(pairs, n, offsets);
     list_attempts(pairs, n, attempts);
     let outcome = decoded.outcome;
-    pairs_code(outcome)
+    answers::of_decode_attempts(outcome)
 }

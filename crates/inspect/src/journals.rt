@@ -3,7 +3,7 @@ use crate::listing::listed;
 use crate::refusals::refused;
 use crate::said::Said;
 use crate::said::says;
-use answers::Code;
+use answers::Numbers;
 use consumer::Configuration;
 use consumer::Settings;
 use delivery::DeliveryConfig;
@@ -99,10 +99,10 @@ fn restart(out: &mut [u8], at: usize, area: &[u8]) -> usize {
     shown::state(out, next, started.consumer)
 }
 
-fn no_restart(out: &mut [u8], at: usize, code: Code) -> usize {
-    let numbers = [code.number, 0, 0, 0];
-    let next = fill(out, at, b"a restart is refused: # ", 0, numbers);
-    refused(out, next, code)
+fn no_restart(out: &mut [u8], at: usize, numbers: Numbers) -> usize {
+    let number = [numbers.0, 0, 0, 0];
+    let next = fill(out, at, b"a restart is refused: # ", 0, number);
+    refused(out, next, numbers)
 }
 
 // A journal of any length.

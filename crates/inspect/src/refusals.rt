@@ -1,9 +1,9 @@
 // Refusals for people: the name that document 01 gives a number, and the values.
-use answers::Code;
+use answers::Numbers;
 use text::templates::fill;
 
 // The line's end behind a refusal's number. There is a row for each number, from 0 on, which is no refusal.
-pub fn refused(out: &mut [u8], at: usize, code: Code) -> usize {
+pub fn refused(out: &mut [u8], at: usize, numbers: Numbers) -> usize {
     fill(
         out,
         at,
@@ -39,7 +39,7 @@ pub fn refused(out: &mut [u8], at: usize, code: Code) -> usize {
         Shed\n|\
         Held\n|\
         JournalFull\n",
-        code.number as usize,
-        [code.first, code.second, 0, 0],
+        numbers.0 as usize,
+        [numbers.2, numbers.3, 0, 0],
     )
 }

@@ -2,39 +2,30 @@
 use crate::refusals::refused;
 use crate::said::Said;
 use crate::said::says;
-use answers::Code;
+use answers::Numbers;
 use attempt::Decoded;
 use cursor::AckCursor;
-use cursor::Decode;
 use text::templates::fill;
 use types::numbers::shorter;
 use types::numbers::wide;
 
 // What a snapshot of `len` bytes begins with: two numbers of its contents, or the refusal's.
-fn heading_said(len: u64, refusal: u64, first: u64, second: u64) -> Said {
-    if refusal != 0 {
-        return says(1, len, refusal);
+fn heading_said(len: u64, read: Numbers) -> Said {
+    if read.0 != 0 {
+        return says(1, len, read.0);
     }
     Said {
         template: 0,
-        numbers: [len, first, second, 0],
+        numbers: [len, read.2, read.3, 0],
     }
 }
 
 // Its first lines, by the first template, or by the second, behind which the refusal stands.
-fn heading(
-    out: &mut [u8],
-    at: usize,
-    templates: &[u8],
-    len: u64,
-    code: Code,
-    first: u64,
-    second: u64,
-) -> usize {
-    let said = heading_said(len, code.number, first, second);
+fn heading(out: &mut [u8], at: usize, templates: &[u8], len: u64, read: Numbers) -> usize {
+    let said = heading_said(len, read);
     let numbers = said.numbers;
     let next = fill(out, at, templates, said.template, numbers);
-    refused(out, next, code)
+    refused(out, next, read)
 }
 
 // A line for each range ahead of committed.
@@ -50,30 +41,6 @@ fn ranges(out: &mut [u8], at: usize, cursor: AckCursor) -> usize {
     next
 }
 
-// No refusal.
-fn read() -> Code {
-    Code {
-        number: 0,
-        count: 0,
-        first: 0,
-        second: 0,
-    }
-}
-
-fn cursor_code(outcome: Decode) -> Code {
-    match outcome {
-        Decode::Restored => read(),
-        Decode::Refused(error) => answers::of_cursor(error),
-    }
-}
-
-fn pairs_code(outcome: attempt::Decode) -> Code {
-    match outcome {
-        attempt::Decode::Pairs(_) => read(),
-        attempt::Decode::Refused(error) => answers::of_attempts(error),
-    }
-}
-
 // Which offsets are settled: those below committed, and those of each range, its end not among them.
 pub fn cursor(out: &mut [u8], at: usize, bytes: &[u8]) -> usize {
     let decoded = AckCursor::decode_snapshot(bytes);
@@ -84,9 +51,7 @@ pub fn cursor(out: &mut [u8], at: usize, bytes: &[u8]) -> usize {
         b"cursor snapshot of # bytes\ncommitted #\nranges ahead #\n|\
         cursor snapshot of # bytes\nrefused: # ",
         bytes.len() as u64,
-        cursor_code(outcome),
-        decoded.cursor.committed,
-        decoded.cursor.runs as u64,
+        answers::of_decode_cursor(outcome, decoded.cursor.committed, decoded.cursor.runs),
     );
     ranges(out, next, decoded.cursor)
 }
@@ -115,9 +80,7 @@ pub fn attempts(out: &mut [u8], at: usize, bytes: &[u8]) -> usize {
         b"attempt snapshot of # bytes\npairs #\n|\
         attempt snapshot of # bytes\nrefused: # ",
         bytes.len() as u64,
-        pairs_code(outcome),
-        decoded.count as u64,
-        0,
+        answers::of_decode_attempts(outcome),
     );
     pairs(out, next, decoded)
 }

@@ -1,6 +1,6 @@
 // What an operation answers, in numbers: document 01's number, 0 where nothing was refused, and the values of a refusal or of an
 // outcome.
-use answers::Code;
+use answers::Numbers;
 use lease::Attempts;
 
 // The first `count` of a number and three values; an operation that is none answers none.
@@ -55,12 +55,13 @@ pub fn of_count(count: Attempts) -> Answer {
     }
 }
 
-pub fn of_code(code: Code) -> Answer {
-    if code.count == 0 {
-        return plain(code.number);
+// An answer of at most two values.
+pub fn of_numbers(numbers: Numbers) -> Answer {
+    if numbers.1 == 0 {
+        return plain(numbers.0);
     }
-    if code.count == 1 {
-        return tell(2, code.number, code.first, 0);
+    if numbers.1 == 1 {
+        return tell(2, numbers.0, numbers.2, 0);
     }
-    tell(3, code.number, code.first, code.second)
+    tell(3, numbers.0, numbers.2, numbers.3)
 }

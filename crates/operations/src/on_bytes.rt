@@ -8,9 +8,7 @@ use crate::answer::Answer;
 use crate::state::Bytes;
 use crate::state::List;
 use crate::state::Op;
-use attempt::Encode;
 use cursor::AckCursor;
-use raw::Write;
 use types::Pair;
 
 // What an operation leaves and answers.
@@ -90,10 +88,7 @@ fn encode_cursor(at: u64, cursor: AckCursor, bytes: &mut [u8]) -> Answer
     requires { ⌜ Sound cursor ⌝ }
 {
     let written = cursor.encode_snapshot(bytes, at as usize);
-    match written {
-        Write::Next(next) => answer::value(next as u64),
-        Write::OutTooShort => answer::plain(20),
-    }
+    answer::of_numbers(answers::of_write(written))
 }
 
 // An entry as an attempt pair: B modulo 2^32 is the count.
@@ -120,11 +115,7 @@ fn pairs_of(list: List) -> [Pair; 128] {
 fn encode_attempts(at: u64, list: List, bytes: &mut [u8]) -> Answer {
     let pairs = pairs_of(list);
     let written = attempt::encode_pairs(pairs, list.n, bytes, at as usize);
-    match written {
-        Encode::Next(next) => answer::value(next as u64),
-        Encode::TooManyPairs => answer::plain(19),
-        Encode::OutTooShort => answer::plain(20),
-    }
+    answer::of_numbers(answers::of_encode(written))
 }
 
 // set I V, seal FROM TO, cursor encode AT, attempt encode AT, in the first n bytes

@@ -52,7 +52,7 @@ pub fn with(cursor: AckCursor, x: u64, list: List) -> Done
     let after = resumed.cursor;
     match outcome {
         Resume::Resumed => made(after),
-        Resume::Refused(error) => left(cursor, answer::of_code(answers::of_ranges(error))),
+        Resume::Refused(error) => left(cursor, answer::of_numbers(answers::of_ranges(error))),
     }
 }
 
@@ -100,6 +100,6 @@ pub fn decode(cursor: AckCursor, from: u64, to: u64, bytes: Bytes) -> Done
     let after = decoded.cursor;
     match outcome {
         Decode::Restored => made(after),
-        Decode::Refused(error) => left(cursor, answer::of_code(answers::of_cursor(error))),
+        Decode::Refused(error) => left(cursor, answer::of_numbers(answers::of_cursor(error))),
     }
 }

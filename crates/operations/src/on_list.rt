@@ -188,6 +188,6 @@ pub fn decode(op: Op, bytes: Bytes, list: List) -> Done
     let pairs = decoded.pairs;
     match outcome {
         Decode::Pairs(count) => fitted(entries_from(pairs, count), op.y, list),
-        Decode::Refused(error) => left(list, answer::of_code(answers::of_attempts(error))),
+        Decode::Refused(error) => left(list, answer::of_numbers(answers::of_attempts(error))),
     }
 }

@@ -2,11 +2,10 @@
 ghost use Rattle.machine.specs.View.{Sound};
 use crate::printing;
 use crate::printing::Said;
+use answers::Numbers;
 use machine::Machine;
 use machine::calls::Call;
 use power_cut::Kind;
-use wire::numbers;
-use wire::numbers::Numbers;
 
 // What a power failure leaves of the machine, and its answer.
 pub struct Failed {
@@ -86,7 +85,7 @@ fn trial(machine: Machine, area: &[u8], copied: &mut [u8]) -> usize
     let mut list = [0u64; 1];
     let done = machine::call(machine, Call::Step, &mut copied[..n], &mut list);
     let answer = done.answer;
-    written(numbers::of_call(answer, &list))
+    written(answers::of_call(answer, &list))
 }
 
 // The power fails in the step that is next; what it would have written is seen on a copy of the area.

@@ -1,9 +1,9 @@
 // The answer lines: which template each answer has, with which numbers, and their print.
 use crate::script;
 use crate::session::Session;
+use answers::Numbers;
 use text::output;
 use text::templates;
-use wire::numbers::Numbers;
 
 // The templates, by their places among them. The lines of a refusal with one value and with two stand behind that of one with none.
 pub const SILENT: usize = 0;

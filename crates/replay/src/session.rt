@@ -8,6 +8,7 @@ use crate::printing;
 use crate::printing::Said;
 use crate::script;
 use crate::script::Line;
+use answers::Numbers;
 use consumer::Configuration;
 use consumer::Settings;
 use delivery::DeliveryConfig;
@@ -18,8 +19,6 @@ use power_cut::Kind;
 use starts::StartAnswer;
 use wire::kinds;
 use wire::kinds::Calling;
-use wire::numbers;
-use wire::numbers::Numbers;
 
 // The machine, and how many bytes of the lent area are its journal: none before the first start.
 pub struct Session {
@@ -151,7 +150,7 @@ fn started(session: Session, configuration: Configuration, len: usize, most: usi
 {
     let started = Machine::start(configuration, len);
     let answer = started.answer;
-    let code = numbers::of_start(answer);
+    let code = answers::of_start(answer);
     if code.0 != 0 {
         return Acted {
             session: session,
@@ -161,7 +160,7 @@ fn started(session: Session, configuration: Configuration, len: usize, most: usi
     if most < len {
         return Acted {
             session: session,
-            said: printing::refusal(numbers::of_start(StartAnswer::BadArea)),
+            said: printing::refusal(answers::of_start(StartAnswer::BadArea)),
         };
     }
     let machine = started.machine;
@@ -243,7 +242,7 @@ fn called(session: Session, call: Call, line: Line, area: &mut [u8], list: &mut 
     let called = machine::call(before, call, &mut area[..lent], list);
     let answer = called.answer;
     let after = called.machine;
-    after_call(after, line, numbers::of_call(answer, list), len, lent)
+    after_call(after, line, answers::of_call(answer, list), len, lent)
 }
 
 // The power fails in the step that is next.

@@ -4,6 +4,7 @@ ghost use mathlib.Core.List.{List};
 ghost use Prim.Native.Nat.{ℕ};
 ghost use Rattle.machine.specs.View.{Sound, OffIs};
 ghost use Rattle.transitions.specs.Transitions.{AskIs, CallIs, StartIs};
+use answers::Numbers;
 use consumer::Configuration;
 use machine::Machine;
 use transitions::ack;
@@ -11,7 +12,6 @@ use transitions::ask;
 use transitions::call;
 use transitions::claim;
 use transitions::start;
-use wire::numbers::Numbers;
 
 // `start`, into the machine's place, whatever stands there.
 #[no_mangle]

@@ -39,10 +39,11 @@ use Rattle.machine.specs.declared.calls.AskAnswer.{AskAnswer}
 use Rattle.machine.specs.declared.calls.AskAnswer.the-variants as asks
 use Rattle.machine.specs.declared.calls.CallAnswer.{CallAnswer}
 use Rattle.machine.specs.declared.calls.CallAnswer.the-variants as callAnswers
-use Rattle.wire.specs.Numbers.{askAt, callAt, numbersOf, notNow, noValues, handOutValues, seenNumbers, numbersIn}
-use Rattle.wire.proofs.Starts.{start-numbers}
+use Rattle.answers.specs.Numbers.{numbersOf, notNow, noValues, handOutValues, seenNumbers, numbersIn}
+use Rattle.wire.specs.Kinds.{askAt, callAt}
+use Rattle.answers.proofs.Starts.{start-numbers}
 use Rattle.transitions.specs.Transitions.{onAsk, onCall, phaseIn, areaIn, answeredWith, answeredBy, KeptBy, KeptIn, askAfter, AnswersAsk, Declined, SoundIf, AskedOn, holding, AskIs, CallIs, StartIs}
-use Rattle.wire.specs.declared.numbers.Numbers.{Numbers}
+use Rattle.answers.specs.declared.Numbers.{Numbers}
 
 -- ## parts
 start-kept : {T : Type 0} (before after : T) (o : Option Refusal) (s : State) → Kept (unless o (done (tt {0}))) before after

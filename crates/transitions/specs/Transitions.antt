@@ -19,8 +19,9 @@ use Rattle.machine.specs.Transitions.{Phase, idle, After, onState, asked, trans
 use Rattle.machine.specs.Answers.{outAfter}
 use Rattle.machine.specs.View.{phaseOf, Sound, held}
 use Rattle.machine.specs.declared.Machine.{Machine}
-use Rattle.wire.specs.Numbers.{askAt, callAt, numbersOf, notNow, noValues, numbersIn}
-use Rattle.wire.specs.declared.numbers.Numbers.{Numbers}
+use Rattle.answers.specs.Numbers.{numbersOf, notNow, noValues, numbersIn}
+use Rattle.wire.specs.Kinds.{askAt, callAt}
+use Rattle.answers.specs.declared.Numbers.{Numbers}
 
 -- ## what a call made, `none` where it can't be made or is no call
 abbrev pub onAsk : Option Ask → (Ask → Option After) → Option After

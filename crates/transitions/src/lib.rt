@@ -5,6 +5,7 @@ ghost use Prim.Native.Nat.{ℕ};
 ghost use Rattle.consumer.specs.View as consumers;
 ghost use Rattle.machine.specs.View.{Sound};
 ghost use Rattle.transitions.specs.Transitions.{SoundIf, AnswersAsk, AskedOn, CallIs, StartIs};
+use answers::Numbers;
 use consumer::Configuration;
 use consumer::Consumer;
 use cursor::AckCursor;
@@ -17,8 +18,6 @@ use types::Offset;
 use wire::kinds;
 use wire::kinds::Asking;
 use wire::kinds::Calling;
-use wire::numbers;
-use wire::numbers::Numbers;
 
 pub struct ConsumerAnswer {
     pub numbers: Numbers,
@@ -89,7 +88,7 @@ fn ask_idle(
     let answer = asked.answer;
     let after = asked.consumer;
     ConsumerAnswer {
-        numbers: numbers::of_ask(answer, out),
+        numbers: answers::of_ask(answer, out),
         consumer: after,
     }
 }
@@ -117,7 +116,7 @@ fn claim_idle(consumer: Consumer, offset: u64, clock: u64) -> ClaimAnswered
     let answer = granted.answer;
     let table = granted.table;
     ClaimAnswered {
-        numbers: numbers::of_claim(answer),
+        numbers: answers::of_claim(answer),
         table: table,
     }
 }
@@ -152,7 +151,7 @@ fn ack_idle(consumer: Consumer, offset: u64, generation: u64) -> AckAnswered
     let cursor = removed.cursor;
     let table = removed.table;
     AckAnswered {
-        numbers: numbers::of_settle(answer),
+        numbers: answers::of_settle(answer),
         cursor: cursor,
         table: table,
     }
@@ -183,7 +182,7 @@ pub fn call(
     let answer = called.answer;
     let after = called.machine;
     MachineAnswer {
-        numbers: numbers::of_call(answer, out),
+        numbers: answers::of_call(answer, out),
         machine: after,
     }
 }
@@ -194,7 +193,7 @@ pub fn start(before: Machine, configuration: Configuration, area_len: usize) -> 
 {
     let started = Machine::start(configuration, area_len);
     let answer = started.answer;
-    let numbers = numbers::of_start(answer);
+    let numbers = answers::of_start(answer);
     let StartAnswer::Started = answer else {
         return MachineAnswer {
             numbers: numbers,

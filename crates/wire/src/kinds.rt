@@ -1,7 +1,7 @@
 // Which call a number is, with the numbers behind it.
 ghost use mathlib.Core.Path.{_≡_};
 ghost use Prim.Native.Nat.{ℕ};
-ghost use Rattle.wire.specs.Numbers.{askAt, callAt, askingOf, callingOf};
+ghost use Rattle.wire.specs.Kinds.{askAt, callAt, askingOf, callingOf};
 use delivery::Delay;
 use lease::LeaseToken;
 use machine::calls::Ask;

@@ -1,4 +1,2 @@
-// Calls and answers in numbers, as they cross to another language: which call a number is with the numbers behind it (`kinds`),
-// and document 01's number of an answer with its values (`numbers`).
+// Calls in numbers, as they cross from another language: which call a number is with the numbers behind it.
 pub mod kinds;
-pub mod numbers;

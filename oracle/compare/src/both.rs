@@ -1,5 +1,6 @@
 //! One input on both sides: what is answered, and all that lent memory holds afterwards.
 use lists::codecs;
+use rattle::Numbers;
 
 /// What lent memory holds before a call, a different byte or number at each place.
 fn lent_bytes(len: usize) -> Vec<u8> {
@@ -19,18 +20,19 @@ pub struct Both {
 /// An answer of either side: the number and the values, and lent memory.
 #[derive(Debug, PartialEq)]
 struct Answer<M> {
-    code: [u64; 3],
+    code: Numbers,
     lent: M,
 }
 
-fn code(numbers: &[u64]) -> [u64; 3] {
-    let mut code = [0; 3];
-    code[..numbers.len()].copy_from_slice(numbers);
-    code
-}
-
-fn given(code: rattle::Code) -> [u64; 3] {
-    [code.number, code.first, code.second]
+/// A number and its values.
+fn code(numbers: &[u64]) -> Numbers {
+    let mut values = [0; 4];
+    values[..numbers.len() - 1].copy_from_slice(&numbers[1..]);
+    Numbers {
+        number: numbers[0],
+        count: numbers.len() as u64 - 1,
+        values,
+    }
 }
 
 /// Two columns at the front of lent ones, where both fit.
@@ -94,7 +96,7 @@ impl Both {
         self.same(
             original,
             Answer {
-                code: given(answer),
+                code: answer,
                 lent: (starts, ends),
             },
             || format!("cursor bytes {bytes:?} into {places:?} places"),
@@ -115,14 +117,9 @@ impl Both {
             code: code(&refusal),
             lent: expected,
         };
-        self.same(
-            original,
-            Answer {
-                code: given(answer),
-                lent: out,
-            },
-            || format!("a cursor at {committed} with {ranges:?} into {len} bytes at {at}"),
-        );
+        self.same(original, Answer { code: answer, lent: out }, || {
+            format!("a cursor at {committed} with {ranges:?} into {len} bytes at {at}")
+        });
     }
 
     /// Decodes attempt bytes into columns with these numbers of places.
@@ -152,7 +149,7 @@ impl Both {
         self.same(
             original,
             Answer {
-                code: given(answer),
+                code: answer,
                 lent: (offsets, attempts),
             },
             || format!("attempt bytes {bytes:?} into {places:?} places"),
@@ -170,13 +167,8 @@ impl Both {
             code: code(&refusal),
             lent: expected,
         };
-        self.same(
-            original,
-            Answer {
-                code: given(answer),
-                lent: out,
-            },
-            || format!("pairs {pairs:?} into {len} bytes at {at}"),
-        );
+        self.same(original, Answer { code: answer, lent: out }, || {
+            format!("pairs {pairs:?} into {len} bytes at {at}")
+        });
     }
 }

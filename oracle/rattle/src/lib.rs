@@ -2,13 +2,13 @@
 //! require nothing of a caller but slices that are there and of which none that is written to overlaps another, which Rust's
 //! references ensure.
 
-/// 01's number, 0 where nothing is refused, and its values, 0 where there are fewer than two.
+/// 01's number, 0 where nothing is refused; how many values there are; and the first four of them, 0 where there are fewer.
 #[repr(C)]
 #[derive(Clone, Copy, Debug, PartialEq, Eq)]
-pub struct Code {
+pub struct Numbers {
     pub number: u64,
-    pub first: u64,
-    pub second: u64,
+    pub count: u64,
+    pub values: [u64; 4],
 }
 
 extern "C" {
@@ -22,7 +22,7 @@ extern "C" {
         out: *mut u8,
         out_len: usize,
         at: usize,
-    ) -> Code;
+    ) -> Numbers;
     fn ninotskev_decode_cursor(
         input: *const u8,
         input_len: usize,
@@ -30,7 +30,7 @@ extern "C" {
         starts_len: usize,
         ends: *mut u64,
         ends_len: usize,
-    ) -> Code;
+    ) -> Numbers;
     fn ninotskev_encode_attempts(
         offsets: *const u64,
         offsets_len: usize,
@@ -39,7 +39,7 @@ extern "C" {
         out: *mut u8,
         out_len: usize,
         at: usize,
-    ) -> Code;
+    ) -> Numbers;
     fn ninotskev_decode_attempts(
         input: *const u8,
         input_len: usize,
@@ -47,7 +47,7 @@ extern "C" {
         offsets_len: usize,
         attempts: *mut u32,
         attempts_len: usize,
-    ) -> Code;
+    ) -> Numbers;
 }
 
 /// The check of the bytes.
@@ -56,25 +56,25 @@ pub fn crc32c(bytes: &[u8]) -> u32 {
 }
 
 /// Writes the snapshot of a cursor from a position on, and answers the position behind it.
-pub fn encode_cursor(committed: u64, starts: &[u64], ends: &[u64], out: &mut [u8], at: usize) -> Code {
+pub fn encode_cursor(committed: u64, starts: &[u64], ends: &[u64], out: &mut [u8], at: usize) -> Numbers {
     let (s, e) = (starts.as_ptr(), ends.as_ptr());
     unsafe { ninotskev_encode_cursor(committed, s, starts.len(), e, ends.len(), out.as_mut_ptr(), out.len(), at) }
 }
 
 /// Puts the ranges of a snapshot at the front of two columns, and answers the committed offset and their number.
-pub fn decode_cursor(input: &[u8], starts: &mut [u64], ends: &mut [u64]) -> Code {
+pub fn decode_cursor(input: &[u8], starts: &mut [u64], ends: &mut [u64]) -> Numbers {
     let (s, e) = (starts.as_mut_ptr(), ends.as_mut_ptr());
     unsafe { ninotskev_decode_cursor(input.as_ptr(), input.len(), s, starts.len(), e, ends.len()) }
 }
 
 /// Writes the snapshot of attempt counts from a position on, and answers the position behind it.
-pub fn encode_attempts(offsets: &[u64], attempts: &[u32], out: &mut [u8], at: usize) -> Code {
+pub fn encode_attempts(offsets: &[u64], attempts: &[u32], out: &mut [u8], at: usize) -> Numbers {
     let (o, a) = (offsets.as_ptr(), attempts.as_ptr());
     unsafe { ninotskev_encode_attempts(o, offsets.len(), a, attempts.len(), out.as_mut_ptr(), out.len(), at) }
 }
 
 /// Puts the pairs of a snapshot at the front of two columns, and answers their number.
-pub fn decode_attempts(input: &[u8], offsets: &mut [u64], attempts: &mut [u32]) -> Code {
+pub fn decode_attempts(input: &[u8], offsets: &mut [u64], attempts: &mut [u32]) -> Numbers {
     let (o, a) = (offsets.as_mut_ptr(), attempts.as_mut_ptr());
     unsafe { ninotskev_decode_attempts(input.as_ptr(), input.len(), o, offsets.len(), a, attempts.len()) }
 }

@@ -1,56 +1,49 @@
--- `of_nack` meets its contract. Assumes nothing.
+-- `of_nack` meets its contract, case by case. Assumes nothing.
+use mathlib.Core.Path.{sym, ap}
 use borrow.Author.Needs.{needs}
+use Rattle.types.specs.Refusal.{answered}
+use Rattle.consumer.specs.View.{nackOf}
+use Rattle.consumer.specs.declared.calls.NackAnswer.{NackAnswer}
+use Rattle.answers.specs.declared.Numbers.{Numbers}
+use Rattle.answers.specs.Numbers.{numbersOf, oneValue}
 use Rattle.answers.proofs.of_nack.Statement.{statement}
 use Rattle.answers.proofs.of_nack.Tie as tie
+
+abbrev as-numbers : NackAnswer → Numbers
+as-numbers a = numbersOf (answered oneValue (nackOf a))
+
+enum-known-answer : tie.Need-enum-known-answer
+enum-known-answer c = search needs
 
 enum-told : tie.Need-enum-told
 enum-told c = search needs
 
-tell-requires : tie.Need-tell-requires
-tell-requires c κs = search needs
-
 enum-told-2 : tie.Need-enum-told-2
 enum-told-2 c = search needs
-
-tell-requires-2 : tie.Need-tell-requires-2
-tell-requires-2 c κs = search needs
 
 enum-told-3 : tie.Need-enum-told-3
 enum-told-3 c = search needs
 
-tell-requires-3 : tie.Need-tell-requires-3
-tell-requires-3 c κs = search needs
-
-enum-told-4 : tie.Need-enum-told-4
-enum-told-4 c = search needs
-
-tell-requires-4 : tie.Need-tell-requires-4
-tell-requires-4 c κs = search needs
-
 returns : tie.Need-returns
-returns c = rw (c .before .enum-told .given .1, c .tell .ensures)
+returns c = ap as-numbers (sym (c .before .answer .given .1))
 
 returns-2 : tie.Need-returns-2
-returns-2 c = rw (c .before .enum-told2 .given .1, c .tell2 .ensures)
+returns-2 c = ap as-numbers (sym (c .enum-told .given .1))
 
 returns-3 : tie.Need-returns-3
-returns-3 c = rw (c .before .enum-told3 .given .1, c .tell3 .ensures)
+returns-3 c = ap as-numbers (sym (c .enum-told2 .given .1))
 
 returns-4 : tie.Need-returns-4
-returns-4 c = rw (c .before .enum-told4 .given .1, c .tell4 .ensures)
+returns-4 c = ap as-numbers (sym (c .enum-told3 .given .1))
 
 pub of-nack-spec : {M : Type 1} → statement M
 of-nack-spec =
     tie.close
     (tie.spec
+    enum-known-answer
     enum-told
-    tell-requires
     enum-told-2
-    tell-requires-2
     enum-told-3
-    tell-requires-3
-    enum-told-4
-    tell-requires-4
     returns
     returns-2
     returns-3

@@ -1,45 +1,35 @@
--- `of_progress` meets its contract. Assumes nothing.
+-- `of_progress` meets its contract, case by case. Assumes nothing.
+use mathlib.Core.Path.{sym, ap}
 use borrow.Author.Needs.{needs}
+use Rattle.types.specs.Refusal.{answered}
+use Rattle.consumer.specs.View.{progressOf}
+use Rattle.consumer.specs.declared.calls.ProgressAnswer.{ProgressAnswer}
+use Rattle.answers.specs.declared.Numbers.{Numbers}
+use Rattle.answers.specs.Numbers.{numbersOf, oneValue}
 use Rattle.answers.proofs.of_progress.Statement.{statement}
 use Rattle.answers.proofs.of_progress.Tie as tie
+
+abbrev as-numbers : ProgressAnswer → Numbers
+as-numbers a = numbersOf (answered oneValue (progressOf a))
+
+enum-known-answer : tie.Need-enum-known-answer
+enum-known-answer c = search needs
 
 enum-told : tie.Need-enum-told
 enum-told c = search needs
 
-tell-requires : tie.Need-tell-requires
-tell-requires c κs = search needs
-
 enum-told-2 : tie.Need-enum-told-2
 enum-told-2 c = search needs
 
-tell-requires-2 : tie.Need-tell-requires-2
-tell-requires-2 c κs = search needs
-
-enum-told-3 : tie.Need-enum-told-3
-enum-told-3 c = search needs
-
-tell-requires-3 : tie.Need-tell-requires-3
-tell-requires-3 c κs = search needs
-
 returns : tie.Need-returns
-returns c = rw (c .before .enum-told .given .1, c .tell .ensures)
+returns c = ap as-numbers (sym (c .before .answer .given .1))
 
 returns-2 : tie.Need-returns-2
-returns-2 c = rw (c .before .enum-told2 .given .1, c .tell2 .ensures)
+returns-2 c = ap as-numbers (sym (c .enum-told .given .1))
 
 returns-3 : tie.Need-returns-3
-returns-3 c = rw (c .before .enum-told3 .given .1, c .tell3 .ensures)
+returns-3 c = ap as-numbers (sym (c .enum-told2 .given .1))
 
 pub of-progress-spec : {M : Type 1} → statement M
 of-progress-spec =
-    tie.close
-    (tie.spec
-    enum-told
-    tell-requires
-    enum-told-2
-    tell-requires-2
-    enum-told-3
-    tell-requires-3
-    returns
-    returns-2
-    returns-3)
+    tie.close (tie.spec enum-known-answer enum-told enum-told-2 returns returns-2 returns-3)

@@ -13,24 +13,18 @@ few k = few-pairs _ _ (k .decode-pairs .ensures) [] []
 decode-pairs-requires : tie.Need-decode-pairs-requires
 decode-pairs-requires c κs = search needs
 
-numbered-requires : tie.Need-numbered-requires
-numbered-requires c κs = search needs
-
 returns : tie.Need-returns
 returns c =
-    let k = c .before .before in
+    let k = c .before in
     let a = k .before .before .before .before .args in
-    rw (c .numbered .ensures) (offsets-short (a .input .now) (k .decode-pairs .result) (k .decode-pairs .ensures) (a .offsets .now) (a .attempts .now) (c .before .if1 .taken))
-
-numbered-requires-2 : tie.Need-numbered-requires-2
-numbered-requires-2 c κs = search needs
+    offsets-short (a .input .now) (k .decode-pairs .result) (k .decode-pairs .ensures) (a .offsets .now) (a .attempts .now) (c .if1 .taken)
 
 returns-2 : tie.Need-returns-2
 returns-2 c =
-    let e = c .before .before in
+    let e = c .before in
     let k = e .before in
     let a = k .before .before .before .before .args in
-    rw (c .numbered2 .ensures) (attempts-short (a .input .now) (k .decode-pairs .result) (k .decode-pairs .ensures) (a .offsets .now) (a .attempts .now) (e .if1 .left) (c .before .if2 .taken))
+    attempts-short (a .input .now) (k .decode-pairs .result) (k .decode-pairs .ensures) (a .offsets .now) (a .attempts .now) (e .if1 .left) (c .if2 .taken)
 
 list-offsets-requires : tie.Need-list-offsets-requires
 list-offsets-requires c κs =
@@ -42,8 +36,8 @@ list-attempts-requires c κs =
     let e = c .before .before .before .before .before .before in
     (few (e .before .before), e .if2 .left)
 
-pairs-code-requires : tie.Need-pairs-code-requires
-pairs-code-requires c κs = search needs
+of-decode-attempts-requires : tie.Need-of-decode-attempts-requires
+of-decode-attempts-requires c κs = search needs
 
 same-length : tie.Need-same-length
 same-length c = search needs
@@ -59,20 +53,18 @@ returns-3 c =
     let k = e .before .before in
     let a = k .before .before .before .before .args in
     pairs-listed (a .input .now) (k .decode-pairs .result) (k .decode-pairs .ensures) (a .offsets .now) (a .attempts .now) (e .before .if1 .left) (e .if2 .left) _ _ _
-    (l₁ .list-offsets .ensures) (l₂ .list-attempts .ensures) (c .pairs-code .ensures)
+    (l₁ .list-offsets .ensures) (l₂ .list-attempts .ensures) (c .of-decode-attempts .ensures)
 
 pub ninotskev-decode-attempts-spec : {M : Type 1} → statement M
 ninotskev-decode-attempts-spec =
     tie.close
     (tie.spec
     decode-pairs-requires
-    numbered-requires
     returns
-    numbered-requires-2
     returns-2
     list-offsets-requires
     list-attempts-requires
-    pairs-code-requires
+    of-decode-attempts-requires
     same-length
     same-length-2
     returns-3)

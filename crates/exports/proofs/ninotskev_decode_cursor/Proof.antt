@@ -11,24 +11,18 @@ whole k = record { starts = search needs; ends = search needs; sound = k .decode
 decode-snapshot-requires : tie.Need-decode-snapshot-requires
 decode-snapshot-requires c κs = search needs
 
-numbered-requires : tie.Need-numbered-requires
-numbered-requires c κs = search needs
-
 returns : tie.Need-returns
 returns c =
-    let k = c .before .before .before in
+    let k = c .before .before in
     let a = k .before .before .before .before .args in
-    rw (c .numbered .ensures) (starts-short (a .input .now) (k .decode-snapshot .result) (k .decode-snapshot .ensures) (whole k) (a .starts .now) (a .ends .now) (c .before .if1 .taken))
-
-numbered-requires-2 : tie.Need-numbered-requires-2
-numbered-requires-2 c κs = search needs
+    starts-short (a .input .now) (k .decode-snapshot .result) (k .decode-snapshot .ensures) (whole k) (a .starts .now) (a .ends .now) (c .if1 .taken)
 
 returns-2 : tie.Need-returns-2
 returns-2 c =
-    let e = c .before .before in
+    let e = c .before in
     let k = e .before .before in
     let a = k .before .before .before .before .args in
-    rw (c .numbered2 .ensures) (ends-short (a .input .now) (k .decode-snapshot .result) (k .decode-snapshot .ensures) (whole k) (a .starts .now) (a .ends .now) (e .if1 .left) (c .before .if2 .taken))
+    ends-short (a .input .now) (k .decode-snapshot .result) (k .decode-snapshot .ensures) (whole k) (a .starts .now) (a .ends .now) (e .if1 .left) (c .if2 .taken)
 
 list-column-requires : tie.Need-list-column-requires
 list-column-requires c κs = search needs
@@ -36,8 +30,8 @@ list-column-requires c κs = search needs
 list-column-requires-2 : tie.Need-list-column-requires-2
 list-column-requires-2 c κs = search needs
 
-cursor-code-requires : tie.Need-cursor-code-requires
-cursor-code-requires c κs = search needs
+of-decode-cursor-requires : tie.Need-of-decode-cursor-requires
+of-decode-cursor-requires c κs = search needs
 
 same-length : tie.Need-same-length
 same-length c = search needs
@@ -53,20 +47,18 @@ returns-3 c =
     let k = e .before .before .before in
     let a = k .before .before .before .before .args in
     cursor-listed (a .input .now) (k .decode-snapshot .result) (k .decode-snapshot .ensures) (whole k) (a .starts .now) (a .ends .now) (e .before .if1 .left) (e .if2 .left) _ _ _
-    (l₁ .list-column .ensures) (l₂ .list-column2 .ensures) (c .cursor-code .ensures)
+    (l₁ .list-column .ensures) (l₂ .list-column2 .ensures) (c .of-decode-cursor .ensures)
 
 pub ninotskev-decode-cursor-spec : {M : Type 1} → statement M
 ninotskev-decode-cursor-spec =
     tie.close
     (tie.spec
     decode-snapshot-requires
-    numbered-requires
     returns
-    numbered-requires-2
     returns-2
     list-column-requires
     list-column-requires-2
-    cursor-code-requires
+    of-decode-cursor-requires
     same-length
     same-length-2
     returns-3)

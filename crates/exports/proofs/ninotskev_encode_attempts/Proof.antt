@@ -16,8 +16,8 @@ gathered-requires c κs = search needs
 encode-pairs-requires : tie.Need-encode-pairs-requires
 encode-pairs-requires c κs = search needs
 
-encode-code-requires : tie.Need-encode-code-requires
-encode-code-requires c κs = search needs
+of-encode-requires : tie.Need-of-encode-requires
+of-encode-requires c κs = search needs
 
 same-length : tie.Need-same-length
 same-length c = search needs
@@ -30,7 +30,7 @@ returns c =
     let n = m .before in
     let a = n .before .before .before .before .args in
     pairs-written (a .offsets .now) (a .attempts .now) (g .gathered .result) (n .shorter .result) (m .shorter2 .result) (a .at) (a .out .now)
-    (n .shorter .ensures) (m .shorter2 .ensures) (g .gathered .ensures) (w .encode-pairs .result) _ _ (w .encode-pairs .ensures) (c .encode-code .ensures)
+    (n .shorter .ensures) (m .shorter2 .ensures) (g .gathered .ensures) (w .encode-pairs .result) _ _ (w .encode-pairs .ensures) (c .of-encode .ensures)
 
 pub ninotskev-encode-attempts-spec : {M : Type 1} → statement M
 ninotskev-encode-attempts-spec =
@@ -40,6 +40,6 @@ ninotskev-encode-attempts-spec =
     shorter-requires-2
     gathered-requires
     encode-pairs-requires
-    encode-code-requires
+    of-encode-requires
     same-length
     returns)

@@ -13,14 +13,14 @@ enum-told c = search needs
 encode-snapshot-requires : tie.Need-encode-snapshot-requires
 encode-snapshot-requires c κs = search needs
 
-write-code-requires : tie.Need-write-code-requires
-write-code-requires c κs = search needs
+of-write-requires : tie.Need-of-write-requires
+of-write-requires c κs = search needs
 
 enum-known-outcome : tie.Need-enum-known-outcome
 enum-known-outcome c = search needs
 
-ranges-code-requires : tie.Need-ranges-code-requires
-ranges-code-requires c κs = search needs
+of-ranges-requires : tie.Need-of-ranges-requires
+of-ranges-requires c κs = search needs
 
 same-length : tie.Need-same-length
 same-length c = search needs
@@ -32,7 +32,7 @@ returns c =
     let k = t .before .before in
     let a = k .before .before .before .before .args in
     cursor-written (a .committed) _ (k .resume-with-columns .result) (k .resume-with-columns .ensures) (a .at) (a .out .now) (w .encode-snapshot .result) _ _
-    (t .enum-told .given .1) (w .encode-snapshot .ensures) (c .write-code .ensures)
+    (t .enum-told .given .1) (w .encode-snapshot .ensures) (c .of-write .ensures)
 
 returns-2 : tie.Need-returns-2
 returns-2 c =
@@ -40,7 +40,7 @@ returns-2 c =
     let k = t .before .before in
     let a = k .before .before .before .before .args in
     cursor-not-written (a .committed) _ (k .resume-with-columns .result) (k .resume-with-columns .ensures) (a .at) (a .out .now) _ _
-    (t .outcome .given .1) (c .ranges-code .ensures)
+    (t .outcome .given .1) (c .of-ranges .ensures)
 
 pub ninotskev-encode-cursor-spec : {M : Type 1} → statement M
 ninotskev-encode-cursor-spec =
@@ -49,9 +49,9 @@ ninotskev-encode-cursor-spec =
     resume-with-columns-requires
     enum-told
     encode-snapshot-requires
-    write-code-requires
+    of-write-requires
     enum-known-outcome
-    ranges-code-requires
+    of-ranges-requires
     same-length
     returns
     returns-2)

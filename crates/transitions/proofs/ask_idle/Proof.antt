@@ -2,7 +2,7 @@
 use mathlib.Core.Path.{sym, ap, _∙_}
 use lib.ListN.{length}
 use borrow.Author.Needs.{needs}
-use Rattle.wire.specs.Numbers.{askingOf}
+use Rattle.wire.specs.Kinds.{askingOf}
 use Rattle.transitions.proofs.Transitions.{ask-none, ask-some}
 use Rattle.transitions.proofs.ask_idle.Statement.{statement}
 use Rattle.transitions.proofs.ask_idle.Tie as tie

@@ -2,7 +2,7 @@
 use mathlib.Core.Path.{sym, ap, _∙_}
 use lib.ListN.{length}
 use borrow.Author.Needs.{needs}
-use Rattle.wire.specs.Numbers.{callingOf}
+use Rattle.wire.specs.Kinds.{callingOf}
 use Rattle.transitions.proofs.Transitions.{call-none, call-some}
 use Rattle.transitions.proofs.call.Statement.{statement}
 use Rattle.transitions.proofs.call.Tie as tie

@@ -51,9 +51,9 @@ use Rattle.consumer.proofs.Consumer as TConsumer
 use Rattle.consumer.proofs.Consumer.Laws as TConsumer′
 use Rattle.checkpoint.proofs.Writing as TWriting
 use Rattle.checkpoint.proofs.Writing.Laws as TWriting′
-use Rattle.wire.specs.declared.numbers.Numbers.{Numbers}
-use Rattle.wire.proofs.numbers.Numbers as TNumbers
-use Rattle.wire.proofs.numbers.Numbers.Laws as TNumbers′
+use Rattle.answers.specs.declared.Numbers.{Numbers}
+use Rattle.answers.proofs.Numbers as TNumbers
+use Rattle.answers.proofs.Numbers.Laws as TNumbers′
 use Rattle.transitions.specs.declared.ConsumerAnswer.{ConsumerAnswer}
 use Rattle.transitions.proofs.ConsumerAnswer as TConsumerAnswer
 use Rattle.transitions.proofs.ConsumerAnswer.Laws as TConsumerAnswer′

@@ -44,9 +44,9 @@ use denote.Exit.{yes}
 use Rattle.machine.specs.declared.Machine.{Machine}
 use Rattle.machine.proofs.Machine as TMachine
 use Rattle.machine.proofs.Machine.Laws as TMachine′
-use Rattle.wire.specs.declared.numbers.Numbers.{Numbers}
-use Rattle.wire.proofs.numbers.Numbers as TNumbers
-use Rattle.wire.proofs.numbers.Numbers.Laws as TNumbers′
+use Rattle.answers.specs.declared.Numbers.{Numbers}
+use Rattle.answers.proofs.Numbers as TNumbers
+use Rattle.answers.proofs.Numbers.Laws as TNumbers′
 use Rattle.transitions.specs.declared.MachineAnswer.{MachineAnswer}
 use Rattle.transitions.proofs.MachineAnswer as TMachineAnswer
 use Rattle.transitions.proofs.MachineAnswer.Laws as TMachineAnswer′

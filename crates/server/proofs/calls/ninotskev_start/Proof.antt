@@ -41,9 +41,9 @@ use denote.Exit.{yes}
 use Rattle.machine.specs.declared.Machine.{Machine}
 use Rattle.machine.proofs.Machine as TMachine
 use Rattle.machine.proofs.Machine.Laws as TMachine′
-use Rattle.wire.specs.declared.numbers.Numbers.{Numbers}
-use Rattle.wire.proofs.numbers.Numbers as TNumbers
-use Rattle.wire.proofs.numbers.Numbers.Laws as TNumbers′
+use Rattle.answers.specs.declared.Numbers.{Numbers}
+use Rattle.answers.proofs.Numbers as TNumbers
+use Rattle.answers.proofs.Numbers.Laws as TNumbers′
 use Rattle.consumer.specs.declared.Configuration.{Configuration}
 use Rattle.consumer.proofs.Configuration as TConfiguration
 use Rattle.consumer.proofs.Configuration.Laws as TConfiguration′

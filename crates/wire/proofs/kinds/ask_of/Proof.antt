@@ -3,7 +3,7 @@ use Prim.Native.Nat.{ℕ, zero-le}
 use mathlib.Core.Path.{sym, ap}
 use mathlib.Core.Option.{Option}
 use Rattle.machine.specs.Calls.{Ask}
-use Rattle.wire.specs.Numbers.{asks, askAt}
+use Rattle.wire.specs.Kinds.{asks, askAt}
 use Rattle.wire.proofs.Places.{past, at-beyond}
 use Rattle.wire.proofs.kinds.ask_of.Statement.{statement}
 use Rattle.wire.proofs.kinds.ask_of.Tie as tie

@@ -3,7 +3,7 @@ use Prim.Native.Nat.{ℕ}
 use mathlib.Core.Path.{sym, ap, _∙_}
 use mathlib.Core.Option.{Option}
 use Rattle.machine.specs.Calls.{Call}
-use Rattle.wire.specs.Numbers.{asks, callAt, askingOf}
+use Rattle.wire.specs.Kinds.{asks, callAt, askingOf}
 use Rattle.wire.proofs.Places.{call-ask, call-none}
 use borrow.Author.Needs.{needs}
 use Rattle.wire.proofs.kinds.call_of.Statement.{statement}
