@@ -55,9 +55,9 @@ impl<S: Storage> Consumer<S> {
     /// power failed.
     pub fn restart(
         configuration: &Configuration,
-        mut journal: Journal<S>,
+        journal: Journal<S>,
     ) -> Result<Consumer<S>, (Refusal, Journal<S>)> {
-        match Machine::restart(configuration, &mut journal.area) {
+        match Machine::restart(configuration, &journal.area) {
             Ok(machine) => Ok(Consumer { machine, journal }),
             Err(refusal) => Err((refusal, journal)),
         }

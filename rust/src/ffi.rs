@@ -102,20 +102,19 @@ pub(crate) enum Ask {
     NackAfter = 4,
     Progress = 5,
     Commit = 6,
-    Waiting = 7,
-    Committed = 8,
-    IsSettled = 9,
-    LeaseOf = 10,
-    CountOf = 11,
-    InFlight = 12,
-    IsDue = 13,
-    BlocksLeft = 14,
+    Waiting = 32,
+    Committed = 33,
+    IsSettled = 34,
+    LeaseOf = 35,
+    CountOf = 36,
+    InFlight = 37,
+    IsDue = 38,
+    BlocksLeft = 39,
 }
 
-// The other calls on the machine.
-const BEGIN: u64 = 15;
-const STEP: u64 = 16;
-const RESTART: u64 = 17;
+// The calls on the machine that have no function of their own.
+const BEGIN: u64 = 16;
+const STEP: u64 = 17;
 
 extern "C" {
     fn ninotskev_start(
@@ -125,6 +124,12 @@ extern "C" {
         area_len: usize,
     );
     fn ninotskev_off(machine: *mut Machine, configuration: *const Configuration);
+    fn ninotskev_restart(
+        machine: *mut Machine,
+        numbers: *mut Numbers,
+        area: *const u8,
+        area_len: usize,
+    );
     fn ninotskev_call(
         machine: *mut Machine,
         numbers: *mut Numbers,
@@ -192,16 +197,20 @@ impl Machine {
         Ok(machine)
     }
 
-    /// The machine of what a journal has: 1 to 19. The area is as it was.
+    /// The machine of what a journal has: 1 to 19.
     pub(crate) fn restart(
         configuration: &Configuration,
-        area: &mut [u8],
+        area: &[u8],
     ) -> Result<Box<Machine>, Refusal> {
         let mut machine = Machine::blank();
-        // SAFETY: two references to values of the library's layout, of which nothing is required. The machine that it leaves can
-        // be called.
-        unsafe { ninotskev_off(&mut *machine, configuration) };
-        machine.call(RESTART, area).read()?;
+        let mut numbers = Numbers::default();
+        // SAFETY: references and a slice that don't overlap, to values of the library's layout. An off requires nothing, and the
+        // machine that it leaves meets the invariant.
+        unsafe {
+            ninotskev_off(&mut *machine, configuration);
+            ninotskev_restart(&mut *machine, &mut numbers, area.as_ptr(), area.len());
+        }
+        numbers.read()?;
         Ok(machine)
     }
 
@@ -336,6 +345,19 @@ mod tests {
             self.untouched();
         }
 
+        fn restart(&mut self, area: &[u8]) {
+            // SAFETY: as for `Machine::restart`; the machine was started.
+            unsafe {
+                ninotskev_restart(
+                    &mut self.machine,
+                    &mut self.numbers,
+                    area.as_ptr(),
+                    area.len(),
+                )
+            };
+            self.untouched();
+        }
+
         fn untouched(&self) {
             assert_eq!(self.machine_end, [0xa5; 64]);
             assert_eq!(self.numbers_end, [0xa5; 64]);
@@ -450,7 +472,7 @@ mod tests {
         assert_eq!(guarded.numbers, code(255, 0, [0; 4]));
         guarded.call(STEP, [0; 4], &mut area, &mut []);
         guarded.call(STEP, [0; 4], &mut area, &mut []);
-        guarded.call(RESTART, [0; 4], &mut area, &mut []);
+        guarded.restart(&area);
         assert_eq!(guarded.numbers, code(0, 0, [0; 4]));
         let table = &guarded.machine.writing.consumer.table;
         assert_eq!((table.carried_len, table.carried_offsets[0]), (1, 5));
@@ -506,7 +528,7 @@ mod tests {
     fn a_number_that_is_no_call_is_refused() {
         let mut guarded = Guarded::new();
         guarded.start(&Configuration::default(), 512 * 20);
-        for kind in [STEP, 18, u64::MAX] {
+        for kind in [7, 15, STEP, 19, 31, 40, u64::MAX] {
             guarded.call(kind, [0; 4], &mut [0; 512], &mut []);
             assert_eq!(guarded.numbers, code(255, 0, [0; 4]));
         }

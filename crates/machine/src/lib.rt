@@ -180,7 +180,7 @@ impl Machine {
     }
 
     // Goes on from what the journal has, whoever could be called before; refused, nothing changes.
-    fn restart(self, area: &[u8]) -> Called
+    pub fn restart(self, area: &[u8]) -> Called
         requires { ⌜ Sound self ⌝ }
         ensures { λ r. ⌜ ((out : List ℕ) → CalledIs self restart (now (area .entry)) out r (now (area .entry)) out) ⌝ }
     {

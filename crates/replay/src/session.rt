@@ -43,10 +43,11 @@ enum Cutting {
 // The number that `wire` gives the call of a form; of a form that is none, one that no call has.
 fn kind_of(form: usize) -> u64 {
     match form {
-        script::CLAIM..=script::WAITING => form as u64,
-        script::BEGIN => 15,
-        script::STEP | script::STEP_ON => 16,
-        script::RESTART | script::RESTART_ON => 17,
+        script::CLAIM..=script::COMMIT => form as u64,
+        script::WAITING => 32,
+        script::BEGIN => 16,
+        script::STEP | script::STEP_ON => 17,
+        script::RESTART | script::RESTART_ON => 18,
         _ => u64::MAX,
     }
 }

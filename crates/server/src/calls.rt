@@ -11,6 +11,7 @@ use transitions::ack;
 use transitions::ask;
 use transitions::call;
 use transitions::claim;
+use transitions::restart;
 use transitions::start;
 
 // `start`, into the machine's place, whatever stands there.
@@ -38,6 +39,18 @@ pub extern "C" fn ninotskev_off(machine: &mut Machine, configuration: &Configura
     let given = *configuration;
     let made = Machine::off(given);
     *machine = made;
+}
+
+// `restart` on the machine in its place.
+#[no_mangle]
+pub extern "C" fn ninotskev_restart(machine: &mut Machine, numbers: &mut Numbers, area: &[u8])
+    requires { ⌜ Sound (now machine) ⌝ }
+    ensures { λ _. ⌜ ((out : List ℕ) → CallIs (now (machine .entry)) 18 0 0 0 0 (now (area .entry)) out (now (numbers .exit)) (now (machine .exit)) (now (area .entry)) out) ⌝ }
+{
+    let before = *machine;
+    let restarted = restart(before, area);
+    *machine = restarted.machine;
+    *numbers = restarted.numbers;
 }
 
 // `call` on the machine in its place.

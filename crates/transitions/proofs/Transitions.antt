@@ -2,7 +2,7 @@
 -- transition makes. Assumes nothing.
 use Prim.Native.Nat.{ℕ, zero, suc}
 use native.Mathlib.Omega.{arith}
-use mathlib.Core.Path.{_≡_, refl, ap, subst, _∙_}
+use mathlib.Core.Path.{_≡_, refl, sym, ap, subst, _∙_}
 use mathlib.Core.Bool.{Bool, true, false}
 use mathlib.Core.List.{List, []}
 use mathlib.Core.Option.{Option, none, some}
@@ -27,7 +27,7 @@ use Rattle.consumer.specs.View.{claimOf, settleOf}
 use Rattle.consumer.specs.declared.calls.ClaimAnswer.{ClaimAnswer}
 use Rattle.consumer.specs.declared.calls.SettleAnswer.{SettleAnswer}
 use Rattle.machine.specs.Transitions as transition
-use Rattle.machine.specs.Calls.{Ask, claim, ack, Call, Event, claimed, acked, termed, nacked, progressed, committed, looked, begun, stepped, restarted, failed}
+use Rattle.machine.specs.Calls.{Ask, claim, ack, Call, restart, Event, claimed, acked, termed, nacked, progressed, committed, looked, begun, stepped, restarted, failed}
 use Rattle.machine.specs.Transitions.{Phase, idle, After, onState, asked, transition}
 use Rattle.machine.specs.Answers.{Arguments, argumentsOf, seenOf, AskKept, outAfter}
 use Rattle.machine.specs.View.{phaseOf, Sound, AskedIs, CalledIs, StartedIs, afterOf, CallKept, held}
@@ -228,6 +228,12 @@ module _ (m : Machine) (kind a b c d : ℕ) (area out : List ℕ) where
             (subst (λ (t : Option After). KeptIn t (held m area) (held (r .machine) area′)) (h .is)
             (call-kept m area q (r .machine) area′ out′ (r .answer) (h .kept)));
       }
+
+-- a restart, whatever list is lent
+pub restart-numbers : (m : Machine) (area : List ℕ) (r : Called) (n : Numbers) (list : List ℕ) → ((out : List ℕ) → CalledIs m restart area out r area out)
+    → n ≡ numbersIn (afterOf restart (r .answer) (r .machine) area list) → (out : List ℕ) → CallIs m 18 0 0 0 0 area out n (r .machine) area out
+restart-numbers m area r n list h e out =
+    call-some m 18 0 0 0 0 area out restart r area out n refl (h out) (e ∙ ap numbersIn (h list .is ∙ sym (h out .is)))
 
 -- ## a start
 module _ (before : Machine) (s : Configuration) (size : ℕ) (r : Started) (n : Numbers) (h : StartedIs s size r)

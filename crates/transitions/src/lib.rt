@@ -187,6 +187,21 @@ pub fn call(
     }
 }
 
+// A restart, from what the journal has: call 18.
+pub fn restart(machine: Machine, area: &[u8]) -> MachineAnswer
+    requires { ⌜ Sound machine ⌝ }
+    ensures { λ r. ⌜ ((out : List ℕ) → CallIs machine 18 0 0 0 0 (now (area .entry)) out (r .numbers) (r .machine) (now (area .entry)) out) ⌝ }
+{
+    let called = machine.restart(area);
+    let answer = called.answer;
+    let after = called.machine;
+    let list = [0u64; 1];
+    MachineAnswer {
+        numbers: answers::of_call(answer, &list),
+        machine: after,
+    }
+}
+
 // A fresh machine for so many zeroed bytes; refused, the one that was handed in.
 pub fn start(before: Machine, configuration: Configuration, area_len: usize) -> MachineAnswer
     ensures { λ r. ⌜ StartIs before configuration «area_len» (r .numbers) (r .machine) ⌝ }

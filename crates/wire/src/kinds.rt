@@ -47,14 +47,14 @@ pub fn ask_of(kind: u64, a: u64, b: u64, c: u64, d: u64) -> Asking
         }),
         5 => Asking::Ask(Ask::Progress { token, now: c }),
         6 => Asking::Ask(Ask::Commit(offset)),
-        7 => Asking::Ask(Ask::Look(Question::Waiting { now: a })),
-        8 => Asking::Ask(Ask::Look(Question::Committed)),
-        9 => Asking::Ask(Ask::Look(Question::IsSettled(offset))),
-        10 => Asking::Ask(Ask::Look(Question::LeaseOf(offset))),
-        11 => Asking::Ask(Ask::Look(Question::CountOf(offset))),
-        12 => Asking::Ask(Ask::Look(Question::InFlight)),
-        13 => Asking::Ask(Ask::Look(Question::IsDue)),
-        14 => Asking::Ask(Ask::Look(Question::BlocksLeft)),
+        32 => Asking::Ask(Ask::Look(Question::Waiting { now: a })),
+        33 => Asking::Ask(Ask::Look(Question::Committed)),
+        34 => Asking::Ask(Ask::Look(Question::IsSettled(offset))),
+        35 => Asking::Ask(Ask::Look(Question::LeaseOf(offset))),
+        36 => Asking::Ask(Ask::Look(Question::CountOf(offset))),
+        37 => Asking::Ask(Ask::Look(Question::InFlight)),
+        38 => Asking::Ask(Ask::Look(Question::IsDue)),
+        39 => Asking::Ask(Ask::Look(Question::BlocksLeft)),
         _ => Asking::None,
     }
 }
@@ -64,9 +64,9 @@ pub fn call_of(kind: u64, a: u64, b: u64, c: u64, d: u64) -> Calling
     ensures { λ r. ⌜ ((room : ℕ) → callingOf room r ≡ callAt kind a b c d room) ⌝ }
 {
     match kind {
-        15 => Calling::Call(Call::Begin),
-        16 => Calling::Call(Call::Step),
-        17 => Calling::Call(Call::Restart),
+        16 => Calling::Call(Call::Begin),
+        17 => Calling::Call(Call::Step),
+        18 => Calling::Call(Call::Restart),
         _ => {
             let asking = ask_of(kind, a, b, c, d);
             match asking {

@@ -1,10 +1,10 @@
--- `ask_of` meets its contract: each number is the place of its call. Assumes nothing.
-use Prim.Native.Nat.{ℕ, zero-le}
+-- `ask_of` meets its contract: each number is that of its call. Assumes nothing.
+use Prim.Native.Nat.{ℕ}
 use mathlib.Core.Path.{sym, ap}
 use mathlib.Core.Option.{Option}
 use Rattle.machine.specs.Calls.{Ask}
 use Rattle.wire.specs.Kinds.{asks, askAt}
-use Rattle.wire.proofs.Places.{past, at-beyond}
+use Rattle.wire.proofs.Found.{none-found}
 use Rattle.wire.proofs.kinds.ask_of.Statement.{statement}
 use Rattle.wire.proofs.kinds.ask_of.Tie as tie
 
@@ -59,7 +59,9 @@ returns-15 c room = ap (as-numbers (c .before .args .a) (c .before .args .b) (c 
 returns-16 : tie.Need-returns-16
 returns-16 c room =
     let x = c .before .args in
-    at-beyond (asks (x .a) (x .b) (x .c) (x .d) room) (x .kind) (past (past (past (past (past (past (past (past (past (past (past (past (past (past (past zero-le (c .match .rest .0 .0 .0 .0 .0 .0 .0 .0 .0 .0 .0 .0 .0 .0 .1)) (c .match .rest .0 .0 .0 .0 .0 .0 .0 .0 .0 .0 .0 .0 .0 .1)) (c .match .rest .0 .0 .0 .0 .0 .0 .0 .0 .0 .0 .0 .0 .1)) (c .match .rest .0 .0 .0 .0 .0 .0 .0 .0 .0 .0 .0 .1)) (c .match .rest .0 .0 .0 .0 .0 .0 .0 .0 .0 .0 .1)) (c .match .rest .0 .0 .0 .0 .0 .0 .0 .0 .0 .1)) (c .match .rest .0 .0 .0 .0 .0 .0 .0 .0 .1)) (c .match .rest .0 .0 .0 .0 .0 .0 .0 .1)) (c .match .rest .0 .0 .0 .0 .0 .0 .1)) (c .match .rest .0 .0 .0 .0 .0 .1)) (c .match .rest .0 .0 .0 .0 .1)) (c .match .rest .0 .0 .0 .1)) (c .match .rest .0 .0 .1)) (c .match .rest .0 .1)) (c .match .rest .1))
+    let r = c .match .rest in
+    none-found (x .kind) (asks (x .a) (x .b) (x .c) (x .d) room)
+    (r .0 .0 .0 .0 .0 .0 .0 .0 .0 .0 .0 .0 .0 .0 .1, (r .0 .0 .0 .0 .0 .0 .0 .0 .0 .0 .0 .0 .0 .1, (r .0 .0 .0 .0 .0 .0 .0 .0 .0 .0 .0 .0 .1, (r .0 .0 .0 .0 .0 .0 .0 .0 .0 .0 .0 .1, (r .0 .0 .0 .0 .0 .0 .0 .0 .0 .0 .1, (r .0 .0 .0 .0 .0 .0 .0 .0 .0 .1, (r .0 .0 .0 .0 .0 .0 .0 .0 .1, (r .0 .0 .0 .0 .0 .0 .0 .1, (r .0 .0 .0 .0 .0 .0 .1, (r .0 .0 .0 .0 .0 .1, (r .0 .0 .0 .0 .1, (r .0 .0 .0 .1, (r .0 .0 .1, (r .0 .1, (r .1, tt)))))))))))))))
 
 pub ask-of-spec : {M : Type 1} → statement M
 ask-of-spec =

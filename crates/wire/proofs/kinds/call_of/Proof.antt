@@ -1,10 +1,10 @@
--- `call_of` meets its contract: the machine's own calls stand behind those on the state. Assumes nothing.
+-- `call_of` meets its contract: a number that isn't the machine's own is that of a call on the state. Assumes nothing.
 use Prim.Native.Nat.{ℕ}
 use mathlib.Core.Path.{sym, ap, _∙_}
-use mathlib.Core.Option.{Option}
-use Rattle.machine.specs.Calls.{Call}
-use Rattle.wire.specs.Kinds.{asks, callAt, askingOf}
-use Rattle.wire.proofs.Places.{call-ask, call-none}
+use mathlib.Core.Option.{Option, Option·map}
+use Rattle.machine.specs.Calls.{Call, ask}
+use Rattle.wire.specs.Kinds.{callAt, askingOf}
+use Rattle.wire.proofs.Found.{on-state}
 use borrow.Author.Needs.{needs}
 use Rattle.wire.proofs.kinds.call_of.Statement.{statement}
 use Rattle.wire.proofs.kinds.call_of.Tie as tie
@@ -34,14 +34,17 @@ returns-4 : tie.Need-returns-4
 returns-4 c room =
     let k = c .before .before .before in
     let x = k .before .before .args in
-    call-ask (asks (x .a) (x .b) (x .c) (x .d) room) (x .kind) _ (ap (askingOf room) (sym (c .before .asking .given .1)) ∙ k .ask-of .ensures room)
+    let r = k .before .match .rest in
+    ap (Option·map ask) (ap (askingOf room) (sym (c .before .asking .given .1)) ∙ k .ask-of .ensures room)
+    ∙ on-state (x .a) (x .b) (x .c) (x .d) room (x .kind) (r .0 .0 .1) (r .0 .1) (r .1)
 
 returns-5 : tie.Need-returns-5
 returns-5 c room =
     let k = c .before .before in
     let x = k .before .before .args in
-    call-none (asks (x .a) (x .b) (x .c) (x .d) room) (x .kind) (ap (askingOf room) (sym (c .enum-told .given .1)) ∙ k .ask-of .ensures room)
-    (k .before .match .rest .0 .0 .1) (k .before .match .rest .0 .1) (k .before .match .rest .1)
+    let r = k .before .match .rest in
+    ap (Option·map ask) (ap (askingOf room) (sym (c .enum-told .given .1)) ∙ k .ask-of .ensures room)
+    ∙ on-state (x .a) (x .b) (x .c) (x .d) room (x .kind) (r .0 .0 .1) (r .0 .1) (r .1)
 
 pub call-of-spec : {M : Type 1} → statement M
 call-of-spec =
