@@ -17,8 +17,8 @@ use Rattle.cursor.specs.Answers.{ackOf, Updated}
 use Rattle.cursor.specs.Place.{Open, Spotted}
 use Rattle.cursor.specs.declared.AckCursor.{AckCursor}
 use Rattle.cursor.specs.declared.BoundedAck.the-variants.{Recorded}
-use Rattle.cursor.specs.declared.Noted.{Noted}
-use Rattle.cursor.specs.declared.Spot.the-variants.{Settled}
+use Rattle.cursor.specs.declared.in_place.Noted.{Noted}
+use Rattle.cursor.specs.declared.in_place.Spot.the-variants.{Settled}
 use Rattle.cursor.proofs.Cursor.{recorded-valid, commit-valid}
 
 module _ (c : Cursor) (o limit : ℕ) where

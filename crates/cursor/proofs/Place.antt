@@ -17,7 +17,7 @@ use Rattle.cursor.specs.Ranges.{range, Above, touches, joined}
 use Rattle.cursor.specs.Cursor.{Cursor, cursor, settled, advanced, recorded, committedTo}
 use Rattle.cursor.specs.Place.{rangeAt, stretched, Spotted}
 use Rattle.cursor.specs.declared.Range.{Range}
-use Rattle.cursor.specs.declared.Spot.the-variants.{Settled, Behind, Between, Before, Apart}
+use Rattle.cursor.specs.declared.in_place.Spot.the-variants.{Settled, Behind, Between, Before, Apart}
 use Rattle.cursor.proofs.Ranges.{inside-above, touches-above}
 use Rattle.cursor.proofs.Cursor.{recorded-next, recorded-ahead}
 

@@ -17,7 +17,7 @@ use Rattle.cursor.specs.Cursor.{settled, committedTo}
 use Rattle.cursor.specs.View.{ackCursor, view, Whole}
 use Rattle.cursor.specs.Place.{Spotted}
 use Rattle.cursor.specs.declared.AckCursor.{AckCursor}
-use Rattle.cursor.specs.declared.Spot.the-variants.{Settled, Behind, Between, Before, Apart}
+use Rattle.cursor.specs.declared.in_place.Spot.the-variants.{Settled, Behind, Between, Before, Apart}
 use Rattle.cursor.proofs.Ranges.{nonempty-at, offsets-fit}
 use Rattle.cursor.proofs.Place.{place, endBefore, nextAt, settled-at, spot-settled, spot-behind, spot-between, spot-before, spot-apart, committed-at}
 use Rattle.cursor.proofs.View.{count, range-is, ranges-from, ranges-over, ranges-removed, place-is, starts-sorted, end-is, next-is}

@@ -11,8 +11,8 @@ use Rattle.types.specs.Zipped.{inserted, removed}
 use Rattle.cursor.specs.Ranges.{range, touches}
 use Rattle.cursor.specs.Cursor.{Cursor, cursor, settled, recorded}
 use Rattle.cursor.specs.declared.Range.{Range}
-use Rattle.cursor.specs.declared.Spot.{Spot}
-use Rattle.cursor.specs.declared.Spot.the-variants.{Settled, Behind, Between, Before, Apart}
+use Rattle.cursor.specs.declared.in_place.Spot.{Spot}
+use Rattle.cursor.specs.declared.in_place.Spot.the-variants.{Settled, Behind, Between, Before, Apart}
 
 -- the range at a place
 abbrev pub rangeAt : ℕ → List Range → Range

@@ -6,8 +6,8 @@ use Rattle.tables.proofs.Columns.{taken-out-front, taken-out-length}
 use Rattle.cursor.specs.View.{ackCursor}
 use Rattle.cursor.proofs.View.{joined-is}
 use Rattle.cursor.proofs.Search.{long-starts, long-ends}
-use Rattle.cursor.proofs.join.Statement.{statement}
-use Rattle.cursor.proofs.join.Tie as tie
+use Rattle.cursor.proofs.in_place.join.Statement.{statement}
+use Rattle.cursor.proofs.in_place.join.Tie as tie
 
 mul-end : tie.Need-mul-end
 mul-end c = search needs

@@ -6,8 +6,8 @@ use lib.ListN.{take}
 use lib.Seq.{length-take-le}
 use Rattle.types.specs.Sorted.{upTo}
 use Rattle.types.proofs.Sorted.{below-le, place-right, place-left}
-use Rattle.cursor.proofs.partition_point.Statement.{statement}
-use Rattle.cursor.proofs.partition_point.Tie as tie
+use Rattle.cursor.proofs.in_place.partition_point.Statement.{statement}
+use Rattle.cursor.proofs.in_place.partition_point.Tie as tie
 
 abbrev Inv-loop : tie.InvT-loop
 Inv-loop column n x low₀ high₀ low high = (low ≤ upTo x (take n column)) × (upTo x (take n column) ≤ high) × (high ≤ n)

@@ -5,8 +5,8 @@ use Rattle.cursor.specs.View.{ackCursor, view}
 use Rattle.cursor.specs.declared.AckCursor.{AckCursor}
 use Rattle.cursor.proofs.Place.{spot-max}
 use Rattle.cursor.proofs.Search.{Looked, starts-rise, place-within, found-settled, found-behind, found-between, found-before, found-apart}
-use Rattle.cursor.proofs.locate.Statement.{statement}
-use Rattle.cursor.proofs.locate.Tie as tie
+use Rattle.cursor.proofs.in_place.locate.Statement.{statement}
+use Rattle.cursor.proofs.in_place.locate.Tie as tie
 
 -- the cursor that the arguments are
 abbrev g : tie.Start → AckCursor

@@ -1,8 +1,8 @@
 -- `end_before` meets its contract. Assumes nothing.
 use borrow.Author.Needs.{needs}
 use Rattle.types.proofs.Zipped.{getD-behind}
-use Rattle.cursor.proofs.end_before.Statement.{statement}
-use Rattle.cursor.proofs.end_before.Tie as tie
+use Rattle.cursor.proofs.in_place.end_before.Statement.{statement}
+use Rattle.cursor.proofs.in_place.end_before.Tie as tie
 
 returns : tie.Need-returns
 returns c = search needs

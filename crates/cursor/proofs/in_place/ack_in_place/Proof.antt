@@ -11,12 +11,12 @@ use Rattle.cursor.specs.Cursor.{cursor}
 use Rattle.cursor.specs.View.{ackCursor, view}
 use Rattle.cursor.specs.Place.{Spotted}
 use Rattle.cursor.specs.declared.AckCursor.{AckCursor}
-use Rattle.cursor.specs.declared.Spot.the-variants.{Behind, Between, Before, Apart}
+use Rattle.cursor.specs.declared.in_place.Spot.the-variants.{Behind, Between, Before, Apart}
 use Rattle.cursor.proofs.View.{ranges-inserted, ranges-start, stretched-is}
 use Rattle.cursor.proofs.Search.{runs-is, long-starts, long-ends}
 use Rattle.cursor.proofs.Answers.{not-last, noted, duplicate, shed, landed-near, landed-apart}
-use Rattle.cursor.proofs.ack_in_place.Statement.{statement}
-use Rattle.cursor.proofs.ack_in_place.Tie as tie
+use Rattle.cursor.proofs.in_place.ack_in_place.Statement.{statement}
+use Rattle.cursor.proofs.in_place.ack_in_place.Tie as tie
 
 -- the cursor that the arguments are
 abbrev g : tie.Start → AckCursor
@@ -25,24 +25,24 @@ g s = ackCursor (s .args .committed) (s .args .starts .now) (s .args .ends .now)
 size : (s : tie.Start) → length (view (g s) .ahead) ≡ s .args .runs
 size s = runs-is (g s) (s .pre)
 
-small : (s : tie.Start) → s .args .x ≤ MAX
+small : (s : tie.Start) → s .args .offset ≤ MAX
 small s = omega arith
 
 -- where each arm stands
 abbrev start : tie.After-locate → tie.Start
 start l = l .before .before .before
 
-spot-behind : (c : tie.After-spot) → Spotted (view (g (start (c .before .before)))) (start (c .before .before) .args .x) (Behind (c .spot .given .0 .0))
-spot-behind c = let l = c .before .before in subst (Spotted (view (g (start l))) (start l .args .x)) (c .spot .given .1) (l .locate .ensures)
+spot-behind : (c : tie.After-spot) → Spotted (view (g (start (c .before .before)))) (start (c .before .before) .args .offset) (Behind (c .spot .given .0 .0))
+spot-behind c = let l = c .before .before in subst (Spotted (view (g (start l))) (start l .args .offset)) (c .spot .given .1) (l .locate .ensures)
 
-spot-between : (c : tie.After-spot2) → Spotted (view (g (start (c .before .before)))) (start (c .before .before) .args .x) (Between (c .spot2 .given .0 .0))
-spot-between c = let l = c .before .before in subst (Spotted (view (g (start l))) (start l .args .x)) (c .spot2 .given .1) (l .locate .ensures)
+spot-between : (c : tie.After-spot2) → Spotted (view (g (start (c .before .before)))) (start (c .before .before) .args .offset) (Between (c .spot2 .given .0 .0))
+spot-between c = let l = c .before .before in subst (Spotted (view (g (start l))) (start l .args .offset)) (c .spot2 .given .1) (l .locate .ensures)
 
-spot-before : (c : tie.After-spot3) → Spotted (view (g (start (c .before .before)))) (start (c .before .before) .args .x) (Before (c .spot3 .given .0 .0))
-spot-before c = let l = c .before .before in subst (Spotted (view (g (start l))) (start l .args .x)) (c .spot3 .given .1) (l .locate .ensures)
+spot-before : (c : tie.After-spot3) → Spotted (view (g (start (c .before .before)))) (start (c .before .before) .args .offset) (Before (c .spot3 .given .0 .0))
+spot-before c = let l = c .before .before in subst (Spotted (view (g (start l))) (start l .args .offset)) (c .spot3 .given .1) (l .locate .ensures)
 
-spot-apart : (c : tie.After-spot4) → Spotted (view (g (start (c .before .before)))) (start (c .before .before) .args .x) (Apart (c .spot4 .given .0 .0))
-spot-apart c = let l = c .before .before in subst (Spotted (view (g (start l))) (start l .args .x)) (c .spot4 .given .1) (l .locate .ensures)
+spot-apart : (c : tie.After-spot4) → Spotted (view (g (start (c .before .before)))) (start (c .before .before) .args .offset) (Apart (c .spot4 .given .0 .0))
+spot-apart c = let l = c .before .before in subst (Spotted (view (g (start l))) (start l .args .offset)) (c .spot4 .given .1) (l .locate .ensures)
 
 locate-requires : tie.Need-locate-requires
 locate-requires c κs = search needs
@@ -130,16 +130,16 @@ returns c =
     let at = p .spot4 .given .0 .0 in
     let h : at ≤ a .runs = omega (arith, spot-apart p .0, size s) in
     noted (c .recorded4 .result) (c .recorded4 .ensures)
-    (landed-apart (g s) (a .x) (a .max-runs) (s .pre .sound) (small s) _ (omega arith) (spot-apart p .1) (omega (arith, size s))
+    (landed-apart (g s) (a .offset) (a .max-runs) (s .pre .sound) (small s) _ (omega arith) (spot-apart p .1) (omega (arith, size s))
     (ap (cursor (a .committed)) (ranges-inserted (a .runs) (a .starts .now) (a .ends .now) (long-starts (g s) (s .pre)) (long-ends (g s) (s .pre)) at _ _ (i .insert-128 .last .0) (c .before .insert-1282 .last .0)
-    (put-in-front (a .runs) at (a .x) (a .starts .now) h (omega (arith, s .pre .starts)) (i .insert-128 .ensures))
-    (put-in-front (a .runs) at (a .x + 1) (a .ends .now) h (omega (arith, s .pre .ends)) (c .before .insert-1282 .ensures)))))
+    (put-in-front (a .runs) at (a .offset) (a .starts .now) h (omega (arith, s .pre .starts)) (i .insert-128 .ensures))
+    (put-in-front (a .runs) at (a .offset + 1) (a .ends .now) h (omega (arith, s .pre .ends)) (c .before .insert-1282 .ensures)))))
 
 returns-2 : tie.Need-returns-2
 returns-2 c =
     let l = c .before .before in
     let s = start l in
-    duplicate (g s) (s .args .x) (s .args .max-runs) (s .pre .sound) (subst (Spotted (view (g s)) (s .args .x)) (c .enum-told .given .1) (l .locate .ensures))
+    duplicate (g s) (s .args .offset) (s .args .max-runs) (s .pre .sound) (subst (Spotted (view (g s)) (s .args .offset)) (c .enum-told .given .1) (l .locate .ensures))
 
 returns-3 : tie.Need-returns-3
 returns-3 c =
@@ -147,7 +147,7 @@ returns-3 c =
     let s = start (p .before .before) in
     let a = s .args in
     noted (c .recorded .result) (c .recorded .ensures)
-    (landed-near (g s) (a .x) (a .max-runs) (s .pre .sound) (small s) _ (s .pre .sound .few) (spot-behind p .1)
+    (landed-near (g s) (a .offset) (a .max-runs) (s .pre .sound) (small s) _ (s .pre .sound .few) (spot-behind p .1)
     (stretched-is (a .runs) (a .starts .now) (a .ends .now) (long-starts (g s) (s .pre)) (long-ends (g s) (s .pre)) (a .committed) (p .spot .given .0 .0) _ (c .before .stretch .result) (c .before .stretch .last .1 .0) (omega (arith, spot-behind p .0, size s)) (c .before .stretch .ensures)))
 
 returns-4 : tie.Need-returns-4
@@ -155,7 +155,7 @@ returns-4 c =
     let p = c .before .before .before .before .before in
     let s = start (p .before .before) in
     noted (c .recorded2 .result) (c .recorded2 .ensures)
-    (landed-near (g s) (s .args .x) (s .args .max-runs) (s .pre .sound) (small s) _ (omega (arith, s .pre .sound .few)) (spot-between p .1) (c .before .join .ensures))
+    (landed-near (g s) (s .args .offset) (s .args .max-runs) (s .pre .sound) (small s) _ (omega (arith, s .pre .sound .few)) (spot-between p .1) (c .before .join .ensures))
 
 returns-5 : tie.Need-returns-5
 returns-5 c =
@@ -163,20 +163,20 @@ returns-5 c =
     let s = start (p .before .before) in
     let a = s .args in
     noted (c .recorded3 .result) (c .recorded3 .ensures)
-    (landed-near (g s) (a .x) (a .max-runs) (s .pre .sound) (small s) _ (s .pre .sound .few) (spot-before p .1)
-    (ap (cursor (a .committed)) (ranges-start (a .runs) (a .starts .now) (a .ends .now) (long-starts (g s) (s .pre)) (long-ends (g s) (s .pre)) (p .spot3 .given .0 .0) (a .x) (omega (arith, spot-before p .0, size s)))))
+    (landed-near (g s) (a .offset) (a .max-runs) (s .pre .sound) (small s) _ (s .pre .sound .few) (spot-before p .1)
+    (ap (cursor (a .committed)) (ranges-start (a .runs) (a .starts .now) (a .ends .now) (long-starts (g s) (s .pre)) (long-ends (g s) (s .pre)) (p .spot3 .given .0 .0) (a .offset) (omega (arith, spot-before p .0, size s)))))
 
 returns-6 : tie.Need-returns-6
 returns-6 c =
     let p = c .before .before .before in
     let s = start (p .before .before) in
-    shed (g s) (s .args .x) (s .args .max-runs) (s .pre .sound) (spot-apart p .1) (omega (arith, size s))
+    shed (g s) (s .args .offset) (s .args .max-runs) (s .pre .sound) (spot-apart p .1) (omega (arith, size s))
 
 returns-7 : tie.Need-returns-7
 returns-7 c =
     let p = c .before .before in
     let s = start (p .before .before) in
-    shed (g s) (s .args .x) (s .args .max-runs) (s .pre .sound) (spot-apart p .1) (omega (arith, size s))
+    shed (g s) (s .args .offset) (s .args .max-runs) (s .pre .sound) (spot-apart p .1) (omega (arith, size s))
 
 pub ack-in-place-spec : {M : Type 1} → statement M
 ack-in-place-spec =

@@ -1,8 +1,8 @@
 -- `stands_at` meets its contract. Assumes nothing.
 use borrow.Author.Needs.{needs}
 use borrow.Author.Tests.{lt-ltb, le-ltb}
-use Rattle.cursor.proofs.stands_at.Statement.{statement}
-use Rattle.cursor.proofs.stands_at.Tie as tie
+use Rattle.cursor.proofs.in_place.stands_at.Statement.{statement}
+use Rattle.cursor.proofs.in_place.stands_at.Tie as tie
 
 mul-result : tie.Need-mul-result
 mul-result c = search needs

@@ -7,8 +7,8 @@ use Rattle.cursor.specs.View.{ackCursor}
 use Rattle.cursor.specs.declared.AckCursor.{AckCursor}
 use Rattle.cursor.proofs.Search.{long-starts, long-ends, starts-rise, place-within, found-committed}
 use Rattle.cursor.proofs.Answers.{not-advanced, moved}
-use Rattle.cursor.proofs.commit_in_place.Statement.{statement}
-use Rattle.cursor.proofs.commit_in_place.Tie as tie
+use Rattle.cursor.proofs.in_place.commit_in_place.Statement.{statement}
+use Rattle.cursor.proofs.in_place.commit_in_place.Tie as tie
 
 -- the cursor that the arguments are
 abbrev g : tie.Start → AckCursor

@@ -1,8 +1,8 @@
 -- `stretch` meets its contract. Assumes nothing.
 use borrow.Author.Needs.{needs}
 use Rattle.types.proofs.Zipped.{set-behind}
-use Rattle.cursor.proofs.stretch.Statement.{statement}
-use Rattle.cursor.proofs.stretch.Tie as tie
+use Rattle.cursor.proofs.in_place.stretch.Statement.{statement}
+use Rattle.cursor.proofs.in_place.stretch.Tie as tie
 
 returns : tie.Need-returns
 returns c = rw (c .if1 .taken)
