@@ -19,6 +19,7 @@ use crate::Decoded;
 use crate::Resume;
 use crate::SnapshotError;
 use crate::check_range;
+use crate::in_place::encode_in_place;
 use crate::note_range;
 use raw::Write;
 use types::limits::RANGES;
@@ -26,7 +27,7 @@ use types::limits::RANGES;
 const SNAPSHOT_VERSION: u8 = 1;
 
 // The bytes of a range in a snapshot.
-const RANGE_LEN: usize = 16;
+pub(crate) const RANGE_LEN: usize = 16;
 
 impl AckCursor {
     // The length of a snapshot without ranges: version, committed and check.
@@ -37,15 +38,7 @@ impl AckCursor {
         requires { ⌜ Sound self ⌝ }
         ensures { λ r. ⌜ answer (outcomeOf r) (now (out .exit)) ≡ write at (encodeCursor (view self)) (now (out .entry)) ⌝ }
     {
-        let runs = self.runs;
-        let len = AckCursor::SNAPSHOT_MIN_LEN + RANGE_LEN * runs;
-        if raw::too_short(out.len(), at, len) {
-            return Write::OutTooShort;
-        }
-        write_body(self.committed, &self.starts, &self.ends, runs, out, at);
-        let end = at + (len - 4);
-        let check = crc::crc32c(&out[at..end]);
-        raw::write_u32(out, end, check)
+        encode_in_place(self.committed, &self.starts, &self.ends, self.runs, out, at)
     }
 
     // The cursor of a snapshot. Refused in this order: too short (6), no whole number of ranges (7), another version (8), a
@@ -85,7 +78,7 @@ impl AckCursor {
 }
 
 // Writes all of a snapshot but its check.
-fn write_body<'a>(
+pub(crate) fn write_body<'a>(
     committed: u64,
     starts: &'a [u64; RANGES],
     ends: &'a [u64; RANGES],

@@ -7,12 +7,19 @@ ghost use mathlib.Core.List.{_∷_};
 ghost use lib.Dec.{ltb, eqb};
 ghost use lib.ListN.{length, take, getD, set};
 ghost use Rattle.types.specs.Refusal.{done};
+ghost use Rattle.types.specs.Table.{answer};
 ghost use Rattle.types.specs.Sorted.{Ascending, upTo};
+ghost use Rattle.raw.specs.Bytes.{write, outcomeOf};
 ghost use Rattle.cursor.specs.Cursor.{settled, ackBounded, commitUpTo};
 ghost use Rattle.cursor.specs.View.{ackCursor, view, Whole};
 ghost use Rattle.cursor.specs.Answers.{ackOf, Updated};
 ghost use Rattle.cursor.specs.Place.{Spotted, joinedAt};
+ghost use Rattle.cursor.specs.Snapshot.{encodeCursor};
+use crate::AckCursor;
 use crate::BoundedAck;
+use crate::codec::RANGE_LEN;
+use crate::codec::write_body;
+use raw::Write;
 use types::limits::MAX;
 use types::limits::RANGES;
 use types::numbers::larger;
@@ -143,6 +150,28 @@ pub fn is_acked_in_place<'a>(
 {
     let i = partition_point(starts, runs, offset);
     offset < end_before(committed, ends, i)
+}
+
+// `encode_snapshot` on the parts of a cursor.
+pub fn encode_in_place<'a>(
+    committed: u64,
+    starts: &'a [u64; RANGES],
+    ends: &'a [u64; RANGES],
+    runs: usize,
+    out: &mut [u8],
+    at: usize,
+) -> Write
+    requires { ⌜ Whole (ackCursor committed (now starts) (now ends) runs) ⌝ }
+    ensures { λ r. ⌜ answer (outcomeOf r) (now (out .exit)) ≡ write at (encodeCursor (view (ackCursor committed (now (starts .entry)) (now (ends .entry)) runs))) (now (out .entry)) ⌝ }
+{
+    let len = AckCursor::SNAPSHOT_MIN_LEN + RANGE_LEN * runs;
+    if raw::too_short(out.len(), at, len) {
+        return Write::OutTooShort;
+    }
+    write_body(committed, starts, ends, runs, out, at);
+    let end = at + (len - 4);
+    let check = crc::crc32c(&out[at..end]);
+    raw::write_u32(out, end, check)
 }
 
 // Where an offset stands. Places count from 0, and committed is the end before place 0.

@@ -3,24 +3,21 @@
 // An ack at committed moves it over that offset and over the range that begins right behind it. A cursor goes in by value
 // and comes back; nothing is kept elsewhere.
 ghost use mathlib.Core.Path.{_≡_};
-ghost use Prim.Native.Nat.{ℕ, _+_, _-_, _≤_, _<_, min};
-ghost use mathlib.Core.Bool.{_&&_};
+ghost use Prim.Native.Nat.{ℕ, _+_, _<_, min};
 ghost use mathlib.Core.List.{List, [], _∷_, _++_};
-ghost use lib.Dec.{ltb, eqb};
-ghost use lib.ListN.{length, take, getD, set};
+ghost use lib.ListN.{length, set};
 ghost use Rattle.types.specs.Identifiers.{offset};
 ghost use Rattle.types.specs.Refusal.{done};
 ghost use Rattle.types.specs.Lists.{listed, roomFor, listedOf};
 ghost use Rattle.types.specs.Table.{answer, first};
 ghost use Rattle.types.specs.Zipped.{zipped};
-ghost use Rattle.types.specs.Sorted.{Ascending, upTo};
 ghost use Rattle.cursor.specs.Ranges.{range, offsets};
 ghost use Rattle.cursor.specs.Cursor.{settled, ackBounded, commitUpTo, rangeTable};
-ghost use Rattle.cursor.specs.View.{ackCursor, view, Sound, Whole, Fresh};
+ghost use Rattle.cursor.specs.View.{view, Sound, Fresh};
 ghost use Rattle.cursor.specs.Answers.{ackOf, Updated, resumeFault, ResumedIs};
 ghost use Rattle.cursor.specs.Taking.{Taken};
 ghost use Rattle.cursor.specs.declared.Range.{Range};
-ghost use Rattle.cursor.specs.Place.{Spotted, rangeAt, joinedAt};
+ghost use Rattle.cursor.specs.Place.{rangeAt};
 use crate::in_place::ack_in_place;
 use crate::in_place::commit_in_place;
 use crate::in_place::is_acked_in_place;
