@@ -1,2 +1,5 @@
 pub mod Columns
+pub mod CursorParts
+pub mod InPlace
+pub mod LentColumn
 pub mod Snapshots

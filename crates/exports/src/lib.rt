@@ -22,6 +22,8 @@ use types::limits::PAIRS;
 use types::limits::RANGES;
 use types::numbers::shorter;
 
+pub mod in_place;
+
 // Puts the first n numbers of a column at the front of a lent one.
 fn list_column(column: &[u64; RANGES], n: usize, out: &mut [u64])
     requires { ⌜ (length (now column) ≡ 128) × (n ≤ 128) × (n ≤ length (now out)) ⌝ }
