@@ -1,4 +1,4 @@
-//! The loops of the crate `bench`, and the same loops over the original.
+//! The loops of the crate `bench`, the same loops over the original, and those of acks over a cursor that lies in Rust.
 use ironbus::cursor::AckCursor;
 use ironbus::lease::{Claim, LeaseConfig, LeaseTable, LeaseToken};
 use ironbus::types::Offset;
@@ -46,6 +46,29 @@ pub mod here {
     pub fn encodes(committed: u64, starts: &[u64], ends: &[u64], out: &mut [u8], n: u32) {
         let (s, e) = (starts.as_ptr(), ends.as_ptr());
         unsafe { super::ninotskev_bench_encodes(committed, s, starts.len(), e, ends.len(), out.as_mut_ptr(), out.len(), n) }
+    }
+}
+
+/// A call for each ack, on a cursor that is changed where it lies.
+pub mod in_place {
+    use rattle::AckCursor;
+
+    pub fn acks_in_order(n: u64) -> u64 {
+        let mut cursor = AckCursor::zero();
+        for i in 0..n {
+            cursor.ack(i);
+        }
+        cursor.committed()
+    }
+
+    pub fn acks_reversed(n: u32) -> u64 {
+        let mut cursor = AckCursor::zero();
+        for i in 0..u64::from(n) {
+            for k in (0..64).rev() {
+                cursor.ack(64 * i + k);
+            }
+        }
+        cursor.committed()
     }
 }
 

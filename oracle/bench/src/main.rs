@@ -3,7 +3,7 @@
 mod checks;
 mod drivers;
 
-use drivers::{here, original};
+use drivers::{here, in_place, original};
 use ironbus::attempt::{decode_attempt_snapshot, encode_attempt_snapshot};
 use ironbus::cursor::AckCursor;
 use ironbus::types::Offset;
@@ -146,12 +146,26 @@ fn calls() {
         || keep(original::acks_in_order(black_box(n))),
         || keep(here::acks_in_order(black_box(n))),
     );
+    assert_eq!(original::acks_in_order(n), in_place::acks_in_order(n));
+    line(
+        "ack in order, in place",
+        n as u32,
+        || keep(original::acks_in_order(black_box(n))),
+        || keep(in_place::acks_in_order(black_box(n))),
+    );
     let batches = 30;
     assert_eq!(original::acks_reversed(batches), here::acks_reversed(batches));
     let theirs = || keep(original::acks_reversed(black_box(batches)));
     line("ack, in batches of 64 from the last down", 64 * batches, theirs, || {
         keep(here::acks_reversed(black_box(batches)))
     });
+    assert_eq!(original::acks_reversed(batches), in_place::acks_reversed(batches));
+    line(
+        "ack, in batches of 64 from the last down, in place",
+        64 * batches,
+        theirs,
+        || keep(in_place::acks_reversed(black_box(batches))),
+    );
     for window in [0, 8, 63] {
         let n = 1000;
         assert_eq!(original::claims_and_acks(window, n), here::claims_and_acks(window, n));

@@ -1,6 +1,6 @@
 //! The functions of the crate `exports`, declared once and wrapped: a slice crosses as a pointer and a length. Their contracts
 //! require nothing of a caller but slices that are there and of which none that is written to overlaps another, which Rust's
-//! references ensure.
+//! references ensure, and cursors that only these functions changed, which private fields ensure.
 
 /// 01's number, 0 where nothing is refused; how many values there are; and the first four of them, 0 where there are fewer.
 #[repr(C)]
@@ -9,6 +9,15 @@ pub struct Numbers {
     pub number: u64,
     pub count: u64,
     pub values: [u64; 4],
+}
+
+/// A cursor that is changed where it lies.
+#[repr(C)]
+pub struct AckCursor {
+    committed: u64,
+    starts: [u64; 128],
+    ends: [u64; 128],
+    runs: usize,
 }
 
 extern "C" {
@@ -48,6 +57,7 @@ extern "C" {
         attempts: *mut u32,
         attempts_len: usize,
     ) -> Numbers;
+    fn ninotskev_cursor_ack(cursor: *mut AckCursor, offset: u64) -> u64;
 }
 
 /// The check of the bytes.
@@ -77,4 +87,25 @@ pub fn encode_attempts(offsets: &[u64], attempts: &[u32], out: &mut [u8], at: us
 pub fn decode_attempts(input: &[u8], offsets: &mut [u64], attempts: &mut [u32]) -> Numbers {
     let (o, a) = (offsets.as_mut_ptr(), attempts.as_mut_ptr());
     unsafe { ninotskev_decode_attempts(input.as_ptr(), input.len(), o, offsets.len(), a, attempts.len()) }
+}
+
+impl AckCursor {
+    /// A cursor at offset zero with nothing acked, `AckCursor::new` of the port: all its numbers are zero.
+    pub fn zero() -> AckCursor {
+        AckCursor {
+            committed: 0,
+            starts: [0; 128],
+            ends: [0; 128],
+            runs: 0,
+        }
+    }
+
+    /// Records an ack. Answers 0 where it was new, 1 for a duplicate and 29 where it is shed.
+    pub fn ack(&mut self, offset: u64) -> u64 {
+        unsafe { ninotskev_cursor_ack(self, offset) }
+    }
+
+    pub fn committed(&self) -> u64 {
+        self.committed
+    }
 }
