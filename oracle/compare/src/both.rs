@@ -1,4 +1,6 @@
 //! One input on both sides: what is answered, and all that lent memory holds afterwards.
+use ironbus::cursor::{AckCursor, BoundedAck};
+use ironbus::types::Offset;
 use lists::codecs;
 use rattle::Numbers;
 
@@ -76,6 +78,24 @@ impl Both {
             lent: (),
         };
         self.same(original, rattle, || format!("the check of {bytes:?}"));
+    }
+
+    /// An ack on a cursor of each side; lent is where the cursor lies.
+    pub fn ack(&mut self, original: &mut AckCursor, rattle: &mut rattle::AckCursor, offset: u64) {
+        let number = match original.ack_bounded(Offset::new(offset), 128) {
+            BoundedAck::Recorded => 0,
+            BoundedAck::Duplicate => 1,
+            BoundedAck::Shed => 29,
+        };
+        let theirs = Answer {
+            code: code(&[number]),
+            lent: (original.committed().get(), original.ahead_ranges().to_vec()),
+        };
+        let ours = Answer {
+            code: code(&[rattle.ack(offset)]),
+            lent: (rattle.committed(), rattle.ranges()),
+        };
+        self.same(theirs, ours, || format!("an ack of {offset}"));
     }
 
     /// Decodes cursor bytes into columns with these numbers of places.

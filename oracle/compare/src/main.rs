@@ -4,6 +4,7 @@
 mod both;
 
 use both::Both;
+use ironbus::cursor::AckCursor;
 use lists::random::Random;
 
 /// Room for whatever is decoded.
@@ -249,6 +250,21 @@ fn checks(both: &mut Both, random: &mut Random) {
     }
 }
 
+/// Acks around committed, near enough to join or so far apart that they are shed, and of the last offsets.
+fn acks(both: &mut Both, random: &mut Random) {
+    for spread in [8, 40, 300, 3000] {
+        let (mut original, mut rattle) = (AckCursor::new(), rattle::AckCursor::zero());
+        for _ in 0..600 {
+            let offset = if random.below(50) == 0 {
+                u64::MAX - random.below(3)
+            } else {
+                original.committed().get().saturating_sub(3) + random.below(spread)
+            };
+            both.ack(&mut original, &mut rattle, offset);
+        }
+    }
+}
+
 /// Everything that depends on no seed.
 fn fixed(both: &mut Both) {
     short(both);
@@ -274,6 +290,7 @@ fn seeded(both: &mut Both, random: &mut Random) {
     }
     counts(both, random);
     room(both, random);
+    acks(both, random);
 }
 
 fn main() {

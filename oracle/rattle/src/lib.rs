@@ -108,4 +108,9 @@ impl AckCursor {
     pub fn committed(&self) -> u64 {
         self.committed
     }
+
+    pub fn ranges(&self) -> Vec<(u64, u64)> {
+        let ranges = self.starts.iter().copied().zip(self.ends.iter().copied());
+        ranges.take(self.runs).collect()
+    }
 }
