@@ -11,9 +11,8 @@ use lib.Seq.{getD-take, length-take-le}
 use borrow.Author.Tests.{ltb-false, eq-eqb, ne-eqb, lt-ltb, le-ltb}
 use Rattle.types.specs.Limits.{STEPS}
 use Rattle.types.specs.Table.{Passed}
-use Rattle.delivery.specs.Policy.{Policy, unlimited, policyTable, disposition, Deliver, DeadLetter, nackBackoff}
-use Rattle.delivery.specs.Config.{backoffs, view, Sound, defaults, ConfiguredIs, RefusedIs}
-use Rattle.delivery.specs.declared.DeliveryConfig.{DeliveryConfig}
+use Rattle.delivery.specs.Policy.{unlimited, policyTable, destination, Deliver, DeadLetter, scheduled}
+use Rattle.delivery.specs.Config.{Sound, defaults, ConfiguredIs, RefusedIs}
 use Rattle.delivery.specs.declared.Configured.{Configured}
 use Rattle.delivery.specs.declared.ConfigOutcome.the-variants.{Built, UnlimitedDeliverNotAllowed, TooManySteps}
 
@@ -60,25 +59,24 @@ pub allowed : (m : ℕ) (u : Bool) (b : List ℕ) → Passed (policyTable m u b)
 allowed m u b p = record { limit = p .0; few = ltb-false STEPS (length b) (p .1 .0) }
 
 -- counts and the limit
-module _ (p : Policy) (n : ℕ) where
-  pub deliver-unlimited : p .maxDeliver ≡ 0 → disposition p n ≡ Deliver
-  deliver-unlimited z = rw (eq-eqb (p .maxDeliver) 0 z)
+module _ (limit n : ℕ) where
+  pub deliver-unlimited : limit ≡ 0 → destination limit n ≡ Deliver
+  deliver-unlimited z = rw (eq-eqb limit 0 z)
 
-  module _ (limited : p .maxDeliver ≡ 0 → ⊥) where
-    pub dead-letter-above : p .maxDeliver < n → disposition p n ≡ DeadLetter
-    dead-letter-above h = rw (ne-eqb (p .maxDeliver) 0 limited, lt-ltb (p .maxDeliver) n h)
+  module _ (limited : limit ≡ 0 → ⊥) where
+    pub dead-letter-above : limit < n → destination limit n ≡ DeadLetter
+    dead-letter-above h = rw (ne-eqb limit 0 limited, lt-ltb limit n h)
 
-    pub deliver-within : n ≤ p .maxDeliver → disposition p n ≡ Deliver
-    deliver-within h = rw (ne-eqb (p .maxDeliver) 0 limited, le-ltb (p .maxDeliver) n h)
+    pub deliver-within : n ≤ limit → destination limit n ≡ Deliver
+    deliver-within h = rw (ne-eqb limit 0 limited, le-ltb limit n h)
 
 at-same : (l : List ℕ) (i j : ℕ) → i ≡ j → getD l i 0 ≡ getD l j 0
 at-same l i j e = rw e
 
 -- the place that the code computes is the definition's
-pub backoff-at : (c : DeliveryConfig) (attempt i : ℕ) → c .«backoff_len» ≤ length (c .«backoff_nanos»)
-    → (c .«backoff_len» ≡ 0 → ⊥) → i ≡ min (max attempt 1 - 1) (c .«backoff_len» - 1)
-    → getD (c .«backoff_nanos») i 0 ≡ nackBackoff (view c) attempt
-backoff-at c attempt i fits some e =
-    let count = length-take-le (c .«backoff_len») (c .«backoff_nanos») fits in
-    let below : i < c .«backoff_len» = omega arith in
-    sym (getD-take (c .«backoff_len») (c .«backoff_nanos») i 0 below) ∙ at-same (backoffs c) i _ (rw count e)
+pub backoff-at : (nanos : List ℕ) (len attempt i : ℕ) → len ≤ length nanos → (len ≡ 0 → ⊥)
+    → i ≡ min (max attempt 1 - 1) (len - 1) → getD nanos i 0 ≡ scheduled (take len nanos) attempt
+backoff-at nanos len attempt i fits some e =
+    let count = length-take-le len nanos fits in
+    let below : i < len = omega arith in
+    sym (getD-take len nanos i 0 below) ∙ at-same (take len nanos) i _ (rw count e)

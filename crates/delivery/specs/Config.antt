@@ -4,7 +4,7 @@ use mathlib.Core.Path.{_≡_}
 use mathlib.Core.Bool.{Bool, false}
 use mathlib.Core.List.{List}
 use mathlib.Core.Option.{Option, none, some}
-use lib.ListN.{take, replicate}
+use lib.ListN.{length, take, replicate}
 use Rattle.types.specs.Refusal.{Result, refused, done}
 use Rattle.types.specs.Refusal as refusal
 use Rattle.types.specs.Table.{Kept}
@@ -30,6 +30,11 @@ view c = policy (c .«max_deliver») (c .«allow_unlimited») (backoffs c) (c .�
 -- the backoffs lie within the array
 pub record Sound (c : DeliveryConfig) : Type 0 where
   pub few : c .«backoff_len» ≤ 16
+
+-- the same of a lent array, which doesn't show its length by itself
+pub record LentBackoffs (nanos : List ℕ) (len : ℕ) : Type 0 where
+  pub full : length nanos ≡ 16
+  pub few : len ≤ 16
 
 -- 01's answers for the cases of each enum
 abbrev pub outcomeOf : ConfigOutcome → Policy → Result Policy

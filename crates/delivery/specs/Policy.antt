@@ -51,15 +51,23 @@ pub data Destination : Type 0 where
   DeadLetter : Destination
 
 -- counts above a nonzero limit are dead letters
+abbrev pub destination : (limit deliveries : ℕ) → Destination
+destination limit deliveries = cond (not (eqb limit 0) && ltb limit deliveries) DeadLetter Deliver
+
 abbrev pub disposition : Policy → ℕ → Destination
-disposition p deliveries =
-    cond (not (eqb (p .maxDeliver) 0) && ltb (p .maxDeliver) deliveries) DeadLetter Deliver
+disposition p deliveries = destination (p .maxDeliver) deliveries
 
 -- the entry at max(attempt, 1) − 1, or the last; of an empty list 0
+abbrev pub scheduled : List ℕ → ℕ → ℕ
+scheduled backoff attempt = getD backoff (min (max attempt 1 - 1) (length backoff - 1)) 0
+
 abbrev pub nackBackoff : Policy → ℕ → ℕ
-nackBackoff p attempt = getD (p .backoff) (min (max attempt 1 - 1) (length (p .backoff) - 1)) 0
+nackBackoff p attempt = scheduled (p .backoff) attempt
 
 -- an explicit delay wins
+abbrev pub delayed : List ℕ → ℕ → Option ℕ → ℕ
+delayed backoff attempt (some nanos) = nanos
+delayed backoff attempt none = scheduled backoff attempt
+
 abbrev pub effectiveNackDelay : Policy → ℕ → Option ℕ → ℕ
-effectiveNackDelay p attempt (some nanos) = nanos
-effectiveNackDelay p attempt none = nackBackoff p attempt
+effectiveNackDelay p attempt delay = delayed (p .backoff) attempt delay

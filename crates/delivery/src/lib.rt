@@ -4,8 +4,8 @@ ghost use mathlib.Core.Bool.{not, _&&_};
 ghost use Prim.Native.Nat.{_-_, _≤_, min, max};
 ghost use lib.ListN.{length, take};
 ghost use Rattle.types.specs.Refusal.{done};
-ghost use Rattle.delivery.specs.Policy.{unlimited, disposition, nackBackoff, effectiveNackDelay};
-ghost use Rattle.delivery.specs.Config.{view, Sound, dispositionOf, delayOf, ConfiguredIs, RefusedIs, FlushingIs};
+ghost use Rattle.delivery.specs.Policy.{unlimited, destination, disposition, scheduled, delayed, nackBackoff, effectiveNackDelay};
+ghost use Rattle.delivery.specs.Config.{view, Sound, LentBackoffs, dispositionOf, delayOf, ConfiguredIs, RefusedIs, FlushingIs};
 use types::limits::MAX32;
 
 // What a consumer says of a message that it was handed.
@@ -97,6 +97,47 @@ fn place(attempt: u32, last: usize) -> usize
     i
 }
 
+// What becomes of a message whose hand-outs, this one included, number `deliveries`, by the limit alone.
+pub fn disposition_of(max_deliver: u32, deliveries: u32) -> Disposition
+    ensures { λ r. ⌜ dispositionOf r ≡ done (destination «max_deliver» deliveries) ⌝ }
+{
+    if max_deliver == 0 {
+        return Disposition::Deliver;
+    }
+    if max_deliver < deliveries {
+        return Disposition::DeadLetter;
+    }
+    Disposition::Deliver
+}
+
+// The backoff of an attempt, of the first `backoff_len` of a lent array.
+fn backoff_in_place(backoff_nanos: &[u64; 16], backoff_len: usize, attempt: u32) -> u64
+    requires { ⌜ LentBackoffs (now «backoff_nanos») «backoff_len» ⌝ }
+    ensures { λ r. ⌜ r ≡ scheduled (take «backoff_len» (now («backoff_nanos» .entry))) attempt ⌝ }
+{
+    if backoff_len == 0 {
+        return 0;
+    }
+    let i = place(attempt, backoff_len - 1);
+    backoff_nanos[i]
+}
+
+// The delay that a nack gets, of the backoffs alone, which are lent.
+pub fn nack_delay_in_place(
+    backoff_nanos: &[u64; 16],
+    backoff_len: usize,
+    attempt: u32,
+    delay: Delay,
+) -> u64
+    requires { ⌜ LentBackoffs (now «backoff_nanos») «backoff_len» ⌝ }
+    ensures { λ r. ⌜ r ≡ delayed (take «backoff_len» (now («backoff_nanos» .entry))) attempt (delayOf delay) ⌝ }
+{
+    match delay {
+        Delay::Explicit(nanos) => nanos,
+        Delay::Schedule => backoff_in_place(backoff_nanos, backoff_len, attempt),
+    }
+}
+
 impl DeliveryConfig {
     // The default limit on hand-outs before a message is a dead letter.
     pub const DEFAULT_MAX_DELIVER: u32 = 5;
@@ -179,14 +220,7 @@ impl DeliveryConfig {
     pub fn disposition(self, deliveries: u32) -> Disposition
         ensures { λ r. ⌜ dispositionOf r ≡ done (disposition (view self) deliveries) ⌝ }
     {
-        let max_deliver = self.max_deliver;
-        if max_deliver == 0 {
-            return Disposition::Deliver;
-        }
-        if max_deliver < deliveries {
-            return Disposition::DeadLetter;
-        }
-        Disposition::Deliver
+        disposition_of(self.max_deliver, deliveries)
     }
 
     // The schedule's delay before a message nacked at this attempt, counted from 1, is retried: past the last entry the last,
@@ -195,12 +229,7 @@ impl DeliveryConfig {
         requires { ⌜ Sound self ⌝ }
         ensures { λ r. ⌜ r ≡ nackBackoff (view self) attempt ⌝ }
     {
-        let len = self.backoff_len;
-        if len == 0 {
-            return 0;
-        }
-        let i = place(attempt, len - 1);
-        self.backoff_nanos[i]
+        backoff_in_place(&self.backoff_nanos, self.backoff_len, attempt)
     }
 
     // The delay that a nack gets: an explicit one wins over the schedule.
@@ -208,9 +237,11 @@ impl DeliveryConfig {
         requires { ⌜ Sound self ⌝ }
         ensures { λ r. ⌜ r ≡ effectiveNackDelay (view self) attempt (delayOf «explicit_delay») ⌝ }
     {
-        match explicit_delay {
-            Delay::Explicit(nanos) => nanos,
-            Delay::Schedule => self.nack_backoff(attempt),
-        }
+        nack_delay_in_place(
+            &self.backoff_nanos,
+            self.backoff_len,
+            attempt,
+            explicit_delay,
+        )
     }
 }

@@ -1,11 +1,9 @@
--- `DeliveryConfig::nack_backoff` meets its contract. Assumes nothing.
+-- `backoff_in_place` meets its contract. Assumes nothing.
 use native.Mathlib.Omega.{arith}
-use mathlib.Core.Path.{_≡_}
-use lib.ListN.{length}
 use borrow.Author.Needs.{needs}
 use Rattle.delivery.proofs.Policy.{backoff-at}
-use Rattle.delivery.proofs.DeliveryConfig.nack_backoff.Statement.{statement}
-use Rattle.delivery.proofs.DeliveryConfig.nack_backoff.Tie as tie
+use Rattle.delivery.proofs.backoff_in_place.Statement.{statement}
+use Rattle.delivery.proofs.backoff_in_place.Tie as tie
 
 returns : tie.Need-returns
 returns c = search needs
@@ -25,11 +23,11 @@ element-copy-out-result c = search needs
 returns-2 : tie.Need-returns-2
 returns-2 c =
     let s = c .before .before .before in
-    let full : length (s .args .t1 .«backoff_nanos») ≡ 16 = search needs in
+    let a = s .args in
     let p = c .before .place in
-    backoff-at (s .args .t1) (s .args .attempt) (p .result) (omega (arith, s .pre .few)) (c .before .before .if1 .left) (p .ensures)
+    backoff-at (a .backoff-nanos .now) (a .backoff-len) (a .attempt) (p .result) (omega (arith, s .pre .full, s .pre .few)) (c .before .before .if1 .left) (p .ensures)
 
-pub nack-backoff-spec : {M : Type 1} → statement M
-nack-backoff-spec =
+pub backoff-in-place-spec : {M : Type 1} → statement M
+backoff-in-place-spec =
     tie.close
     (tie.spec returns sub-place place-requires mul-result element-copy-out-result returns-2)
