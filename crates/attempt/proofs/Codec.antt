@@ -1,33 +1,20 @@
--- What the contracts of the codec say, for its callers: that entries tell pairs, the outcome and what was written, and the
--- pairs that the array holds. Assumes nothing.
-use Prim.Native.Nat.{ℕ, _+_, _*_, _≤_}
+-- What the contract of the decoder says, for its callers: the outcome, and the pairs that the array holds. Assumes nothing.
+use Prim.Native.Nat.{ℕ, _≤_}
 use native.Mathlib.Omega.{arith}
 use mathlib.Core.Path.{_≡_, refl, ap, _∙_}
 use mathlib.Core.List.{List}
 use lib.ListN.{length, take, drop, length-map}
 use lib.Seq.{take-at}
-use Rattle.types.specs.Limits.{PAIRS}
-use Rattle.types.specs.Refusal.{Refusal, Result, refused, done}
+use Rattle.types.specs.Refusal.{Refusal, refused, done}
 use Rattle.types.specs.Table.{Answer, answer}
 use Rattle.types.specs.Keyed.{Entry}
 use Rattle.types.proofs.Scan.{map-take}
-use Rattle.raw.specs.Bytes.{overwrite}
-use Rattle.attempt.specs.Snapshot.{encodeAttempts1, decodeAttempts}
-use Rattle.attempt.specs.Codec.{blank, decodeOf, encodeFirst, DecodedIs}
-use Rattle.types.specs.declared.Pair.{Pair}
+use Rattle.attempt.specs.Snapshot.{decodeAttempts}
+use Rattle.attempt.specs.Codec.{blank, decodeOf, DecodedIs}
 use Rattle.types.specs.Lists.{entryOf, entriesOf, counted}
 use Rattle.attempt.specs.declared.Decoded.{Decoded}
 use Rattle.attempt.proofs.Snapshot.{decoded-few, fill-room}
-use Rattle.attempt.proofs.Writing.{count-entries, whole}
 use Rattle.attempt.proofs.Reading.{length-blank}
-
--- with room for it the whole snapshot was written
-pub encoded : (pairs : List Pair) (n at : ℕ) (bs after : List ℕ) (o : Result ℕ) → answer o after ≡ encodeFirst n pairs at bs
-    → n ≤ PAIRS → n ≤ length pairs → at + (9 + 12 * n) ≤ length bs
-    → (o ≡ done (at + (9 + 12 * n))) × (after ≡ overwrite at (encodeAttempts1 (entriesOf (take n pairs))) bs)
-encoded pairs n at bs after o is few fits room =
-    let e = is ∙ whole pairs n at bs (count-entries pairs n fits) few room in
-    (ap (λ (a : Answer ℕ (List ℕ)). a .outcome) e, ap (λ (a : Answer ℕ (List ℕ)). a .state) e)
 
 module _ (b : List ℕ) (r : Decoded) (is : DecodedIs b r) where
   pub decoded-refused : (q : Refusal) → decodeAttempts b ≡ refused q → decodeOf (r .outcome) ≡ refused q

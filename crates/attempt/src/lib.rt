@@ -2,10 +2,11 @@
 // pair are known here alone.
 ghost use mathlib.Core.Path.{_≡_};
 ghost use mathlib.Core.List.{_++_};
-ghost use Prim.Native.Nat.{_+_, _*_, _≤_};
+ghost use Prim.Native.Nat.{_+_, _*_, _≤_, min};
 ghost use lib.ListN.{length, take, drop};
 ghost use Rattle.types.specs.Refusal.{done};
 ghost use Rattle.types.specs.Table.{answer, checked};
+ghost use Rattle.types.specs.Keyed.{entry, entries};
 ghost use Rattle.types.specs.Lists.{entryOf, entriesOf, counted};
 ghost use Rattle.raw.specs.Bytes.{overwrite};
 ghost use Rattle.attempt.specs.Snapshot.{pairBytes, pairsBytes, bodyBytes, encodeInto};
@@ -73,43 +74,49 @@ fn no_pairs() -> [Pair; PAIRS]
 }
 
 // Writes a pair at a position.
-fn put_pair(out: &mut [u8], pos: usize, pair: Pair)
+fn put_pair(out: &mut [u8], pos: usize, offset: u64, attempt: u32)
     requires { ⌜ pos + 12 ≤ length (now out) ⌝ }
-    ensures { λ _. ⌜ now (out .exit) ≡ overwrite pos (pairBytes (entryOf pair)) (now (out .entry)) ⌝ }
+    ensures { λ _. ⌜ now (out .exit) ≡ overwrite pos (pairBytes (entry offset attempt)) (now (out .entry)) ⌝ }
 {
-    raw::write_u64(out, pos, pair.offset);
-    raw::write_u32(out, pos + 8, pair.attempt);
+    raw::write_u64(out, pos, offset);
+    raw::write_u32(out, pos + 8, attempt);
 }
 
-// Writes the first `count` pairs from a position on.
-fn put_pairs(pairs: [Pair; PAIRS], count: usize, out: &mut [u8], at: usize)
-    requires { ⌜ (count ≤ 128) × (at + 12 * count ≤ length (now out)) ⌝ }
-    ensures { λ _. ⌜ now (out .exit) ≡ overwrite at (pairsBytes (entriesOf (take count pairs))) (now (out .entry)) ⌝ }
+// Writes the pairs of two columns from a position on, of which there are `count`.
+fn put_pairs<'a>(offsets: &'a [u64], attempts: &'a [u32], count: usize, out: &mut [u8], at: usize)
+    requires { ⌜ (count ≡ min (length (now offsets)) (length (now attempts))) × (at + 12 * count ≤ length (now out)) ⌝ }
+    ensures { λ _. ⌜ now (out .exit) ≡ overwrite at (pairsBytes (entries (now (offsets .entry)) (now (attempts .entry)))) (now (out .entry)) ⌝ }
 {
     let mut pos = at;
     let mut i: usize = 0;
     while i < count {
-        put_pair(out, pos, pairs[i]);
+        put_pair(out, pos, offsets[i], attempts[i]);
         pos += PAIR_LEN;
         i += 1;
     }
 }
 
 // Writes all but the check.
-fn put_body(pairs: [Pair; PAIRS], count: usize, out: &mut [u8], at: usize)
-    requires { ⌜ (count ≤ 128) × (at + (5 + 12 * count) ≤ length (now out)) ⌝ }
-    ensures { λ _. ⌜ now (out .exit) ≡ overwrite at (bodyBytes (entriesOf (take count pairs))) (now (out .entry)) ⌝ }
+fn put_body<'a>(offsets: &'a [u64], attempts: &'a [u32], count: usize, out: &mut [u8], at: usize)
+    requires { ⌜ (count ≡ min (length (now offsets)) (length (now attempts))) × (count ≤ 128) × (at + (5 + 12 * count) ≤ length (now out)) ⌝ }
+    ensures { λ _. ⌜ now (out .exit) ≡ overwrite at (bodyBytes (entries (now (offsets .entry)) (now (attempts .entry)))) (now (out .entry)) ⌝ }
 {
     out[at] = SNAPSHOT_VERSION;
     raw::write_u32(out, at + 1, count as u32);
-    put_pairs(pairs, count, out, at + 5);
+    put_pairs(offsets, attempts, count, out, at + 5);
 }
 
-// Writes the snapshot of the first `count` pairs from a position on, in their order. Over 128 pairs are refused (19), then a
-// snapshot without room (20).
-pub fn encode_pairs(pairs: [Pair; PAIRS], count: usize, out: &mut [u8], at: usize) -> Encode
-    ensures { λ r. ⌜ answer (encodeOf r) (now (out .exit)) ≡ encodeFirst count pairs at (now (out .entry)) ⌝ }
+// Writes the snapshot of attempt counts, a pair for each place that both columns have, from a position on. Over 128 pairs are
+// refused (19), then a snapshot without room (20).
+pub fn encode_columns<'a>(
+    offsets: &'a [u64],
+    attempts: &'a [u32],
+    out: &mut [u8],
+    at: usize,
+) -> Encode
+    ensures { λ r. ⌜ answer (encodeOf r) (now (out .exit)) ≡ encodeInto (entries (now (offsets .entry)) (now (attempts .entry))) at (now (out .entry)) ⌝ }
 {
+    let count = shorter(offsets.len(), attempts.len());
     if PAIRS < count {
         return Encode::TooManyPairs;
     }
@@ -120,11 +127,30 @@ pub fn encode_pairs(pairs: [Pair; PAIRS], count: usize, out: &mut [u8], at: usiz
     if out.len() - len < at {
         return Encode::OutTooShort;
     }
-    put_body(pairs, count, out, at);
+    put_body(offsets, attempts, count, out, at);
     let end = at + (5 + PAIR_LEN * count);
     let check = crc::crc32c(&out[at..end]);
     raw::write_u32(out, end, check);
     Encode::Next(at + len)
+}
+
+// Writes the snapshot of the first `count` pairs from a position on, in their order. Over 128 pairs are refused (19), then a
+// snapshot without room (20).
+pub fn encode_pairs(pairs: [Pair; PAIRS], count: usize, out: &mut [u8], at: usize) -> Encode
+    ensures { λ r. ⌜ answer (encodeOf r) (now (out .exit)) ≡ encodeFirst count pairs at (now (out .entry)) ⌝ }
+{
+    if PAIRS < count {
+        return Encode::TooManyPairs;
+    }
+    let mut offsets = [0u64; PAIRS];
+    let mut attempts = [0u32; PAIRS];
+    let mut i: usize = 0;
+    while i < count {
+        offsets[i] = pairs[i].offset;
+        attempts[i] = pairs[i].attempt;
+        i += 1;
+    }
+    encode_columns(&offsets[..count], &attempts[..count], out, at)
 }
 
 // Refusals 18 and 19, or the number of pairs.

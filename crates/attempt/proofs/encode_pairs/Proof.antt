@@ -1,113 +1,131 @@
--- `encode_pairs` meets its contract: each return is a law of what the encoder writes. Assumes nothing.
-use Prim.Native.Nat.{_+_, _-_, _*_}
+-- `encode_pairs` meets its contract. The loop's invariant: the first i places of the columns are the first i pairs.
+-- Assumes nothing.
+use Prim.Native.Nat.{ℕ, _-_, _≤_}
 use native.Mathlib.Omega.{arith}
-use mathlib.Core.Path.{_≡_}
-use lib.ListN.{length, take}
+use mathlib.Core.Path.{_≡_, refl, sym, ap, _∙_}
+use mathlib.Core.List.{List}
+use lib.ListN.{length, take, length-set}
+use lib.Seq.{length-take-le}
 use borrow.Author.Needs.{needs}
+use Rattle.types.specs.Keyed.{Entry, entries}
 use Rattle.types.specs.Lists.{entriesOf}
 use Rattle.types.proofs.Scan.{length-mapped}
-use Rattle.attempt.proofs.Writing.{count-entries, too-many, too-short, encoded}
+use Rattle.attempt.specs.Snapshot.{encodeInto}
+use Rattle.attempt.proofs.Writing.{columns-more, first-many, first-few}
 use Rattle.attempt.proofs.encode_pairs.Statement.{statement}
 use Rattle.attempt.proofs.encode_pairs.Tie as tie
 
--- the list has as many pairs as were given
-count : (c : tie.Else1) → let a = c .before .before .args in length (entriesOf (take (a .count) (a .pairs))) ≡ a .count
-count c =
-    let a = c .before .before .args in
-    let full : length (a .pairs) ≡ 128 = search (needs, length-mapped) in
-    count-entries (a .pairs) (a .count) (omega (arith, c .if1 .left))
+abbrev Inv-loop : tie.InvT-loop
+Inv-loop count out at pairs offsets₀ attempts₀ i₀ offsets attempts i =
+    (i ≤ count)
+    × (length offsets ≡ 128)
+    × (length attempts ≡ 128)
+    × (entries (take i offsets) (take i attempts) ≡ entriesOf (take i pairs))
 
-returns : tie.Need-returns
+abbrev μ-loop : tie.MeasureT-loop
+μ-loop count out at pairs offsets₀ attempts₀ i₀ offsets attempts i = count - i
+
+returns : tie.Need-returns Inv-loop μ-loop
 returns c =
     let a = c .before .before .args in
-    too-many (a .pairs) (a .count) (a .at) (a .out .now) (c .if1 .taken)
+    first-many (a .t1) (a .count) (a .at) (a .out .now) (c .if1 .taken)
 
-mul-len : tie.Need-mul-len
-mul-len c = search needs
+loop-holds : tie.Need-loop-holds Inv-loop μ-loop
+loop-holds c = (omega arith, refl, refl, refl)
 
-add-len : tie.Need-add-len
-add-len c = search needs
+mul-offsets : tie.Need-mul-offsets Inv-loop μ-loop
+mul-offsets c = omega arith
 
-returns-2 : tie.Need-returns-2
-returns-2 c =
-    let a = c .before .before .before .args in
-    too-short (a .pairs) (a .count) (a .at) (a .out .now) (count (c .before)) (c .before .if1 .left) (omega arith)
+element-copy-out-offsets : tie.Need-element-copy-out-offsets Inv-loop μ-loop
+element-copy-out-offsets c = omega arith
 
-sub-if3 : tie.Need-sub-if3
-sub-if3 c = search needs
+mul-offsets-2 : tie.Need-mul-offsets-2 Inv-loop μ-loop
+mul-offsets-2 c = omega arith
 
-returns-3 : tie.Need-returns-3
-returns-3 c =
+array-write-offsets : tie.Need-array-write-offsets Inv-loop μ-loop
+array-write-offsets c = omega arith
+
+mul-attempts : tie.Need-mul-attempts Inv-loop μ-loop
+mul-attempts c = omega arith
+
+element-copy-out-attempts : tie.Need-element-copy-out-attempts Inv-loop μ-loop
+element-copy-out-attempts c = omega arith
+
+mul-attempts-2 : tie.Need-mul-attempts-2 Inv-loop μ-loop
+mul-attempts-2 c = omega arith
+
+array-write-attempts : tie.Need-array-write-attempts Inv-loop μ-loop
+array-write-attempts c = omega arith
+
+add-i : tie.Need-add-i Inv-loop μ-loop
+add-i c = omega arith
+
+loop-less : tie.Need-loop-less Inv-loop μ-loop
+loop-less c = omega arith
+
+loop-again : tie.Need-loop-again Inv-loop μ-loop
+loop-again c =
+    let l = c .before .loop in
     let a = c .before .before .before .before .args in
-    too-short (a .pairs) (a .count) (a .at) (a .out .now) (count (c .before .before)) (c .before .before .if1 .left) (omega arith)
+    let full : length (a .t1) ≡ 128 = search (needs, length-mapped) in (
+      omega arith,
+      simp length-set (l .inv .1),
+      simp length-set (l .inv .2),
+      columns-more (a .t1) (l .offsets) (l .attempts) (l .i) _ _ (omega arith) (omega arith) (omega arith) refl (l .inv .3),
+    )
 
-put-body-requires : tie.Need-put-body-requires
-put-body-requires c κs = search needs
+array-share-prefix-offsets : tie.Need-array-share-prefix-offsets Inv-loop μ-loop
+array-share-prefix-offsets c = omega arith
 
-mul-end : tie.Need-mul-end
-mul-end c = search needs
+slice-aggregate-encode-columns : tie.Need-slice-aggregate-encode-columns Inv-loop μ-loop
+slice-aggregate-encode-columns c = sym (length-take-le _ (c .before .before .loop .offsets) (omega arith))
 
-add-end : tie.Need-add-end
-add-end c = search needs
+array-share-prefix-attempts : tie.Need-array-share-prefix-attempts Inv-loop μ-loop
+array-share-prefix-attempts c = omega arith
 
-add-end-2 : tie.Need-add-end-2
-add-end-2 c = search needs
+slice-aggregate-encode-columns-2 : tie.Need-slice-aggregate-encode-columns-2 Inv-loop μ-loop
+slice-aggregate-encode-columns-2 c = sym (length-take-le _ (c .before .before .before .loop .attempts) (omega arith))
 
-sub-crc32c : tie.Need-sub-crc32c
-sub-crc32c c = search needs
+encode-columns-requires : tie.Need-encode-columns-requires Inv-loop μ-loop
+encode-columns-requires c κs = search needs
 
-part-crc32c-start : tie.Need-part-crc32c-start
-part-crc32c-start c = search needs
-
-part-crc32c-end : tie.Need-part-crc32c-end
-part-crc32c-end c = search needs
-
-crc32c-requires : tie.Need-crc32c-requires
-crc32c-requires c κs = search needs
-
-write-u32-requires : tie.Need-write-u32-requires
-write-u32-requires c κs = search needs
-
-add-t10 : tie.Need-add-t10
-add-t10 c = search needs
-
-same-length : tie.Need-same-length
+same-length : tie.Need-same-length Inv-loop μ-loop
 same-length c = search needs
 
-returns-4 : tie.Need-returns-4
-returns-4 c =
-    let w = c .before .before in
-    let k = w .before .before in
-    let b = k .before .before .before .before .before in
-    let e = b .before .before .before .before in
-    let a = e .before .before .args in
-    let part : a .at + (5 + 12 * a .count) - a .at ≡ 5 + 12 * a .count = omega arith in
-    encoded (a .pairs) (a .count) (a .at) (a .out .now) (count e) (e .if1 .left) (b .put-body .last .1 .1 .0) _ (k .crc32c .result) _
-    (omega (arith, b .before .before .before .if2 .left, b .before .before .if3 .left))
-    part
-    (b .put-body .ensures)
-    (k .crc32c .ensures)
-    (w .write-u32 .ensures)
+returns-2 : tie.Need-returns-2 Inv-loop μ-loop
+returns-2 c =
+    let h = c .before .before .before .before .before .before in
+    let l = h .before .loop in
+    let a = h .before .before .before .before .args in
+    let end : l .i ≡ a .count = omega arith in
+    let pairs = rw end at (l .inv .3) in
+    c .before .before .encode-columns .ensures
+    ∙ ap (λ (e : List (Entry ℕ)). encodeInto e (a .at) (a .out .now)) pairs
+    ∙ sym (first-few (a .t1) (a .count) (a .at) (a .out .now) (omega arith))
 
 pub encode-pairs-spec : {M : Type 1} → statement M
 encode-pairs-spec =
     tie.close
     (tie.spec
+    Inv-loop
+    μ-loop
     returns
-    mul-len
-    add-len
-    returns-2
-    sub-if3
-    returns-3
-    put-body-requires
-    mul-end
-    add-end
-    add-end-2
-    sub-crc32c
-    part-crc32c-start
-    part-crc32c-end
-    crc32c-requires
-    write-u32-requires
-    add-t10
+    loop-holds
+    mul-offsets
+    element-copy-out-offsets
+    mul-offsets-2
+    array-write-offsets
+    mul-attempts
+    element-copy-out-attempts
+    mul-attempts-2
+    array-write-attempts
+    add-i
+    loop-less
+    loop-again
+    array-share-prefix-offsets
+    slice-aggregate-encode-columns
+    array-share-prefix-attempts
+    slice-aggregate-encode-columns-2
+    encode-columns-requires
     same-length
-    returns-4)
+    returns-2)

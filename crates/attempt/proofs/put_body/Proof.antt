@@ -1,11 +1,10 @@
 -- `put_body` meets its contract: the count is written behind the version, and the pairs behind both. Assumes nothing.
 use native.Mathlib.Omega.{arith}
-use mathlib.Core.Path.{_≡_, _∙_}
-use lib.ListN.{length, take, length-set}
+use mathlib.Core.Path.{_≡_, sym, _∙_}
+use lib.ListN.{length, length-set}
 use borrow.Author.Needs.{needs}
-use Rattle.types.specs.Lists.{entriesOf}
-use Rattle.types.proofs.Scan.{length-mapped}
-use Rattle.attempt.proofs.Writing.{count-entries, body-put}
+use Rattle.types.specs.Keyed.{entries}
+use Rattle.attempt.proofs.Writing.{length-both, body-put}
 use Rattle.attempt.proofs.put_body.Statement.{statement}
 use Rattle.attempt.proofs.put_body.Tie as tie
 
@@ -25,31 +24,31 @@ add-put-pairs : tie.Need-add-put-pairs
 add-put-pairs c = search needs
 
 -- the output keeps its length over the first two writes
-kept : (c : tie.After-write-u32) → length (c .write-u32 .last .0) ≡ length (c .before .before .before .args .out .now)
+kept : (c : tie.After-write-u32) → length (c .write-u32 .last .0) ≡ length (c .before .before .before .before .before .args .out .now)
 kept c = c .write-u32 .kept .0 ∙ simp length-set
 
 put-pairs-requires : tie.Need-put-pairs-requires
 put-pairs-requires c κs =
     let w = c .before .before .before in
-    let s = w .before .before .before in
-    (s .pre .0, omega (arith, kept w, s .pre .1))
+    let s = w .before .before .before .before .before in
+    (s .pre .0, omega (arith, kept w, s .pre .2))
 
 same-length : tie.Need-same-length
 same-length c =
     let p = c .before .before in
-    p .put-pairs .kept .1 .1 .0 ∙ kept (p .before .before .before .before)
+    p .put-pairs .kept .1 .1 .1 .0 ∙ kept (p .before .before .before .before)
 
 returns : tie.Need-returns
 returns c =
     let p = c .before .before in
     let w = p .before .before .before .before in
-    let s = w .before .before .before in
+    let s = w .before .before .before .before .before in
     let a = s .args in
-    let full : length (a .pairs) ≡ 128 = search (needs, length-mapped) in
-    let count = count-entries (a .pairs) (a .count) (omega (arith, s .pre .0)) in
-    body-put (entriesOf (take (a .count) (a .pairs))) (a .count) (a .at) (a .out .now) (w .write-u32 .last .0) _
-    count
-    (s .pre .1)
+    let ks = a .offsets .now in
+    let vs = a .attempts .now in
+    body-put (entries ks vs) (a .count) (a .at) (a .out .now) (w .write-u32 .last .0) _
+    (length-both ks vs ∙ sym (s .pre .0))
+    (s .pre .2)
     (w .write-u32 .ensures)
     (p .put-pairs .ensures)
 

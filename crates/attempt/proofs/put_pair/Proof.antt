@@ -26,8 +26,8 @@ returns c =
     let first = second .before .before .before .before in
     let a = first .before .before .before .args in
     let bs = a .out .now in
-    let offset = le 8 (a .pair .offset) in
-    let attempt = le 4 (a .pair .attempt) in
+    let offset = le 8 (a .offset) in
+    let attempt = le 4 (a .attempt) in
     let there = wrote (a .pos) offset bs (first .write-u64 .ensures) (omega arith) in
     wrote-behind (a .pos + 8) attempt (first .write-u64 .last .0) (second .write-u32 .ensures) (a .pos) offset bs refl there (omega arith)
 

@@ -3,10 +3,8 @@
 use Prim.Native.Nat.{_+_, _-_, _*_, _≤_}
 use native.Mathlib.Omega.{arith}
 use mathlib.Core.Path.{_≡_, refl, sym, _∙_}
-use lib.ListN.{length, take, drop}
-use borrow.Author.Needs.{needs}
-use Rattle.types.specs.Lists.{entriesOf}
-use Rattle.types.proofs.Scan.{length-mapped}
+use lib.ListN.{length, drop}
+use Rattle.types.specs.Keyed.{entries}
 use Rattle.raw.specs.Bytes.{overwrite}
 use Rattle.attempt.specs.Snapshot.{pairsBytes}
 use Rattle.attempt.proofs.Writing.{put-more, put-end}
@@ -14,15 +12,14 @@ use Rattle.attempt.proofs.put_pairs.Statement.{statement}
 use Rattle.attempt.proofs.put_pairs.Tie as tie
 
 abbrev Inv-loop : tie.InvT-loop
-Inv-loop count out₀ at pairs pos₀ i₀ out pos i =
+Inv-loop offsets attempts count out₀ at pos₀ i₀ out pos i =
     (i ≤ count)
     × (pos ≡ at + 12 * i)
     × (length out ≡ length out₀)
-    × (overwrite pos (pairsBytes (entriesOf (drop i (take count pairs)))) out
-    ≡ overwrite at (pairsBytes (entriesOf (take count pairs))) out₀)
+    × (overwrite pos (pairsBytes (drop i (entries offsets attempts))) out ≡ overwrite at (pairsBytes (entries offsets attempts)) out₀)
 
 abbrev μ-loop : tie.MeasureT-loop
-μ-loop count out₀ at pairs pos₀ i₀ out pos i = count - i
+μ-loop offsets attempts count out₀ at pos₀ i₀ out pos i = count - i
 
 loop-holds : tie.Need-loop-holds Inv-loop μ-loop
 loop-holds c = (omega arith, omega arith, refl, refl)
@@ -30,8 +27,14 @@ loop-holds c = (omega arith, omega arith, refl, refl)
 mul-put-pair : tie.Need-mul-put-pair Inv-loop μ-loop
 mul-put-pair c = omega arith
 
-array-copy-out-put-pair : tie.Need-array-copy-out-put-pair Inv-loop μ-loop
-array-copy-out-put-pair c = omega arith
+shared-slice-read-put-pair : tie.Need-shared-slice-read-put-pair Inv-loop μ-loop
+shared-slice-read-put-pair c = omega arith
+
+mul-put-pair-2 : tie.Need-mul-put-pair-2 Inv-loop μ-loop
+mul-put-pair-2 c = omega arith
+
+shared-slice-read-put-pair-2 : tie.Need-shared-slice-read-put-pair-2 Inv-loop μ-loop
+shared-slice-read-put-pair-2 c = omega arith
 
 put-pair-requires : tie.Need-put-pair-requires Inv-loop μ-loop
 put-pair-requires c κs = omega arith
@@ -48,13 +51,12 @@ loop-less c = omega arith
 loop-again : tie.Need-loop-again Inv-loop μ-loop
 loop-again c =
     let put = c .before .before in
-    let l = put .before .before .before .before .loop in
-    let a = put .before .before .before .before .before .before .args in
-    let full : length (a .t1) ≡ 128 = search (needs, length-mapped) in (
+    let l = put .before .before .before .before .before .loop in
+    let a = put .before .before .before .before .before .before .before .before .before .args in (
       omega arith,
       omega arith,
       put .put-pair .kept .0 ∙ l .inv .2,
-      put-more (a .t1) (a .count) (l .i) (omega arith) (l .out) _ (l .pos) (omega arith) (omega arith) (put .put-pair .ensures)
+      put-more (a .offsets .now) (a .attempts .now) (l .i) (l .out) _ (l .pos) (omega arith) (omega arith) (omega arith) (put .put-pair .ensures)
           ∙ l .inv .3,
     )
 
@@ -63,10 +65,9 @@ same-length c = c .before .loop .inv .2
 
 returns : tie.Need-returns Inv-loop μ-loop
 returns c =
-    let a = c .before .before .before .args in
+    let a = c .before .before .before .before .before .args in
     let l = c .before .loop in
-    let full : length (a .t1) ≡ 128 = search (needs, length-mapped) in
-    sym (put-end (a .t1) (a .count) (l .i) (omega arith) (l .out) (l .pos) (omega arith)) ∙ l .inv .3
+    sym (put-end (a .offsets .now) (a .attempts .now) (l .i) (l .out) (l .pos) (omega arith)) ∙ l .inv .3
 
 pub put-pairs-spec : {M : Type 1} → statement M
 put-pairs-spec =
@@ -76,7 +77,9 @@ put-pairs-spec =
     μ-loop
     loop-holds
     mul-put-pair
-    array-copy-out-put-pair
+    shared-slice-read-put-pair
+    mul-put-pair-2
+    shared-slice-read-put-pair-2
     put-pair-requires
     add-pos
     add-i
