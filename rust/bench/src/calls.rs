@@ -1,0 +1,261 @@
+//! The calls one by one, on a consumer that is called again and again.
+
+use std::hint::black_box;
+use std::time::Instant;
+
+use delivery_bench::{Nowhere, Side, Token};
+use ironbus_delivery_state::{LeaseConfig, MAX_BLOCKS};
+
+use crate::{lines, per_call, Ours, Theirs};
+
+/// How many calls are timed at a time, about.
+const CALLS: u64 = 1000;
+
+/// How often that is done in a round: so many claims or nacks are within the 4,096 generations of a checkpoint.
+const TIMES: u32 = 4;
+
+const ROUNDS: u32 = 100;
+
+/// What is held besides has offsets from here on, above those of the timed calls. Where leases are kept sorted by offset, each
+/// claim and each ack then moves all of them.
+const HELD: u64 = 1 << 40;
+
+/// How many consumers begin their checkpoints one after the other, so that reading the clock counts for little.
+const BEGUN: u64 = 8;
+
+fn start<S: Side<Storage = Nowhere>>() -> S {
+    S::start(Nowhere { blocks: MAX_BLOCKS })
+}
+
+/// Claims so many offsets.
+fn hold(side: &mut impl Side, first: u64, leases: u64) -> Vec<Token> {
+    (first..first + leases)
+        .map(|offset| side.claim(offset, 0))
+        .collect()
+}
+
+/// A claim and an ack of the next offset, with so many leases and so many carried counts held besides.
+fn claim_and_ack<S: Side<Storage = Nowhere>>(leases: u64, carried: u64) -> [f64; 1] {
+    let mut side = start::<S>().carrying(HELD..HELD + carried);
+    hold(&mut side, HELD + carried, leases);
+    let held = (leases as usize, carried as usize);
+    assert_eq!(side.held(), held);
+    let mut next = 0;
+    let time = per_call(CALLS, TIMES, || {
+        for offset in next..next + CALLS {
+            let token = side.claim(offset, offset);
+            side.ack(token);
+        }
+        next += CALLS;
+    });
+    assert_eq!((side.committed(), side.held()), (next, held));
+    [time]
+}
+
+/// A nack of each of so many leases in turn. The lease has a new generation after it, which the next one is made under.
+fn nack<S: Side<Storage = Nowhere>>(leases: u64) -> [f64; 1] {
+    let mut side = start::<S>();
+    let mut tokens = hold(&mut side, 0, leases);
+    let mut next = tokens.last().unwrap().generation + 1;
+    let mut now = 1;
+    let time = per_call(CALLS, TIMES, || {
+        for _ in 0..CALLS / leases {
+            for token in &mut tokens {
+                assert_eq!(side.nack(*token, now), now);
+                token.generation = next;
+                next += 1;
+            }
+            now += 1;
+        }
+    });
+    for token in tokens {
+        assert_eq!(side.deliveries(token), Some(1));
+    }
+    [time]
+}
+
+/// A progress of each of so many leases in turn.
+fn progress<S: Side<Storage = Nowhere>>(leases: u64) -> [f64; 1] {
+    let mut side = start::<S>();
+    let tokens = hold(&mut side, 0, leases);
+    let visibility = LeaseConfig::default().visibility_nanos;
+    let mut now = 1;
+    let time = per_call(CALLS, TIMES, || {
+        for _ in 0..CALLS / leases {
+            for token in &tokens {
+                assert_eq!(side.progress(*token, now), now + visibility);
+            }
+            now += 1;
+        }
+    });
+    [time]
+}
+
+/// Commits that each settle one offset more, with so many leases above them.
+fn commit<S: Side<Storage = Nowhere>>(leases: u64) -> [f64; 1] {
+    let mut side = start::<S>();
+    hold(&mut side, HELD, leases);
+    let mut next = 0;
+    let time = per_call(CALLS, TIMES, || {
+        for up_to in next + 1..=next + CALLS {
+            assert!(side.commit(up_to));
+        }
+        next += CALLS;
+    });
+    let held = (leases as usize, 0);
+    assert_eq!((side.committed(), side.held()), (next, held));
+    [time]
+}
+
+/// Whether an offset is settled, of all from 0 to beyond the last of so many ranges of one offset each.
+fn is_settled<S: Side<Storage = Nowhere>>(ranges: u64) -> [f64; 1] {
+    let mut side = start::<S>();
+    for range in 1..=ranges {
+        let token = side.claim(2 * range, 0);
+        side.ack(token);
+    }
+    let offsets = 2 * ranges + 2;
+    let turns = CALLS.div_ceil(offsets);
+    let mut settled = 0;
+    let time = per_call(turns * offsets, TIMES, || {
+        for _ in 0..turns {
+            for offset in 0..offsets {
+                settled += u64::from(side.is_settled(black_box(offset)));
+            }
+        }
+    });
+    assert_eq!(settled, u64::from(TIMES) * turns * ranges);
+    [time]
+}
+
+/// The count of each of so many leases in turn: `lease_of` here, `deliveries` in the original.
+fn deliveries<S: Side<Storage = Nowhere>>(leases: u64) -> [f64; 1] {
+    let mut side = start::<S>();
+    let tokens = hold(&mut side, 0, leases);
+    let time = per_call(CALLS, TIMES, || {
+        for _ in 0..CALLS / leases {
+            for token in &tokens {
+                assert_eq!(side.deliveries(black_box(*token)), Some(1));
+            }
+        }
+    });
+    [time]
+}
+
+/// A begin, and a step, of consumers with so many leases, until their journals are full.
+fn begin_and_step<S: Side<Storage = Nowhere>>(leases: u64) -> [f64; 2] {
+    let mut sides: Vec<S> = (0..BEGUN).map(|_| start()).collect();
+    for side in &mut sides {
+        hold(side, 0, leases);
+    }
+    let mut begun = Vec::with_capacity(sides.len());
+    let blocks = blocks_of(leases);
+    let (mut begin, mut step) = (f64::INFINITY, f64::INFINITY);
+    for _ in 0..(MAX_BLOCKS as u64 - blocks_of(0)) / blocks {
+        let start = Instant::now();
+        begun.extend(sides.drain(..).map(S::begin));
+        begin = begin.min(start.elapsed().as_secs_f64());
+        let mut steps = 0;
+        let start = Instant::now();
+        for writing in begun.drain(..) {
+            let (side, made) = S::finish(writing);
+            sides.push(side);
+            steps += made;
+        }
+        step = step.min(start.elapsed().as_secs_f64());
+        assert_eq!(steps, BEGUN * blocks);
+    }
+    let each = 1e9 / BEGUN as f64;
+    [begin * each, step * each / blocks as f64]
+}
+
+/// How many blocks a checkpoint takes that stores so many counts and no range: a header, and bodies of 500 bytes.
+fn blocks_of(counts: u64) -> u64 {
+    1 + (13 + 9 + 12 * counts).div_ceil(500)
+}
+
+fn claims_and_acks() {
+    // a count that is carried takes one of 128 places, and the offset that is claimed another
+    for (leases, carried) in [(0, 0), (8, 0), (63, 0), (0, 127), (63, 64)] {
+        let name = format!("claim + ack, {leases} leases and {carried} carried counts besides");
+        lines(
+            [&name],
+            ROUNDS,
+            || claim_and_ack::<Theirs>(leases, carried),
+            || claim_and_ack::<Ours>(leases, carried),
+        );
+    }
+}
+
+fn under_a_token() {
+    for leases in [1, 50] {
+        lines(
+            [&format!("nack, {leases} in flight")],
+            ROUNDS,
+            || nack::<Theirs>(leases),
+            || nack::<Ours>(leases),
+        );
+    }
+    for leases in [1, 50] {
+        lines(
+            [&format!("progress, {leases} in flight")],
+            ROUNDS,
+            || progress::<Theirs>(leases),
+            || progress::<Ours>(leases),
+        );
+    }
+}
+
+fn commits() {
+    for leases in [0, 50] {
+        lines(
+            [&format!("commit, {leases} in flight above it")],
+            ROUNDS,
+            || commit::<Theirs>(leases),
+            || commit::<Ours>(leases),
+        );
+    }
+}
+
+fn questions() {
+    for ranges in [0, 50] {
+        lines(
+            [&format!("is_settled, {ranges} ranges ahead")],
+            ROUNDS,
+            || is_settled::<Theirs>(ranges),
+            || is_settled::<Ours>(ranges),
+        );
+    }
+    for leases in [1, 50] {
+        lines(
+            [&format!("lease_of, {leases} in flight")],
+            ROUNDS,
+            || deliveries::<Theirs>(leases),
+            || deliveries::<Ours>(leases),
+        );
+    }
+}
+
+fn checkpoints() {
+    for leases in [1, 50] {
+        let blocks = blocks_of(leases);
+        let names = [
+            &*format!("begin, {leases} in flight"),
+            &*format!("step, {leases} in flight, the mean of {blocks}"),
+        ];
+        lines(
+            names,
+            ROUNDS / 10,
+            || begin_and_step::<Theirs>(leases),
+            || begin_and_step::<Ours>(leases),
+        );
+    }
+}
+
+pub fn table() {
+    claims_and_acks();
+    under_a_token();
+    commits();
+    questions();
+    checkpoints();
+}

@@ -1,0 +1,99 @@
+//! A consumer of this crate.
+
+use std::ops::{ControlFlow, Range};
+
+use ironbus_delivery_state::{
+    Configuration, Consumer, Generation, LeaseToken, NewJournal, Offset, Step, Storage, Writing,
+};
+
+use crate::{Side, Token};
+
+pub struct Here<S>(Consumer<S>);
+
+fn here(token: Token) -> LeaseToken {
+    LeaseToken {
+        offset: Offset::new(token.offset),
+        generation: Generation::new(token.generation),
+    }
+}
+
+impl<S: Storage> Side for Here<S> {
+    type Storage = S;
+    type Writing = Writing<S>;
+
+    fn start(storage: S) -> Here<S> {
+        let journal = NewJournal::on(storage).unwrap();
+        let consumer = Consumer::start(&Configuration::default(), journal);
+        Here(consumer.unwrap()).checkpoint()
+    }
+
+    // A count is carried where a checkpoint has stored a lease and a restart has dropped it. At most 64 can be in flight at a time,
+    // so that more take several restarts.
+    fn carrying(mut self, offsets: Range<u64>) -> Here<S> {
+        for first in offsets.clone().step_by(64) {
+            for offset in first..offsets.end.min(first + 64) {
+                self.claim(offset, 0);
+            }
+            let journal = self.checkpoint().0.into_journal();
+            let consumer = Consumer::restart(&Configuration::default(), journal);
+            self = Here(consumer.unwrap()).checkpoint();
+        }
+        self
+    }
+
+    fn claim(&mut self, offset: u64, now: u64) -> Token {
+        let token = self.0.claim(Offset::new(offset), now).unwrap().token();
+        Token {
+            offset: token.offset.get(),
+            generation: token.generation.get(),
+        }
+    }
+
+    fn ack(&mut self, token: Token) {
+        self.0.ack(here(token)).unwrap();
+    }
+
+    fn nack(&mut self, token: Token, now: u64) -> u64 {
+        self.0.nack(here(token), now, None).unwrap()
+    }
+
+    fn progress(&mut self, token: Token, now: u64) -> u64 {
+        self.0.progress(here(token), now).unwrap()
+    }
+
+    fn commit(&mut self, up_to: u64) -> bool {
+        self.0.commit(Offset::new(up_to)).unwrap()
+    }
+
+    fn is_settled(&mut self, offset: u64) -> bool {
+        self.0.is_settled(Offset::new(offset))
+    }
+
+    fn deliveries(&mut self, token: Token) -> Option<u32> {
+        let lease = self.0.lease_of(Offset::new(token.offset))?;
+        (lease.generation.get() == token.generation).then_some(lease.deliveries)
+    }
+
+    fn committed(&mut self) -> u64 {
+        self.0.committed().get()
+    }
+
+    fn held(&mut self) -> (usize, usize) {
+        let waiting = self.0.waiting(0, &mut [Offset::ZERO; 128]).unwrap();
+        (self.0.in_flight(), waiting)
+    }
+
+    fn begin(self) -> Writing<S> {
+        match self.0.begin() {
+            Ok(writing) => writing,
+            Err((refusal, _)) => panic!("{refusal}"),
+        }
+    }
+
+    fn step(writing: Writing<S>) -> ControlFlow<Here<S>, Writing<S>> {
+        match writing.step().unwrap() {
+            Step::Wrote { writing, .. } => ControlFlow::Continue(writing),
+            Step::Finished { consumer, .. } => ControlFlow::Break(Here(consumer)),
+        }
+    }
+}
