@@ -1,16 +1,17 @@
 -- Laws of lines in a buffer: each way to take one answers as the definition says, and what is taken and what is left lie in the
--- buffer. Assumes nothing.
+-- buffer; and reading more keeps what was still to be taken. Assumes nothing.
 use Prim.Native.Nat.{ℕ, _+_, _-_, _<_, _≤_}
 use native.Mathlib.Omega.{arith}
-use mathlib.Core.Path.{_≡_}
+use mathlib.Core.Path.{_≡_, refl, ap, _∙_}
 use mathlib.Core.Bool.{Bool, true, false, cond, _||_}
-use mathlib.Core.List.{List}
+use mathlib.Core.List.{List, _++_}
 use lib.Dec.{ltb}
-use lib.ListN.{length, getD}
+use lib.ListN.{length, take, drop, getD, length-take, length-drop}
+use lib.Seq.{take-add, take-take, drop-at}
 use borrow.Author.Tests.{lt-ltb, le-ltb}
 use Rattle.types.proofs.Cases.{split}
 use Rattle.text.specs.Words.{lengthTo}
-use Rattle.text.specs.Lines.{NEWLINE, Within, unread, lineAt, after, take-away, lastLine, passing, forMore, Lies, Took}
+use Rattle.text.specs.Lines.{NEWLINE, Within, unread, lineAt, after, take-away, lastLine, passing, forMore, Lies, Took, withMore, Refilled}
 use Rattle.text.specs.declared.lines.Input.{Input}
 use Rattle.text.specs.declared.lines.Found.the-variants.{More}
 
@@ -60,3 +61,25 @@ module _ (buf : List ℕ) (i : Input) (w : Within (length buf) i) where
           lies = tt;
           left = more-within (length buf) i w (length buf) (getD buf (i .from) 0);
         }
+
+-- the bytes from a place up to another
+between : (buf : List ℕ) (a b : ℕ) → a ≤ b → a ≤ length buf → drop a (take b buf) ≡ take (b - a) (drop a buf)
+between buf a b h l =
+    let e : b ≡ a + (b - a) = omega arith in
+    ap (λ (n : ℕ). drop a (take n buf)) e
+    ∙ rw (take-add a (b - a)) (drop-at (take a buf) (take (b - a) (drop a buf)) a (simp length-take (omega arith)))
+
+module _ (buf : List ℕ) (i : Input) (w : Within (length buf) i) where
+  length-unread : length (unread buf i) ≡ i .to - i .from
+  length-unread = simp (length-take, length-drop) (omega (arith, w .ordered, w .inside))
+
+  -- a buffer with what was still to be taken at its front
+  pub refilled : (out : List ℕ) (came : ℕ) → (i .to - i .from) + came ≤ length buf
+      → take (i .to - i .from) out ≡ drop (i .from) (take (i .to) buf) → Refilled buf i (withMore i came) out
+  refilled out came h e =
+      record {
+        came = came;
+        is = refl;
+        kept = rw length-unread (take-take (i .to - i .from) (i .to - i .from + came - 0) out (omega arith) ∙ e ∙ between buf (i .from) (i .to) (w .ordered) (omega (arith, w .ordered, w .inside)));
+        within = record { ordered = omega arith; inside = h };
+      }

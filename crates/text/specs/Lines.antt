@@ -3,7 +3,7 @@ use Prim.Native.Nat.{ℕ, _+_, _-_, _≤_}
 use mathlib.Core.Path.{_≡_}
 use mathlib.Core.Bool.{true, false, cond, _||_}
 use mathlib.Core.List.{List}
-use lib.Dec.{ltb}
+use lib.Dec.{eqb, ltb}
 use lib.ListN.{length, take, drop, getD}
 use Rattle.text.specs.Words.{lengthTo}
 use Rattle.text.specs.declared.lines.Input.{Input}
@@ -68,3 +68,14 @@ pub record Took (buf : List ℕ) (i : Input) (r : Taken) : Type 0 where
   pub is : r ≡ taken buf i
   pub lies : Lies (length buf) (r .found)
   pub left : Within (length buf) (r .input)
+
+-- what is still to be taken with bytes behind it that came; where none came, nothing comes any more
+abbrev pub withMore : Input → ℕ → Input
+withMore i came = record { from = 0; to = (i .to - i .from) + came; long = i .long; first = i .first; ended = eqb came 0 }
+
+-- what reading more answers, and the buffer then: what was still to be taken comes first, and what came follows
+pub record Refilled (before : List ℕ) (i : Input) (r : Input) (buf : List ℕ) : Type 0 where
+  pub came : ℕ
+  pub is : r ≡ withMore i came
+  pub kept : take (length (unread before i)) (unread buf r) ≡ unread before i
+  pub within : Within (length before) r

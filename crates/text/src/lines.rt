@@ -3,7 +3,7 @@
 ghost use mathlib.Core.Path.{_≡_};
 ghost use Prim.Native.Nat.{_-_, _≤_};
 ghost use lib.ListN.{length, take, drop, getD};
-ghost use Rattle.text.specs.Lines.{Within, nothing, lineAt, after, lastLine, forMore, Took};
+ghost use Rattle.text.specs.Lines.{Within, nothing, lineAt, after, lastLine, forMore, Took, Refilled};
 use crate::words::find;
 
 // The bytes of the buffer that are still to be taken: from a place up to another. `long`: they go on with a line that was too
@@ -175,7 +175,7 @@ fn read_some(fd: i32, buf: &mut [u8]) -> usize
 // Reads once, behind the bytes that are still to be taken, which go to the front first. Where nothing comes, the input has ended.
 pub fn refill(fd: i32, buf: &mut [u8], input: Input) -> Input
     requires { ⌜ Within (length (now buf)) input ⌝ }
-    ensures { λ r. ⌜ Within (length (now (buf .entry))) r ⌝ }
+    ensures { λ r. ⌜ Refilled (now (buf .entry)) input r (now (buf .exit)) ⌝ }
 {
     let from = input.from;
     let to = input.to;
