@@ -16,8 +16,7 @@ use Rattle.types.proofs.Cases.{split}
 use Rattle.text.specs.Words.{sameBytes, parts, behindFirst, laterParts, lengthTo, firstPart, isDigit, allDigits, valueFrom, value, isNumber, number, withDigit, allNumbers, leading, Gathered}
 use Rattle.text.specs.declared.words.Numbers.the-variants.{Count, Bad}
 
--- ---- one place on
-
+-- ## one place on
 module _ (bs : List ℕ) (i : ℕ) (inside : i < length bs) where
   pub drop-next : drop i bs ≡ getD bs i 0 ∷ drop (i + 1) bs
   drop-next = rw (add-one, drop-cons bs i 0)
@@ -43,8 +42,7 @@ to-there c (b ∷ bs) = split (eqb b c) (λ t. rw (t, t)) (λ f. rw f (to-there 
 pub to-there-from : (c : ℕ) (bs : List ℕ) (from to : ℕ) → to ≡ from + lengthTo c (drop from bs) → lengthTo c (drop to bs) ≡ 0
 to-there-from c bs from to e = rw (e, ← drop-drop (lengthTo c (drop from bs)) from bs) (to-there c (drop from bs))
 
--- ---- the same word
-
+-- ## the same word
 module _ (a b : List ℕ) (i : ℕ) where
   module _ (ha : i < length a) (hb : i < length b) where
     pub same-next : getD a i 0 ≡ getD b i 0 → sameBytes (drop i a) (drop i b) ≡ sameBytes (drop (i + 1) a) (drop (i + 1) b)
@@ -63,8 +61,7 @@ same-length (c ∷ cs) [] n = refl
 same-length (c ∷ cs) (d ∷ ds) n =
     split (eqb c d) (λ t. rw t (same-length cs ds (λ e. n (ap suc e)))) (λ f. rw f)
 
--- ---- numbers
-
+-- ## numbers
 -- the number of a word whose first digits made n
 abbrev pub numberFrom : ℕ → List ℕ → Option ℕ
 numberFrom n w = cond (allDigits w && leb (valueFrom n w) MAX) (some (valueFrom n w)) none
@@ -137,8 +134,7 @@ pub is-none : (w : List ℕ) → number w ≡ none → isNumber w ≡ false
 is-none w e =
     split (isNumber w) (λ t. absurd (Option·none-ne-some (value w) (sym (rw t at e)))) (λ f. f)
 
--- ---- the parts of a text, between the bytes that are c
-
+-- ## the parts of a text, between the bytes that are c
 module _ (c : ℕ) where
   pub parts-first : (bs : List ℕ) → parts c bs ≡ firstPart c bs ∷ laterParts c (drop (lengthTo c bs) bs)
   unfolding parts lengthTo
@@ -179,8 +175,7 @@ module _ (c : ℕ) where
       → laterParts c (drop at bs) ≡ take (to - (at + 1)) (drop (at + 1) bs) ∷ laterParts c (drop to bs)
   later-next bs at to h z e = later-here bs at h z ∙ parts-from bs (at + 1) to e
 
--- ---- gathering numbers
-
+-- ## gathering numbers
 -- the numbers of `all` are being gathered: `count` of them are in `out`, and `left` are left
 pub record Gathering (all : List (List ℕ)) (before out : List ℕ) (count : ℕ) (left : List (List ℕ)) : Type 0 where
   pub size : length out ≡ length before

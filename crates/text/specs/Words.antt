@@ -50,10 +50,7 @@ lengthTo c (b ∷ bs) = cond (eqb b c) 0 (suc (lengthTo c bs))
 abbrev pub firstPart : ℕ → List ℕ → List ℕ
 firstPart c bs = take (lengthTo c bs) bs
 
--- the first word, and those behind it
-abbrev pub firstWord : List ℕ → List ℕ
-firstWord line = firstPart SPACE line
-
+-- the words behind the first
 abbrev pub laterWords : List ℕ → List (List ℕ)
 laterWords line = laterParts SPACE line
 
@@ -63,8 +60,7 @@ pub record FoundAt (c from : ℕ) (bs : List ℕ) (r : ℕ) : Type 0 where
   pub behind : from ≤ r
   pub inside : r ≤ max from (length bs)
 
--- ---- numbers
-
+-- ## numbers
 abbrev pub isDigit : ℕ → Bool
 isDigit c = leb 48 c && leb c 57
 
@@ -99,8 +95,7 @@ abbrev pub numberOf : Number → Option ℕ
 numberOf (Value n) = some n
 numberOf None = none
 
--- ---- the numbers of words
-
+-- ## the numbers of words
 unfoldable pub allNumbers : List (List ℕ) → Bool
 allNumbers [] = true
 allNumbers (w ∷ ws) = isNumber w && allNumbers ws
