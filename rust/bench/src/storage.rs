@@ -46,8 +46,7 @@ impl Storage for Blocks {
     }
 }
 
-/// So many blocks that nothing is written to, for the time of the calls alone. A journal keeps a copy of its blocks, which is what
-/// a restart reads.
+/// So many blocks, which are written nowhere: for the time of the calls alone. A journal has its own copy of them for a restart.
 pub struct Nowhere {
     pub blocks: usize,
 }
