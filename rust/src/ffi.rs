@@ -87,7 +87,7 @@ pub(crate) struct Numbers {
     pub(crate) values: [u64; 4],
 }
 
-/// The calls on a consumer, by their numbers in `crates/wire/specs/Kinds.antt`.
+/// The calls on a consumer, by their numbers in `crates/server/specs/Kinds.antt`.
 #[derive(Clone, Copy, Debug, PartialEq, Eq)]
 #[cfg_attr(
     not(test),

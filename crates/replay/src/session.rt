@@ -16,9 +16,9 @@ use lease::LeaseConfig;
 use machine::Machine;
 use machine::calls::Call;
 use power_cut::Kind;
+use server::kinds;
+use server::kinds::Calling;
 use starts::StartAnswer;
-use wire::kinds;
-use wire::kinds::Calling;
 
 // The machine, and how many bytes of the lent area are its journal: none before the first start.
 pub struct Session {
@@ -40,7 +40,7 @@ enum Cutting {
 
 // ---- what a line asks
 
-// The number that `wire` gives the call of a form; of a form that is none, one that no call has.
+// The number that `server` gives the call of a form; of a form that is none, one that no call has.
 fn kind_of(form: usize) -> u64 {
     match form {
         script::CLAIM..=script::COMMIT => form as u64,

@@ -3,16 +3,16 @@
 ghost use mathlib.Core.List.{List};
 ghost use Prim.Native.Nat.{ℕ};
 ghost use Rattle.machine.specs.View.{Sound, OffIs};
-ghost use Rattle.transitions.specs.Transitions.{AskIs, CallIs, StartIs};
+ghost use Rattle.server.specs.Transitions.{AskIs, CallIs, StartIs};
+use crate::transitions::ack;
+use crate::transitions::ask;
+use crate::transitions::call;
+use crate::transitions::claim;
+use crate::transitions::restart;
+use crate::transitions::start;
 use answers::Numbers;
 use consumer::Configuration;
 use machine::Machine;
-use transitions::ack;
-use transitions::ask;
-use transitions::call;
-use transitions::claim;
-use transitions::restart;
-use transitions::start;
 
 // `start`, into the machine's place, whatever stands there.
 #[no_mangle]

@@ -56,15 +56,15 @@ use Rattle.machine.proofs.Machine.Laws as TMachine′
 use Rattle.answers.specs.declared.Numbers.{Numbers}
 use Rattle.answers.proofs.Numbers as TNumbers
 use Rattle.answers.proofs.Numbers.Laws as TNumbers′
-use Rattle.transitions.specs.declared.AckAnswered.{AckAnswered}
-use Rattle.transitions.proofs.AckAnswered as TR
-use Rattle.transitions.proofs.AckAnswered.Laws as TR′
-use Rattle.transitions.specs.Transitions.{AskedOn, holding}
-use Rattle.transitions.proofs.Transitions.{asked-on, sound-if}
-use Rattle.transitions.proofs.ack as ack
-use Rattle.transitions.proofs.ack.Symbol as ack-def
-use Rattle.transitions.proofs.ack.Symbol.{name as #transitions·ack}
-use Rattle.transitions.proofs.ack.Met as ack-thm
+use Rattle.server.specs.declared.transitions.AckAnswered.{AckAnswered}
+use Rattle.server.proofs.transitions.AckAnswered as TR
+use Rattle.server.proofs.transitions.AckAnswered.Laws as TR′
+use Rattle.server.specs.Transitions.{AskedOn, holding}
+use Rattle.server.proofs.InNumbers.{asked-on, sound-if}
+use Rattle.server.proofs.transitions.ack as ack
+use Rattle.server.proofs.transitions.ack.Symbol as ack-def
+use Rattle.server.proofs.transitions.ack.Symbol.{name as #transitions·ack}
+use Rattle.server.proofs.transitions.ack.Met as ack-thm
 use Rattle.server.proofs.calls.ninotskev_ack.Key.{name as #self}
 use Rattle.server.proofs.calls.ninotskev_ack as f
 use Rattle.server.proofs.calls.ninotskev_ack.Statement as stated
@@ -250,4 +250,4 @@ ninotskev-ack-spec 𝓤 H 𝓜 𝓖 𝓡 =
     entered 𝓤 H (tripleOf 𝓤 H (𝓖 .A) f.signature (f.spec 𝓤 H (𝓖 .A) (𝓜 .mem) (𝓡 .run)))
     (tables 𝓤 H 𝓜 𝓡 code.env .C) (tables 𝓤 H 𝓜 𝓡 code.env .Λ) #self code.function (code.unfolded 𝓤 H 𝓜 𝓡)
     (meets 𝓤 H (𝓖 .A) (givenOf 𝓤 H 𝓜 𝓖) (𝓜 .mem) (𝓡 .run) (tablesOf 𝓤 H 𝓜 (tables 𝓤 H 𝓜 𝓡 code.env))
-    (cited 𝓤 H (C-ack 𝓤 H (𝓖 .A) (𝓜 .mem) (𝓡 .run)) 𝓜 𝓡 code.env #transitions·ack ack-def.routine code.calls-transitions·ack (ack-thm.met 𝓤 H 𝓜 𝓖 𝓡)))
+    (cited 𝓤 H (C-ack 𝓤 H (𝓖 .A) (𝓜 .mem) (𝓡 .run)) 𝓜 𝓡 code.env #transitions·ack ack-def.routine code.calls-server·transitions·ack (ack-thm.met 𝓤 H 𝓜 𝓖 𝓡)))

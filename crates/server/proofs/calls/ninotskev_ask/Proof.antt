@@ -54,15 +54,15 @@ use Rattle.checkpoint.proofs.Writing.Laws as TWriting′
 use Rattle.answers.specs.declared.Numbers.{Numbers}
 use Rattle.answers.proofs.Numbers as TNumbers
 use Rattle.answers.proofs.Numbers.Laws as TNumbers′
-use Rattle.transitions.specs.declared.ConsumerAnswer.{ConsumerAnswer}
-use Rattle.transitions.proofs.ConsumerAnswer as TConsumerAnswer
-use Rattle.transitions.proofs.ConsumerAnswer.Laws as TConsumerAnswer′
-use Rattle.transitions.specs.Transitions.{AskedOn, holding}
-use Rattle.transitions.proofs.Transitions.{asked-on, sound-if}
-use Rattle.transitions.proofs.ask as ask
-use Rattle.transitions.proofs.ask.Symbol as ask-def
-use Rattle.transitions.proofs.ask.Symbol.{name as #transitions·ask}
-use Rattle.transitions.proofs.ask.Met as ask-thm
+use Rattle.server.specs.declared.transitions.ConsumerAnswer.{ConsumerAnswer}
+use Rattle.server.proofs.transitions.ConsumerAnswer as TConsumerAnswer
+use Rattle.server.proofs.transitions.ConsumerAnswer.Laws as TConsumerAnswer′
+use Rattle.server.specs.Transitions.{AskedOn, holding}
+use Rattle.server.proofs.InNumbers.{asked-on, sound-if}
+use Rattle.server.proofs.transitions.ask as ask
+use Rattle.server.proofs.transitions.ask.Symbol as ask-def
+use Rattle.server.proofs.transitions.ask.Symbol.{name as #transitions·ask}
+use Rattle.server.proofs.transitions.ask.Met as ask-thm
 use Rattle.server.proofs.calls.ninotskev_ask.Key.{name as #self}
 use Rattle.server.proofs.calls.ninotskev_ask as f
 use Rattle.server.proofs.calls.ninotskev_ask.Statement as stated
@@ -262,4 +262,4 @@ ninotskev-ask-spec 𝓤 H 𝓜 𝓖 𝓡 =
     entered 𝓤 H (tripleOf 𝓤 H (𝓖 .A) f.signature (f.spec 𝓤 H (𝓖 .A) (𝓜 .mem) (𝓡 .run)))
     (tables 𝓤 H 𝓜 𝓡 code.env .C) (tables 𝓤 H 𝓜 𝓡 code.env .Λ) #self code.function (code.unfolded 𝓤 H 𝓜 𝓡)
     (meets 𝓤 H (𝓖 .A) (givenOf 𝓤 H 𝓜 𝓖) (𝓜 .mem) (𝓡 .run) (tablesOf 𝓤 H 𝓜 (tables 𝓤 H 𝓜 𝓡 code.env))
-    (cited 𝓤 H (C-ask 𝓤 H (𝓖 .A) (𝓜 .mem) (𝓡 .run)) 𝓜 𝓡 code.env #transitions·ask ask-def.routine code.calls-transitions·ask (ask-thm.met 𝓤 H 𝓜 𝓖 𝓡)))
+    (cited 𝓤 H (C-ask 𝓤 H (𝓖 .A) (𝓜 .mem) (𝓡 .run)) 𝓜 𝓡 code.env #transitions·ask ask-def.routine code.calls-server·transitions·ask (ask-thm.met 𝓤 H 𝓜 𝓖 𝓡)))

@@ -47,15 +47,15 @@ use Rattle.machine.proofs.Machine.Laws as TMachine′
 use Rattle.answers.specs.declared.Numbers.{Numbers}
 use Rattle.answers.proofs.Numbers as TNumbers
 use Rattle.answers.proofs.Numbers.Laws as TNumbers′
-use Rattle.transitions.specs.declared.MachineAnswer.{MachineAnswer}
-use Rattle.transitions.proofs.MachineAnswer as TMachineAnswer
-use Rattle.transitions.proofs.MachineAnswer.Laws as TMachineAnswer′
+use Rattle.server.specs.declared.transitions.MachineAnswer.{MachineAnswer}
+use Rattle.server.proofs.transitions.MachineAnswer as TMachineAnswer
+use Rattle.server.proofs.transitions.MachineAnswer.Laws as TMachineAnswer′
 use Rattle.machine.specs.View.{Sound}
-use Rattle.transitions.specs.Transitions.{CallIs}
-use Rattle.transitions.proofs.call as call
-use Rattle.transitions.proofs.call.Symbol as call-def
-use Rattle.transitions.proofs.call.Symbol.{name as #transitions·call}
-use Rattle.transitions.proofs.call.Met as call-thm
+use Rattle.server.specs.Transitions.{CallIs}
+use Rattle.server.proofs.transitions.call as call
+use Rattle.server.proofs.transitions.call.Symbol as call-def
+use Rattle.server.proofs.transitions.call.Symbol.{name as #transitions·call}
+use Rattle.server.proofs.transitions.call.Met as call-thm
 use Rattle.server.proofs.calls.ninotskev_call.Key.{name as #self}
 use Rattle.server.proofs.calls.ninotskev_call as f
 use Rattle.server.proofs.calls.ninotskev_call.Statement as stated
@@ -220,4 +220,4 @@ ninotskev-call-spec 𝓤 H 𝓜 𝓖 𝓡 =
     entered 𝓤 H (tripleOf 𝓤 H (𝓖 .A) f.signature (f.spec 𝓤 H (𝓖 .A) (𝓜 .mem) (𝓡 .run)))
     (tables 𝓤 H 𝓜 𝓡 code.env .C) (tables 𝓤 H 𝓜 𝓡 code.env .Λ) #self code.function (code.unfolded 𝓤 H 𝓜 𝓡)
     (meets 𝓤 H (𝓖 .A) (givenOf 𝓤 H 𝓜 𝓖) (𝓜 .mem) (𝓡 .run) (tablesOf 𝓤 H 𝓜 (tables 𝓤 H 𝓜 𝓡 code.env))
-    (cited 𝓤 H (C-call 𝓤 H (𝓖 .A) (𝓜 .mem) (𝓡 .run)) 𝓜 𝓡 code.env #transitions·call call-def.routine code.calls-transitions·call (call-thm.met 𝓤 H 𝓜 𝓖 𝓡)))
+    (cited 𝓤 H (C-call 𝓤 H (𝓖 .A) (𝓜 .mem) (𝓡 .run)) 𝓜 𝓡 code.env #transitions·call call-def.routine code.calls-server·transitions·call (call-thm.met 𝓤 H 𝓜 𝓖 𝓡)))

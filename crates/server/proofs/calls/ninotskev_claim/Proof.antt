@@ -54,15 +54,15 @@ use Rattle.machine.proofs.Machine.Laws as TMachine′
 use Rattle.answers.specs.declared.Numbers.{Numbers}
 use Rattle.answers.proofs.Numbers as TNumbers
 use Rattle.answers.proofs.Numbers.Laws as TNumbers′
-use Rattle.transitions.specs.declared.ClaimAnswered.{ClaimAnswered}
-use Rattle.transitions.proofs.ClaimAnswered as TR
-use Rattle.transitions.proofs.ClaimAnswered.Laws as TR′
-use Rattle.transitions.specs.Transitions.{AskedOn, holding}
-use Rattle.transitions.proofs.Transitions.{asked-on, sound-if}
-use Rattle.transitions.proofs.claim as claim
-use Rattle.transitions.proofs.claim.Symbol as claim-def
-use Rattle.transitions.proofs.claim.Symbol.{name as #transitions·claim}
-use Rattle.transitions.proofs.claim.Met as claim-thm
+use Rattle.server.specs.declared.transitions.ClaimAnswered.{ClaimAnswered}
+use Rattle.server.proofs.transitions.ClaimAnswered as TR
+use Rattle.server.proofs.transitions.ClaimAnswered.Laws as TR′
+use Rattle.server.specs.Transitions.{AskedOn, holding}
+use Rattle.server.proofs.InNumbers.{asked-on, sound-if}
+use Rattle.server.proofs.transitions.claim as claim
+use Rattle.server.proofs.transitions.claim.Symbol as claim-def
+use Rattle.server.proofs.transitions.claim.Symbol.{name as #transitions·claim}
+use Rattle.server.proofs.transitions.claim.Met as claim-thm
 use Rattle.server.proofs.calls.ninotskev_claim.Key.{name as #self}
 use Rattle.server.proofs.calls.ninotskev_claim as f
 use Rattle.server.proofs.calls.ninotskev_claim.Statement as stated
@@ -242,4 +242,4 @@ ninotskev-claim-spec 𝓤 H 𝓜 𝓖 𝓡 =
     entered 𝓤 H (tripleOf 𝓤 H (𝓖 .A) f.signature (f.spec 𝓤 H (𝓖 .A) (𝓜 .mem) (𝓡 .run)))
     (tables 𝓤 H 𝓜 𝓡 code.env .C) (tables 𝓤 H 𝓜 𝓡 code.env .Λ) #self code.function (code.unfolded 𝓤 H 𝓜 𝓡)
     (meets 𝓤 H (𝓖 .A) (givenOf 𝓤 H 𝓜 𝓖) (𝓜 .mem) (𝓡 .run) (tablesOf 𝓤 H 𝓜 (tables 𝓤 H 𝓜 𝓡 code.env))
-    (cited 𝓤 H (C-claim 𝓤 H (𝓖 .A) (𝓜 .mem) (𝓡 .run)) 𝓜 𝓡 code.env #transitions·claim claim-def.routine code.calls-transitions·claim (claim-thm.met 𝓤 H 𝓜 𝓖 𝓡)))
+    (cited 𝓤 H (C-claim 𝓤 H (𝓖 .A) (𝓜 .mem) (𝓡 .run)) 𝓜 𝓡 code.env #transitions·claim claim-def.routine code.calls-server·transitions·claim (claim-thm.met 𝓤 H 𝓜 𝓖 𝓡)))

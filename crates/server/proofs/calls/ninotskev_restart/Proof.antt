@@ -46,15 +46,15 @@ use Rattle.machine.proofs.Machine.Laws as TMachine′
 use Rattle.answers.specs.declared.Numbers.{Numbers}
 use Rattle.answers.proofs.Numbers as TNumbers
 use Rattle.answers.proofs.Numbers.Laws as TNumbers′
-use Rattle.transitions.specs.declared.MachineAnswer.{MachineAnswer}
-use Rattle.transitions.proofs.MachineAnswer as TMachineAnswer
-use Rattle.transitions.proofs.MachineAnswer.Laws as TMachineAnswer′
+use Rattle.server.specs.declared.transitions.MachineAnswer.{MachineAnswer}
+use Rattle.server.proofs.transitions.MachineAnswer as TMachineAnswer
+use Rattle.server.proofs.transitions.MachineAnswer.Laws as TMachineAnswer′
 use Rattle.machine.specs.View.{Sound}
-use Rattle.transitions.specs.Transitions.{CallIs}
-use Rattle.transitions.proofs.restart as restart
-use Rattle.transitions.proofs.restart.Symbol as restart-def
-use Rattle.transitions.proofs.restart.Symbol.{name as #transitions·restart}
-use Rattle.transitions.proofs.restart.Met as restart-thm
+use Rattle.server.specs.Transitions.{CallIs}
+use Rattle.server.proofs.transitions.restart as restart
+use Rattle.server.proofs.transitions.restart.Symbol as restart-def
+use Rattle.server.proofs.transitions.restart.Symbol.{name as #transitions·restart}
+use Rattle.server.proofs.transitions.restart.Met as restart-thm
 use Rattle.server.proofs.calls.ninotskev_restart.Key.{name as #self}
 use Rattle.server.proofs.calls.ninotskev_restart as f
 use Rattle.server.proofs.calls.ninotskev_restart.Statement as stated
@@ -192,4 +192,4 @@ ninotskev-restart-spec 𝓤 H 𝓜 𝓖 𝓡 =
     entered 𝓤 H (tripleOf 𝓤 H (𝓖 .A) f.signature (f.spec 𝓤 H (𝓖 .A) (𝓜 .mem) (𝓡 .run)))
     (tables 𝓤 H 𝓜 𝓡 code.env .C) (tables 𝓤 H 𝓜 𝓡 code.env .Λ) #self code.function (code.unfolded 𝓤 H 𝓜 𝓡)
     (meets 𝓤 H (𝓖 .A) (givenOf 𝓤 H 𝓜 𝓖) (𝓜 .mem) (𝓡 .run) (tablesOf 𝓤 H 𝓜 (tables 𝓤 H 𝓜 𝓡 code.env))
-    (cited 𝓤 H (C-restart 𝓤 H (𝓖 .A) (𝓜 .mem) (𝓡 .run)) 𝓜 𝓡 code.env #transitions·restart restart-def.routine code.calls-transitions·restart (restart-thm.met 𝓤 H 𝓜 𝓖 𝓡)))
+    (cited 𝓤 H (C-restart 𝓤 H (𝓖 .A) (𝓜 .mem) (𝓡 .run)) 𝓜 𝓡 code.env #transitions·restart restart-def.routine code.calls-server·transitions·restart (restart-thm.met 𝓤 H 𝓜 𝓖 𝓡)))

@@ -47,14 +47,14 @@ use Rattle.answers.proofs.Numbers.Laws as TNumbers′
 use Rattle.consumer.specs.declared.Configuration.{Configuration}
 use Rattle.consumer.proofs.Configuration as TConfiguration
 use Rattle.consumer.proofs.Configuration.Laws as TConfiguration′
-use Rattle.transitions.specs.declared.MachineAnswer.{MachineAnswer}
-use Rattle.transitions.proofs.MachineAnswer as TMachineAnswer
-use Rattle.transitions.proofs.MachineAnswer.Laws as TMachineAnswer′
-use Rattle.transitions.specs.Transitions.{StartIs}
-use Rattle.transitions.proofs.start as start
-use Rattle.transitions.proofs.start.Symbol as start-def
-use Rattle.transitions.proofs.start.Symbol.{name as #transitions·start}
-use Rattle.transitions.proofs.start.Met as start-thm
+use Rattle.server.specs.declared.transitions.MachineAnswer.{MachineAnswer}
+use Rattle.server.proofs.transitions.MachineAnswer as TMachineAnswer
+use Rattle.server.proofs.transitions.MachineAnswer.Laws as TMachineAnswer′
+use Rattle.server.specs.Transitions.{StartIs}
+use Rattle.server.proofs.transitions.start as start
+use Rattle.server.proofs.transitions.start.Symbol as start-def
+use Rattle.server.proofs.transitions.start.Symbol.{name as #transitions·start}
+use Rattle.server.proofs.transitions.start.Met as start-thm
 use Rattle.server.proofs.calls.ninotskev_start.Key.{name as #self}
 use Rattle.server.proofs.calls.ninotskev_start as f
 use Rattle.server.proofs.calls.ninotskev_start.Statement as stated
@@ -190,4 +190,4 @@ ninotskev-start-spec 𝓤 H 𝓜 𝓖 𝓡 =
     entered 𝓤 H (tripleOf 𝓤 H (𝓖 .A) f.signature (f.spec 𝓤 H (𝓖 .A) (𝓜 .mem) (𝓡 .run)))
     (tables 𝓤 H 𝓜 𝓡 code.env .C) (tables 𝓤 H 𝓜 𝓡 code.env .Λ) #self code.function (code.unfolded 𝓤 H 𝓜 𝓡)
     (meets 𝓤 H (𝓖 .A) (givenOf 𝓤 H 𝓜 𝓖) (𝓜 .mem) (𝓡 .run) (tablesOf 𝓤 H 𝓜 (tables 𝓤 H 𝓜 𝓡 code.env))
-    (cited 𝓤 H (C-start 𝓤 H (𝓖 .A) (𝓜 .mem) (𝓡 .run)) 𝓜 𝓡 code.env #transitions·start start-def.routine code.calls-transitions·start (start-thm.met 𝓤 H 𝓜 𝓖 𝓡)))
+    (cited 𝓤 H (C-start 𝓤 H (𝓖 .A) (𝓜 .mem) (𝓡 .run)) 𝓜 𝓡 code.env #transitions·start start-def.routine code.calls-server·transitions·start (start-thm.met 𝓤 H 𝓜 𝓖 𝓡)))

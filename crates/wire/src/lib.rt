@@ -1,2 +1,0 @@
-// Calls in numbers, as they cross from another language: which call a number is with the numbers behind it.
-pub mod kinds;
