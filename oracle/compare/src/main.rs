@@ -167,76 +167,89 @@ fn damage(both: &mut Both, random: &mut Random, good: &[u8]) {
     }
 }
 
+/// Sound snapshots into places that are enough, too few or none; and pairs that declare another count.
+fn sound(both: &mut Both, committed: u64, ranges: &[(u64, u64)], pairs: &[(u64, u32)]) {
+    let n = pairs.len();
+    for places in [
+        (n, n),
+        (n, n.saturating_sub(1)),
+        (n.saturating_sub(1), n),
+        (n + 1, n + 2),
+        (0, 0),
+    ] {
+        both.decode_cursor(&cursor_bytes(committed, ranges), places);
+        both.decode_attempts(&attempt_bytes(n as u32, pairs), places);
+    }
+    for declared in [0, n as u32 + 1, 128, 129, u32::MAX] {
+        both.decode_attempts(&attempt_bytes(declared, pairs), ROOM);
+    }
+}
+
+/// A fault in the last range.
+fn faulty_ranges(both: &mut Both, committed: u64, mut ranges: Vec<(u64, u64)>) {
+    let Some((start, end)) = ranges.pop() else {
+        return;
+    };
+    for fault in [
+        (start, start),
+        (end, start),
+        (committed, end),
+        (0, 1),
+        (u64::MAX, u64::MAX),
+        (u64::MAX - 1, u64::MAX),
+    ] {
+        ranges.push(fault);
+        both.decode_cursor(&cursor_bytes(committed, &ranges), ROOM);
+        both.encode_cursor(committed, &ranges, 2200, 0);
+        ranges.pop();
+    }
+}
+
+/// A fault in the last pair.
+fn faulty_pairs(both: &mut Both, mut pairs: Vec<(u64, u32)>) {
+    let Some((offset, attempt)) = pairs.pop() else {
+        return;
+    };
+    for fault in [0, offset.saturating_sub(1), u64::MAX] {
+        pairs.push((fault, attempt));
+        both.decode_attempts(&attempt_bytes(pairs.len() as u32, &pairs), ROOM);
+        both.encode_attempts(&pairs, 1600, 0);
+        pairs.pop();
+    }
+}
+
 /// Counts up to the limits and past them, sound and with a fault in the last place.
 fn counts(both: &mut Both, random: &mut Random) {
     for n in (0..20).chain(120..136) {
         let committed = random.below(1000);
-        let mut ranges = good_ranges(random, committed, n);
-        let mut pairs = good_pairs(random, n);
-        for places in [
-            (n, n),
-            (n, n.saturating_sub(1)),
-            (n.saturating_sub(1), n),
-            (n + 1, n + 2),
-            (0, 0),
-        ] {
-            both.decode_cursor(&cursor_bytes(committed, &ranges), places);
-            both.decode_attempts(&attempt_bytes(n as u32, &pairs), places);
-        }
-        for declared in [0, n as u32 + 1, 128, 129, u32::MAX] {
-            both.decode_attempts(&attempt_bytes(declared, &pairs), ROOM);
-        }
-        let (Some(&(start, end)), Some(&(offset, _))) = (ranges.last(), pairs.last()) else {
-            continue;
-        };
-        let last = n - 1;
-        for fault in [
-            (start, start),
-            (end, start),
-            (committed, end),
-            (0, 1),
-            (u64::MAX, u64::MAX),
-            (u64::MAX - 1, u64::MAX),
-        ] {
-            ranges[last] = fault;
-            both.decode_cursor(&cursor_bytes(committed, &ranges), ROOM);
-            both.encode_cursor(committed, &ranges, 2200, 0);
-        }
-        for fault in [0, offset.saturating_sub(1), u64::MAX] {
-            pairs[last].0 = fault;
-            both.decode_attempts(&attempt_bytes(n as u32, &pairs), ROOM);
-            both.encode_attempts(&pairs, 1600, 0);
+        let ranges = good_ranges(random, committed, n);
+        let pairs = good_pairs(random, n);
+        sound(both, committed, &ranges, &pairs);
+        faulty_ranges(both, committed, ranges);
+        faulty_pairs(both, pairs);
+    }
+}
+
+/// Outputs for `len` bytes exactly full, one short and with room, at positions up to the end and past it.
+fn places(len: usize, mut encode: impl FnMut(usize, usize)) {
+    for at in [0, 1, 7, 100] {
+        for out in [len + at, len + at - 1, len + at + 1, at, 0] {
+            let around = [at, at + 1, out, out + 1, out.wrapping_sub(len)];
+            let last = [usize::MAX, usize::MAX - len, usize::MAX - len + 1];
+            for at in around.into_iter().chain(last) {
+                encode(out, at);
+            }
         }
     }
 }
 
-/// Outputs exactly full, one short and with room, at positions up to the end and past it.
+/// Both encoders into outputs of every room.
 fn room(both: &mut Both, random: &mut Random) {
     for n in [0, 1, 2, 16, 127, 128, 129] {
         let ranges = good_ranges(random, 5, n);
         let pairs = good_pairs(random, n);
-        for at in [0, 1, 7, 100] {
-            for (len, cursor) in [(13 + 16 * n, true), (9 + 12 * n, false)] {
-                for out in [len + at, len + at - 1, len + at + 1, at, 0] {
-                    for at in [
-                        at,
-                        at + 1,
-                        out,
-                        out + 1,
-                        out.wrapping_sub(len),
-                        usize::MAX,
-                        usize::MAX - len,
-                        usize::MAX - len + 1,
-                    ] {
-                        if cursor {
-                            both.encode_cursor(5, &ranges, out, at);
-                        } else {
-                            both.encode_attempts(&pairs, out, at);
-                        }
-                    }
-                }
-            }
-        }
+        places(13 + 16 * n, |out, at| both.encode_cursor(5, &ranges, out, at));
+        places(9 + 12 * n, |out, at| both.encode_attempts(&pairs, out, at));
     }
 }
 

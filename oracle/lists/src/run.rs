@@ -65,7 +65,10 @@ impl State {
             },
             "cursor" => self.cursor(operation, &numbers),
             "attempt" => self.attempt(operation, &numbers),
-            "lease" => self.lease(operation, &numbers).or_else(|| self.question(operation, &numbers)),
+            "lease" => self
+                .table(operation, &numbers)
+                .or_else(|| self.lease(operation, &numbers))
+                .or_else(|| self.question(operation, &numbers)),
             "delivery" => self.delivery(operation, &numbers),
             _ => None,
         }
@@ -183,8 +186,8 @@ impl State {
         vec![0]
     }
 
-    /// The operations that change the lease table.
-    fn lease(&mut self, operation: &str, numbers: &[u64]) -> Option<Code> {
+    /// The operations that put another lease table in its place.
+    fn table(&mut self, operation: &str, numbers: &[u64]) -> Option<Code> {
         let config = |visibility_nanos, hard_cap_nanos| LeaseConfig {
             visibility_nanos,
             hard_cap_nanos,
@@ -202,6 +205,13 @@ impl State {
                 }
                 self.become_table(table)
             }
+            _ => return None,
+        })
+    }
+
+    /// The operations that change the lease table.
+    fn lease(&mut self, operation: &str, numbers: &[u64]) -> Option<Code> {
+        Some(match (operation, numbers) {
             ("flushed", &[]) => {
                 self.table.note_attempts_flushed();
                 vec![0]
