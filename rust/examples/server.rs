@@ -52,6 +52,22 @@ fn next(consumer: &mut Consumer, now: u64, end: u64) -> Option<Offset> {
         .find(|offset| !consumer.is_settled(*offset) && consumer.lease_of(*offset).is_none())
 }
 
+/// A checkpoint; after an error of the disk, the consumer that a restart finds.
+fn checkpoint(
+    consumer: Consumer,
+    configuration: &Configuration,
+) -> Result<Consumer, Box<dyn Error>> {
+    match consumer.checkpoint() {
+        Ok(consumer) => Ok(consumer),
+        Err(CheckpointError::Refused(refusal, _)) => Err(refusal.into()),
+        Err(CheckpointError::Failed(failed)) => {
+            eprintln!("{failed}; restarting");
+            let journal = failed.reopen()?;
+            Ok(Consumer::restart(configuration, journal).map_err(|(refusal, _)| refusal)?)
+        }
+    }
+}
+
 fn main() -> Result<(), Box<dyn Error>> {
     let path = std::env::args_os().nth(1);
     let path = path
@@ -69,19 +85,7 @@ fn main() -> Result<(), Box<dyn Error>> {
         match serve(&mut consumer, offset, now) {
             Ok(()) => {}
             // Nothing was handed out: the checkpoint comes first, and then the same job again.
-            Err(Refusal::CheckpointDue) => {
-                consumer = match consumer.checkpoint() {
-                    Ok(consumer) => consumer,
-                    Err(CheckpointError::Refused(refusal, _)) => return Err(refusal.into()),
-                    // Only a restart is left.
-                    Err(CheckpointError::Failed(failed)) => {
-                        eprintln!("{failed}; restarting");
-                        let journal = failed.reopen()?;
-                        Consumer::restart(&configuration, journal)
-                            .map_err(|(refusal, _)| refusal)?
-                    }
-                };
-            }
+            Err(Refusal::CheckpointDue) => consumer = checkpoint(consumer, &configuration)?,
             Err(refusal) => return Err(refusal.into()),
         }
     }

@@ -409,6 +409,15 @@ mod tests {
     // the machine, `attempt_len`, is where the library puts it.
     #[test]
     fn the_layout_is_the_librarys() {
+        let mut guarded = Guarded::new();
+        let mut area = [0; 512 * 20];
+        starts(&mut guarded, area.len());
+        checkpoints(&mut guarded, &mut area);
+        claims_and_acks(&mut guarded);
+        restarts(&mut guarded, &mut area);
+    }
+
+    fn starts(guarded: &mut Guarded, area_len: usize) {
         let configuration = Configuration {
             settings: Settings {
                 delivery: DeliveryConfig::new(3, true, &[11, 12])
@@ -419,39 +428,37 @@ mod tests {
                 hard_cap_nanos: 1000,
             },
         };
-        let mut guarded = Guarded::new();
-        let mut area = [0; 512 * 20];
-        let mut out = [0; 4];
-        guarded.start(&configuration, area.len());
+        guarded.start(&configuration, area_len);
         assert_eq!(guarded.numbers, code(0, 0, [0; 4]));
         assert_eq!(guarded.machine.configuration, configuration);
         assert_eq!(guarded.machine.phase, 0);
-        assert_eq!(
-            guarded.machine.writing.consumer.settings,
-            configuration.settings
-        );
-        assert_eq!(
-            guarded.machine.writing.consumer.table.config,
-            configuration.lease
-        );
-        assert_eq!(guarded.machine.writing.consumer.area_len, area.len());
-        assert_eq!(guarded.machine.writing.consumer.next.number, 1);
+        let consumer = &guarded.machine.writing.consumer;
+        assert_eq!(consumer.settings, configuration.settings);
+        assert_eq!(consumer.table.config, configuration.lease);
+        assert_eq!(consumer.area_len, area_len);
+        assert_eq!(consumer.next.number, 1);
+    }
+
+    fn checkpoints(guarded: &mut Guarded, area: &mut [u8]) {
         guarded.call(BEGIN, [0; 4], &mut [], &mut []);
         assert_eq!(guarded.numbers, code(0, 1, [2, 0, 0, 0]));
         assert_eq!(guarded.machine.phase, 1);
         assert_eq!(guarded.machine.writing.cursor_len, 13);
         assert_eq!(guarded.machine.writing.attempt_len, 9);
         assert_eq!(guarded.machine.writing.payload[0], 1);
-        guarded.call(STEP, [0; 4], &mut area, &mut []);
+        guarded.call(STEP, [0; 4], area, &mut []);
         assert_eq!(guarded.numbers, code(0, 2, [1, 0, 0, 0]));
         assert_eq!(guarded.machine.writing.written, 1);
-        guarded.call(STEP, [0; 4], &mut area, &mut []);
+        guarded.call(STEP, [0; 4], area, &mut []);
         assert_eq!(guarded.numbers, code(0, 2, [0, 1, 0, 0]));
         assert_eq!(guarded.machine.phase, 0);
         assert_eq!(guarded.machine.writing.consumer.ceiling, 4096);
         assert_eq!(guarded.machine.writing.consumer.next.block, 2);
+    }
+
+    fn claims_and_acks(guarded: &mut Guarded) {
         for offset in [5, 9] {
-            guarded.call(Ask::Claim as u64, [offset, 50, 0, 0], &mut [], &mut out);
+            guarded.call(Ask::Claim as u64, [offset, 50, 0, 0], &mut [], &mut []);
         }
         assert_eq!(guarded.numbers, code(0, 3, [1, 1, 0, 0]));
         let table = &guarded.machine.writing.consumer.table;
@@ -460,19 +467,24 @@ mod tests {
         let lease = table.leases[1];
         assert_eq!((lease.generation, lease.attempt_start), (1, 50));
         assert_eq!((lease.deadline, lease.deliveries), (150, 1));
-        guarded.call(Ask::Ack as u64, [9, 1, 0, 0], &mut [], &mut out);
+        guarded.call(Ask::Ack as u64, [9, 1, 0, 0], &mut [], &mut []);
         let cursor = &guarded.machine.writing.consumer.cursor;
         assert_eq!((cursor.committed, cursor.runs), (0, 1));
         assert_eq!((cursor.starts[0], cursor.ends[0]), (9, 10));
+    }
+
+    // With a checkpoint of the claim that is left.
+    fn restarts(guarded: &mut Guarded, area: &mut [u8]) {
+        let mut out = [0; 4];
         guarded.call(BEGIN, [0; 4], &mut [], &mut []);
         assert_eq!(guarded.machine.writing.cursor_len, 13 + 16);
         assert_eq!(guarded.machine.writing.attempt_len, 9 + 12);
         // While a record is out, the consumer can't be called.
         guarded.call(Ask::Claim as u64, [6, 50, 0, 0], &mut [], &mut out);
         assert_eq!(guarded.numbers, code(255, 0, [0; 4]));
-        guarded.call(STEP, [0; 4], &mut area, &mut []);
-        guarded.call(STEP, [0; 4], &mut area, &mut []);
-        guarded.restart(&area);
+        guarded.call(STEP, [0; 4], area, &mut []);
+        guarded.call(STEP, [0; 4], area, &mut []);
+        guarded.restart(area);
         assert_eq!(guarded.numbers, code(0, 0, [0; 4]));
         let table = &guarded.machine.writing.consumer.table;
         assert_eq!((table.carried_len, table.carried_offsets[0]), (1, 5));

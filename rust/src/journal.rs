@@ -18,7 +18,8 @@ pub const BLOCK: usize = 512;
 /// The most blocks of a journal.
 pub const MAX_BLOCKS: usize = 128;
 
-/// Where a journal's blocks are kept. [`JournalFile`] is the one for a server; tests put others in its place.
+/// Where a journal's blocks are kept. [`JournalFile`] is the one for a server; tests put others in its place, and have to see to it
+/// themselves that nobody else writes them.
 pub trait Storage {
     /// All that is there. What it answers stays so if the power fails.
     ///
@@ -76,19 +77,17 @@ impl From<io::Error> for JournalError {
     }
 }
 
-/// A journal's file, locked for as long as this value lives.
+/// A journal's file, locked for as long as this value lives. It comes with a journal and can't be had without: a consumer's
+/// checkpoints are all that writes it.
 #[derive(Debug)]
 pub struct JournalFile {
     file: File,
 }
 
 impl JournalFile {
-    /// Makes a file of so many zeroed blocks. It gets its name once it is zeroed and durable, so that a power failure leaves the
-    /// whole journal or none.
-    ///
-    /// # Errors
-    /// [`JournalError::BadBlocks`], [`JournalError::Exists`], or what the disk says.
-    pub fn create(path: impl AsRef<Path>, blocks: usize) -> Result<JournalFile, JournalError> {
+    // Makes a file of so many zeroed blocks. It gets its name once it is zeroed and durable, so that a power failure leaves the
+    // whole journal or none.
+    fn create(path: impl AsRef<Path>, blocks: usize) -> Result<JournalFile, JournalError> {
         let path = path.as_ref();
         if !(1..=MAX_BLOCKS).contains(&blocks) {
             return Err(JournalError::BadBlocks(blocks));
@@ -109,11 +108,8 @@ impl JournalFile {
         Ok(JournalFile { file })
     }
 
-    /// Opens a file that is there.
-    ///
-    /// # Errors
-    /// [`JournalError::Locked`], or what the disk says.
-    pub fn open(path: impl AsRef<Path>) -> Result<JournalFile, JournalError> {
+    // Opens a file that is there.
+    fn open(path: impl AsRef<Path>) -> Result<JournalFile, JournalError> {
         let file = OpenOptions::new().read(true).write(true).open(path)?;
         lock(&file)?;
         Ok(JournalFile { file })
@@ -268,12 +264,6 @@ impl<S> Journal<S> {
     pub fn bytes(&self) -> &[u8] {
         &self.area
     }
-
-    /// Its storage.
-    #[must_use]
-    pub fn into_storage(self) -> S {
-        self.storage
-    }
 }
 
 impl<S> fmt::Debug for Journal<S> {
@@ -317,12 +307,6 @@ impl<S> Failed<S> {
     pub fn error(&self) -> &io::Error {
         &self.error
     }
-
-    /// Its storage.
-    #[must_use]
-    pub fn into_storage(self) -> S {
-        self.storage
-    }
 }
 
 impl<S> fmt::Debug for Failed<S> {
@@ -340,5 +324,33 @@ impl<S> fmt::Display for Failed<S> {
 impl<S> std::error::Error for Failed<S> {
     fn source(&self) -> Option<&(dyn std::error::Error + 'static)> {
         Some(&self.error)
+    }
+}
+
+#[cfg(test)]
+mod tests {
+    use super::*;
+
+    struct Kept(Vec<u8>);
+
+    impl Storage for Kept {
+        fn read(&mut self) -> io::Result<Vec<u8>> {
+            Ok(self.0.clone())
+        }
+
+        fn write_block(&mut self, _: usize, _: &[u8; BLOCK]) -> io::Result<()> {
+            Ok(())
+        }
+    }
+
+    #[test]
+    fn a_new_journal_is_zeroed() {
+        let mut bytes = vec![0; 2 * BLOCK];
+        assert!(NewJournal::on(Kept(bytes.clone())).is_ok());
+        bytes[2 * BLOCK - 1] = 1;
+        assert!(matches!(
+            NewJournal::on(Kept(bytes)),
+            Err(JournalError::Used)
+        ));
     }
 }

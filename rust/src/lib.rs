@@ -7,8 +7,9 @@
 //! # One state, used once
 //!
 //! The proof that no message is handed out too often, and that no token from before a restart is ever taken, has one premise
-//! about the caller: each call gets what the one before left, and nobody else writes the journal. Here the types say so. What they
-//! can't say is that each restart is handed the configuration of the start: that is the server's to keep.
+//! about the caller: each call gets what the one before left, and nobody else writes the journal. Here the types say so, of a
+//! journal over a file. What they can't say is for the server to keep: that each restart is handed the configuration of the start,
+//! and that nobody writes, copies or removes the file by its name.
 //!
 //! ```
 //! use ironbus_delivery_state::{Configuration, Consumer, HandOut, NewJournal, Offset, Refusal};
@@ -70,6 +71,20 @@
 //! # use ironbus_delivery_state::{Configuration, Consumer, Journal};
 //! fn from_nothing(journal: Journal) {
 //!     let _ = Consumer::start(&Configuration::default(), journal);
+//! }
+//! ```
+//!
+//! A journal's file can't be had by itself, to write it:
+//!
+//! ```compile_fail,E0624
+//! # use ironbus_delivery_state::JournalFile;
+//! let file = JournalFile::open("recipes.journal");
+//! ```
+//!
+//! ```compile_fail,E0616
+//! # use ironbus_delivery_state::Journal;
+//! fn file_of(journal: Journal) {
+//!     let _ = journal.storage;
 //! }
 //! ```
 //!

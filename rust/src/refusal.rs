@@ -148,15 +148,9 @@ impl Refusal {
     #[must_use]
     pub const fn of_number(number: u64, first: u64, second: u64) -> Option<Refusal> {
         Some(match number {
-            1 => Refusal::UnlimitedDeliverNotAllowed,
-            2 => Refusal::TooManySteps,
-            3 => Refusal::ZeroThreshold,
-            4 => Refusal::BadArea,
             5 => Refusal::Damaged { block: first },
-            6 => Refusal::CursorTruncated,
             7 => Refusal::CursorBadLength { len: first },
             8 => Refusal::CursorUnsupportedVersion { version: first },
-            9 => Refusal::CursorBadCrc,
             10 => Refusal::EmptyRange {
                 start: first,
                 end: second,
@@ -165,19 +159,32 @@ impl Refusal {
                 start: first,
                 prev_end: second,
             },
-            12 => Refusal::TooManyRuns,
-            13 => Refusal::AttemptTruncated,
             14 => Refusal::AttemptUnsupportedVersion { version: first },
             15 => Refusal::AttemptBadLength { len: first },
             16 => Refusal::CountMismatch {
                 declared: first,
                 actual: second,
             },
-            17 => Refusal::AttemptBadCrc,
             18 => Refusal::NotSorted {
                 offset: first,
                 prev_offset: second,
             },
+            _ => return Refusal::without_values(number),
+        })
+    }
+
+    // The refusal of a number that has no values.
+    const fn without_values(number: u64) -> Option<Refusal> {
+        Some(match number {
+            1 => Refusal::UnlimitedDeliverNotAllowed,
+            2 => Refusal::TooManySteps,
+            3 => Refusal::ZeroThreshold,
+            4 => Refusal::BadArea,
+            6 => Refusal::CursorTruncated,
+            9 => Refusal::CursorBadCrc,
+            12 => Refusal::TooManyRuns,
+            13 => Refusal::AttemptTruncated,
+            17 => Refusal::AttemptBadCrc,
             19 => Refusal::TooManyPairs,
             20 => Refusal::OutTooShort,
             21 => Refusal::LastOffset,
@@ -194,76 +201,71 @@ impl Refusal {
             _ => return None,
         })
     }
-}
 
-impl fmt::Display for Refusal {
-    fn fmt(&self, f: &mut fmt::Formatter<'_>) -> fmt::Result {
-        write!(f, "refused ({}): ", self.number())?;
-        match *self {
-            Refusal::UnlimitedDeliverNotAllowed => {
-                f.write_str("a delivery limit of 0 or 4294967295 needs the opt-in")
-            }
-            Refusal::TooManySteps => f.write_str("more than 16 backoffs"),
-            Refusal::ZeroThreshold => f.write_str("the flush threshold is 0"),
-            Refusal::BadArea => f.write_str("the journal's length"),
-            Refusal::Damaged { block } => write!(f, "block {block} of the journal is damaged"),
-            Refusal::CursorTruncated => f.write_str("the cursor snapshot is under 13 bytes"),
-            Refusal::CursorBadLength { len } => {
-                write!(f, "a cursor snapshot can't have {len} bytes")
-            }
-            Refusal::CursorUnsupportedVersion { version } => {
-                write!(f, "the cursor snapshot has version {version}")
-            }
-            Refusal::CursorBadCrc => f.write_str("the cursor snapshot's check doesn't match"),
-            Refusal::EmptyRange { start, end } => {
-                write!(f, "the range [{start}, {end}) is empty or reversed")
-            }
-            Refusal::NotSortedDisjointAndAboveCommitted { start, prev_end } => {
-                write!(
-                    f,
-                    "the range start {start} is not above {prev_end}, the end before it"
-                )
-            }
-            Refusal::TooManyRuns => f.write_str("more than 128 ranges"),
-            Refusal::AttemptTruncated => f.write_str("the attempt snapshot is under 9 bytes"),
-            Refusal::AttemptUnsupportedVersion { version } => {
-                write!(f, "the attempt snapshot has version {version}")
-            }
-            Refusal::AttemptBadLength { len } => {
-                write!(f, "an attempt snapshot can't have {len} bytes")
-            }
-            Refusal::CountMismatch { declared, actual } => {
-                write!(
-                    f,
-                    "the attempt snapshot declares {declared} pairs and has {actual}"
-                )
-            }
-            Refusal::AttemptBadCrc => f.write_str("the attempt snapshot's check doesn't match"),
+    // Its values, 0 where it has fewer.
+    const fn values(self) -> [u64; 2] {
+        match self {
+            Refusal::Damaged { block } => [block, 0],
+            Refusal::CursorBadLength { len } | Refusal::AttemptBadLength { len } => [len, 0],
+            Refusal::CursorUnsupportedVersion { version }
+            | Refusal::AttemptUnsupportedVersion { version } => [version, 0],
+            Refusal::EmptyRange { start, end } => [start, end],
+            Refusal::NotSortedDisjointAndAboveCommitted { start, prev_end } => [start, prev_end],
+            Refusal::CountMismatch { declared, actual } => [declared, actual],
             Refusal::NotSorted {
                 offset,
                 prev_offset,
-            } => {
-                write!(
-                    f,
-                    "the offset {offset} is not above {prev_offset}, the one before it"
-                )
-            }
-            Refusal::TooManyPairs => f.write_str("more than 128 pairs"),
-            Refusal::OutTooShort => f.write_str("the list is too short for the answer"),
-            Refusal::LastOffset => f.write_str("the last offset of all can't be claimed"),
-            Refusal::Settled => f.write_str("the offset is settled"),
-            Refusal::InFlight => f.write_str("the offset is in flight"),
-            Refusal::Fenced => f.write_str("the token is out of date"),
-            Refusal::Exhausted => f.write_str("there are no generations left"),
-            Refusal::CheckpointDue => f.write_str("a checkpoint has to come first"),
-            Refusal::Full => f.write_str("there is no room for another lease or count"),
-            Refusal::CapReached => {
-                f.write_str("the attempt has lasted as long as the hard cap allows")
-            }
-            Refusal::Shed => f.write_str("there is no room for another range of settled offsets"),
-            Refusal::Held => f.write_str("an offset below the bound is in flight"),
-            Refusal::JournalFull => f.write_str("fewer blocks are left than the checkpoint needs"),
+            } => [offset, prev_offset],
+            _ => [0, 0],
         }
+    }
+}
+
+// What is said of each, by its number, with a # in place of each value.
+const WORDS: [&str; 31] = [
+    "a delivery limit of 0 or 4294967295 needs the opt-in",
+    "more than 16 backoffs",
+    "the flush threshold is 0",
+    "the journal's length",
+    "block # of the journal is damaged",
+    "the cursor snapshot is under 13 bytes",
+    "a cursor snapshot can't have # bytes",
+    "the cursor snapshot has version #",
+    "the cursor snapshot's check doesn't match",
+    "the range [#, #) is empty or reversed",
+    "the range start # is not above #, the end before it",
+    "more than 128 ranges",
+    "the attempt snapshot is under 9 bytes",
+    "the attempt snapshot has version #",
+    "an attempt snapshot can't have # bytes",
+    "the attempt snapshot declares # pairs and has #",
+    "the attempt snapshot's check doesn't match",
+    "the offset # is not above #, the one before it",
+    "more than 128 pairs",
+    "the list is too short for the answer",
+    "the last offset of all can't be claimed",
+    "the offset is settled",
+    "the offset is in flight",
+    "the token is out of date",
+    "there are no generations left",
+    "a checkpoint has to come first",
+    "there is no room for another lease or count",
+    "the attempt has lasted as long as the hard cap allows",
+    "there is no room for another range of settled offsets",
+    "an offset below the bound is in flight",
+    "fewer blocks are left than the checkpoint needs",
+];
+
+impl fmt::Display for Refusal {
+    fn fmt(&self, f: &mut fmt::Formatter<'_>) -> fmt::Result {
+        let number = self.number();
+        write!(f, "refused ({number}): ")?;
+        let mut parts = WORDS[number as usize - 1].split('#');
+        f.write_str(parts.next().unwrap_or_default())?;
+        for (value, part) in self.values().into_iter().zip(parts) {
+            write!(f, "{value}{part}")?;
+        }
+        Ok(())
     }
 }
 
@@ -291,5 +293,20 @@ mod tests {
                 actual: 9
             })
         );
+    }
+
+    #[test]
+    fn values_stand_in_their_places() {
+        let said = |number| Refusal::of_number(number, 7, 9).unwrap().to_string();
+        assert_eq!(said(8), "refused (8): the cursor snapshot has version 7");
+        assert_eq!(
+            said(10),
+            "refused (10): the range [7, 9) is empty or reversed"
+        );
+        assert_eq!(
+            said(16),
+            "refused (16): the attempt snapshot declares 7 pairs and has 9"
+        );
+        assert_eq!(said(24), "refused (24): the token is out of date");
     }
 }
