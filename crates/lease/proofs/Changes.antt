@@ -1,4 +1,4 @@
--- What the changes that always take effect show: leases and counts released below a bound, and clocks moved forward.
+-- What the changes that always take effect show: leases and counts released below a bound, clocks forward.
 -- Assumes nothing.
 use Prim.Native.Nat.{ℕ, _-_, _≤_}
 use native.Mathlib.Omega.{arith}
@@ -11,12 +11,13 @@ use Rattle.types.proofs.Columns.{rising-ascending, drop-below-place, entries-ma
 use Rattle.types.specs.Zipped.{removed}
 use Rattle.tables.specs.Search.{Boundary}
 use Rattle.tables.proofs.Search.{boundary-below}
-use Rattle.lease.specs.State.{Sound, view, withLeases}
+use Rattle.lease.specs.State.{Sound, view, leaseColumn, leasesIn, withLeases}
 use Rattle.lease.specs.Rest.{releaseBelow, shiftedBy, shiftDeadlines}
 use Rattle.lease.specs.Answers.{Becomes}
-use Rattle.lease.specs.declared.Lease.{Lease}
+use Rattle.lease.specs.Helpers.{laterBy}
+use Rattle.lease.specs.Parts.{Full, leasing, releasing}
 use Rattle.lease.specs.declared.LeaseTable.{LeaseTable}
-use Rattle.lease.proofs.Slots.{Full, holding}
+use Rattle.lease.proofs.Leases.{column-length, column-shifted}
 use Rattle.lease.proofs.Returns.{becomes}
 use Rattle.lease.proofs.Valid.{valid-release, valid-shift}
 
@@ -31,45 +32,31 @@ released b n first ks vs ks′ vs′ h k r at p q =
     let rise = rising-ascending 0 (take n ks) (take n vs) even r in
     rw (z, p, q, boundary-below b first 0 (take n ks) rise at) (sym (drop-below-place b 0 (take n ks) (take n vs) even rise))
 
--- a table of these columns
-abbrev pub shortened : LeaseTable → List ℕ → List Lease → ℕ → List ℕ → List ℕ → ℕ → LeaseTable
-shortened t ks vs n cks cvs m =
-    record {
-      config = t .config;
-      offsets = ks;
-      leases = vs;
-      len = n;
-      «carried_offsets» = cks;
-      «carried_counts» = cvs;
-      «carried_len» = m;
-      «next_generation» = t .«next_generation»;
-      «redeliveries_since_flush» = t .«redeliveries_since_flush»;
-    }
-
-module _ (t : LeaseTable) (full : Full t) (ok : Sound t) (b first carried : ℕ) (ks : List ℕ) (vs : List Lease) (cks cvs : List ℕ) where
+module _ (t : LeaseTable) (full : Full t) (ok : Sound t) (b first carried : ℕ) (ks gs ss ds ns cks cvs : List ℕ) where
   pub releases : Boundary b (take (t .len) (t .offsets)) first → Boundary b (take (t .«carried_len») (t .«carried_offsets»)) carried
-      → take (t .len - (first - 0)) ks ≡ removed 0 first (take (t .len) (t .offsets)) → take (t .len - (first - 0)) vs ≡ removed 0 first (take (t .len) (t .leases))
+      → take (t .len - (first - 0)) ks ≡ removed 0 first (take (t .len) (t .offsets)) → take (t .len - (first - 0)) (leaseColumn gs ss ds ns) ≡ removed 0 first (take (t .len) (leasesIn t))
       → take (t .«carried_len» - (carried - 0)) cks ≡ removed 0 carried (take (t .«carried_len») (t .«carried_offsets»))
       → take (t .«carried_len» - (carried - 0)) cvs ≡ removed 0 carried (take (t .«carried_len») (t .«carried_counts»))
-      → {after : LeaseTable} → after ≡ shortened t ks vs (t .len - (first - 0)) cks cvs (t .«carried_len» - carried) → Becomes after (releaseBelow (view t) b)
-  releases e c p q v w same =
-      let z : first - 0 ≡ first = omega arith in
-      rw (same ∙ ap (λ (n : ℕ). shortened t ks vs (t .len - n) cks cvs (t .«carried_len» - carried)) z) (becomes (record {
+      → Becomes (releasing (t .len - first) (t .«carried_len» - carried) ks gs ss ds ns cks cvs t) (releaseBelow (view t) b)
+  releases e c p q v w =
+      becomes (record {
         len = omega (arith, ok .len);
         carried-len = omega (arith, ok .carried-len);
         is =
             rw (
-              released b (t .len) first (t .offsets) (t .leases) ks vs (omega (arith, full .offsets, ok .len)) (omega (arith, full .leases, ok .len)) (ok .valid .rising) e p q,
+              released b (t .len) first (t .offsets) (leasesIn t) ks (leaseColumn gs ss ds ns) (omega (arith, full .offsets, ok .len)) (omega (arith, column-length (full .leases), ok .len)) (ok .valid .rising) e p q,
               released b (t .«carried_len») carried (t .«carried_offsets») (t .«carried_counts») cks cvs (omega (arith, full .carried-offsets, ok .carried-len)) (omega (arith, full .carried-counts, ok .carried-len)) (ok .valid .carried-rising) c v w,
             );
-      }) (valid-release (view t) b (ok .valid)))
+      }) (valid-release (view t) b (ok .valid))
 
 -- ## clocks forward
-pub shifts : (t : LeaseTable) (ok : Sound t) (delta : ℕ) (vs : List Lease) → take (t .len) vs ≡ map (shiftedBy delta) (take (t .len) (t .leases))
-    → {after : LeaseTable} → after ≡ holding t vs → Becomes after (shiftDeadlines (view t) delta)
-shifts t ok delta vs e same =
-    rw same (becomes (record {
+pub shifts : (t : LeaseTable) (ok : Sound t) (delta : ℕ) (ss ds : List ℕ)
+    → take (t .len) ss ≡ map (laterBy delta) (take (t .len) (t .«attempt_starts»)) → take (t .len) ds ≡ map (laterBy delta) (take (t .len) (t .deadlines))
+    → Becomes (leasing (t .len) (t .offsets) (t .generations) ss ds (t .deliveries) t) (shiftDeadlines (view t) delta)
+shifts t ok delta ss ds p q =
+    let e = column-shifted delta (t .len) (t .generations) (t .«attempt_starts») (t .deadlines) (t .deliveries) ss ds p q in
+    becomes (record {
       len = ok .len;
       carried-len = ok .carried-len;
-      is = ap (withLeases (view t)) (rw e (entries-map (shiftedBy delta) (take (t .len) (t .offsets)) (take (t .len) (t .leases))));
-    }) (valid-shift (view t) delta (ok .valid)))
+      is = ap (withLeases (view t)) (rw e (entries-map (shiftedBy delta) (take (t .len) (t .offsets)) (take (t .len) (leasesIn t))));
+    }) (valid-shift (view t) delta (ok .valid))

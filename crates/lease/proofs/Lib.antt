@@ -3,6 +3,7 @@ pub mod Passed
 pub mod Lookups
 pub mod Generations
 pub mod Counts
+pub mod Leases
 pub mod Slots
 mod CountsHanded
 pub mod OffsetsHanded

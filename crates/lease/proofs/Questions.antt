@@ -2,40 +2,39 @@
 -- that was found.
 -- Assumes nothing.
 use Prim.Native.Nat.{ℕ, _≤_, _<_}
-use mathlib.Core.Path.{_≡_, refl, sym, ap, subst, _∙_}
-use mathlib.Core.Bool.{Bool, true, false, cond, not, true≢false}
+use mathlib.Core.Path.{_≡_, refl, sym, ap, _∙_}
+use mathlib.Core.Bool.{Bool, true, false, not, true≢false}
 use mathlib.Core.List.{[], _∷_}
 use mathlib.Core.Option.{none, some}
 use lib.Dec.{ltb, leb}
-use lib.ListN.{getD}
+use lib.ListN.{take, getD, set}
 use borrow.Author.Tests.{ltb-true, ltb-false, lt-ltb, le-ltb, le-leb, lt-leb}
 use Rattle.types.specs.Limits.{sat64}
 use Rattle.types.specs.Refusal.{done, optional}
-use Rattle.types.specs.Table.{answer}
+use Rattle.types.specs.Table.{Answer, answer}
 use Rattle.types.specs.Keyed.{update}
 use Rattle.types.proofs.Cases.{split}
-use Rattle.tables.specs.declared.Slot.{Slot}
+use Rattle.tables.specs.Search.{Placed}
+use Rattle.tables.specs.declared.Place.{Place}
+use Rattle.tables.specs.declared.Place.the-variants.{Found}
 use Rattle.lease.specs.State.{Table, Sound, view, leasesOf, withLeases}
 use Rattle.lease.specs.Operations.{leaseOf, owns, withDeadline}
-use Rattle.lease.specs.Rest.{resealedAs, resealFromTo, isExpired, deferRedelivery, isClaimable, deliveries, pendingRedeliveryAttempt}
+use Rattle.lease.specs.Rest.{resealedAs, resealFromTo, isExpired, deferRedelivery, isClaimable, pendingRedeliveryAttempt}
 use Rattle.lease.specs.Answers.{Tries}
-use Rattle.lease.specs.Helpers.{held}
+use Rattle.lease.specs.Helpers.{Owned}
+use Rattle.lease.specs.Parts.{Full, leasing, timing}
 use Rattle.lease.specs.declared.Lease.{Lease}
 use Rattle.lease.specs.declared.LeaseTable.{LeaseTable}
-use Rattle.lease.proofs.Slots.{nil, Looks}
-use Rattle.lease.proofs.Returns.{sound-as}
-use Rattle.lease.proofs.Tokens.{owned-found, stored, stored-same, shows-stored}
+use Rattle.lease.proofs.Leases.{column-deadline, column-resealed}
+use Rattle.lease.proofs.Slots.{lease-at, updated}
+use Rattle.lease.proofs.Returns.{Shows, sound-as}
+use Rattle.lease.proofs.Tokens.{there, owned}
 use Rattle.lease.proofs.Valid.{valid-update}
 
 -- ## a lease that has run out
 -- it has, or it still runs
 pub run-out-or-running : (d now : ℕ) → leb d now ≡ not (ltb now d)
 run-out-or-running d now = split (ltb now d) (λ t. rw (t, lt-leb d now (ltb-true now d t))) (λ t. rw (t, le-leb d now (ltb-false now d t)))
-
--- one that has was found
-pub expired-found : (found : Bool) (l : Lease) (now : ℕ) → isExpired (held found l) now ≡ true → found ≡ true
-expired-found true l now h = refl
-expired-found false l now h = absurd (true≢false (sym h))
 
 module _ (s : Table) (o now : ℕ) where
   pub none-expired : leaseOf s o ≡ none → isExpired (leaseOf s o) now ≡ false
@@ -55,37 +54,40 @@ module _ (s : Table) (o now : ℕ) where
     pub claimable : leb (l .deadline) now ≡ isClaimable s o now
     claimable = rw e (run-out-or-running (l .deadline) now)
 
--- ## changes, of what was looked at in a slot
-module _ (t : LeaseTable) (ok : Sound t) (o : ℕ) (s : Slot) (look : Looks t o s) where
-  abbrev old : Lease
-  old = getD (t .leases) (s .at) nil
+-- ## changes, over the place that the search found
+module _ (t : LeaseTable) (full : Full t) (ok : Sound t) (o : ℕ) where
+  -- another lease in its place
+  changed : {after : LeaseTable} (f : Lease → Lease) → ((l : Lease) → f l .deliveries ≡ l .deliveries) → Shows after (withLeases (view t) (update o f (leasesOf t)))
+      → {right : Answer Bool Table} → right ≡ answer (done true) (withLeases (view t) (update o f (leasesOf t))) → Tries true t after right
+  changed f same m e =
+      record {
+        is = ap (answer (done true)) (m .is) ∙ sym e;
+        sound = sound-as m (valid-update (view t) o f same (ok .valid));
+        kept = λ h. absurd (true≢false h);
+      }
 
   module _ (from to : ℕ) where
-    pub resealed-as : (owned : Bool) → owned ≡ owns (held (s .found) old) from → (g : ℕ) → g ≡ cond owned to (old .generation .0)
-        → Tries owned t (stored t (s .at) (resealedAs g old)) (resealFromTo (view t) o from to)
+    pub not-resealed : owns (leaseOf (view t) o) from ≡ false → Tries false t t (resealFromTo (view t) o from to)
     unfolding resealFromTo
-    resealed-as false e g q =
-        subst (λ (u : LeaseTable). Tries false t u (resealFromTo (view t) o from to)) (sym (ap (λ (k : ℕ). stored t (s .at) (resealedAs k old)) q ∙ stored-same t (s .at)))
-        (record { is = rw (look .is, ← e); sound = ok; kept = λ _. refl })
-    resealed-as true e g q =
-        let m = shows-stored t ok o (s .at) (look .here (owned-found (s .found) old from (sym e))) (resealedAs g) in
-        record {
-          is = rw (look .is, ← e) (ap (answer (done true)) (m .is ∙ ap (λ (k : ℕ). withLeases (view t) (update o (resealedAs k) (leasesOf t))) q));
-          sound = sound-as m (valid-update (view t) o (resealedAs g) (λ l. refl) (ok .valid));
-          kept = λ h. absurd (true≢false h);
-        }
+    not-resealed h = record { is = rw h; sound = ok; kept = λ _. refl }
 
-  module _ (now delay d : ℕ) (is-d : d ≡ sat64 now delay) where
-    pub deferred-as : (late : Bool) → late ≡ isExpired (held (s .found) old) now → (g : ℕ) → g ≡ cond late d (old .deadline)
-        → Tries late t (stored t (s .at) (withDeadline g old)) (deferRedelivery (view t) o now delay)
+    pub resealed : {at : ℕ} {r : Place} → Owned o from (take (t .len) (t .offsets)) (t .generations) r → r ≡ Found at
+        → Tries true t (leasing (t .len) (t .offsets) (set (t .generations) at to) (t .«attempt_starts») (t .deadlines) (t .deliveries) t) (resealFromTo (view t) o from to)
+    unfolding resealFromTo
+    resealed {at} p e =
+        changed (resealedAs to) (λ l. refl)
+        (record { len = ok .len; carried-len = ok .carried-len; is = ap (withLeases (view t)) (updated t full ok o (there t full ok o from p e .0) refl (resealedAs to) _ (column-resealed (full .leases) at to)) })
+        (rw (owned t full ok o from p e))
+
+  module _ (now delay : ℕ) where
+    pub not-deferred : isExpired (leaseOf (view t) o) now ≡ false → Tries false t t (deferRedelivery (view t) o now delay)
     unfolding deferRedelivery
-    deferred-as false e g q =
-        subst (λ (u : LeaseTable). Tries false t u (deferRedelivery (view t) o now delay)) (sym (ap (λ (k : ℕ). stored t (s .at) (withDeadline k old)) q ∙ stored-same t (s .at)))
-        (record { is = rw (look .is, ← e); sound = ok; kept = λ _. refl })
-    deferred-as true e g q =
-        let m = shows-stored t ok o (s .at) (look .here (expired-found (s .found) old now (sym e))) (withDeadline g) in
-        record {
-          is = rw (look .is, ← e) (ap (answer (done true)) (m .is ∙ ap (λ (k : ℕ). withLeases (view t) (update o (withDeadline k) (leasesOf t))) (q ∙ is-d)));
-          sound = sound-as m (valid-update (view t) o (withDeadline g) (λ l. refl) (ok .valid));
-          kept = λ h. absurd (true≢false h);
-        }
+    not-deferred h = record { is = rw h; sound = ok; kept = λ _. refl }
+
+    pub deferred : {at : ℕ} {r : Place} → Placed o (take (t .len) (t .offsets)) r → r ≡ Found at → getD (t .deadlines) at 0 ≤ now → (d : ℕ) → d ≡ sat64 now delay
+        → Tries true t (timing (t .len) (t .offsets) (set (t .deadlines) at d) t) (deferRedelivery (view t) o now delay)
+    unfolding deferRedelivery
+    deferred {at} p e h d is-d =
+        changed (withDeadline d) (λ l. refl)
+        (record { len = ok .len; carried-len = ok .carried-len; is = ap (withLeases (view t)) (updated t full ok o p e (withDeadline d) _ (column-deadline (full .leases) at d)) })
+        (rw (run-out (view t) o now _ (lease-at t full ok o p e) h, is-d))

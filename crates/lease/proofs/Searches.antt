@@ -11,9 +11,10 @@ use lib.Seq.{getD-take}
 use borrow.Author.Tests.{ltb-false, le-ltb}
 use Rattle.types.specs.Keyed.{Entry, entries, anyBelow, Rising}
 use Rattle.types.proofs.Cases.{split}
-use Rattle.lease.specs.State.{Sound, leasesOf}
+use Rattle.lease.specs.State.{Sound, leasesIn, leasesOf}
 use Rattle.lease.specs.declared.LeaseTable.{LeaseTable}
-use Rattle.lease.proofs.Slots.{Full, in-flight}
+use Rattle.lease.specs.Parts.{Full}
+use Rattle.lease.proofs.Slots.{in-flight}
 
 -- ## the first key of a sorted list
 module _ {A : Type 0} (b : ℕ) where
@@ -36,4 +37,4 @@ module _ (t : LeaseTable) (full : Full t) (ok : Sound t) where
   first-lease-tells b n =
       let some : 0 < t .len = omega (arith, n) in
       rw (← getD-take (t .len) (t .offsets) 0 0 some)
-      (first-tells b (take (t .len) (t .offsets)) (take (t .len) (t .leases)) (ok .valid .rising) (rw (in-flight t full ok) some))
+      (first-tells b (take (t .len) (t .offsets)) (take (t .len) (leasesIn t)) (ok .valid .rising) (rw (in-flight t full ok) some))

@@ -1,62 +1,67 @@
 -- What the private helpers answer. No public contract cites this file.
-use Prim.Native.Nat.{ℕ, _+_, _-_}
+use Prim.Native.Nat.{ℕ, _+_}
 use mathlib.Core.Path.{_≡_}
-use mathlib.Core.Bool.{Bool, cond}
 use mathlib.Core.List.{List}
 use mathlib.Core.Option.{Option, none, some}
-use lib.ListN.{take}
+use lib.ListN.{take, getD}
+use Rattle.types.specs.Limits.{sat64}
 use Rattle.types.specs.Keyed.{Entry}
-use Rattle.types.specs.Zipped.{removed}
 use Rattle.types.specs.Refusal.{Result, refused, done, TooManyPairs}
-use Rattle.types.specs.Table.{Row, first, Passed, Answer, answer}
+use Rattle.types.specs.Table.{Answer, answer}
+use Rattle.redeliveries.specs.Counter.{afterGrant}
+use Rattle.tables.specs.Search.{Placed}
 use Rattle.tables.specs.Carried.{carriedIn, Tidy}
+use Rattle.tables.specs.declared.Place.{Place}
+use Rattle.tables.specs.declared.Place.the-variants.{Found, Missing}
 use Rattle.tables.specs.declared.counts.Carried.{Carried}
-use Rattle.lease.specs.State.{Table, carriedOf, withCarried}
-use Rattle.lease.specs.Operations.{deadlineFrom, extensionRows, requeuedAs, requeueRows}
+use Rattle.lease.specs.State.{Table, view, carriedOf, withCarried}
+use Rattle.lease.specs.Answers.{Answers}
+use Rattle.lease.specs.Parts.{gathered, Whole}
+use Rattle.lease.specs.declared.Claim.the-variants as claim
 use Rattle.lease.specs.declared.LeaseConfig.{LeaseConfig}
-use Rattle.lease.specs.declared.Lease.{Lease}
 use Rattle.lease.specs.declared.LeaseTable.{LeaseTable}
+use Rattle.lease.specs.declared.in_place.ClaimedAt.{ClaimedAt}
 
--- ## one lease
--- the lease that was looked at, where it was found
-abbrev pub held : Bool → Lease → Option Lease
-held found l = cond found (some l) none
-
--- what a call makes of what is stored: it stays where a row refuses the call, the first that holds, and is new where none does
-abbrev pub Settles : {A B : Type 0} → List Row → A → B → B → Result A → B → Type 0
-Settles ws a old new (refused r) after = (first ws ≡ some r) × (after ≡ old)
-Settles ws a old new (done b) after = Passed ws × (b ≡ a) × (after ≡ new)
-
--- an extension of the lease that was looked at, and a nack of it where the next generation is given
-abbrev pub Extends : LeaseConfig → Bool → Lease → ℕ → ℕ → Result ℕ → ℕ → Type 0
-Extends c found l g now =
-    Settles (extensionRows c (held found l) g now) (deadlineFrom c (l .«attempt_start») now) (l .deadline) (deadlineFrom c (l .«attempt_start») now)
-
-abbrev pub Requeues : Bool → Lease → ℕ → ℕ → ℕ → Result ℕ → Lease × ℕ → Type 0
-Requeues found l g next deadline =
-    Settles {B = Lease × ℕ} (requeueRows (held found l) g next) deadline (l, next) (requeuedAs next deadline l, next + 1)
-
--- ## other leases
--- a table with other leases in it, in columns of which the first n places are in use
-abbrev pub rebuilt : LeaseTable → List ℕ → List Lease → ℕ → LeaseTable
-rebuilt t ks vs n =
+-- ## a claim
+-- what it answers where offset o is granted under generation g for the d-th time, beside the numbers of the table
+abbrev pub grantedAt : ℕ → ℕ → ℕ → ℕ → ℕ → ℕ → ClaimedAt
+grantedAt o g d n m r =
     record {
-      config = t .config;
-      offsets = ks;
-      leases = vs;
+      outcome = claim.Granted (record { offset = record { 0 = o }; generation = record { 0 = g } }) d;
       len = n;
-      «carried_offsets» = t .«carried_offsets»;
-      «carried_counts» = t .«carried_counts»;
-      «carried_len» = t .«carried_len»;
-      «next_generation» = t .«next_generation»;
-      «redeliveries_since_flush» = t .«redeliveries_since_flush»;
+      «carried_len» = m;
+      «next_generation» = g + 1;
+      redeliveries = afterGrant r d;
     }
 
--- without the leases at the places from `from` up to `to`
-pub record Shorter (t : LeaseTable) (from to : ℕ) (r : LeaseTable) : Type 0 where
-  pub keys : take (t .len - (to - from)) (r .offsets) ≡ removed from to (take (t .len) (t .offsets))
-  pub values : take (t .len - (to - from)) (r .leases) ≡ removed from to (take (t .len) (t .leases))
-  pub rest : r ≡ rebuilt t (r .offsets) (r .leases) (t .len - (to - from))
+-- a table with other values in the parts that a claim of an offset with a lease looks at
+abbrev pub regranting : LeaseConfig → ℕ → ℕ → ℕ → ℕ → List ℕ → List ℕ → List ℕ → List ℕ → LeaseTable → LeaseTable
+regranting c n m g r gs ss ds ns t = gathered c n m g r (t .offsets) gs ss ds ns (t .«carried_offsets») (t .«carried_counts»)
+
+-- what a call answers on every table that has these parts and the lease of offset o at a place
+abbrev pub AnswersAt : {A : Type 0} → ℕ → ℕ → Result A → (LeaseTable → LeaseTable) → (LeaseTable → LeaseTable) → (Table → Answer A Table) → Type 0
+AnswersAt o at outcome before after right =
+    (t : LeaseTable) → Whole (before t) → Placed o (take (before t .len) (before t .offsets)) (Found at) → Answers outcome (before t) (after t) (right (view (before t)))
+
+-- ## a token of generation g, among the generations of leases
+-- it does not own what stands at a place
+abbrev pub Differs : ℕ → List ℕ → Place → Type 0
+Differs g gs (Found at) = getD gs at 0 ≡ g → ⊥
+Differs g gs (Missing at) = Unit {0}
+
+-- it owns the lease of offset o at a place, or it owns none
+pub record Unowned (o g : ℕ) (ks gs : List ℕ) : Type 0 where
+  pub place : Place
+  pub placed : Placed o ks place
+  pub differs : Differs g gs place
+
+abbrev pub Owned : ℕ → ℕ → List ℕ → List ℕ → Place → Type 0
+Owned o g ks gs (Found at) = Placed o ks (Found at) × (getD gs at 0 ≡ g)
+Owned o g ks gs (Missing at) = Unowned o g ks gs
+
+-- ## times
+abbrev pub laterBy : ℕ → ℕ → ℕ
+laterBy delta time = sat64 time delta
 
 -- ## pairs carried one by one
 pub record CarriesFrom (t : LeaseTable) (c : Carried) : Type 0 where

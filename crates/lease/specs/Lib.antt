@@ -4,6 +4,7 @@ pub mod Operations
 pub mod Counts
 pub mod Rest
 pub mod Answers
+pub mod Parts
 pub mod Helpers
 pub mod Lookup
 pub mod Examples

@@ -12,6 +12,7 @@ ghost use Rattle.lease.specs.Helpers.{CarriesFrom, resumedWith};
 use crate::LeaseTable;
 use crate::ResumeOutcome;
 use crate::Resumed;
+use crate::in_place;
 use tables::counts;
 use tables::counts::Carried;
 use types::Offset;
@@ -20,8 +21,6 @@ use types::lent;
 use types::lent::AttemptCounts;
 use types::lent::Listed;
 use types::lent::OffsetList;
-use types::limits::CARRIED;
-use types::limits::COUNTS;
 
 impl LeaseTable {
     // Carries attempt counts over from before a restart: the next claim of an offset goes on from its count. A count of 0 says
@@ -117,20 +116,7 @@ impl LeaseTable {
         requires { ⌜ Sound self ⌝ }
         ensures { λ r. ⌜ ListsCounts r (attemptCounts (view self)) ⌝ }
     {
-        let len = self.len;
-        let mut offsets = [0u64; COUNTS];
-        let mut attempts = [0u32; COUNTS];
-        let mut i: usize = 0;
-        while i < len {
-            offsets[i] = self.offsets[i];
-            attempts[i] = self.leases[i].deliveries;
-            i += 1;
-        }
-        AttemptCounts {
-            offsets: offsets,
-            attempts: attempts,
-            len: len,
-        }
+        in_place::lease_counts_in_place(self.len, &self.offsets, &self.deliveries)
     }
 
     // The counts of all messages that were handed out and are not done, in arrays.
@@ -138,12 +124,13 @@ impl LeaseTable {
         requires { ⌜ Sound self ⌝ }
         ensures { λ r. ⌜ ListsCounts r (allAttemptCounts (view self)) ⌝ }
     {
-        let leased = self.lease_counts();
-        counts::merged(
-            leased,
+        in_place::all_counts_in_place(
+            self.len,
+            self.carried_len,
+            &self.offsets,
+            &self.deliveries,
             &self.carried_offsets,
             &self.carried_counts,
-            self.carried_len,
         )
     }
 
@@ -152,21 +139,6 @@ impl LeaseTable {
         requires { ⌜ Sound self ⌝ }
         ensures { λ r. ⌜ ListsOffsets r (expired (view self) now) ⌝ }
     {
-        let len = self.len;
-        let mut offsets = [0u64; CARRIED];
-        let mut n: usize = 0;
-        let mut i: usize = 0;
-        while i < len {
-            let at = i;
-            i += 1;
-            if self.leases[at].deadline <= now {
-                offsets[n] = self.offsets[at];
-                n += 1;
-            }
-        }
-        OffsetList {
-            offsets: offsets,
-            len: n,
-        }
+        in_place::expired_in_place(self.len, now, &self.offsets, &self.deadlines)
     }
 }

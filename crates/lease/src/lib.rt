@@ -3,21 +3,19 @@
 // generation, so that whoever held the message before is fenced off. The caller brings the time, in nanoseconds of any
 // clock: it may stand still or run backwards.
 ghost use mathlib.Core.Path.{_≡_};
-ghost use Prim.Native.Nat.{_≤_, _<_};
-ghost use lib.ListN.{take, getD};
-ghost use Rattle.types.specs.Limits.{MAX, LEASES};
+ghost use mathlib.Core.List.{map};
+ghost use Prim.Native.Nat.{_≤_};
+ghost use lib.ListN.{length, take};
+ghost use Rattle.types.specs.Limits.{LEASES};
 ghost use Rattle.types.specs.Refusal.{done, optional};
-ghost use Rattle.tables.specs.Search.{Placed};
-ghost use Rattle.tables.specs.declared.Place.the-variants.{Missing};
 ghost use Rattle.lease.specs.Config.{nanos, fromMillis, defaultConfig};
 ghost use Rattle.lease.specs.State.{Sound, view, startingAt};
-ghost use Rattle.lease.specs.Operations.{lease, owns, grantOf, claim, ack, extend, nack, capFrom, deadlineFrom};
-ghost use Rattle.lease.specs.Rest.{attemptsFlushed, releaseBelow, resealFromTo, isExpired, deferRedelivery, shiftedBy, shiftDeadlines, inFlight, isClaimable, deliveries, holdsActive, pendingRedeliveryAttempt};
+ghost use Rattle.lease.specs.Operations.{claim, ack, extend, nack, capFrom, deadlineFrom};
+ghost use Rattle.lease.specs.Rest.{attemptsFlushed, releaseBelow, resealFromTo, deferRedelivery, shiftDeadlines, inFlight, isClaimable, deliveries, holdsActive, pendingRedeliveryAttempt};
+ghost use Rattle.lease.specs.Helpers.{laterBy};
 ghost use Rattle.lease.specs.Answers.{claimOf, ackOf, extendOf, nackOf, attemptsOf, Answers, Tries, Becomes};
-ghost use Rattle.lease.specs.Helpers.{held, Extends, Requeues, Shorter};
 use lookup::LeaseAt;
 use tables::Place;
-use tables::counts;
 use types::Generation;
 use types::Offset;
 use types::limits::CARRIED;
@@ -25,6 +23,7 @@ use types::limits::LEASES;
 use types::limits::MAX;
 use types::numbers;
 
+pub mod in_place;
 mod lent;
 pub mod lookup;
 
@@ -79,43 +78,6 @@ impl LeaseConfig {
         let cap = self.cap(start);
         if window <= cap { window } else { cap }
     }
-
-    // What an extension makes of the deadline of a lease, if one was found.
-    fn extension(self, found: bool, lease: Lease, generation: Generation, now: u64) -> Extension
-        ensures { λ r. ⌜ Extends self found lease (generation .0) now (extendOf (r .outcome)) (r .deadline) ⌝ }
-    {
-        let owned = lease.owned_by(found, generation);
-        if !owned {
-            return Extension {
-                outcome: ExtendOutcome::Fenced,
-                deadline: lease.deadline,
-            };
-        }
-        if self.cap(lease.attempt_start) <= now {
-            return Extension {
-                outcome: ExtendOutcome::CapReached,
-                deadline: lease.deadline,
-            };
-        }
-        let deadline = self.deadline(lease.attempt_start, now);
-        Extension {
-            outcome: ExtendOutcome::Extended(deadline),
-            deadline: deadline,
-        }
-    }
-
-    // The lease of an attempt that begins now.
-    fn lease(self, generation: Generation, now: u64, deliveries: u32) -> Lease
-        ensures { λ r. ⌜ r ≡ lease (generation .0) now (deadlineFrom self now now) deliveries ⌝ }
-    {
-        let deadline = self.deadline(now, now);
-        Lease {
-            generation: generation,
-            attempt_start: now,
-            deadline: deadline,
-            deliveries: deliveries,
-        }
-    }
 }
 
 // Names one hand-out of a message: an ack, an extension or a nack carries it, and works only while the lease of the
@@ -133,92 +95,6 @@ pub struct Lease {
     pub attempt_start: u64,
     pub deadline: u64,
     pub deliveries: u32,
-}
-
-// What a call makes of one lease: its answer, and the deadline or the lease that is stored, the old one where it refuses.
-pub(crate) struct Extension {
-    pub outcome: ExtendOutcome,
-    pub deadline: u64,
-}
-
-pub(crate) struct Requeue {
-    pub outcome: NackOutcome,
-    pub lease: Lease,
-    // What the next grant or nack takes.
-    pub next: u64,
-}
-
-impl Lease {
-    // Whether a lease was found and the token of this generation owns it: the test that every call with a token begins with.
-    fn owned_by(self, found: bool, generation: Generation) -> bool
-        ensures { λ r. ⌜ r ≡ owns (held found self) (generation .0) ⌝ }
-    {
-        if found {
-            self.generation.0 == generation.0
-        } else {
-            false
-        }
-    }
-
-    // Whether a lease was found and has run out.
-    fn is_expired(self, found: bool, now: u64) -> bool
-        ensures { λ r. ⌜ r ≡ isExpired (held found self) now ⌝ }
-    {
-        if found { self.deadline <= now } else { false }
-    }
-
-    // What a nack makes of a lease, if one was found: given up until the deadline, under the generation that fences its
-    // holder off.
-    fn requeue(
-        self,
-        found: bool,
-        generation: Generation,
-        fence: Generation,
-        deadline: u64,
-    ) -> Requeue
-        ensures { λ r. ⌜ Requeues found self (generation .0) (fence .0) deadline (nackOf (r .outcome)) (r .lease, r .next) ⌝ }
-    {
-        let owned = self.owned_by(found, generation);
-        if !owned {
-            return Requeue {
-                outcome: NackOutcome::Fenced,
-                lease: self,
-                next: fence.0,
-            };
-        }
-        if fence.0 == MAX {
-            return Requeue {
-                outcome: NackOutcome::Exhausted,
-                lease: self,
-                next: fence.0,
-            };
-        }
-        let lease = Lease {
-            generation: fence,
-            attempt_start: self.attempt_start,
-            deadline: deadline,
-            deliveries: self.deliveries,
-        };
-        Requeue {
-            outcome: NackOutcome::Requeued { deadline: deadline },
-            lease: lease,
-            next: fence.0 + 1,
-        }
-    }
-
-    // The lease with its clock forward.
-    fn shifted(self, delta: u64) -> Lease
-        ensures { λ r. ⌜ r ≡ shiftedBy delta self ⌝ }
-    {
-        let generation = self.generation;
-        let deliveries = self.deliveries;
-        Lease {
-            generation: generation,
-            attempt_start: numbers::saturating_add(self.attempt_start, delta),
-            deadline: numbers::saturating_add(self.deadline, delta),
-            deliveries: deliveries,
-        }
-    }
 }
 
 // What a claim answers: the token with the number of hand-outs so far, this one counted; or refusal 23, 25 or 27.
@@ -267,7 +143,11 @@ pub enum Attempts {
 pub struct LeaseTable {
     pub config: LeaseConfig,
     pub offsets: [u64; LEASES],
-    pub leases: [Lease; LEASES],
+    // The leases, in a column for each of their numbers.
+    pub generations: [u64; LEASES],
+    pub attempt_starts: [u64; LEASES],
+    pub deadlines: [u64; LEASES],
+    pub deliveries: [u32; LEASES],
     pub len: usize,
     // The counts that a restart carried over: an offset's first lease takes its count over and goes on from it.
     pub carried_offsets: [u64; CARRIED],
@@ -330,16 +210,13 @@ impl LeaseTable {
     pub fn starting_at(config: LeaseConfig, generation: Generation) -> LeaseTable
         ensures { λ r. ⌜ Becomes r (startingAt config (generation .0)) ⌝ }
     {
-        let none = Lease {
-            generation: Generation(0),
-            attempt_start: 0,
-            deadline: 0,
-            deliveries: 0,
-        };
         LeaseTable {
             config: config,
             offsets: [0; LEASES],
-            leases: [none; LEASES],
+            generations: [0; LEASES],
+            attempt_starts: [0; LEASES],
+            deadlines: [0; LEASES],
+            deliveries: [0; LEASES],
             len: 0,
             carried_offsets: [0; CARRIED],
             carried_counts: [0; CARRIED],
@@ -378,31 +255,34 @@ impl LeaseTable {
         requires { ⌜ Sound self ⌝ }
         ensures { λ r. ⌜ Becomes r (releaseBelow (view self) («up_to» .0)) ⌝ }
     {
-        let n = self.carried_len;
-        let carried = tables::position(&self.carried_offsets, n, up_to.0);
-        tables::remove_128(&mut self.carried_offsets, n, 0, carried);
-        tables::remove_counts_128(&mut self.carried_counts, n, 0, carried);
-        self.carried_len = n - carried;
-        let first = tables::position(&self.offsets, self.len, up_to.0);
-        self.without_leases(0, first)
-    }
-
-    // Takes the leases at the places from `from` up to `to` out. (An ack, which is called often, does the same in place.)
-    fn without_leases(mut self, from: usize, to: usize) -> LeaseTable
-        requires { ⌜ (from ≤ to) × (to ≤ self .len) × (self .len ≤ LEASES) ⌝ }
-        ensures { λ r. ⌜ Shorter self from to r ⌝ }
-    {
-        let len = self.len;
-        tables::remove_64(&mut self.offsets, len, from, to);
-        let mut i = from;
-        let mut j = to;
-        while j < len {
-            let next = self.leases[j];
-            self.leases[i] = next;
-            i += 1;
-            j += 1;
-        }
-        self.len = i;
+        let mut offsets = self.offsets;
+        let mut generations = self.generations;
+        let mut attempt_starts = self.attempt_starts;
+        let mut deadlines = self.deadlines;
+        let mut deliveries = self.deliveries;
+        let mut carried_offsets = self.carried_offsets;
+        let mut carried_counts = self.carried_counts;
+        let left = in_place::release_below_in_place(
+            self.len,
+            self.carried_len,
+            up_to.0,
+            &mut offsets,
+            &mut generations,
+            &mut attempt_starts,
+            &mut deadlines,
+            &mut deliveries,
+            &mut carried_offsets,
+            &mut carried_counts,
+        );
+        self.offsets = offsets;
+        self.generations = generations;
+        self.attempt_starts = attempt_starts;
+        self.deadlines = deadlines;
+        self.deliveries = deliveries;
+        self.len = left.len;
+        self.carried_offsets = carried_offsets;
+        self.carried_counts = carried_counts;
+        self.carried_len = left.carried_len;
         self
     }
 
@@ -413,94 +293,47 @@ impl LeaseTable {
         requires { ⌜ Sound self ⌝ }
         ensures { λ r. ⌜ Answers (claimOf (r .outcome)) self (r .table) (claim (view self) (offset .0) now) ⌝ }
     {
-        let len = self.len;
-        let place = tables::find(&self.offsets, len, offset.0);
-        let at = match place {
-            Place::Found(at) => {
-                return self.claim_again(at, offset, now);
-            }
-            Place::Missing(at) => at,
-        };
-        let generation = self.next_generation;
-        if generation.0 == MAX {
-            return Claimed {
-                outcome: Claim::Exhausted,
-                table: self,
-            };
-        }
-        if LEASES <= len {
-            return Claimed {
-                outcome: Claim::Full,
-                table: self,
-            };
-        }
-        self.claim_first(at, offset, now)
-    }
-
-    // Grants an offset that has no lease, and whose lease belongs at a place.
-    fn claim_first(mut self, at: usize, offset: Offset, now: u64) -> Claimed
-        requires { ⌜ Sound self × Placed (offset .0) (take (self .len) (self .offsets)) (Missing at) × (self .«next_generation» .0 < MAX) × (self .len < LEASES) ⌝ }
-        ensures { λ r. ⌜ Answers (claimOf (r .outcome)) self (r .table) (claim (view self) (offset .0) now) ⌝ }
-    {
-        let len = self.len;
-        let generation = self.next_generation;
-        let n = self.carried_len;
-        let prior = counts::count_of(&self.carried_offsets, &self.carried_counts, n, offset.0);
-        tables::remove_128(&mut self.carried_offsets, n, prior.from, prior.to);
-        tables::remove_counts_128(&mut self.carried_counts, n, prior.from, prior.to);
-        self.carried_len = n - (prior.to - prior.from);
-        let deliveries = numbers::saturating_next(prior.count);
-        tables::insert_64(&mut self.offsets, len, at, offset.0);
-        let mut held = self.config.lease(generation, now, deliveries);
-        let mut i = at;
-        while i < len {
-            let next = self.leases[i];
-            self.leases[i] = held;
-            held = next;
-            i += 1;
-        }
-        self.leases[i] = held;
-        self.len = len + 1;
-        self.next_generation.0 = generation.0 + 1;
-        self.redeliveries_since_flush = redeliveries::after_grant(
+        let mut offsets = self.offsets;
+        let mut generations = self.generations;
+        let mut attempt_starts = self.attempt_starts;
+        let mut deadlines = self.deadlines;
+        let mut deliveries = self.deliveries;
+        let mut carried_offsets = self.carried_offsets;
+        let mut carried_counts = self.carried_counts;
+        let config = self.config;
+        let done = in_place::claim_in_place(
+            config,
+            self.len,
+            self.carried_len,
+            self.next_generation.0,
             self.redeliveries_since_flush,
-            deliveries,
+            offset.0,
+            now,
+            &mut offsets,
+            &mut generations,
+            &mut attempt_starts,
+            &mut deadlines,
+            &mut deliveries,
+            &mut carried_offsets,
+            &mut carried_counts,
         );
+        let outcome = done.outcome;
         Claimed {
-            outcome: granted(offset, generation, deliveries),
-            table: self,
-        }
-    }
-
-    // Claims an offset whose lease stands at a place.
-    fn claim_again(mut self, at: usize, offset: Offset, now: u64) -> Claimed
-        requires { ⌜ Sound self × (at < self .len) × (getD (self .offsets) at 0 ≡ offset .0) ⌝ }
-        ensures { λ r. ⌜ Answers (claimOf (r .outcome)) self (r .table) (claim (view self) (offset .0) now) ⌝ }
-    {
-        let prior = self.leases[at];
-        if now < prior.deadline {
-            return Claimed {
-                outcome: Claim::InFlight,
-                table: self,
-            };
-        }
-        if self.next_generation.0 == MAX {
-            return Claimed {
-                outcome: Claim::Exhausted,
-                table: self,
-            };
-        }
-        let generation = self.next_generation;
-        let deliveries = numbers::saturating_next(prior.deliveries);
-        self.leases[at] = self.config.lease(generation, now, deliveries);
-        self.next_generation.0 = generation.0 + 1;
-        self.redeliveries_since_flush = redeliveries::after_grant(
-            self.redeliveries_since_flush,
-            deliveries,
-        );
-        Claimed {
-            outcome: granted(offset, generation, deliveries),
-            table: self,
+            outcome,
+            table: LeaseTable {
+                config,
+                offsets,
+                generations,
+                attempt_starts,
+                deadlines,
+                deliveries,
+                len: done.len,
+                carried_offsets,
+                carried_counts,
+                carried_len: done.carried_len,
+                next_generation: Generation(done.next_generation),
+                redeliveries_since_flush: done.redeliveries,
+            },
         }
     }
 
@@ -517,13 +350,16 @@ impl LeaseTable {
         requires { ⌜ Sound self ⌝ }
         ensures { λ r. ⌜ Tries (r .changed) self (r .table) (resealFromTo (view self) (offset .0) (from .0) (generation .0)) ⌝ }
     {
-        let slot = tables::slot_of(&self.offsets, self.len, offset.0);
-        let at = slot.at;
-        let lease = self.leases[at];
-        let owned = lease.owned_by(slot.found, from);
-        self.leases[at].generation.0 = numbers::chosen(owned, generation.0, lease.generation.0);
+        let place = in_place::owned(self.len, offset.0, from.0, &self.offsets, &self.generations);
+        let Place::Found(at) = place else {
+            return Changed {
+                changed: false,
+                table: self,
+            };
+        };
+        self.generations[at] = generation.0;
         Changed {
-            changed: owned,
+            changed: true,
             table: self,
         }
     }
@@ -533,11 +369,7 @@ impl LeaseTable {
         requires { ⌜ Sound self ⌝ }
         ensures { λ r. ⌜ r ≡ isClaimable (view self) (offset .0) now ⌝ }
     {
-        let found = self.lease_of(offset);
-        let LeaseAt::Some(lease) = found else {
-            return true;
-        };
-        lease.deadline <= now
+        in_place::is_claimable_in_place(self.len, offset.0, now, &self.offsets, &self.deadlines)
     }
 
     // Acks the lease that the token owns: the message is in flight no longer.
@@ -545,28 +377,30 @@ impl LeaseTable {
         requires { ⌜ Sound self ⌝ }
         ensures { λ r. ⌜ Answers (ackOf (r .outcome)) self (r .table) (ack (view self) (token .offset .0) (token .generation .0)) ⌝ }
     {
-        let len = self.len;
-        let slot = tables::slot_of(&self.offsets, len, token.offset.0);
-        let at = slot.at;
-        let owned = self.leases[at].owned_by(slot.found, token.generation);
-        if !owned {
-            return Acked {
-                outcome: AckOutcome::Fenced,
-                table: self,
-            };
-        }
-        let mut i = at;
-        let mut j = at + 1;
-        tables::remove_64(&mut self.offsets, len, i, j);
-        while j < len {
-            let next = self.leases[j];
-            self.leases[i] = next;
-            i += 1;
-            j += 1;
-        }
-        self.len = i;
+        let mut offsets = self.offsets;
+        let mut generations = self.generations;
+        let mut attempt_starts = self.attempt_starts;
+        let mut deadlines = self.deadlines;
+        let mut deliveries = self.deliveries;
+        let done = in_place::ack_in_place(
+            self.len,
+            token.offset.0,
+            token.generation.0,
+            &mut offsets,
+            &mut generations,
+            &mut attempt_starts,
+            &mut deadlines,
+            &mut deliveries,
+        );
+        self.offsets = offsets;
+        self.generations = generations;
+        self.attempt_starts = attempt_starts;
+        self.deadlines = deadlines;
+        self.deliveries = deliveries;
+        self.len = done.len;
+        let outcome = done.outcome;
         Acked {
-            outcome: AckOutcome::Acked,
+            outcome,
             table: self,
         }
     }
@@ -576,14 +410,25 @@ impl LeaseTable {
         requires { ⌜ Sound self ⌝ }
         ensures { λ r. ⌜ Answers (extendOf (r .outcome)) self (r .table) (extend (view self) (token .offset .0) (token .generation .0) now) ⌝ }
     {
-        let slot = tables::slot_of(&self.offsets, self.len, token.offset.0);
-        let at = slot.at;
-        let extension = self.config
-            .extension(slot.found, self.leases[at], token.generation, now);
-        self.leases[at].deadline = extension.deadline;
-        let outcome = extension.outcome;
+        let offsets = self.offsets;
+        let generations = self.generations;
+        let attempt_starts = self.attempt_starts;
+        let mut deadlines = self.deadlines;
+        let config = self.config;
+        let outcome = in_place::extend_in_place(
+            config,
+            self.len,
+            token.offset.0,
+            token.generation.0,
+            now,
+            &offsets,
+            &generations,
+            &attempt_starts,
+            &mut deadlines,
+        );
+        self.deadlines = deadlines;
         Extended {
-            outcome: outcome,
+            outcome,
             table: self,
         }
     }
@@ -593,14 +438,14 @@ impl LeaseTable {
         requires { ⌜ Sound self ⌝ }
         ensures { λ r. ⌜ attemptsOf r ≡ done (optional (deliveries (view self) (token .offset .0) (token .generation .0))) ⌝ }
     {
-        let found = self.lease_of(token.offset);
-        let LeaseAt::Some(lease) = found else {
-            return Attempts::None;
-        };
-        if !lease.owned_by(true, token.generation) {
-            return Attempts::None;
-        }
-        Attempts::Some(lease.deliveries)
+        in_place::deliveries_in_place(
+            self.len,
+            token.offset.0,
+            token.generation.0,
+            &self.offsets,
+            &self.generations,
+            &self.deliveries,
+        )
     }
 
     // Whether the token owns its lease and the lease still runs.
@@ -608,14 +453,17 @@ impl LeaseTable {
         requires { ⌜ Sound self ⌝ }
         ensures { λ r. ⌜ r ≡ holdsActive (view self) (token .offset .0) (token .generation .0) now ⌝ }
     {
-        let found = self.lease_of(token.offset);
-        let LeaseAt::Some(lease) = found else {
+        let place = in_place::owned(
+            self.len,
+            token.offset.0,
+            token.generation.0,
+            &self.offsets,
+            &self.generations,
+        );
+        let Place::Found(at) = place else {
             return false;
         };
-        if !lease.owned_by(true, token.generation) {
-            return false;
-        }
-        now < lease.deadline
+        now < self.deadlines[at]
     }
 
     // Gives the lease that the token owns up: the message can be claimed again after the delay, which no cap bounds, since it belongs
@@ -625,18 +473,26 @@ impl LeaseTable {
         requires { ⌜ Sound self ⌝ }
         ensures { λ r. ⌜ Answers (nackOf (r .outcome)) self (r .table) (nack (view self) (token .offset .0) (token .generation .0) now «delay_nanos») ⌝ }
     {
-        let slot = tables::slot_of(&self.offsets, self.len, token.offset.0);
-        let at = slot.at;
-        let fence = self.next_generation;
-        let deadline = numbers::saturating_add(now, delay_nanos);
-        let requeue = self.leases[at]
-            .requeue(slot.found, token.generation, fence, deadline);
-        let requeued = requeue.lease;
-        self.leases[at] = requeued;
-        self.next_generation.0 = requeue.next;
-        let outcome = requeue.outcome;
+        let offsets = self.offsets;
+        let mut generations = self.generations;
+        let mut deadlines = self.deadlines;
+        let done = in_place::nack_in_place(
+            self.len,
+            self.next_generation.0,
+            token.offset.0,
+            token.generation.0,
+            now,
+            delay_nanos,
+            &offsets,
+            &mut generations,
+            &mut deadlines,
+        );
+        self.generations = generations;
+        self.deadlines = deadlines;
+        self.next_generation.0 = done.next_generation;
+        let outcome = done.outcome;
         Nacked {
-            outcome: outcome,
+            outcome,
             table: self,
         }
     }
@@ -662,14 +518,22 @@ impl LeaseTable {
         requires { ⌜ Sound self ⌝ }
         ensures { λ r. ⌜ Tries (r .changed) self (r .table) (deferRedelivery (view self) (offset .0) now «delay_nanos») ⌝ }
     {
-        let slot = tables::slot_of(&self.offsets, self.len, offset.0);
-        let at = slot.at;
-        let lease = self.leases[at];
-        let expired = lease.is_expired(slot.found, now);
-        let deadline = numbers::saturating_add(now, delay_nanos);
-        self.leases[at].deadline = numbers::chosen(expired, deadline, lease.deadline);
+        let place = tables::find(&self.offsets, self.len, offset.0);
+        let Place::Found(at) = place else {
+            return Changed {
+                changed: false,
+                table: self,
+            };
+        };
+        if now < self.deadlines[at] {
+            return Changed {
+                changed: false,
+                table: self,
+            };
+        }
+        self.deadlines[at] = numbers::saturating_add(now, delay_nanos);
         Changed {
-            changed: expired,
+            changed: true,
             table: self,
         }
     }
@@ -680,27 +544,21 @@ impl LeaseTable {
         ensures { λ r. ⌜ Becomes r (shiftDeadlines (view self) delta) ⌝ }
     {
         let len = self.len;
-        let mut i: usize = 0;
-        while i < len {
-            let lease = self.leases[i];
-            self.leases[i] = lease.shifted(delta);
-            i += 1;
-        }
+        shift(&mut self.attempt_starts, len, delta);
+        shift(&mut self.deadlines, len, delta);
         self
     }
 }
 
-// What a claim that is granted answers.
-fn granted(offset: Offset, generation: Generation, deliveries: u32) -> Claim
-    ensures { λ r. ⌜ claimOf r ≡ done (grantOf (offset .0) (generation .0) deliveries) ⌝ }
+// Moves the first `len` times of a column forward.
+fn shift(times: &mut [u64; LEASES], len: usize, delta: u64)
+    requires { ⌜ (len ≤ LEASES) × (len ≤ length (times .now)) ⌝ }
+    ensures { λ _. ⌜ take len (times .exit .now) ≡ map (laterBy delta) (take len (times .entry .now)) ⌝ }
 {
-    let token = LeaseToken {
-        offset: offset,
-        generation: generation,
-    };
-    Claim::Granted {
-        token: token,
-        deliveries: deliveries,
+    let mut i: usize = 0;
+    while i < len {
+        times[i] = numbers::saturating_add(times[i], delta);
+        i += 1;
     }
 }
 

@@ -10,7 +10,7 @@ ghost use Rattle.lease.specs.Lookup.{leaseValues, leaseAt};
 use crate::Attempts;
 use crate::Lease;
 use crate::LeaseTable;
-use tables::Place;
+use crate::in_place;
 use types::Offset;
 
 // The lease of an offset, where it has one.
@@ -25,11 +25,15 @@ impl LeaseTable {
         requires { ⌜ Sound self ⌝ }
         ensures { λ r. ⌜ leaseAt r ≡ done (leaseValues (leaseOf (view self) (offset .0))) ⌝ }
     {
-        let place = tables::find(&self.offsets, self.len, offset.0);
-        let Place::Found(at) = place else {
-            return LeaseAt::None;
-        };
-        LeaseAt::Some(self.leases[at])
+        in_place::lease_in_place(
+            self.len,
+            offset.0,
+            &self.offsets,
+            &self.generations,
+            &self.attempt_starts,
+            &self.deadlines,
+            &self.deliveries,
+        )
     }
 
     // The count that a restart carried over for an offset, until a first lease takes it over.
@@ -37,11 +41,12 @@ impl LeaseTable {
         requires { ⌜ Sound self ⌝ }
         ensures { λ r. ⌜ attemptsOf r ≡ done (optional (lookup (offset .0) (view self .carried))) ⌝ }
     {
-        let place = tables::find(&self.carried_offsets, self.carried_len, offset.0);
-        let Place::Found(at) = place else {
-            return Attempts::None;
-        };
-        Attempts::Some(self.carried_counts[at])
+        in_place::carried_in_place(
+            self.carried_len,
+            offset.0,
+            &self.carried_offsets,
+            &self.carried_counts,
+        )
     }
 
     // How many counts are carried.
@@ -52,14 +57,11 @@ impl LeaseTable {
         self.carried_len
     }
 
-    // Whether an offset below the bound is in flight. The leases are sorted, so the first one tells.
+    // Whether an offset below the bound is in flight.
     pub fn holds_below(self, bound: Offset) -> bool
         requires { ⌜ Sound self ⌝ }
         ensures { λ r. ⌜ r ≡ anyBelow (bound .0) (view self .leases) ⌝ }
     {
-        if self.len == 0 {
-            return false;
-        }
-        self.offsets[0] < bound.0
+        in_place::holds_below_in_place(self.len, bound.0, &self.offsets)
     }
 }

@@ -84,6 +84,10 @@ module _ (x at len : ℕ) (keys : List ℕ) where
     λ h e. let k : at < min len (length keys) = simp length-take at h in n k (sym (getD-take len keys at 0 (omega (arith, k))) ∙ e),
   )
 
+-- the boundary is an end of what is in use, or within
+pub boundary-inside : (x len : ℕ) (keys : List ℕ) {at : ℕ} → Boundary x (take len keys) at → at ≤ len
+boundary-inside x len keys b = let h : _ ≤ min len (length keys) = simp length-take at (b .inside) in omega (arith, h)
+
 -- the place that was found is in use
 pub found-used : (x len : ℕ) (keys : List ℕ) {at : ℕ} {r : Place} → Placed x (take len keys) r → r ≡ Found at → at < min len (length keys)
 found-used x len keys p e = simp length-take at (subst (Placed x (take len keys)) e p .0)

@@ -2,12 +2,10 @@
 -- is the number of those below (`boundary-below`, proofs/Search.antt).
 use Prim.Native.Nat.{ℕ, _+_, _-_, _≤_, _<_}
 use mathlib.Core.Path.{_≡_}
-use mathlib.Core.Bool.{true, false}
 use mathlib.Core.List.{List}
 use lib.ListN.{length, getD}
 use Rattle.tables.specs.declared.Place.{Place}
 use Rattle.tables.specs.declared.Place.the-variants.{Found, Missing}
-use Rattle.tables.specs.declared.Slot.{Slot}
 use Rattle.tables.specs.declared.counts.Span.{Span}
 
 -- a place with a number below x before it and none below x at it, or an end of the list
@@ -20,16 +18,6 @@ pub record Boundary (x : ℕ) (ks : List ℕ) (at : ℕ) : Type 0 where
 abbrev pub Placed : ℕ → List ℕ → Place → Type 0
 Placed x ks (Found at) = (at < length ks) × (getD ks at 0 ≡ x)
 Placed x ks (Missing at) = Boundary x ks at × (at < length ks → getD ks at 0 ≡ x → ⊥)
-
--- whether there is a place, and the place; the first one where there is none
-abbrev pub slotOf : Place → Slot
-slotOf (Found at) = record { found = true; at = at }
-slotOf (Missing at) = record { found = false; at = 0 }
-
-pub record SlotIs (x : ℕ) (ks : List ℕ) (r : Slot) : Type 0 where
-  pub place : Place
-  pub placed : Placed x ks place
-  pub is : r ≡ slotOf place
 
 -- the places of a key with the count there: one, or none and 0
 abbrev pub spanOf : List ℕ → Place → Span

@@ -2,7 +2,7 @@
 ghost use mathlib.Core.Path.{_≡_};
 ghost use lib.ListN.{take};
 ghost use Rattle.tables.specs.Columns.{putIn, takenOut};
-ghost use Rattle.tables.specs.Search.{Boundary, Placed, SlotIs};
+ghost use Rattle.tables.specs.Search.{Boundary, Placed};
 use types::numbers::shorter;
 
 pub mod counts;
@@ -11,12 +11,6 @@ pub mod counts;
 pub enum Place {
     Found(usize),
     Missing(usize),
-}
-
-// Whether a key stands in a column, and where; the first place where it does not, so that there is a place to look at.
-pub struct Slot {
-    pub found: bool,
-    pub at: usize,
 }
 
 // A place with no key below x at it, and one below x before it: in a sorted column, how many keys are below x. It halves the
@@ -48,22 +42,6 @@ pub fn find(keys: &[u64], len: usize, x: u64) -> Place
         }
     }
     Place::Missing(at)
-}
-
-// The same without the place of a key that is missing.
-pub fn slot_of(keys: &[u64], len: usize, x: u64) -> Slot
-    ensures { λ r. ⌜ SlotIs x (take len (now (keys .entry))) r ⌝ }
-{
-    match find(keys, len, x) {
-        Place::Found(at) => Slot {
-            found: true,
-            at: at,
-        },
-        Place::Missing(_) => Slot {
-            found: false,
-            at: 0,
-        },
-    }
 }
 
 // Puts x in at a place, what stood from there on one place further. Where there is no such place, or no room, the column
@@ -120,6 +98,12 @@ pub fn insert_128(column: &mut [u64; 128], len: usize, at: usize, x: u64)
     ensures { λ _. ⌜ now (column .exit) ≡ putIn len at x (now (column .entry)) ⌝ }
 {
     insert(column, len, at, x);
+}
+
+pub fn insert_count_64(counts: &mut [u32; 64], len: usize, at: usize, x: u32)
+    ensures { λ _. ⌜ now (counts .exit) ≡ putIn len at x (now (counts .entry)) ⌝ }
+{
+    insert_count(counts, len, at, x);
 }
 
 pub fn insert_count_128(column: &mut [u32; 128], len: usize, at: usize, x: u32)
@@ -184,6 +168,12 @@ pub fn remove_128(column: &mut [u64; 128], len: usize, from: usize, to: usize)
     ensures { λ _. ⌜ now (column .exit) ≡ takenOut len from to (now (column .entry)) ⌝ }
 {
     remove(column, len, from, to);
+}
+
+pub fn remove_counts_64(counts: &mut [u32; 64], len: usize, from: usize, to: usize)
+    ensures { λ _. ⌜ now (counts .exit) ≡ takenOut len from to (now (counts .entry)) ⌝ }
+{
+    remove_counts(counts, len, from, to);
 }
 
 pub fn remove_counts_128(column: &mut [u32; 128], len: usize, from: usize, to: usize)

@@ -1,22 +1,26 @@
--- `LeaseTable::all_counts` meets its contract.
+-- `LeaseTable::all_counts` meets its contract: the parts of a table, lent to `all_counts_in_place`, are that table's.
 -- Assumes nothing.
-use mathlib.Core.Path.{subst}
 use borrow.Author.Needs.{needs}
-use Rattle.types.specs.Lists.{ListsCounts}
-use Rattle.lease.proofs.Merge.{all-counted}
+use Rattle.lease.specs.Parts.{Full}
 use Rattle.lease.proofs.LeaseTable.all_counts.Statement.{statement}
 use Rattle.lease.proofs.LeaseTable.all_counts.Tie as tie
 
-lease-counts-requires : tie.Need-lease-counts-requires
-lease-counts-requires c κs = search needs
+full : (s : tie.Start) → Full (s .args .t1)
+full s =
+    record {
+      offsets = search needs;
+      leases = record { generations = search needs; starts = search needs; deadlines = search needs; counts = search needs };
+      carried-offsets = search needs;
+      carried-counts = search needs;
+    }
 
-merged-requires : tie.Need-merged-requires
-merged-requires c κs = search needs
+all-counts-in-place-requires : tie.Need-all-counts-in-place-requires
+all-counts-in-place-requires c κs = search needs
 
 returns : tie.Need-returns
 returns c =
-    let l = c .before .before .before .before .before .before in
-    subst (ListsCounts (c .merged .result)) (all-counted (l .before .args .t1) (l .before .pre) _ (l .lease-counts .ensures .is)) (c .merged .ensures)
+    let s = c .before .before .before .before .before .before in
+    c .all-counts-in-place .ensures (s .args .t1) (record { full = full s; sound = s .pre })
 
 pub all-counts-spec : {M : Type 1} → statement M
-all-counts-spec = tie.close (tie.spec lease-counts-requires merged-requires returns)
+all-counts-spec = tie.close (tie.spec all-counts-in-place-requires returns)

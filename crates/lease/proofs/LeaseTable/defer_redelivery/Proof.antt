@@ -1,61 +1,85 @@
 -- `LeaseTable::defer_redelivery` meets its contract.
 -- Assumes nothing.
+use Prim.Native.Nat.{_≤_, _<_}
 use borrow.Author.Needs.{needs}
-use Rattle.types.proofs.Scan.{length-mapped}
-use Rattle.lease.proofs.Bounds.{place-in-memory}
-use Rattle.lease.proofs.Slots.{Full, Looks, looks}
-use Rattle.lease.proofs.Questions.{deferred-as}
+use Rattle.types.specs.Limits.{LEASES}
+use Rattle.lease.specs.State.{view}
+use Rattle.lease.specs.Parts.{Full}
+use Rattle.lease.proofs.Bounds.{in-use, offset-in-memory}
+use Rattle.lease.proofs.Slots.{leased, free, lease-at}
+use Rattle.lease.proofs.Questions.{none-expired, still-running, not-deferred, deferred}
 use Rattle.lease.proofs.LeaseTable.defer_redelivery.Statement.{statement}
 use Rattle.lease.proofs.LeaseTable.defer_redelivery.Tie as tie
 
-full : (c : tie.Start) → Full (c .args .t1)
-full c = record { offsets = search needs; leases = search (needs, length-mapped); carried-offsets = search needs; carried-counts = search needs }
+full : (s : tie.Start) → Full (s .args .t1)
+full s =
+    record {
+      offsets = search needs;
+      leases = record { generations = search needs; starts = search needs; deadlines = search needs; counts = search needs };
+      carried-offsets = search needs;
+      carried-counts = search needs;
+    }
 
-look : (c : tie.After-slot-of) → Looks (c .before .before .before .before .args .t1) (c .before .before .before .before .args .offset .0) (c .slot-of .result)
-look c = let s = c .before .before .before .before in looks (s .args .t1) (full s) (s .pre) (c .slot-of .ensures)
+abbrev start : tie.After-place → tie.Start
+start p = p .before .before .before .before .before .before
 
-slot-of-requires : tie.Need-slot-of-requires
-slot-of-requires c κs = search needs
+-- the place that was found is in use
+inside : (p : tie.After-place) → (p .place .given .0 .0 < start p .args .t1 .len) × (start p .args .t1 .len ≤ LEASES)
+inside p = let s = start p in (leased (s .args .t1) (full s) (s .pre) (p .before .before .find .ensures) (p .place .given .1) .inside, s .pre .len)
 
-mul-lease : tie.Need-mul-lease
-mul-lease c = place-in-memory (look c .inside)
+find-requires : tie.Need-find-requires
+find-requires c κs = search needs
 
-element-copy-out-lease : tie.Need-element-copy-out-lease
-element-copy-out-lease c = look c .inside
+enum-known-place : tie.Need-enum-known-place
+enum-known-place c = search needs
 
-is-expired-requires : tie.Need-is-expired-requires
-is-expired-requires c κs = search needs
+enum-told : tie.Need-enum-told
+enum-told c = search needs
+
+returns : tie.Need-returns
+returns c =
+    let s = c .before .before .before .before .before .before in
+    not-deferred (s .args .t1) (full s) (s .pre) (s .args .offset .0) (s .args .now) (s .args .delay-nanos) (none-expired (view (s .args .t1)) (s .args .offset .0) (s .args .now) (free (s .args .t1) (full s) (s .pre) (c .before .before .find .ensures) (c .enum-told .given .1) .is))
+
+mul-if1 : tie.Need-mul-if1
+mul-if1 c = offset-in-memory (inside (c .before) .0) (inside (c .before) .1)
+
+element-copy-out-if1 : tie.Need-element-copy-out-if1
+element-copy-out-if1 c = in-use (inside (c .before) .0) (inside (c .before) .1)
+
+returns-2 : tie.Need-returns-2
+returns-2 c =
+    let p = c .before .before .before in
+    let s = start p in
+    not-deferred (s .args .t1) (full s) (s .pre) (s .args .offset .0) (s .args .now) (s .args .delay-nanos) (still-running (view (s .args .t1)) (s .args .offset .0) (s .args .now) _ (lease-at (s .args .t1) (full s) (s .pre) (s .args .offset .0) (p .before .before .find .ensures) (p .place .given .1)) (c .if1 .taken))
 
 saturating-add-requires : tie.Need-saturating-add-requires
 saturating-add-requires c κs = search needs
 
-chosen-requires : tie.Need-chosen-requires
-chosen-requires c κs = search needs
-
 mul-self : tie.Need-mul-self
-mul-self c = place-in-memory (look (c .before .before .before .before) .inside)
+mul-self c = offset-in-memory (inside (c .before .before .before .before) .0) (inside (c .before .before .before .before) .1)
 
-way-write-given-self : tie.Need-way-write-given-self
-way-write-given-self c = (look (c .before .before .before .before) .inside, tt)
+element-write-self : tie.Need-element-write-self
+element-write-self c = in-use (inside (c .before .before .before .before) .0) (inside (c .before .before .before .before) .1)
 
-returns : tie.Need-returns
-returns c =
-    let d = c .before .before .saturating-add in
-    let o = c .before .before .before in
-    let p = o .before .before in
-    let s = p .before .before .before .before in
-    deferred-as (s .args .t1) (s .pre) (s .args .offset .0) (p .slot-of .result) (look p) (s .args .now) (s .args .delay-nanos) (d .result) (d .ensures) (o .is-expired .result) (o .is-expired .ensures) (c .before .chosen .result) (c .before .chosen .ensures)
+returns-3 : tie.Need-returns-3
+returns-3 c =
+    let p = c .before .before .before .before in
+    let s = start p in
+    deferred (s .args .t1) (full s) (s .pre) (s .args .offset .0) (s .args .now) (s .args .delay-nanos) (p .before .before .find .ensures) (p .place .given .1) (c .before .if1 .left) (c .saturating-add .result) (c .saturating-add .ensures)
 
 pub defer-redelivery-spec : {M : Type 1} → statement M
 defer-redelivery-spec =
     tie.close
     (tie.spec
-    slot-of-requires
-    mul-lease
-    element-copy-out-lease
-    is-expired-requires
+    find-requires
+    enum-known-place
+    enum-told
+    returns
+    mul-if1
+    element-copy-out-if1
+    returns-2
     saturating-add-requires
-    chosen-requires
     mul-self
-    way-write-given-self
-    returns)
+    element-write-self
+    returns-3)

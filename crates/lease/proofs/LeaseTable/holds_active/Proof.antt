@@ -1,51 +1,66 @@
 -- `LeaseTable::holds_active` meets its contract.
 -- Assumes nothing.
-use mathlib.Core.Path.{sym, _∙_}
+use Prim.Native.Nat.{_≤_, _<_}
 use borrow.Author.Needs.{needs}
-use borrow.Author.Tests.{not-true, not-false}
-use Rattle.lease.specs.State.{view}
-use Rattle.lease.proofs.Found.{found-lease, found-none}
+use Rattle.types.specs.Limits.{LEASES}
+use Rattle.lease.specs.Parts.{Full}
+use Rattle.lease.proofs.Bounds.{in-use, offset-in-memory}
+use Rattle.lease.proofs.Tokens.{owned-used, not-owned, owned, one}
 use Rattle.lease.proofs.LeaseTable.holds_active.Statement.{statement}
 use Rattle.lease.proofs.LeaseTable.holds_active.Tie as tie
 
-lease-of-requires : tie.Need-lease-of-requires
-lease-of-requires c κs = search needs
+full : (s : tie.Start) → Full (s .args .t1)
+full s =
+    record {
+      offsets = search needs;
+      leases = record { generations = search needs; starts = search needs; deadlines = search needs; counts = search needs };
+      carried-offsets = search needs;
+      carried-counts = search needs;
+    }
 
-enum-known-found : tie.Need-enum-known-found
-enum-known-found c = search needs
+abbrev start : tie.After-place → tie.Start
+start p = p .before .before .before .before .before .before
+
+-- the place that was found is in use
+inside : (p : tie.After-place) → (p .place .given .0 .0 < start p .args .t1 .len) × (start p .args .t1 .len ≤ LEASES)
+inside p =
+    let s = start p in
+    (owned-used (s .args .token .offset .0) (s .args .token .generation .0) (s .args .t1 .len) (s .args .t1 .offsets) (s .args .t1 .generations) (p .before .before .owned .ensures) (p .place .given .1), s .pre .len)
+
+owned-requires : tie.Need-owned-requires
+owned-requires c κs = search needs
+
+enum-known-place : tie.Need-enum-known-place
+enum-known-place c = search needs
 
 enum-told : tie.Need-enum-told
 enum-told c = search needs
 
 returns : tie.Need-returns
 returns c =
-    let s = c .before .before .before in
-    rw (found-none (view (s .args .self)) (s .args .token .offset .0) (c .before .before .lease-of .ensures) (c .enum-told .given .1))
+    let s = c .before .before .before .before .before .before in
+    rw (not-owned (s .args .t1) (full s) (s .pre) (s .args .token .offset .0) (s .args .token .generation .0) (c .before .before .owned .ensures) (c .enum-told .given .1))
 
-owned-by-requires : tie.Need-owned-by-requires
-owned-by-requires c κs = search needs
+mul-result : tie.Need-mul-result
+mul-result c = offset-in-memory (inside (c .before) .0) (inside (c .before) .1)
+
+element-copy-out-result : tie.Need-element-copy-out-result
+element-copy-out-result c = in-use (inside (c .before) .0) (inside (c .before) .1)
 
 returns-2 : tie.Need-returns-2
 returns-2 c =
-    let p = c .before .before .before in
-    let s = p .before .before .before in
-    rw (found-lease (view (s .args .self)) (s .args .token .offset .0) (p .before .before .lease-of .ensures) (p .found .given .1), sym (c .before .owned-by .ensures) ∙ not-true _ (c .if1 .taken))
-
-returns-3 : tie.Need-returns-3
-returns-3 c =
-    let e = c .before in
-    let p = e .before .before .before in
-    let s = p .before .before .before in
-    rw (found-lease (view (s .args .self)) (s .args .token .offset .0) (p .before .before .lease-of .ensures) (p .found .given .1), sym (e .before .owned-by .ensures) ∙ not-false _ (e .if1 .left))
+    let p = c .before .before in
+    let s = start p in
+    rw (owned (s .args .t1) (full s) (s .pre) (s .args .token .offset .0) (s .args .token .generation .0) (p .before .before .owned .ensures) (p .place .given .1), one (s .args .t1) (full s) (s .pre) (s .args .token .offset .0) (s .args .token .generation .0) (p .before .before .owned .ensures) (p .place .given .1))
 
 pub holds-active-spec : {M : Type 1} → statement M
 holds-active-spec =
     tie.close
     (tie.spec
-    lease-of-requires
-    enum-known-found
+    owned-requires
+    enum-known-place
     enum-told
     returns
-    owned-by-requires
-    returns-2
-    returns-3)
+    mul-result
+    element-copy-out-result
+    returns-2)

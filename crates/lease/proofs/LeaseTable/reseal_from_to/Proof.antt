@@ -1,56 +1,67 @@
 -- `LeaseTable::reseal_from_to` meets its contract.
 -- Assumes nothing.
+use Prim.Native.Nat.{_≤_, _<_}
 use borrow.Author.Needs.{needs}
-use Rattle.types.proofs.Scan.{length-mapped}
-use Rattle.lease.proofs.Bounds.{place-in-memory}
-use Rattle.lease.proofs.Slots.{Full, Looks, looks}
-use Rattle.lease.proofs.Questions.{resealed-as}
+use Rattle.types.specs.Limits.{LEASES}
+use Rattle.lease.specs.Parts.{Full}
+use Rattle.lease.proofs.Bounds.{in-use, offset-in-memory}
+use Rattle.lease.proofs.Tokens.{owned-used, not-owned}
+use Rattle.lease.proofs.Questions.{not-resealed, resealed}
 use Rattle.lease.proofs.LeaseTable.reseal_from_to.Statement.{statement}
 use Rattle.lease.proofs.LeaseTable.reseal_from_to.Tie as tie
 
-full : (c : tie.Start) → Full (c .args .t1)
-full c = record { offsets = search needs; leases = search (needs, length-mapped); carried-offsets = search needs; carried-counts = search needs }
+full : (s : tie.Start) → Full (s .args .t1)
+full s =
+    record {
+      offsets = search needs;
+      leases = record { generations = search needs; starts = search needs; deadlines = search needs; counts = search needs };
+      carried-offsets = search needs;
+      carried-counts = search needs;
+    }
 
-look : (c : tie.After-slot-of) → Looks (c .before .before .before .before .args .t1) (c .before .before .before .before .args .offset .0) (c .slot-of .result)
-look c = let s = c .before .before .before .before in looks (s .args .t1) (full s) (s .pre) (c .slot-of .ensures)
+abbrev start : tie.After-place → tie.Start
+start p = p .before .before .before .before .before .before
 
-slot-of-requires : tie.Need-slot-of-requires
-slot-of-requires c κs = search needs
+-- the place that was found is in use
+inside : (p : tie.After-place) → (p .place .given .0 .0 < start p .args .t1 .len) × (start p .args .t1 .len ≤ LEASES)
+inside p =
+    let s = start p in
+    (owned-used (s .args .offset .0) (s .args .from .0) (s .args .t1 .len) (s .args .t1 .offsets) (s .args .t1 .generations) (p .before .before .owned .ensures) (p .place .given .1), s .pre .len)
 
-mul-lease : tie.Need-mul-lease
-mul-lease c = place-in-memory (look c .inside)
+owned-requires : tie.Need-owned-requires
+owned-requires c κs = search needs
 
-element-copy-out-lease : tie.Need-element-copy-out-lease
-element-copy-out-lease c = look c .inside
+enum-known-place : tie.Need-enum-known-place
+enum-known-place c = search needs
 
-owned-by-requires : tie.Need-owned-by-requires
-owned-by-requires c κs = search needs
-
-chosen-requires : tie.Need-chosen-requires
-chosen-requires c κs = search needs
-
-mul-self : tie.Need-mul-self
-mul-self c = place-in-memory (look (c .before .before .before) .inside)
-
-way-write-given-self : tie.Need-way-write-given-self
-way-write-given-self c = (look (c .before .before .before) .inside, tt, tt)
+enum-told : tie.Need-enum-told
+enum-told c = search needs
 
 returns : tie.Need-returns
 returns c =
-    let o = c .before .before in
-    let p = o .before .before in
-    let s = p .before .before .before .before in
-    resealed-as (s .args .t1) (s .pre) (s .args .offset .0) (p .slot-of .result) (look p) (s .args .from .0) (s .args .generation .0) (o .owned-by .result) (o .owned-by .ensures) (c .before .chosen .result) (c .before .chosen .ensures)
+    let s = c .before .before .before .before .before .before in
+    not-resealed (s .args .t1) (full s) (s .pre) (s .args .offset .0) (s .args .from .0) (s .args .generation .0) (not-owned (s .args .t1) (full s) (s .pre) (s .args .offset .0) (s .args .from .0) (c .before .before .owned .ensures) (c .enum-told .given .1))
+
+mul-self : tie.Need-mul-self
+mul-self c = offset-in-memory (inside (c .before) .0) (inside (c .before) .1)
+
+element-write-self : tie.Need-element-write-self
+element-write-self c = in-use (inside (c .before) .0) (inside (c .before) .1)
+
+returns-2 : tie.Need-returns-2
+returns-2 c =
+    let p = c .before in
+    let s = start p in
+    resealed (s .args .t1) (full s) (s .pre) (s .args .offset .0) (s .args .from .0) (s .args .generation .0) (p .before .before .owned .ensures) (p .place .given .1)
 
 pub reseal-from-to-spec : {M : Type 1} → statement M
 reseal-from-to-spec =
     tie.close
     (tie.spec
-    slot-of-requires
-    mul-lease
-    element-copy-out-lease
-    owned-by-requires
-    chosen-requires
+    owned-requires
+    enum-known-place
+    enum-told
+    returns
     mul-self
-    way-write-given-self
-    returns)
+    element-write-self
+    returns-2)

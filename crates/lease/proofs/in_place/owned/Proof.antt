@@ -1,0 +1,64 @@
+-- `owned` meets its contract.
+-- Assumes nothing.
+use Prim.Native.Nat.{_≤_, _<_}
+use native.Mathlib.Omega.{arith}
+use mathlib.Core.Path.{subst}
+use lib.ListN.{take}
+use borrow.Author.Needs.{needs}
+use Rattle.types.specs.Limits.{LEASES}
+use Rattle.tables.specs.Search.{Placed}
+use Rattle.tables.proofs.Search.{found-used}
+use Rattle.lease.proofs.Bounds.{in-use, offset-in-memory}
+use Rattle.lease.proofs.in_place.owned.Statement.{statement}
+use Rattle.lease.proofs.in_place.owned.Tie as tie
+
+abbrev start : tie.After-place → tie.Start
+start p = p .before .before .before .before
+
+-- the place that was found is in use
+inside : (p : tie.After-place) → (p .place .given .0 .0 < start p .args .len) × (start p .args .len ≤ LEASES)
+inside p =
+    let s = start p in
+    (omega (arith, found-used (s .args .offset) (s .args .len) (s .args .offsets .now) (p .before .before .find .ensures) (p .place .given .1)), s .pre)
+
+find-requires : tie.Need-find-requires
+find-requires c κs = search needs
+
+enum-known-place : tie.Need-enum-known-place
+enum-known-place c = search needs
+
+enum-told : tie.Need-enum-told
+enum-told c = search needs
+
+returns : tie.Need-returns
+returns c = record { place = c .before .before .find .result; placed = c .before .before .find .ensures; differs = rw (c .enum-told .given .1) tt }
+
+mul-if1 : tie.Need-mul-if1
+mul-if1 c = offset-in-memory (inside (c .before) .0) (inside (c .before) .1)
+
+element-copy-out-if1 : tie.Need-element-copy-out-if1
+element-copy-out-if1 c = in-use (inside (c .before) .0) (inside (c .before) .1)
+
+returns-2 : tie.Need-returns-2
+returns-2 c =
+    let p = c .before .before .before in
+    let s = start p in
+    (subst (Placed (s .args .offset) (take (s .args .len) (s .args .offsets .now))) (p .place .given .1) (p .before .before .find .ensures), c .if1 .taken)
+
+returns-3 : tie.Need-returns-3
+returns-3 c =
+    let p = c .before .before .before in
+    record { place = p .before .before .find .result; placed = p .before .before .find .ensures; differs = rw (p .place .given .1) (c .if1 .left) }
+
+pub owned-spec : {M : Type 1} → statement M
+owned-spec =
+    tie.close
+    (tie.spec
+    find-requires
+    enum-known-place
+    enum-told
+    returns
+    mul-if1
+    element-copy-out-if1
+    returns-2
+    returns-3)

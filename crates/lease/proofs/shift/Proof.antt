@@ -1,0 +1,68 @@
+-- `shift` meets its contract. The loop's invariant: the times before i are forward.
+-- Assumes nothing.
+use Prim.Native.Nat.{_-_, _≤_}
+use borrow.Author.Needs.{needs}
+use Rattle.types.specs.Limits.{LEASES}
+use Rattle.types.proofs.Loops.{Mapping, mapping, mapping-more, mapped}
+use Rattle.lease.specs.Helpers.{laterBy}
+use Rattle.lease.proofs.Bounds.{in-use, next-place, offset-in-memory, further}
+use Rattle.lease.proofs.shift.Statement.{statement}
+use Rattle.lease.proofs.shift.Tie as tie
+
+abbrev Inv-loop : tie.InvT-loop
+Inv-loop times₀ len delta i₀ times i = Mapping (laterBy delta) times₀ times len i
+
+abbrev μ-loop : tie.MeasureT-loop
+μ-loop times₀ len delta i₀ times i = len - i
+
+loop-holds : tie.Need-loop-holds Inv-loop μ-loop
+loop-holds c = mapping (laterBy (c .args .delta)) (c .args .times .now) (c .args .len) (c .pre .1)
+
+few : (c : tie.At-loop Inv-loop μ-loop) → c .before .args .len ≤ LEASES
+few c = c .before .pre .0
+
+mul-saturating-add : tie.Need-mul-saturating-add Inv-loop μ-loop
+mul-saturating-add c = offset-in-memory (c .loop-test .taken) (few (c .before))
+
+element-copy-out-saturating-add : tie.Need-element-copy-out-saturating-add Inv-loop μ-loop
+element-copy-out-saturating-add c = in-use (c .loop-test .taken) (few (c .before))
+
+saturating-add-requires : tie.Need-saturating-add-requires Inv-loop μ-loop
+saturating-add-requires c κs = search needs
+
+mul-times : tie.Need-mul-times Inv-loop μ-loop
+mul-times c = offset-in-memory (c .before .before .loop-test .taken) (few (c .before .before .before))
+
+element-write-times : tie.Need-element-write-times Inv-loop μ-loop
+element-write-times c = in-use (c .before .before .loop-test .taken) (few (c .before .before .before))
+
+add-i : tie.Need-add-i Inv-loop μ-loop
+add-i c = next-place (c .before .before .loop-test .taken) (few (c .before .before .before))
+
+loop-less : tie.Need-loop-less Inv-loop μ-loop
+loop-less c = further _ _ (c .before .before .loop-test .taken)
+
+loop-again : tie.Need-loop-again Inv-loop μ-loop
+loop-again c =
+    let a = c .before .before in
+    rw (c .saturating-add .ensures) (mapping-more (laterBy (a .before .before .args .delta)) 0 (a .before .loop .inv) (a .loop-test .taken))
+
+returns : tie.Need-returns Inv-loop μ-loop
+returns c = mapped (laterBy (c .before .before .args .delta)) 0 (c .before .loop .inv) (c .loop-test .left)
+
+pub shift-spec : {M : Type 1} → statement M
+shift-spec =
+    tie.close
+    (tie.spec
+    Inv-loop
+    μ-loop
+    loop-holds
+    mul-saturating-add
+    element-copy-out-saturating-add
+    saturating-add-requires
+    mul-times
+    element-write-times
+    add-i
+    loop-less
+    loop-again
+    returns)

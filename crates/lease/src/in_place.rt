@@ -1,0 +1,599 @@
+// The calls on a table that are made often, in place: each takes the numbers of a table by value and lent columns, and answers
+// the numbers that changed. A table by value, and one that lies in another's memory, are served by the same function.
+ghost use mathlib.Core.Path.{_≡_};
+ghost use Prim.Native.Nat.{_≤_, _<_};
+ghost use lib.ListN.{take, getD};
+ghost use Rattle.types.specs.Limits.{MAX, LEASES, CARRIED};
+ghost use Rattle.types.specs.Refusal.{done, optional};
+ghost use Rattle.types.specs.Keyed.{lookup, anyBelow};
+ghost use Rattle.types.specs.Lists.{ListsOffsets, ListsCounts};
+ghost use Rattle.tables.specs.Search.{Placed};
+ghost use Rattle.tables.specs.declared.Place.the-variants.{Missing};
+ghost use Rattle.lease.specs.State.{view};
+ghost use Rattle.lease.specs.Operations.{lease, leaseOf, claim, ack, extend, nack};
+ghost use Rattle.lease.specs.Rest.{releaseBelow, isClaimable, deliveriesOf, expired};
+ghost use Rattle.lease.specs.Rest as rest;
+ghost use Rattle.lease.specs.Counts.{attemptCounts, allAttemptCounts};
+ghost use Rattle.lease.specs.Answers.{claimOf, ackOf, extendOf, nackOf, attemptsOf, Answers};
+ghost use Rattle.lease.specs.Lookup.{leaseValues, leaseAt};
+ghost use Rattle.lease.specs.Helpers.{grantedAt, regranting, AnswersAt, Owned};
+ghost use Rattle.lease.specs.Parts.{gathered, Whole, AnswersIn, BecomesIn, HoldsIn, leasing, extending, requeuing, releasing, counting, timing, keeping, listing, listingAll, carrying};
+use crate::AckOutcome;
+use crate::Attempts;
+use crate::Claim;
+use crate::ExtendOutcome;
+use crate::Lease;
+use crate::LeaseConfig;
+use crate::LeaseToken;
+use crate::NackOutcome;
+use crate::lookup::LeaseAt;
+use tables::Place;
+use tables::counts;
+use types::Generation;
+use types::Offset;
+use types::lent::AttemptCounts;
+use types::lent::OffsetList;
+use types::limits::CARRIED;
+use types::limits::COUNTS;
+use types::limits::LEASES;
+use types::limits::MAX;
+use types::numbers;
+
+// What a claim answers, and the numbers of the table after it.
+pub struct ClaimedAt {
+    pub outcome: Claim,
+    pub len: usize,
+    pub carried_len: usize,
+    pub next_generation: u64,
+    pub redeliveries: u32,
+}
+
+// What `LeaseTable::claim` does to the parts of a table.
+pub fn claim_in_place(
+    config: LeaseConfig,
+    len: usize,
+    carried_len: usize,
+    next: u64,
+    redeliveries: u32,
+    offset: u64,
+    now: u64,
+    offsets: &mut [u64; LEASES],
+    generations: &mut [u64; LEASES],
+    attempt_starts: &mut [u64; LEASES],
+    deadlines: &mut [u64; LEASES],
+    deliveries: &mut [u32; LEASES],
+    carried_offsets: &mut [u64; CARRIED],
+    carried_counts: &mut [u32; CARRIED],
+) -> ClaimedAt
+    requires { ⌜ Whole (gathered config len «carried_len» next redeliveries (offsets .now) (generations .now) («attempt_starts» .now) (deadlines .now) (deliveries .now) («carried_offsets» .now) («carried_counts» .now)) ⌝ }
+    ensures { λ r. ⌜ Answers (claimOf (r .outcome))
+        (gathered config len «carried_len» next redeliveries (offsets .entry .now) (generations .entry .now) («attempt_starts» .entry .now) (deadlines .entry .now) (deliveries .entry .now) («carried_offsets» .entry .now) («carried_counts» .entry .now))
+        (gathered config (r .len) (r .«carried_len») (r .«next_generation») (r .redeliveries) (offsets .exit .now) (generations .exit .now) («attempt_starts» .exit .now) (deadlines .exit .now) (deliveries .exit .now) («carried_offsets» .exit .now) («carried_counts» .exit .now))
+        (claim (view (gathered config len «carried_len» next redeliveries (offsets .entry .now) (generations .entry .now) («attempt_starts» .entry .now) (deadlines .entry .now) (deliveries .entry .now) («carried_offsets» .entry .now) («carried_counts» .entry .now))) offset now) ⌝ }
+{
+    let place = tables::find(offsets, len, offset);
+    let at = match place {
+        Place::Found(at) => {
+            return claim_again(
+                config,
+                at,
+                len,
+                carried_len,
+                next,
+                redeliveries,
+                offset,
+                now,
+                generations,
+                attempt_starts,
+                deadlines,
+                deliveries,
+            );
+        }
+        Place::Missing(at) => at,
+    };
+    claim_first(
+        config,
+        at,
+        len,
+        carried_len,
+        next,
+        redeliveries,
+        offset,
+        now,
+        offsets,
+        generations,
+        attempt_starts,
+        deadlines,
+        deliveries,
+        carried_offsets,
+        carried_counts,
+    )
+}
+
+// Claims an offset whose lease stands at a place.
+fn claim_again(
+    config: LeaseConfig,
+    at: usize,
+    len: usize,
+    carried_len: usize,
+    generation: u64,
+    redeliveries: u32,
+    offset: u64,
+    now: u64,
+    generations: &mut [u64; LEASES],
+    attempt_starts: &mut [u64; LEASES],
+    deadlines: &mut [u64; LEASES],
+    deliveries: &mut [u32; LEASES],
+) -> ClaimedAt
+    requires { ⌜ at < LEASES ⌝ }
+    ensures { λ r. ⌜ AnswersAt offset at (claimOf (r .outcome)) (regranting config len «carried_len» generation redeliveries (generations .entry .now) («attempt_starts» .entry .now) (deadlines .entry .now) (deliveries .entry .now)) (regranting config (r .len) (r .«carried_len») (r .«next_generation») (r .redeliveries) (generations .exit .now) («attempt_starts» .exit .now) (deadlines .exit .now) (deliveries .exit .now)) (λ s. claim s offset now) ⌝ }
+{
+    if now < deadlines[at] {
+        return ClaimedAt {
+            outcome: Claim::InFlight,
+            len,
+            carried_len,
+            next_generation: generation,
+            redeliveries,
+        };
+    }
+    if generation == MAX {
+        return ClaimedAt {
+            outcome: Claim::Exhausted,
+            len,
+            carried_len,
+            next_generation: generation,
+            redeliveries,
+        };
+    }
+    let count = numbers::saturating_next(deliveries[at]);
+    generations[at] = generation;
+    attempt_starts[at] = now;
+    deadlines[at] = config.deadline(now, now);
+    deliveries[at] = count;
+    granted(offset, generation, count, len, carried_len, redeliveries)
+}
+
+// Claims an offset that has no lease, and whose lease belongs at a place.
+fn claim_first(
+    config: LeaseConfig,
+    at: usize,
+    len: usize,
+    carried_len: usize,
+    next: u64,
+    redeliveries: u32,
+    offset: u64,
+    now: u64,
+    offsets: &mut [u64; LEASES],
+    generations: &mut [u64; LEASES],
+    attempt_starts: &mut [u64; LEASES],
+    deadlines: &mut [u64; LEASES],
+    deliveries: &mut [u32; LEASES],
+    carried_offsets: &mut [u64; CARRIED],
+    carried_counts: &mut [u32; CARRIED],
+) -> ClaimedAt
+    requires { ⌜ Whole (gathered config len «carried_len» next redeliveries (offsets .now) (generations .now) («attempt_starts» .now) (deadlines .now) (deliveries .now) («carried_offsets» .now) («carried_counts» .now)) × Placed offset (take len (offsets .now)) (Missing at) ⌝ }
+    ensures { λ r. ⌜ Answers (claimOf (r .outcome))
+        (gathered config len «carried_len» next redeliveries (offsets .entry .now) (generations .entry .now) («attempt_starts» .entry .now) (deadlines .entry .now) (deliveries .entry .now) («carried_offsets» .entry .now) («carried_counts» .entry .now))
+        (gathered config (r .len) (r .«carried_len») (r .«next_generation») (r .redeliveries) (offsets .exit .now) (generations .exit .now) («attempt_starts» .exit .now) (deadlines .exit .now) (deliveries .exit .now) («carried_offsets» .exit .now) («carried_counts» .exit .now))
+        (claim (view (gathered config len «carried_len» next redeliveries (offsets .entry .now) (generations .entry .now) («attempt_starts» .entry .now) (deadlines .entry .now) (deliveries .entry .now) («carried_offsets» .entry .now) («carried_counts» .entry .now))) offset now) ⌝ }
+{
+    if next == MAX {
+        return ClaimedAt {
+            outcome: Claim::Exhausted,
+            len,
+            carried_len,
+            next_generation: next,
+            redeliveries,
+        };
+    }
+    if LEASES <= len {
+        return ClaimedAt {
+            outcome: Claim::Full,
+            len,
+            carried_len,
+            next_generation: next,
+            redeliveries,
+        };
+    }
+    let prior = counts::count_of(carried_offsets, carried_counts, carried_len, offset);
+    tables::remove_128(carried_offsets, carried_len, prior.from, prior.to);
+    tables::remove_counts_128(carried_counts, carried_len, prior.from, prior.to);
+    let left = carried_len - (prior.to - prior.from);
+    let count = numbers::saturating_next(prior.count);
+    let deadline = config.deadline(now, now);
+    tables::insert_64(offsets, len, at, offset);
+    tables::insert_64(generations, len, at, next);
+    tables::insert_64(attempt_starts, len, at, now);
+    tables::insert_64(deadlines, len, at, deadline);
+    tables::insert_count_64(deliveries, len, at, count);
+    granted(offset, next, count, len + 1, left, redeliveries)
+}
+
+// What a claim that is granted answers: the generation is taken, and a redelivery counted.
+fn granted(
+    offset: u64,
+    generation: u64,
+    count: u32,
+    len: usize,
+    carried_len: usize,
+    redeliveries: u32,
+) -> ClaimedAt
+    requires { ⌜ generation < MAX ⌝ }
+    ensures { λ r. ⌜ r ≡ grantedAt offset generation count len «carried_len» redeliveries ⌝ }
+{
+    let token = LeaseToken {
+        offset: Offset(offset),
+        generation: Generation(generation),
+    };
+    let outcome = Claim::Granted {
+        token: token,
+        deliveries: count,
+    };
+    let counted = redeliveries::after_grant(redeliveries, count);
+    ClaimedAt {
+        outcome,
+        len,
+        carried_len,
+        next_generation: generation + 1,
+        redeliveries: counted,
+    }
+}
+
+// Where the lease stands that a token owns, missing where there is none: the test that every call with a token begins with.
+pub(crate) fn owned<'a>(
+    len: usize,
+    offset: u64,
+    generation: u64,
+    offsets: &'a [u64; LEASES],
+    generations: &'a [u64; LEASES],
+) -> Place
+    requires { ⌜ len ≤ LEASES ⌝ }
+    ensures { λ r. ⌜ Owned offset generation (take len (offsets .entry .now)) (generations .entry .now) r ⌝ }
+{
+    let place = tables::find(offsets, len, offset);
+    let Place::Found(at) = place else {
+        return Place::Missing(len);
+    };
+    if generations[at] == generation {
+        return Place::Found(at);
+    }
+    Place::Missing(len)
+}
+
+// What an ack answers, and how many leases there are after it.
+pub struct AckedAt {
+    pub outcome: AckOutcome,
+    pub len: usize,
+}
+
+// What `LeaseTable::ack` does to the parts of a table that it looks at, whatever the others are.
+pub fn ack_in_place(
+    len: usize,
+    offset: u64,
+    generation: u64,
+    offsets: &mut [u64; LEASES],
+    generations: &mut [u64; LEASES],
+    attempt_starts: &mut [u64; LEASES],
+    deadlines: &mut [u64; LEASES],
+    deliveries: &mut [u32; LEASES],
+) -> AckedAt
+    requires { ⌜ len ≤ LEASES ⌝ }
+    ensures { λ r. ⌜ AnswersIn (ackOf (r .outcome)) (leasing len (offsets .entry .now) (generations .entry .now) («attempt_starts» .entry .now) (deadlines .entry .now) (deliveries .entry .now)) (leasing (r .len) (offsets .exit .now) (generations .exit .now) («attempt_starts» .exit .now) (deadlines .exit .now) (deliveries .exit .now)) (λ s. ack s offset generation) ⌝ }
+{
+    let place = owned(len, offset, generation, offsets, generations);
+    let Place::Found(at) = place else {
+        return AckedAt {
+            outcome: AckOutcome::Fenced,
+            len,
+        };
+    };
+    let next = at + 1;
+    tables::remove_64(offsets, len, at, next);
+    tables::remove_64(generations, len, at, next);
+    tables::remove_64(attempt_starts, len, at, next);
+    tables::remove_64(deadlines, len, at, next);
+    tables::remove_counts_64(deliveries, len, at, next);
+    AckedAt {
+        outcome: AckOutcome::Acked,
+        len: len - 1,
+    }
+}
+
+// What `LeaseTable::extend` does to the parts of a table that it looks at, whatever the others are.
+pub fn extend_in_place<'a>(
+    config: LeaseConfig,
+    len: usize,
+    offset: u64,
+    generation: u64,
+    now: u64,
+    offsets: &'a [u64; LEASES],
+    generations: &'a [u64; LEASES],
+    attempt_starts: &'a [u64; LEASES],
+    deadlines: &mut [u64; LEASES],
+) -> ExtendOutcome
+    requires { ⌜ len ≤ LEASES ⌝ }
+    ensures { λ r. ⌜ AnswersIn (extendOf r) (extending config len (offsets .entry .now) (generations .entry .now) («attempt_starts» .entry .now) (deadlines .entry .now)) (extending config len (offsets .entry .now) (generations .entry .now) («attempt_starts» .entry .now) (deadlines .exit .now)) (λ s. extend s offset generation now) ⌝ }
+{
+    let place = owned(len, offset, generation, offsets, generations);
+    let Place::Found(at) = place else {
+        return ExtendOutcome::Fenced;
+    };
+    let start = attempt_starts[at];
+    if config.cap(start) <= now {
+        return ExtendOutcome::CapReached;
+    }
+    let deadline = config.deadline(start, now);
+    deadlines[at] = deadline;
+    ExtendOutcome::Extended(deadline)
+}
+
+// What a nack answers, and what the next grant or nack takes.
+pub struct NackedAt {
+    pub outcome: NackOutcome,
+    pub next_generation: u64,
+}
+
+// What `LeaseTable::nack` does to the parts of a table that it looks at, whatever the others are.
+pub fn nack_in_place(
+    len: usize,
+    next_generation: u64,
+    offset: u64,
+    generation: u64,
+    now: u64,
+    delay_nanos: u64,
+    offsets: &[u64; LEASES],
+    generations: &mut [u64; LEASES],
+    deadlines: &mut [u64; LEASES],
+) -> NackedAt
+    requires { ⌜ len ≤ LEASES ⌝ }
+    ensures { λ r. ⌜ AnswersIn (nackOf (r .outcome)) (requeuing len «next_generation» (offsets .entry .now) (generations .entry .now) (deadlines .entry .now)) (requeuing len (r .«next_generation») (offsets .entry .now) (generations .exit .now) (deadlines .exit .now)) (λ s. nack s offset generation now «delay_nanos») ⌝ }
+{
+    let place = owned(len, offset, generation, offsets, generations);
+    let Place::Found(at) = place else {
+        return NackedAt {
+            outcome: NackOutcome::Fenced,
+            next_generation,
+        };
+    };
+    if next_generation == MAX {
+        return NackedAt {
+            outcome: NackOutcome::Exhausted,
+            next_generation,
+        };
+    }
+    let deadline = numbers::saturating_add(now, delay_nanos);
+    generations[at] = next_generation;
+    deadlines[at] = deadline;
+    NackedAt {
+        outcome: NackOutcome::Requeued { deadline: deadline },
+        next_generation: next_generation + 1,
+    }
+}
+
+// How many leases and how many carried counts there are after those below a bound were released.
+pub struct ReleasedAt {
+    pub len: usize,
+    pub carried_len: usize,
+}
+
+// What `LeaseTable::release_below` does to the parts of a table.
+pub fn release_below_in_place(
+    len: usize,
+    carried_len: usize,
+    up_to: u64,
+    offsets: &mut [u64; LEASES],
+    generations: &mut [u64; LEASES],
+    attempt_starts: &mut [u64; LEASES],
+    deadlines: &mut [u64; LEASES],
+    deliveries: &mut [u32; LEASES],
+    carried_offsets: &mut [u64; CARRIED],
+    carried_counts: &mut [u32; CARRIED],
+) -> ReleasedAt
+    ensures { λ r. ⌜ BecomesIn
+        (releasing len «carried_len» (offsets .entry .now) (generations .entry .now) («attempt_starts» .entry .now) (deadlines .entry .now) (deliveries .entry .now) («carried_offsets» .entry .now) («carried_counts» .entry .now))
+        (releasing (r .len) (r .«carried_len») (offsets .exit .now) (generations .exit .now) («attempt_starts» .exit .now) (deadlines .exit .now) (deliveries .exit .now) («carried_offsets» .exit .now) («carried_counts» .exit .now))
+        (λ s. releaseBelow s «up_to») ⌝ }
+{
+    let carried = tables::position(carried_offsets, carried_len, up_to);
+    tables::remove_128(carried_offsets, carried_len, 0, carried);
+    tables::remove_counts_128(carried_counts, carried_len, 0, carried);
+    let first = tables::position(offsets, len, up_to);
+    tables::remove_64(offsets, len, 0, first);
+    tables::remove_64(generations, len, 0, first);
+    tables::remove_64(attempt_starts, len, 0, first);
+    tables::remove_64(deadlines, len, 0, first);
+    tables::remove_counts_64(deliveries, len, 0, first);
+    ReleasedAt {
+        len: len - first,
+        carried_len: carried_len - carried,
+    }
+}
+
+// The lease at a place of the columns.
+pub fn lease_at<'a>(
+    at: usize,
+    generations: &'a [u64; LEASES],
+    attempt_starts: &'a [u64; LEASES],
+    deadlines: &'a [u64; LEASES],
+    deliveries: &'a [u32; LEASES],
+) -> Lease
+    requires { ⌜ at < LEASES ⌝ }
+    ensures { λ r. ⌜ r ≡ lease (getD (generations .entry .now) at 0) (getD («attempt_starts» .entry .now) at 0) (getD (deadlines .entry .now) at 0) (getD (deliveries .entry .now) at 0) ⌝ }
+{
+    let generation = Generation(generations[at]);
+    Lease {
+        generation,
+        attempt_start: attempt_starts[at],
+        deadline: deadlines[at],
+        deliveries: deliveries[at],
+    }
+}
+
+// What `LeaseTable::lease_of` answers.
+pub fn lease_in_place<'a>(
+    len: usize,
+    offset: u64,
+    offsets: &'a [u64; LEASES],
+    generations: &'a [u64; LEASES],
+    attempt_starts: &'a [u64; LEASES],
+    deadlines: &'a [u64; LEASES],
+    deliveries: &'a [u32; LEASES],
+) -> LeaseAt
+    requires { ⌜ len ≤ LEASES ⌝ }
+    ensures { λ r. ⌜ HoldsIn (leasing len (offsets .entry .now) (generations .entry .now) («attempt_starts» .entry .now) (deadlines .entry .now) (deliveries .entry .now)) (λ s. leaseAt r ≡ done (leaseValues (leaseOf s offset))) ⌝ }
+{
+    let place = tables::find(offsets, len, offset);
+    let Place::Found(at) = place else {
+        return LeaseAt::None;
+    };
+    LeaseAt::Some(lease_at(at, generations, attempt_starts, deadlines, deliveries))
+}
+
+// What `LeaseTable::deliveries` answers.
+pub fn deliveries_in_place<'a>(
+    len: usize,
+    offset: u64,
+    generation: u64,
+    offsets: &'a [u64; LEASES],
+    generations: &'a [u64; LEASES],
+    deliveries: &'a [u32; LEASES],
+) -> Attempts
+    requires { ⌜ len ≤ LEASES ⌝ }
+    ensures { λ r. ⌜ HoldsIn (counting len (offsets .entry .now) (generations .entry .now) (deliveries .entry .now)) (λ s. attemptsOf r ≡ done (optional (rest.deliveries s offset generation))) ⌝ }
+{
+    let place = owned(len, offset, generation, offsets, generations);
+    let Place::Found(at) = place else {
+        return Attempts::None;
+    };
+    Attempts::Some(deliveries[at])
+}
+
+// How often an offset that is in flight was handed out.
+pub fn count_in_place<'a>(
+    len: usize,
+    offset: u64,
+    offsets: &'a [u64; LEASES],
+    deliveries: &'a [u32; LEASES],
+) -> Attempts
+    requires { ⌜ len ≤ LEASES ⌝ }
+    ensures { λ r. ⌜ HoldsIn (listing len (offsets .entry .now) (deliveries .entry .now)) (λ s. attemptsOf r ≡ done (optional (deliveriesOf (leaseOf s offset)))) ⌝ }
+{
+    let place = tables::find(offsets, len, offset);
+    let Place::Found(at) = place else {
+        return Attempts::None;
+    };
+    Attempts::Some(deliveries[at])
+}
+
+// What `LeaseTable::is_claimable` answers.
+pub fn is_claimable_in_place<'a>(
+    len: usize,
+    offset: u64,
+    now: u64,
+    offsets: &'a [u64; LEASES],
+    deadlines: &'a [u64; LEASES],
+) -> bool
+    requires { ⌜ len ≤ LEASES ⌝ }
+    ensures { λ r. ⌜ HoldsIn (timing len (offsets .entry .now) (deadlines .entry .now)) (λ s. r ≡ isClaimable s offset now) ⌝ }
+{
+    let place = tables::find(offsets, len, offset);
+    let Place::Found(at) = place else {
+        return true;
+    };
+    deadlines[at] <= now
+}
+
+// What `LeaseTable::holds_below` answers: the leases are sorted, so the first one tells.
+pub fn holds_below_in_place(len: usize, bound: u64, offsets: &[u64; LEASES]) -> bool
+    ensures { λ r. ⌜ HoldsIn (keeping len (offsets .entry .now)) (λ s. r ≡ anyBelow bound (s .leases)) ⌝ }
+{
+    if len == 0 {
+        return false;
+    }
+    offsets[0] < bound
+}
+
+// What `LeaseTable::carried_count` answers.
+pub fn carried_in_place<'a>(
+    carried_len: usize,
+    offset: u64,
+    carried_offsets: &'a [u64; CARRIED],
+    carried_counts: &'a [u32; CARRIED],
+) -> Attempts
+    requires { ⌜ «carried_len» ≤ CARRIED ⌝ }
+    ensures { λ r. ⌜ HoldsIn (carrying «carried_len» («carried_offsets» .entry .now) («carried_counts» .entry .now)) (λ s. attemptsOf r ≡ done (optional (lookup offset (s .carried)))) ⌝ }
+{
+    let place = tables::find(carried_offsets, carried_len, offset);
+    let Place::Found(at) = place else {
+        return Attempts::None;
+    };
+    Attempts::Some(carried_counts[at])
+}
+
+// What `LeaseTable::lease_counts` answers.
+pub fn lease_counts_in_place<'a>(
+    len: usize,
+    offsets: &'a [u64; LEASES],
+    deliveries: &'a [u32; LEASES],
+) -> AttemptCounts
+    requires { ⌜ len ≤ LEASES ⌝ }
+    ensures { λ r. ⌜ HoldsIn (listing len (offsets .entry .now) (deliveries .entry .now)) (λ s. ListsCounts r (attemptCounts s)) ⌝ }
+{
+    let mut listed = [0u64; COUNTS];
+    let mut attempts = [0u32; COUNTS];
+    let mut i: usize = 0;
+    while i < len {
+        listed[i] = offsets[i];
+        attempts[i] = deliveries[i];
+        i += 1;
+    }
+    AttemptCounts {
+        offsets: listed,
+        attempts: attempts,
+        len: len,
+    }
+}
+
+// What `LeaseTable::all_counts` answers.
+pub fn all_counts_in_place<'a>(
+    len: usize,
+    carried_len: usize,
+    offsets: &'a [u64; LEASES],
+    deliveries: &'a [u32; LEASES],
+    carried_offsets: &'a [u64; CARRIED],
+    carried_counts: &'a [u32; CARRIED],
+) -> AttemptCounts
+    requires { ⌜ len ≤ LEASES ⌝ }
+    ensures { λ r. ⌜ HoldsIn (listingAll len «carried_len» (offsets .entry .now) (deliveries .entry .now) («carried_offsets» .entry .now) («carried_counts» .entry .now)) (λ s. ListsCounts r (allAttemptCounts s)) ⌝ }
+{
+    let leased = lease_counts_in_place(len, offsets, deliveries);
+    counts::merged(leased, carried_offsets, carried_counts, carried_len)
+}
+
+// What `LeaseTable::expired_list` answers.
+pub fn expired_in_place<'a>(
+    len: usize,
+    now: u64,
+    offsets: &'a [u64; LEASES],
+    deadlines: &'a [u64; LEASES],
+) -> OffsetList
+    requires { ⌜ len ≤ LEASES ⌝ }
+    ensures { λ r. ⌜ HoldsIn (timing len (offsets .entry .now) (deadlines .entry .now)) (λ s. ListsOffsets r (expired s now)) ⌝ }
+{
+    let mut listed = [0u64; CARRIED];
+    let mut n: usize = 0;
+    let mut i: usize = 0;
+    while i < len {
+        let at = i;
+        i += 1;
+        if deadlines[at] <= now {
+            listed[n] = offsets[at];
+            n += 1;
+        }
+    }
+    OffsetList {
+        offsets: listed,
+        len: n,
+    }
+}
