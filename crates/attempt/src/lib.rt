@@ -25,6 +25,14 @@ const SNAPSHOT_VERSION: u8 = 1;
 // The length of a pair: its offset and its attempt count.
 const PAIR_LEN: usize = 12;
 
+// The length of a snapshot of so many pairs.
+pub fn snapshot_len(count: usize) -> usize
+    requires { ⌜ count ≤ 128 ⌝ }
+    ensures { λ r. ⌜ r ≡ 9 + 12 * count ⌝ }
+{
+    ATTEMPT_SNAPSHOT_MIN_LEN + PAIR_LEN * count
+}
+
 // What encoding answers: the position behind the snapshot, or refusal 19 or 20.
 pub enum Encode {
     Next(usize),
@@ -120,7 +128,7 @@ pub fn encode_columns<'a>(
     if PAIRS < count {
         return Encode::TooManyPairs;
     }
-    let len = ATTEMPT_SNAPSHOT_MIN_LEN + PAIR_LEN * count;
+    let len = snapshot_len(count);
     if out.len() < len {
         return Encode::OutTooShort;
     }

@@ -6,25 +6,25 @@ use native.Mathlib.Numerals.{add-one}
 use mathlib.Core.Path.{_≡_, refl, ap}
 use mathlib.Core.Bool.{false}
 use mathlib.Core.List.{List}
-use lib.ListN.{length}
+use lib.ListN.{length, take, length-take}
 use borrow.Author.Tests.{eq-eqb, ne-eqb, le-leb, lt-leb}
 use Rattle.types.specs.Refusal.{Result}
 use Rattle.types.specs.Table.{Answer, answer}
 use Rattle.journal.specs.Area.{outside, writeAt}
-use Rattle.journal.specs.Answers.{writeBlock}
+use Rattle.journal.specs.Answers.{blockOf, writeBlock}
+use Rattle.journal.specs.declared.Block.{Block}
 use Rattle.journal.specs.declared.Block.the-variants as block
 use Rattle.journal.proofs.Area.{whole-says}
-use Rattle.cursor.specs.View as cursor
+use Rattle.redeliveries.specs.Counter.{afterFlush}
+use Rattle.lease.proofs.Valid.{valid-flushed}
 use Rattle.lease.specs.State as lease
-use Rattle.lease.specs.Rest.{attemptsFlushed}
-use Rattle.lease.specs.Answers.{Becomes}
-use Rattle.lease.specs.declared.LeaseTable.{LeaseTable}
-use Rattle.consumer.specs.State.{stateOf, nextGroupAt}
-use Rattle.consumer.specs.View.{settingsOf, view}
+use Rattle.consumer.specs.State.{State}
+use Rattle.consumer.specs.View.{view, Sound}
 use Rattle.consumer.specs.declared.Consumer.{Consumer}
 use Rattle.consumer.proofs.Area.{area-taken}
-use Rattle.checkpoint.specs.Checkpoint.{bodies, newCeiling, bodyOf, headerOf, flushed, step}
-use Rattle.checkpoint.specs.Writing.{SoundWriting, SteppedIs, Into, HeaderIs, Fitting, FlushedIs}
+use Rattle.checkpoint.specs.Checkpoint.{payloadOf, bodies, newCeiling, bodyOf, headerOf, flushed, step}
+use Rattle.checkpoint.specs.Writing.{SoundWriting, SteppedIs, Into}
+use Rattle.checkpoint.specs.Parts.{Parts, parts, withParts, headerBy}
 use Rattle.checkpoint.specs.declared.Writing.{Writing}
 use Rattle.checkpoint.specs.declared.StepAnswer.the-variants.{Wrote, Finished, BadArea}
 use Rattle.checkpoint.proofs.Payload.{payload-fits}
@@ -39,6 +39,7 @@ pub record Small (w : Writing) : Type 0 where
   pub attempt-len : w .«attempt_len» ≤ 1545
   pub written : w .written ≤ 8
   pub count : (w .«cursor_len» + w .«attempt_len» + 499) / 500 ≡ bodies (view (w .consumer))
+  pub payload : w .«cursor_len» + w .«attempt_len» ≤ length (w .payload)
 
 pub small : (w : Writing) → SoundWriting w → Small w
 small w s =
@@ -52,17 +53,8 @@ small w s =
       attempt-len = omega (arith, s .encoded .attempt-len, fits .attempt-high);
       written = omega (arith, s .valid .few, fits .few-bodies);
       count = rw (fits .total, s .encoded .cursor-len, s .encoded .attempt-len);
+      payload = omega (arith, simp length-take at (ap length (s .encoded .payload)), fits .total, s .encoded .cursor-len, s .encoded .attempt-len);
     }
-
--- the header that these numbers make
-pub header-of : (w : Writing) → SoundWriting w → (ceiling : ℕ) → ceiling ≡ newCeiling (view (w .consumer))
-    → HeaderIs (view (w .consumer)) (block.Header (record {
-      number = w .consumer .next .number;
-      ceiling = ceiling;
-      «cursor_len» = w .«cursor_len»;
-      «attempt_len» = w .«attempt_len»;
-    }))
-header-of w s ceiling e = record { is = λ payload. rw (e, s .encoded .cursor-len, s .encoded .attempt-len) }
 
 -- ## A block is written
 pub into-inside : (w : Writing) (a : List ℕ) (i : ℕ) → Into w a i → outside (length a) i ≡ false
@@ -73,83 +65,37 @@ pub block-written : (a after b : List ℕ) (i : ℕ) (o : Result (Unit {0})) →
 unfolding writeBlock
 block-written a after b i o inside e = ap (λ (x : Answer (Unit {0}) (List ℕ)). x .state) (rw inside at e)
 
--- ## Behind the last write
--- the group of a record fits, with its bodies counted as the code does
-pub record-fits : (w : Writing) → SoundWriting w → Fitting (w .consumer) ((w .«cursor_len» + w .«attempt_len» + 499) / 500)
-record-fits w s =
-    let e = small w s .count in
-    record { sound = s .consumer; count = e; room = rw e (s .valid .room) }
+-- ## A step on the parts of a record
+module _ (p : Parts) (within : Writing) (s : SoundWriting (withParts p within)) (a : List ℕ) where
+  abbrev w : Writing
+  w = withParts p within
 
--- the consumer with the fields that the last write changes
-pub flushed-is : (c : Consumer) (n : ℕ) → Fitting c n → (t : LeaseTable) → Becomes t (attemptsFlushed (lease.view (c .table)))
-    → (ceiling : ℕ) → ceiling ≡ newCeiling (view c)
-    → FlushedIs c (record {
-      cursor = c .cursor;
-      table = t;
-      ceiling = record { 0 = ceiling };
-      next = record { number = c .next .number + 1; block = c .next .block + (n + 1) };
-      «area_len» = c .«area_len»;
-      settings = c .settings;
-    })
-flushed-is c n f t b ceiling e =
-    record {
-      is = is;
-      sound =
-          record {
-            cursor = f .sound .cursor;
-            table = b .sound;
-            settings = f .sound .settings;
-            valid = rw is (flushed-valid (view c) (record { room = rw (← f .count) (f .room) }) (f .sound .valid));
-          };
-    }
-  where
-    is : stateOf (cursor.view (c .cursor)) (lease.view t) ceiling (nextGroupAt (c .next .number + 1) (c .next .block + (n + 1))) (c .«area_len») (settingsOf (c .settings))
-        ≡ flushed (view c)
-    is = rw (b .is, e, add-one n, f .count)
+  abbrev st : State
+  st = view (w .consumer)
 
--- ## A step
-abbrev moved : Writing → Writing
-moved w =
-    record {
-      consumer = w .consumer;
-      written = w .written + 1;
-      payload = w .payload;
-      «cursor_len» = w .«cursor_len»;
-      «attempt_len» = w .«attempt_len»;
-    }
-
-module _ (w : Writing) (s : SoundWriting w) (a : List ℕ) where
-  pub step-refused : (length a ≡ w .consumer .«area_len» → ⊥) → SteppedIs w a (record { answer = BadArea; writing = w }) a
+  pub step-refused : (length a ≡ p .areaLen → ⊥) → SteppedIs w a (record { answer = BadArea; writing = w }) a
   unfolding step
-  step-refused n = record { is = rw (ne-eqb (length a) (w .consumer .«area_len») n); sound = s; kept = refl }
+  step-refused n = record { is = rw (ne-eqb (length a) (p .areaLen) n); sound = s; kept = refl }
 
-  module _ (area : length a ≡ w .consumer .«area_len») where
-    -- the next body lies in the area
-    pub body-inside : w .written < bodies (view (w .consumer)) → Into w a (w .consumer .next .block + (w .written + 1))
-    body-inside h = record { sound = s; area = area; inside = omega (arith, s .valid .room) }
+  module _ (area : length a ≡ p .areaLen) where
+    -- the next body lies in the area, and so does the header
+    pub body-inside : p .written < bodies st → outside (length a) (p .block + (p .written + 1)) ≡ false
+    body-inside h = into-inside w a (p .block + (p .written + 1)) (record { sound = s; area = area; inside = omega (arith, s .valid .room) })
 
-    -- and so does the header
-    pub header-inside : Into w a (w .consumer .next .block)
-    header-inside = record { sound = s; area = area; inside = omega (arith, s .valid .room) }
+    pub header-inside : outside (length a) (p .block) ≡ false
+    header-inside = into-inside w a (p .block) (record { sound = s; area = area; inside = omega (arith, s .valid .room) })
 
-    pub step-last : (after : List ℕ) → bodies (view (w .consumer)) ≤ w .written → (v : Writing) → FlushedIs (w .consumer) (v .consumer)
-        → after ≡ writeAt a (w .consumer .next .block) (headerOf (view (w .consumer)))
-        → SteppedIs w a (record { answer = Finished (w .consumer .next .block); writing = v }) after
-    unfolding step
-    step-last after h v f e =
-        record {
-          is = rw (eq-eqb (length a) (w .consumer .«area_len») area, le-leb (bodies (view (w .consumer))) (w .written) h, e, f .is);
-          sound = f .sound;
-          kept = tt;
-        }
+    -- a body was written
+    abbrev moved : Writing
+    moved = withParts (parts (p .written + 1) (p .cursorLen) (p .attemptLen) (p .areaLen) (p .generation) (p .ceiling) (p .redeliveries) (p .number) (p .block) (p .payload)) within
 
-    pub step-body : (after : List ℕ) → w .written < bodies (view (w .consumer))
-        → after ≡ writeAt a (w .consumer .next .block + (w .written + 1)) (bodyOf (view (w .consumer)) (w .written + 1))
-        → SteppedIs w a (record { answer = Wrote (w .consumer .next .block + (w .written + 1)); writing = moved w }) after
+    pub step-body : (after : List ℕ) → p .written < bodies st
+        → after ≡ writeAt a (p .block + (p .written + 1)) (blockOf (block.Body (p .number) (p .written + 1)) (take (p .cursorLen + p .attemptLen) (p .payload)))
+        → SteppedIs w a (record { answer = Wrote (p .block + (p .written + 1)); writing = moved }) after
     unfolding step
     step-body after h e =
         record {
-          is = rw (eq-eqb (length a) (w .consumer .«area_len») area, lt-leb (bodies (view (w .consumer))) (w .written) h, e, add-one (w .written));
+          is = rw (eq-eqb (length a) (p .areaLen) area, lt-leb (bodies st) (p .written) h, e, s .encoded .payload, add-one (p .written));
           sound =
               record {
                 consumer = s .consumer;
@@ -158,3 +104,37 @@ module _ (w : Writing) (s : SoundWriting w) (a : List ℕ) where
               };
           kept = tt;
         }
+
+    -- the header was written
+    module _ (n ceiling redeliveries : ℕ) (count : n ≡ bodies st) (raised : ceiling ≡ newCeiling st) (cleared : redeliveries ≡ afterFlush (p .redeliveries)) where
+      abbrev last : Writing
+      last = withParts (parts (p .written) (p .cursorLen) (p .attemptLen) (p .areaLen) (p .generation) ceiling redeliveries (p .number + 1) (p .block + (n + 1)) (p .payload)) within
+
+      abbrev header : Block
+      header = headerBy (p .number) ceiling (p .cursorLen) (p .attemptLen)
+
+      flushed-is : view (last .consumer) ≡ flushed st
+      flushed-is = rw (cleared, raised, add-one n, count)
+
+      flushed-sound : Sound (last .consumer)
+      flushed-sound =
+          let t = s .consumer .table in
+          record {
+            cursor = s .consumer .cursor;
+            table = record { len = t .len; carried-len = t .carried-len; valid = rw cleared (valid-flushed (lease.view (w .consumer .table)) (t .valid)) };
+            settings = s .consumer .settings;
+            valid = rw flushed-is (flushed-valid st (record { room = s .valid .room }) (s .consumer .valid));
+          }
+
+      pub step-last : (after : List ℕ) → bodies st ≤ p .written
+          → after ≡ writeAt a (p .block) (blockOf header (take (p .cursorLen + p .attemptLen) (p .payload)))
+          → SteppedIs w a (record { answer = Finished (p .block); writing = last }) after
+      unfolding step
+      step-last after h e =
+          let head : blockOf header (take (p .cursorLen + p .attemptLen) (p .payload)) ≡ headerOf st =
+          rw (raised, s .encoded .cursor-len, s .encoded .attempt-len) in
+          record {
+            is = rw (eq-eqb (length a) (p .areaLen) area, le-leb (bodies st) (p .written) h, e, head, flushed-is);
+            sound = flushed-sound;
+            kept = tt;
+          }

@@ -1,3 +1,4 @@
 pub mod Checkpoint
+pub mod Parts
 pub mod Valid
 pub mod Writing

@@ -1,6 +1,6 @@
 -- What the code's writing record and the answers of begin and step stand for, the invariant of the record, and the parts of the
 -- contracts.
-use Prim.Native.Nat.{ℕ, suc, _+_, _≤_, _<_}
+use Prim.Native.Nat.{ℕ, _+_, _<_}
 use mathlib.Core.Path.{_≡_}
 use mathlib.Core.Bool.{true, false}
 use mathlib.Core.List.{List}
@@ -8,12 +8,10 @@ use lib.ListN.{length, take}
 use Rattle.types.specs.Refusal.{Result, refused, done}
 use Rattle.types.specs.Refusal as refusal
 use Rattle.types.specs.Table.{answer, Kept}
-use Rattle.journal.specs.Answers.{blockOf}
-use Rattle.journal.specs.declared.Block.{Block}
 use Rattle.consumer.specs.State.{State, blocksOf}
 use Rattle.consumer.specs.View.{view, Sound}
 use Rattle.consumer.specs.declared.Consumer.{Consumer}
-use Rattle.checkpoint.specs.Checkpoint.{cursorBytes, attemptBytes, payloadOf, bodies, writes, headerOf, flushed, writing, begin, Left, going, finished, BlockWritten, lent, step}
+use Rattle.checkpoint.specs.Checkpoint.{cursorBytes, attemptBytes, payloadOf, writes, writing, begin, Left, going, finished, BlockWritten, lent, step}
 use Rattle.checkpoint.specs.Checkpoint as checkpoint
 use Rattle.checkpoint.specs.Valid.{ValidWriting}
 use Rattle.checkpoint.specs.declared.Writing.{Writing}
@@ -54,12 +52,6 @@ pub record BegunIs (before : Consumer) (r : Begun) : Type 0 where
   pub sound : SoundBegun (r .answer) (r .writing)
   pub kept : r .writing .consumer ≡ before
 
--- the record of a consumer before the first write
-pub record EncodedIs (before : Consumer) (w : Writing) : Type 0 where
-  pub same : w .consumer ≡ before
-  pub none-written : w .written ≡ 0
-  pub encoded : Encoded (view before) (w .payload) (w .«cursor_len») (w .«attempt_len»)
-
 -- ## step
 abbrev pub stepOf : StepAnswer → Result BlockWritten
 stepOf (steps.Wrote block) = done (record { block = block; last = false })
@@ -83,24 +75,9 @@ pub record SteppedIs (before : Writing) (a : List ℕ) (r : Stepped) (a′ : Lis
   pub sound : SoundLeft (r .answer) (r .writing)
   pub kept : Kept (stepOf (r .answer)) before (r .writing)
 
--- ## parts of a step
+-- ## where a step writes
 -- a block of the area that the consumer was started on
 pub record Into (w : Writing) (a : List ℕ) (i : ℕ) : Type 0 where
   pub sound : SoundWriting w
   pub area : length a ≡ w .consumer .«area_len»
   pub inside : i < blocksOf (view (w .consumer))
-
--- the header of a state's group, whatever payload stands beside it
-pub record HeaderIs (s : State) (b : Block) : Type 0 where
-  pub is : (payload : List ℕ) → blockOf b payload ≡ headerOf s
-
--- a consumer whose group has n bodies and fits
-pub record Fitting (c : Consumer) (n : ℕ) : Type 0 where
-  pub sound : Sound c
-  pub count : n ≡ bodies (view c)
-  pub room : c .next .block + suc n ≤ blocksOf (view c)
-
--- the consumer after the last write
-pub record FlushedIs (before after : Consumer) : Type 0 where
-  pub is : view after ≡ flushed (view before)
-  pub sound : Sound after

@@ -33,6 +33,14 @@ impl AckCursor {
     // The length of a snapshot without ranges: version, committed and check.
     pub const SNAPSHOT_MIN_LEN: usize = 1 + 8 + 4;
 
+    // The length of a snapshot with so many ranges.
+    pub fn snapshot_len(runs: usize) -> usize
+        requires { ⌜ runs ≤ 128 ⌝ }
+        ensures { λ r. ⌜ r ≡ 13 + 16 * runs ⌝ }
+    {
+        AckCursor::SNAPSHOT_MIN_LEN + RANGE_LEN * runs
+    }
+
     // Writes the snapshot from a position on, and answers the position behind it. Refused without room (20).
     pub fn encode_snapshot(self, out: &mut [u8], at: usize) -> Write
         requires { ⌜ Sound self ⌝ }

@@ -17,7 +17,6 @@ ghost use Rattle.cursor.specs.Place.{Spotted, joinedAt};
 ghost use Rattle.cursor.specs.Snapshot.{encodeCursor};
 use crate::AckCursor;
 use crate::BoundedAck;
-use crate::codec::RANGE_LEN;
 use crate::codec::write_body;
 use raw::Write;
 use types::limits::MAX;
@@ -164,7 +163,7 @@ pub fn encode_in_place<'a>(
     requires { ⌜ Whole (ackCursor committed (now starts) (now ends) runs) ⌝ }
     ensures { λ r. ⌜ answer (outcomeOf r) (now (out .exit)) ≡ write at (encodeCursor (view (ackCursor committed (now (starts .entry)) (now (ends .entry)) runs))) (now (out .entry)) ⌝ }
 {
-    let len = AckCursor::SNAPSHOT_MIN_LEN + RANGE_LEN * runs;
+    let len = AckCursor::snapshot_len(runs);
     if raw::too_short(out.len(), at, len) {
         return Write::OutTooShort;
     }

@@ -28,26 +28,23 @@ returns c =
     let a = n .before .before .before .before .args in
     too-many (pairs n) (n .shorter .result) (a .at) (a .out .now) (count n) (c .if1 .taken)
 
-mul-len : tie.Need-mul-len
-mul-len c = search needs
-
-add-len : tie.Need-add-len
-add-len c = search needs
+snapshot-len-requires : tie.Need-snapshot-len-requires
+snapshot-len-requires c κs = search needs
 
 returns-2 : tie.Need-returns-2
 returns-2 c =
-    let n = c .before .before in
+    let n = c .before .before .before in
     let a = n .before .before .before .before .args in
-    too-short (pairs n) (n .shorter .result) (a .at) (a .out .now) (count n) (c .before .if1 .left) (omega arith)
+    too-short (pairs n) (n .shorter .result) (a .at) (a .out .now) (count n) (c .before .before .if1 .left) (omega arith)
 
 sub-if3 : tie.Need-sub-if3
 sub-if3 c = search needs
 
 returns-3 : tie.Need-returns-3
 returns-3 c =
-    let n = c .before .before .before in
+    let n = c .before .before .before .before in
     let a = n .before .before .before .before .args in
-    too-short (pairs n) (n .shorter .result) (a .at) (a .out .now) (count n) (c .before .before .if1 .left) (omega arith)
+    too-short (pairs n) (n .shorter .result) (a .at) (a .out .now) (count n) (c .before .before .before .if1 .left) (omega arith)
 
 put-body-requires : tie.Need-put-body-requires
 put-body-requires c κs = search needs
@@ -76,8 +73,8 @@ crc32c-requires c κs = search needs
 write-u32-requires : tie.Need-write-u32-requires
 write-u32-requires c κs = search needs
 
-add-t10 : tie.Need-add-t10
-add-t10 c = search needs
+add-t9 : tie.Need-add-t9
+add-t9 c = search needs
 
 same-length : tie.Need-same-length
 same-length c = search needs
@@ -87,17 +84,18 @@ returns-4 c =
     let w = c .before .before in
     let k = w .before .before in
     let b = k .before .before .before .before .before in
-    let e = b .before .before .before .before in
+    let l = b .before .before .before .before in
+    let e = l .before in
     let n = e .before in
     let a = n .before .before .before .before .args in
     let m = n .shorter .result in
     let part : a .at + (5 + 12 * m) - a .at ≡ 5 + 12 * m = omega arith in
-    encoded (pairs n) m (a .at) (a .out .now) (count n) (e .if1 .left) (b .put-body .last .1 .1 .1 .0) _ (k .crc32c .result) _
+    rw (l .snapshot-len .ensures) (encoded (pairs n) m (a .at) (a .out .now) (count n) (e .if1 .left) (b .put-body .last .1 .1 .1 .0) _ (k .crc32c .result) _
     (omega (arith, b .before .before .before .if2 .left, b .before .before .if3 .left))
     part
     (b .put-body .ensures)
     (k .crc32c .ensures)
-    (w .write-u32 .ensures)
+    (w .write-u32 .ensures))
 
 pub encode-columns-spec : {M : Type 1} → statement M
 encode-columns-spec =
@@ -105,8 +103,7 @@ encode-columns-spec =
     (tie.spec
     shorter-requires
     returns
-    mul-len
-    add-len
+    snapshot-len-requires
     returns-2
     sub-if3
     returns-3
@@ -119,6 +116,6 @@ encode-columns-spec =
     part-crc32c-end
     crc32c-requires
     write-u32-requires
-    add-t10
+    add-t9
     same-length
     returns-4)

@@ -1,38 +1,45 @@
--- `begin` meets its contract: the record of the consumer, if the blocks that are left take its group. Assumes nothing.
-use native.Mathlib.Omega.{arith}
-use borrow.Author.Needs.{needs}
-use Rattle.checkpoint.proofs.Encoding.{Lengths, lengths, begin-refused, begin-done}
+-- `begin` meets its contract: the parts of a consumer, lent to `begin_in_place`, are that consumer. Assumes nothing.
+use Prim.Native.Nat.{ℕ}
+use mathlib.Core.Path.{_≡_, refl}
+use lib.ListN.{length}
+use borrow.Author.Needs.{needs, length-unmapped}
+use Rattle.types.specs.Limits.{CARRIED}
+use Rattle.checkpoint.specs.Parts.{Lent}
 use Rattle.checkpoint.proofs.begin.Statement.{statement}
 use Rattle.checkpoint.proofs.begin.Tie as tie
 
-fits : (c : tie.After-encoded) → Lengths (c .before .args .consumer) (c .before .pre) (c .encoded .result) (c .encoded .ensures)
-fits c = lengths (c .before .args .consumer) (c .before .pre) (c .encoded .result) (c .encoded .ensures)
+-- the columns have their lengths; the last two stand too deep in the struct for the search
+carried : (s : tie.Start) → let t = s .args .t1 .table in (length (t .«carried_offsets») ≡ CARRIED) × (length (t .«carried_counts») ≡ CARRIED)
+carried s =
+    let t = s .args .t1 .table in
+    let columns = s .good .0 .1 .1 .1 .0 .1 .1 .1 .1 .1 .1 .1 .1 .1 in (
+      length-unmapped ℕ (t .«carried_offsets») CARRIED (columns .0 .1 .0 .1),
+      length-unmapped ℕ (t .«carried_counts») CARRIED (columns .1 .0 .1 .0 .1),
+    )
 
-encoded-requires : tie.Need-encoded-requires
-encoded-requires c κs = search needs
+lent : (s : tie.Start) → Lent (s .args .t1)
+lent s =
+    record {
+      cursor = record { starts = search needs; ends = search needs; sound = s .pre .cursor };
+      table =
+          record {
+            offsets = search needs;
+            leases = record { generations = search needs; starts = search needs; deadlines = search needs; counts = search needs };
+            carried-offsets = carried s .0;
+            carried-counts = carried s .1;
+          };
+      sound = s .pre;
+    }
 
-bodies-of-requires : tie.Need-bodies-of-requires
-bodies-of-requires c κs = let f = fits c in (omega (arith, f .cursor-len), omega (arith, f .attempt-len))
-
-add-writes : tie.Need-add-writes
-add-writes c = let f = fits (c .before) in omega (arith, f .cursor-len, f .attempt-len, c .bodies-of .ensures)
-
-add-if1 : tie.Need-add-if1
-add-if1 c = let f = fits (c .before .before .before) in omega (arith, f .cursor-len, f .attempt-len, f .block)
+begin-in-place-requires : tie.Need-begin-in-place-requires
+begin-in-place-requires c κs =
+    let s = c .before .before .before .before .before .before .before .before in
+    record { consumer = s .args .t1; lent = lent s; payload = refl }
 
 returns : tie.Need-returns
 returns c =
-    let e = c .before .before .before .before in
-    let b = c .before .before .before .bodies-of .ensures in
-    begin-refused (e .before .args .consumer) (e .before .pre) (e .encoded .result) (e .encoded .ensures) (rw b at (c .if1 .taken))
-
-returns-2 : tie.Need-returns-2
-returns-2 c =
-    let e = c .before .before .before .before in
-    let b = c .before .before .before .bodies-of .ensures in
-    rw b (begin-done (e .before .args .consumer) (e .before .pre) (e .encoded .result) (e .encoded .ensures) (rw b at (c .if1 .left)))
+    let s = c .before .before .before .before .before .before .before .before .before in
+    c .begin-in-place .ensures (s .args .t1) (lent s) .begun
 
 pub begin-spec : {M : Type 1} → statement M
-begin-spec =
-    tie.close
-    (tie.spec encoded-requires bodies-of-requires add-writes add-if1 returns returns-2)
+begin-spec = tie.close (tie.spec begin-in-place-requires returns)

@@ -19,11 +19,8 @@ g s = ackCursor (s .args .committed) (s .args .starts .now) (s .args .ends .now)
 size : (s : tie.Start) → length (view (g s) .ahead) ≡ s .args .runs
 size s = runs-is (g s) (s .pre)
 
-mul-len : tie.Need-mul-len
-mul-len c = search needs
-
-add-len : tie.Need-add-len
-add-len c = search needs
+snapshot-len-requires : tie.Need-snapshot-len-requires
+snapshot-len-requires c κs = c .before .pre .sound .few
 
 too-short-requires : tie.Need-too-short-requires
 too-short-requires c κs = search needs
@@ -31,18 +28,19 @@ too-short-requires c κs = search needs
 returns : tie.Need-returns
 returns c =
     let t = c .before in
-    let s = t .before .before in
+    let s = t .before .before .before in
     let a = s .args in
-    too-short (view (g s)) (a .runs) (a .at) (a .out .now) (size s) (ltb-true _ _ (sym (t .too-short .ensures) ∙ c .if1 .taken))
+    too-short (view (g s)) (a .runs) (a .at) (a .out .now) (size s)
+    (rw (← t .before .snapshot-len .ensures) (ltb-true _ _ (sym (t .too-short .ensures) ∙ c .if1 .taken)))
 
 -- there is room
-room : (c : tie.Else1) → let a = c .before .before .before .args in a .at + (13 + 16 * a .runs) ≤ length (a .out .now)
-room c = ltb-false _ _ (sym (c .before .too-short .ensures) ∙ c .if1 .left)
+room : (c : tie.Else1) → let a = c .before .before .before .before .args in a .at + (13 + 16 * a .runs) ≤ length (a .out .now)
+room c = rw (← c .before .before .snapshot-len .ensures) (ltb-false _ _ (sym (c .before .too-short .ensures) ∙ c .if1 .left))
 
 write-body-requires : tie.Need-write-body-requires
 write-body-requires c κs =
     let e = c .before in
-    let s = e .before .before .before in
+    let s = e .before .before .before .before in
     (s .pre .sound .few, s .pre .starts, s .pre .ends, omega (arith, room e))
 
 sub-end : tie.Need-sub-end
@@ -77,16 +75,16 @@ returns-2 c =
     let k = w .before .before in
     let b = k .before .before .before .before .before in
     let e = b .before .before in
-    let s = e .before .before .before in
+    let l = e .before .before .snapshot-len in
+    let s = e .before .before .before .before in
     let a = s .args in
-    encoded (view (g s)) (a .runs) (a .at) (a .out .now) (size s) (b .write-body .last .1 .1 .1 .1 .0) (w .write-u32 .last .0) (k .crc32c .result) (13 + 16 * a .runs - 4) (room e) (omega arith) (b .write-body .ensures) (k .crc32c .ensures) (w .write-u32 .ensures)
+    encoded (view (g s)) (a .runs) (a .at) (a .out .now) (size s) (b .write-body .last .1 .1 .1 .1 .0) (w .write-u32 .last .0) (k .crc32c .result) (l .result - 4) (room e) (omega (arith, l .ensures)) (b .write-body .ensures) (k .crc32c .ensures) (w .write-u32 .ensures)
 
 pub encode-in-place-spec : {M : Type 1} → statement M
 encode-in-place-spec =
     tie.close
     (tie.spec
-    mul-len
-    add-len
+    snapshot-len-requires
     too-short-requires
     returns
     write-body-requires

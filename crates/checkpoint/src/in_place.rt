@@ -1,0 +1,217 @@
+// A checkpoint on the parts of a writing record: each function takes its numbers by value and the bytes lent, and answers the
+// numbers, changed or not, so that a record by value and one that lies in another's memory are served by the same function.
+ghost use Prim.Native.Nat.{_≤_, _+_};
+ghost use mathlib.Core.Path.{_≡_};
+ghost use mathlib.Core.Bool.{false};
+ghost use lib.ListN.{length, take};
+ghost use Rattle.types.specs.Limits.{sat64};
+ghost use Rattle.types.specs.Table.{answer};
+ghost use Rattle.types.specs.Keyed.{entries};
+ghost use Rattle.attempt.specs.Snapshot.{encodeInto};
+ghost use Rattle.attempt.specs.Codec.{encodeOf};
+ghost use Rattle.cursor.specs.View.{ackCursor};
+ghost use Rattle.lease.specs.Parts.{listingAll};
+ghost use Rattle.journal.specs.Area.{outside, writeAt};
+ghost use Rattle.journal.specs.Answers.{blockOf};
+ghost use Rattle.journal.specs.Blocks.{bodiesFor};
+ghost use Rattle.journal.specs.declared.Block.the-variants.{Body};
+ghost use Rattle.checkpoint.specs.Parts.{beginning, recording, Beginnable, BegunIn, parts, Steppable, SteppedIn, headerBy};
+use crate::BeginAnswer;
+use crate::StepAnswer;
+use attempt::Encode;
+use cursor::AckCursor;
+use journal::Block;
+use journal::Header;
+use types::limits::CARRIED;
+use types::limits::LEASES;
+use types::limits::RANGES;
+use types::numbers;
+
+// What a begin answers, and the numbers of the record that it begins.
+pub struct BegunAt {
+    pub answer: BeginAnswer,
+    pub written: usize,
+    pub cursor_len: usize,
+    pub attempt_len: usize,
+}
+
+// What a step answers, and the numbers that steps change.
+pub struct SteppedAt {
+    pub answer: StepAnswer,
+    pub written: usize,
+    pub ceiling: u64,
+    pub redeliveries: u32,
+    pub number: u64,
+    pub block: usize,
+}
+
+// The ceiling after a checkpoint: 4,096 generations more, as far as there are any.
+fn new_ceiling(next: u64) -> u64
+    ensures { λ r. ⌜ r ≡ sat64 next 4096 ⌝ }
+{
+    numbers::saturating_add(next, 4096)
+}
+
+// Bodies for the two snapshots of a group.
+fn bodies_of(cursor_len: usize, attempt_len: usize) -> usize
+    requires { ⌜ («cursor_len» ≤ 4000) × («attempt_len» ≤ 4000) ⌝ }
+    ensures { λ r. ⌜ r ≡ bodiesFor («cursor_len» + «attempt_len») ⌝ }
+{
+    (cursor_len + attempt_len + 499) / 500
+}
+
+// Writes the snapshot of the first n counts of two columns from a position on.
+fn put_counts<'a>(
+    offsets: &'a [u64],
+    attempts: &'a [u32],
+    n: usize,
+    out: &mut [u8],
+    at: usize,
+) -> Encode
+    requires { ⌜ (n ≤ length (now offsets)) × (n ≤ length (now attempts)) ⌝ }
+    ensures { λ r. ⌜ answer (encodeOf r) (now (out .exit)) ≡ encodeInto (entries (take n (now (offsets .entry))) (take n (now (attempts .entry)))) at (now (out .entry)) ⌝ }
+{
+    attempt::encode_columns(&offsets[..n], &attempts[..n], out, at)
+}
+
+// What `begin` does on the parts of a consumer, and of the record that is to hold its payload: with room for the group both
+// snapshots are encoded there, without it nothing changes (31).
+pub fn begin_in_place<'a>(
+    written: usize,
+    cursor_len: usize,
+    attempt_len: usize,
+    committed: u64,
+    runs: usize,
+    len: usize,
+    carried_len: usize,
+    block: usize,
+    area_len: usize,
+    starts: &'a [u64; RANGES],
+    ends: &'a [u64; RANGES],
+    offsets: &'a [u64; LEASES],
+    deliveries: &'a [u32; LEASES],
+    carried_offsets: &'a [u64; CARRIED],
+    carried_counts: &'a [u32; CARRIED],
+    payload: &mut [u8; 3606],
+) -> BegunAt
+    requires { ⌜ Beginnable (beginning (ackCursor committed (now starts) (now ends) runs) (listingAll len «carried_len» (now offsets) (now deliveries) (now «carried_offsets») (now «carried_counts»)) block «area_len») (now payload) ⌝ }
+    ensures { λ r. ⌜ BegunIn (r .answer) (beginning (ackCursor committed (now (starts .entry)) (now (ends .entry)) runs) (listingAll len «carried_len» (now (offsets .entry)) (now (deliveries .entry)) (now («carried_offsets» .entry)) (now («carried_counts» .entry))) block «area_len»)
+        (recording written «cursor_len» «attempt_len» (now (payload .entry))) (recording (r .written) (r .«cursor_len») (r .«attempt_len») (now (payload .exit))) ⌝ }
+{
+    let counts = lease::in_place::all_counts_in_place(
+        len,
+        carried_len,
+        offsets,
+        deliveries,
+        carried_offsets,
+        carried_counts,
+    );
+    let count = counts.len;
+    let front = AckCursor::snapshot_len(runs);
+    let behind = attempt::snapshot_len(count);
+    let writes = bodies_of(front, behind) + 1;
+    if area_len / 512 < block + writes {
+        return BegunAt {
+            answer: BeginAnswer::JournalFull,
+            written,
+            cursor_len,
+            attempt_len,
+        };
+    }
+    cursor::in_place::encode_in_place(committed, starts, ends, runs, payload, 0);
+    put_counts(&counts.offsets, &counts.attempts, count, payload, front);
+    BegunAt {
+        answer: BeginAnswer::Begun { writes: writes },
+        written: 0,
+        cursor_len: front,
+        attempt_len: behind,
+    }
+}
+
+// The header of a group.
+fn header_of(number: u64, ceiling: u64, cursor_len: usize, attempt_len: usize) -> Block
+    requires { ⌜ (number ≤ 129) × («cursor_len» ≤ 4000) × («attempt_len» ≤ 4000) ⌝ }
+    ensures { λ r. ⌜ r ≡ headerBy number ceiling «cursor_len» «attempt_len» ⌝ }
+{
+    Block::Header(Header {
+        number: number as u32,
+        ceiling: ceiling,
+        cursor_len: cursor_len as u16,
+        attempt_len: attempt_len as u16,
+    })
+}
+
+// A body of a group.
+fn body_of(number: u64, index: usize) -> Block
+    requires { ⌜ (number ≤ 129) × (index ≤ 9) ⌝ }
+    ensures { λ r. ⌜ r ≡ Body number index ⌝ }
+{
+    Block::Body {
+        number: number as u32,
+        index: index as u8,
+    }
+}
+
+// Writes a block at place `at` of an area that has it; the bodies' bytes are the first `total` of the payload.
+fn put_block(area: &mut [u8], at: usize, block: Block, payload: &[u8], total: usize)
+    requires { ⌜ (total ≤ length (now payload)) × (outside (length (now area)) at ≡ false) ⌝ }
+    ensures { λ _. ⌜ now (area .exit) ≡ writeAt (now (area .entry)) at (blockOf block (take total (now (payload .entry)))) ⌝ }
+{
+    journal::write_block(area, at, block, &payload[..total]);
+}
+
+// What `Writing::step` does to the parts of a record: the next block write, and no other.
+pub fn step_in_place(
+    written: usize,
+    cursor_len: usize,
+    attempt_len: usize,
+    area_len: usize,
+    next_generation: u64,
+    ceiling: u64,
+    redeliveries: u32,
+    number: u64,
+    block: usize,
+    payload: &[u8; 3606],
+    area: &mut [u8],
+) -> SteppedAt
+    requires { ⌜ Steppable (parts written «cursor_len» «attempt_len» «area_len» «next_generation» ceiling redeliveries number block (now payload)) ⌝ }
+    ensures { λ r. ⌜ SteppedIn (parts written «cursor_len» «attempt_len» «area_len» «next_generation» ceiling redeliveries number block (now (payload .entry))) (now (area .entry)) r (now (area .exit)) ⌝ }
+{
+    if area.len() != area_len {
+        return SteppedAt {
+            answer: StepAnswer::BadArea,
+            written,
+            ceiling,
+            redeliveries,
+            number,
+            block,
+        };
+    }
+    let total = cursor_len + attempt_len;
+    let bodies = bodies_of(cursor_len, attempt_len);
+    if bodies <= written {
+        let raised = new_ceiling(next_generation);
+        let header = header_of(number, raised, cursor_len, attempt_len);
+        put_block(area, block, header, payload, total);
+        return SteppedAt {
+            answer: StepAnswer::Finished { block: block },
+            written,
+            ceiling: raised,
+            redeliveries: redeliveries::after_flush(redeliveries),
+            number: number + 1,
+            block: block + (bodies + 1),
+        };
+    }
+    let index = written + 1;
+    let at = block + index;
+    let body = body_of(number, index);
+    put_block(area, at, body, payload, total);
+    SteppedAt {
+        answer: StepAnswer::Wrote { block: at },
+        written: index,
+        ceiling,
+        redeliveries,
+        number,
+        block,
+    }
+}
