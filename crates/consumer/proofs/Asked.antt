@@ -7,7 +7,7 @@ use native.Mathlib.Nat.{le-antisymm}
 use native.Mathlib.Numerals.{add-one}
 use mathlib.Core.Path.{_≡_, refl, sym, ap, _∙_}
 use mathlib.Core.List.{List, [], _∷_, _++_, append-assoc, append-nil}
-use mathlib.Core.Option.{none}
+use mathlib.Core.Option.{Option, none, some, Option·none-ne-some}
 use lib.Dec.{ltb}
 use lib.ListN.{length, take, getD, set, length-set, length-take}
 use lib.Seq.{take-take, take-suc, take-suc-set}
@@ -17,16 +17,24 @@ use Rattle.types.proofs.Cases.{split}
 use Rattle.lease.specs.declared.Lease.{Lease}
 use Rattle.lease.specs.declared.LeaseTable.{LeaseTable}
 use Rattle.lease.specs.State.{carriedOf}
-use Rattle.lease.specs.Operations.{leaseOf}
-use Rattle.lease.specs.Rest.{expiredOffsets}
+use Rattle.lease.specs.Operations.{leaseOf, timesHandedOut}
+use Rattle.lease.specs.Rest.{expiredOffsets, deliveriesOf}
 use Rattle.consumer.specs.State.{State}
 use Rattle.consumer.specs.Questions.{keysOf, countOf}
 use Rattle.consumer.specs.Valid.{Valid}
-use Rattle.consumer.proofs.Counts.{count-is}
+use Rattle.consumer.proofs.Counts.{no-lease, count-is}
 
 -- ## the count of an offset
-pub no-count : (s : State) → Valid s → (o : ℕ) → leaseOf (s .table) o ≡ none → lookup o (s .table .carried) ≡ none → 0 ≡ countOf s o
-no-count s v o e f = sym (count-is s v o ∙ rw (e, f))
+module _ (s : State) (v : Valid s) (o : ℕ) where
+  pub no-count : deliveriesOf (leaseOf (s .table) o) ≡ none → lookup o (s .table .carried) ≡ none → 0 ≡ countOf s o
+  no-count e f = sym (count-is s v o ∙ rw (no-lease (leaseOf (s .table) o) e, f))
+
+  pub lease-counted : (n : ℕ) → deliveriesOf (leaseOf (s .table) o) ≡ some n → countOf s o ≡ n
+  lease-counted n e = count-is s v o ∙ go (leaseOf (s .table) o) e
+    where
+      go : (x : Option Lease) → deliveriesOf x ≡ some n → timesHandedOut x (lookup o (s .table .carried)) ≡ n
+      go none q = absurd (Option·none-ne-some n q)
+      go (some l) q = cc
 
 -- ## the carried offsets
 keys-taken : (ks vs : List ℕ) → keysOf (entries ks vs) ≡ take (length (entries ks vs)) ks
@@ -46,6 +54,11 @@ module _ (t : LeaseTable) (n : ℕ) (size : n ≡ length (carriedOf t)) where
       keys-taken (take (t .«carried_len») (t .«carried_offsets»)) (take (t .«carried_len») (t .«carried_counts»))
       ∙ take-take (length (carriedOf t)) (t .«carried_len») (t .«carried_offsets») (omega (arith, few, length-take (t .«carried_len») (t .«carried_offsets»)))
       ∙ ap (λ (k : ℕ). take k (t .«carried_offsets»)) (sym size)
+
+  -- the list of both, from what stands in the array
+  pub both-listed : (k m : ℕ) (more right out : List ℕ) → m ≡ k → take k more ≡ right → take (n + m) out ≡ take n (t .«carried_offsets») ++ take m more
+      → take (n + m) out ≡ keysOf (carriedOf t) ++ right
+  both-listed k m more right out e f h = h ∙ rw (e, f, carried-keys)
 
 -- ## the expired offsets behind them
 expired-few : (now : ℕ) (l : List (Entry Lease)) → length (expiredOffsets now l) ≤ length l

@@ -3,7 +3,7 @@
 use Prim.Native.Nat.{ℕ, _+_, _≤_, _<_}
 use native.Mathlib.Omega.{arith}
 use mathlib.Core.Path.{_≡_, refl, sym, ap, _∙_}
-use mathlib.Core.Bool.{Bool, true, false, not, _&&_, true≢false}
+use mathlib.Core.Bool.{Bool, true, false, not, _&&_, _||_, true≢false}
 use mathlib.Core.List.{List}
 use mathlib.Core.Option.{Option, none, some, Option·none-ne-some}
 use lib.Dec.{leb}
@@ -15,18 +15,19 @@ use Rattle.types.specs.Table.{Row, first, Passed, Answer, answer}
 use Rattle.types.specs.Keyed.{lookup}
 use Rattle.types.proofs.Table.{first-none, passed-none, guarded-passed, first-none-before, passed-append}
 use Rattle.cursor.specs.Cursor.{settled}
-use Rattle.delivery.specs.Policy.{Policy, Destination, disposition}
+use Rattle.delivery.specs.Policy.{Destination, destination}
 use Rattle.lease.specs.declared.Lease.{Lease}
 use Rattle.lease.specs.declared.LeaseTable.{LeaseTable}
 use Rattle.lease.specs.declared.LeaseToken.{LeaseToken}
-use Rattle.lease.specs.declared.Claim.{Claim}
-use Rattle.lease.specs.declared.Claim.the-variants.{Granted}
 use Rattle.lease.specs.State.{Table}
-use Rattle.lease.specs.Operations.{Grant, granted, grant, leaseOf, isNone, running}
+use Rattle.lease.specs.State as state
+use Rattle.lease.specs.Operations.{Grant, grantOf, granted, grant, leaseOf, isNone, running}
 use Rattle.lease.specs.Operations as leases
+use Rattle.lease.specs.Rest.{deliveriesOf}
 use Rattle.lease.specs.Answers as answers
 use Rattle.consumer.specs.State.{State, withTable}
 use Rattle.consumer.specs.Calls.{callRows, HandOut, handOut, isFull, claimRows, claimTable, claim, claimed}
+use Rattle.consumer.specs.Parts.{handedOut}
 use Rattle.consumer.specs.View.{view, Sound, Answers, holding, handOutOf, claimOf, asResult}
 use Rattle.consumer.specs.declared.Consumer.{Consumer}
 use Rattle.consumer.specs.declared.calls.ClaimAnswer.{ClaimAnswer}
@@ -36,19 +37,23 @@ use Rattle.consumer.proofs.CallsReturns.{sound-with, refuses, takes-eff
 
 -- ## 27
 module _ (t : Table) (o : ℕ) where
-  pub full-leased : (l : Lease) → leaseOf t o ≡ some l → false ≡ isFull t o
-  full-leased l e = rw e
+  pub full-leased : (n : ℕ) → deliveriesOf (leaseOf t o) ≡ some n → false ≡ isFull t o
+  full-leased n e = go (leaseOf t o) e
+    where
+      go : (x : Option Lease) → deliveriesOf x ≡ some n → false ≡ (isNone x && (leb LEASES (length (t .leases)) || (isNone (lookup o (t .carried)) && leb CARRIED (length (t .leases) + length (t .carried)))))
+      go none q = absurd (Option·none-ne-some n q)
+      go (some l) q = refl
 
-  module _ (no-lease : leaseOf t o ≡ none) where
+  module _ (free : leaseOf t o ≡ none) where
     pub full-leases : LEASES ≤ length (t .leases) → true ≡ isFull t o
-    full-leases h = rw (no-lease, le-leb LEASES (length (t .leases)) h)
+    full-leases h = rw (free, le-leb LEASES (length (t .leases)) h)
 
     module _ (h : length (t .leases) < LEASES) where
       pub full-counted : (n : ℕ) → lookup o (t .carried) ≡ some n → false ≡ isFull t o
-      full-counted n e = rw (no-lease, lt-leb LEASES (length (t .leases)) h, e)
+      full-counted n e = rw (free, lt-leb LEASES (length (t .leases)) h, e)
 
-      pub full-counts : lookup o (t .carried) ≡ none → leb CARRIED (length (t .leases) + length (t .carried)) ≡ isFull t o
-      full-counts e = rw (no-lease, lt-leb LEASES (length (t .leases)) h, e)
+      pub full-counts : (n m : ℕ) → length (t .leases) ≡ n → length (t .carried) ≡ m → lookup o (t .carried) ≡ none → leb CARRIED (n + m) ≡ isFull t o
+      full-counts n m p q e = rw (← p, ← q, free, lt-leb LEASES (length (t .leases)) h, e)
 
 -- ## the tests, each after those before it that failed
 -- whether a claim may go on, from what the table calls claimable
@@ -132,18 +137,9 @@ claim-refused c ok o now a e = go (first (claimTable (view c) o now)) refl
 
 -- ## the grant
 -- the answer has the disposition's destination
-pub handed : (token : LeaseToken) (n : ℕ) {d e : Destination} → done d ≡ done e → done (handOutOf token n d) ≡ done (handOutOf token n e)
-handed token n {d} {e} q = let same : d ≡ e = cc in rw same
-
--- the hand-out that a grant of the table makes
-abbrev handOutBy : Policy → Grant → HandOut
-handOutBy p g =
-    record {
-      offset = g .offset;
-      generation = g .generation;
-      deliveries = g .deliveries;
-      destination = disposition p (g .deliveries);
-    }
+pub handed : (limit : ℕ) (token : LeaseToken) (n : ℕ) {d : Destination} → done d ≡ done (destination limit n)
+    → done (handOutOf token n d) ≡ handedOut limit (done (grantOf (token .offset .0) (token .generation .0) n))
+handed limit token n {d} q = let same : d ≡ destination limit n = cc in rw same
 
 module _ (c : Consumer) (ok : Sound c) (o now : ℕ) (fits : o ≤ MAX) (p : Passed (claimTable (view c) o now)) where
   abbrev t : Table
@@ -164,24 +160,14 @@ module _ (c : Consumer) (ok : Sound c) (o now : ℕ) (fits : o ≤ MAX) (p : Pas
   unfolding leases.claim
   table-granted = guarded-passed (leases.claimRows t o now) t _ table-passed
 
-  module _ (outcome : Claim) (after : LeaseTable) (e : answers.Answers (answers.claimOf outcome) (c .table) after (leases.claim t o now)) where
-    outcome-is : answers.claimOf outcome ≡ done (granted t o)
-    outcome-is = ap (λ (a : Answer Grant Table). a .outcome) (e .is ∙ table-granted)
-
-    -- the table refuses nothing
-    pub not-refused : (r : Refusal) → answers.claimOf outcome ≡ refused r → ⊥
-    not-refused r q = let w : refused r ≡ done (granted t o) = sym q ∙ outcome-is in let z : _≡_ {A = ℕ} 0 1 = cc in omega arith
-
-    pub claim-granted : (token : LeaseToken) (n : ℕ) → outcome ≡ Granted token n
-        → (a : ClaimAnswer) → claimOf a ≡ done (handOutOf token n (disposition (view c .settings .policy) n))
-        → (b : Consumer) → b ≡ holding c after → Answers (claimOf a) c b (claim (view c) o now)
-    unfolding claim
-    claim-granted token n q a f b made =
-        let w : done (record { offset = token .offset .0; generation = token .generation .0; deliveries = n }) ≡ done (granted t o) =
-        sym (ap answers.claimOf q) ∙ outcome-is in
-        let same : record { offset = token .offset .0; generation = token .generation .0; deliveries = n } ≡ granted t o = cc in
-        let shows : view (holding c after) ≡ claimed (view c) o now =
-        ap (λ (x : Answer Grant Table). withTable (view c) (x .state)) (e .is ∙ table-granted) in
-        rw (f ∙ ap (λ (x : Grant). done (handOutBy (view c .settings .policy) x)) same, made)
-        (takes-effect c ok (claimTable (view c) o now) (handOut (view c) o) p shows
-        (sound-with c ok (ok .cursor) (e .sound) shows (claimed-valid (view c) o now (ok .valid) (claim-open (view c) o now p) fits)))
+  -- what the table did is what the claim does
+  pub claim-granted : (outcome : Result Grant) (after : LeaseTable) → answers.Answers outcome (c .table) after (leases.claim t o now)
+      → (a : ClaimAnswer) → claimOf a ≡ handedOut (view c .settings .policy .maxDeliver) outcome
+      → Answers (claimOf a) c (holding c after) (claim (view c) o now)
+  unfolding claim
+  claim-granted outcome after e a f =
+      let made : answer outcome (state.view after) ≡ answer (done (granted t o)) (grant t o now) = e .is ∙ table-granted in
+      let shows : view (holding c after) ≡ claimed (view c) o now = ap (λ (x : Answer Grant Table). withTable (view c) (x .state)) made in
+      rw (f ∙ ap (λ (x : Answer Grant Table). handedOut (view c .settings .policy .maxDeliver) (x .outcome)) made)
+      (takes-effect c ok (claimTable (view c) o now) (handOut (view c) o) p shows
+      (sound-with c ok (ok .cursor) (e .sound) shows (claimed-valid (view c) o now (ok .valid) (claim-open (view c) o now p) fits)))

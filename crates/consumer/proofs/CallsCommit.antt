@@ -51,13 +51,13 @@ module _ (c : Consumer) (ok : Sound c) (bound : ℕ) where
     module _ (free : anyBelow bound (view c .table .leases) ≡ false) (fits : bound ≤ MAX) (moved : Result Bool) (k : AckCursor)
         (u : cursor.Updated (c .cursor) moved k (commitUpTo (view c .cursor) bound)) (t : LeaseTable)
         (e : answers.Becomes t (releaseBelow (view c .table) bound)) where
-      pub commit-done : (b : Consumer) → b ≡ holdingBoth c k t → Commits (done true) c b (commit (view c) bound)
+      pub commit-done : Commits (done true) c (holdingBoth c k t) (commit (view c) bound)
       unfolding commit
-      commit-done b made =
+      commit-done =
           let shows : view (holdingBoth c k t) ≡ withCommitted (view c) bound =
           ap (λ (a : Answer Bool Cursor). withBoth (view c) (a .state) (state.view t)) (u .is)
           ∙ ap (withBoth (view c) (commitUpTo (view c .cursor) bound .state)) (e .is) in
-          rw (made, in-front _, lt-leb bound (view c .cursor .committed) above)
+          rw (in-front _, lt-leb bound (view c .cursor .committed) above)
           (moves
           (takes-effect c ok (commitTable (view c) bound) true (free, tt) shows
           (sound-with c ok (u .sound) (e .sound) shows (committed-valid (view c) bound (ok .valid) fits))))

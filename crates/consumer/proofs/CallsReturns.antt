@@ -10,11 +10,17 @@ use Rattle.types.proofs.Table.{guarded-passed, guarded-refused}
 use Rattle.cursor.specs.View as cursor
 use Rattle.cursor.specs.declared.AckCursor.{AckCursor}
 use Rattle.lease.specs.State as lease
+use Rattle.lease.specs.Parts as parts
 use Rattle.lease.specs.declared.LeaseTable.{LeaseTable}
 use Rattle.consumer.specs.State.{State}
 use Rattle.consumer.specs.Valid.{Valid}
 use Rattle.consumer.specs.View.{view, Sound, Answers, holdingBoth}
+use Rattle.consumer.specs.Parts.{Whole}
 use Rattle.consumer.specs.declared.Consumer.{Consumer}
+
+-- the table of a consumer that is lent
+pub table-whole : {c : Consumer} → Whole c → parts.Whole (c .table)
+table-whole w = record { full = w .full; sound = w .sound .table }
 
 -- a consumer with another cursor and another table, which shows a state of which all holds
 pub sound-with : (c : Consumer) → Sound c → {k : AckCursor} {t : LeaseTable} {s : State} → cursor.Sound k → lease.Sound t → view (holdingBoth c k t) ≡ s

@@ -1,9 +1,8 @@
 -- What the calls with a token owe their contracts: the consumer refuses what the table refuses, and shows what the table did.
 -- Assumes nothing.
 use Prim.Native.Nat.{ℕ, _≤_, _<_}
-use native.Mathlib.Omega.{arith}
 use mathlib.Core.Path.{_≡_, refl, sym, ap, subst, _∙_}
-use mathlib.Core.Bool.{Bool, true, false, cond, not}
+use mathlib.Core.Bool.{Bool, true, false, cond, not, true≢false}
 use mathlib.Core.List.{[], _∷_}
 use mathlib.Core.Option.{Option, none, some, Option·none-ne-some}
 use borrow.Author.Tests.{eq-eqb, ne-eqb, le-leb, lt-leb}
@@ -12,7 +11,7 @@ use Rattle.types.specs.Refusal.{Refusal, Result, refused, done, Fenced, Exhaust
 use Rattle.types.specs.Table.{first, Passed, Answer, answer, unlessKept, Kept}
 use Rattle.types.specs.Keyed.{delete}
 use Rattle.types.proofs.Cases.{split}
-use Rattle.types.proofs.Table.{passed-none, first-met, guarded-passed, guarded-refused, first-met-before, first-none-before, passed-append, append-passed}
+use Rattle.types.proofs.Table.{passed-none, first-met, guarded-passed, first-met-before, first-none-before, passed-append, append-passed}
 use Rattle.cursor.specs.Cursor.{Cursor, ackBounded}
 use Rattle.cursor.specs.Answers as cursor
 use Rattle.cursor.specs.declared.AckCursor.{AckCursor}
@@ -33,65 +32,7 @@ use Rattle.consumer.proofs.Open.{token-refused, token-passed, token-hel
 use Rattle.consumer.proofs.Valid.{acked-valid, nacked-valid, progress-valid}
 use Rattle.consumer.proofs.CallsReturns.{sound-with, refuses, takes-effect}
 
--- a refusal is no outcome
-apart : {A : Type 0} (r : Refusal) (a : A) → _≡_ {A = Result A} (refused r) (done a) → ⊥
-apart r a e = let z : _≡_ {A = ℕ} 0 1 = cc in omega arith
-
--- ## Ack and Term
-module _ (c : Consumer) (ok : Sound c) (o g : ℕ) where
-  abbrev t : Table
-  t = view c .table
-
-  -- what the table answers, by whether the token owns the lease
-  table-fenced : tokenRow t o g .test ≡ true → leases.ack t o g ≡ answer (refused Fenced) t
-  unfolding leases.ack
-  table-fenced q = guarded-refused (tokenRow t o g ∷ []) t _ Fenced (rw q)
-
-  table-acked : tokenRow t o g .test ≡ false → leases.ack t o g ≡ answer (done tt) (withLeases t (delete o (t .leases)))
-  unfolding leases.ack
-  table-acked q = guarded-passed (tokenRow t o g ∷ []) t _ (q, tt)
-
-  module _ (outcome : Result (Unit {0})) (after : LeaseTable) (e : answers.Answers outcome (c .table) after (leases.ack t o g)) where
-    outcome-is : outcome ≡ leases.ack t o g .outcome
-    outcome-is = ap (λ (a : Answer (Unit {0}) Table). a .outcome) (e .is)
-
-    pub ack-fenced : outcome ≡ refused Fenced → Answers (refused Fenced) c c (ack (view c) o g)
-    unfolding ack
-    ack-fenced h =
-        split (tokenRow t o g .test)
-        (λ q. refuses c ok (ackTable (view c) o g) Fenced _ (first-met-before (tokenRows (view c) o g) (ackRows (view c) o) Fenced (token-refused (view c) o g q)))
-        (λ q. absurd (apart Fenced tt (sym h ∙ outcome-is ∙ ap (λ (a : Answer (Unit {0}) Table). a .outcome) (table-acked q))))
-
-    module _ (h : outcome ≡ done tt) where
-      owns-lease : tokenRow t o g .test ≡ false
-      owns-lease =
-          split (tokenRow t o g .test)
-          (λ q. absurd (apart Fenced tt (sym (sym h ∙ outcome-is ∙ ap (λ (a : Answer (Unit {0}) Table). a .outcome) (table-fenced q)))))
-          (λ q. q)
-
-      module _ (noted : Result Bool) (k : AckCursor) (u : cursor.Updated (c .cursor) noted k (ackBounded (view c .cursor) o RANGES)) where
-        shed-is : isShed noted ≡ isShed (ackBounded (view c .cursor) o RANGES .outcome)
-        shed-is = ap (λ (a : Answer Bool Cursor). isShed (a .outcome)) (u .is)
-
-        pub ack-shed : isShed noted ≡ true → Answers (refused Shed) c c (ack (view c) o g)
-        unfolding ack
-        ack-shed s =
-            refuses c ok (ackTable (view c) o g) Shed _
-            (first-met (tokenRows (view c) o g) [] _ (token-passed (view c) o g owns-lease) (sym shed-is ∙ s))
-
-        pub ack-settled : isShed noted ≡ false → (b : Consumer) → b ≡ holdingBoth c k after → Answers (done tt) c b (ack (view c) o g)
-        unfolding ack
-        ack-settled s b made =
-            let p : Passed (ackTable (view c) o g) =
-            append-passed (tokenRows (view c) o g) (ackRows (view c) o) (token-passed (view c) o g owns-lease) (sym shed-is ∙ s, tt) in
-            let shows : view (holdingBoth c k after) ≡ acked (view c) o =
-            ap (λ (a : Answer Bool Cursor). withBoth (view c) (a .state) (state.view after)) (u .is)
-            ∙ ap (λ (a : Answer (Unit {0}) Table). withBoth (view c) (ackBounded (view c .cursor) o RANGES .state) (a .state)) (e .is ∙ table-acked owns-lease) in
-            rw made
-            (takes-effect c ok (ackTable (view c) o g) tt p shows
-            (sound-with c ok (u .sound) (e .sound) shows (acked-valid (view c) o g (ok .valid) (ack-open (view c) o g p))))
-
--- ## Nack
+-- ## the token
 -- what the count of a token's lease says of the token
 not-owned : (x : Option Lease) (g : ℕ) → none ≡ cond (owns x g) (deliveriesOf x) none → not (owns x g) ≡ true
 not-owned none g e = refl
@@ -104,6 +45,52 @@ its-count : (x : Option Lease) (g n : ℕ) → some n ≡ cond (owns x g) (deliv
 its-count x g n e =
     split (owns x g) (λ q. ap countOr0 (rw q at e)) (λ q. absurd (Option·none-ne-some n (sym (e ∙ rw q))))
 
+-- ## Ack and Term
+-- a cursor that sheds an ack is as it was
+kept-shed : (noted : Result Bool) {before after : AckCursor} → isShed noted ≡ true → cursor.KeptUnlessNew noted before after → after ≡ before
+kept-shed (refused r) h k = k
+kept-shed (done b) h k = absurd (true≢false (sym h))
+
+module _ (c : Consumer) (ok : Sound c) (o g : ℕ) where
+  abbrev t : Table
+  t = view c .table
+
+  pub ack-fenced : none ≡ deliveries t o g → Answers (refused Fenced) c c (ack (view c) o g)
+  unfolding ack
+  ack-fenced e =
+      refuses c ok (ackTable (view c) o g) Fenced _
+      (first-met-before (tokenRows (view c) o g) (ackRows (view c) o) Fenced (token-refused (view c) o g (not-owned (leaseOf t o) g e)))
+
+  module _ (n : ℕ) (e : some n ≡ deliveries t o g) where
+    owned : Passed (tokenRows (view c) o g)
+    owned = token-passed (view c) o g (is-owned (leaseOf t o) g n e)
+
+    table-acked : leases.ack t o g ≡ answer (done tt) (withLeases t (delete o (t .leases)))
+    unfolding leases.ack
+    table-acked = guarded-passed (tokenRow t o g ∷ []) t _ (is-owned (leaseOf t o) g n e, tt)
+
+    module _ (noted : Result Bool) (k : AckCursor) (u : cursor.Updated (c .cursor) noted k (ackBounded (view c .cursor) o RANGES)) where
+      shed-is : isShed noted ≡ isShed (ackBounded (view c .cursor) o RANGES .outcome)
+      shed-is = ap (λ (a : Answer Bool Cursor). isShed (a .outcome)) (u .is)
+
+      pub ack-shed : isShed noted ≡ true → Answers (refused Shed) c (holdingBoth c k (c .table)) (ack (view c) o g)
+      unfolding ack
+      ack-shed s =
+          subst (λ (x : AckCursor). Answers (refused Shed) c (holdingBoth c x (c .table)) (ack (view c) o g)) (sym (kept-shed noted s (u .kept)))
+          (refuses c ok (ackTable (view c) o g) Shed _ (first-met (tokenRows (view c) o g) [] _ owned (sym shed-is ∙ s)))
+
+      pub ack-settled : isShed noted ≡ false → (outcome : Result (Unit {0})) (after : LeaseTable) → answers.Answers outcome (c .table) after (leases.ack t o g)
+          → Answers (done tt) c (holdingBoth c k after) (ack (view c) o g)
+      unfolding ack
+      ack-settled s outcome after r =
+          let p : Passed (ackTable (view c) o g) = append-passed (tokenRows (view c) o g) (ackRows (view c) o) owned (sym shed-is ∙ s, tt) in
+          let shows : view (holdingBoth c k after) ≡ acked (view c) o =
+          ap (λ (a : Answer Bool Cursor). withBoth (view c) (a .state) (state.view after)) (u .is)
+          ∙ ap (λ (a : Answer (Unit {0}) Table). withBoth (view c) (ackBounded (view c .cursor) o RANGES .state) (a .state)) (r .is ∙ table-acked) in
+          takes-effect c ok (ackTable (view c) o g) tt p shows
+          (sound-with c ok (u .sound) (r .sound) shows (acked-valid (view c) o g (ok .valid) (ack-open (view c) o g p)))
+
+-- ## Nack
 module _ (c : Consumer) (ok : Sound c) (o g now : ℕ) (explicit : Option ℕ) where
   pub nack-fenced : none ≡ deliveries (view c .table) o g → Answers (refused Fenced) c c (nack (view c) o g now explicit)
   unfolding nack
@@ -151,24 +138,19 @@ module _ (c : Consumer) (ok : Sound c) (o g now attempt : ℕ) (explicit : Optio
   deadline-is : sat64 now delay ≡ nackDeadline (view c) o now explicit
   deadline-is = ap (sat64 now) (waits ∙ ap (λ (n : ℕ). effectiveNackDelay (view c .settings .policy) n explicit) count)
 
-  module _ (outcome : Result ℕ) (after : LeaseTable) (e : answers.Answers outcome (c .table) after (leases.nack (view c .table) o g now delay)) where
-    nacked-is : outcome ≡ done (sat64 now delay)
-    nacked-is = ap (λ (a : Answer ℕ Table). a .outcome) (e .is ∙ table-nacked)
-
-    pub nack-not-refused : (r : Refusal) → outcome ≡ refused r → ⊥
-    nack-not-refused r q = apart r (sat64 now delay) (sym q ∙ nacked-is)
-
-    pub nack-requeued : (d : ℕ) → outcome ≡ done d → (b : Consumer) → b ≡ holding c after → Answers (done d) c b (nack (view c) o g now explicit)
-    unfolding nack
-    nack-requeued d q b made =
-        let w : done d ≡ done (sat64 now delay) = sym q ∙ nacked-is in
-        let same : d ≡ sat64 now delay = cc in
-        let shows : view (holding c after) ≡ nacked (view c) o (nackDeadline (view c) o now explicit) =
-        ap (λ (a : Answer ℕ Table). withTable (view c) (a .state)) (e .is ∙ table-nacked) ∙ ap (nacked (view c) o) deadline-is in
-        rw (same ∙ deadline-is, made)
-        (takes-effect c ok (nackTable (view c) o g) (nackDeadline (view c) o now explicit) p shows
-        (sound-with c ok (ok .cursor) (e .sound) shows
-        (nacked-valid (view c) o g (nackDeadline (view c) o now explicit) (ok .valid) (nack-open (view c) o g p))))
+  -- what the table did is what the nack does
+  pub nack-requeued : (outcome : Result ℕ) (after : LeaseTable) → answers.Answers outcome (c .table) after (leases.nack (view c .table) o g now delay)
+      → (a : Result ℕ) → a ≡ outcome → Answers a c (holding c after) (nack (view c) o g now explicit)
+  unfolding nack
+  nack-requeued outcome after e a q =
+      let shows : view (holding c after) ≡ nacked (view c) o (nackDeadline (view c) o now explicit) =
+      ap (λ (x : Answer ℕ Table). withTable (view c) (x .state)) (e .is ∙ table-nacked) ∙ ap (nacked (view c) o) deadline-is in
+      let same : a ≡ done (nackDeadline (view c) o now explicit) =
+      q ∙ ap (λ (x : Answer ℕ Table). x .outcome) (e .is ∙ table-nacked) ∙ ap done deadline-is in
+      rw same
+      (takes-effect c ok (nackTable (view c) o g) (nackDeadline (view c) o now explicit) p shows
+      (sound-with c ok (ok .cursor) (e .sound) shows
+      (nacked-valid (view c) o g (nackDeadline (view c) o now explicit) (ok .valid) (nack-open (view c) o g p))))
 
 -- ## Progress
 -- what a call on the table alone leaves of the state
@@ -193,23 +175,18 @@ module _ (s : State) (o g now : ℕ) where
       go none = refl
       go (some r) = refl
 
-module _ (c : Consumer) (ok : Sound c) (o g now : ℕ) (outcome : Result ℕ) (after : LeaseTable)
-    (e : answers.Answers outcome (c .table) after (leases.extend (view c .table) o g now)) where
-  pub progress-refused : (r : Refusal) → outcome ≡ refused r → Answers (refused r) c c (progress (view c) o g now)
-  progress-refused r q =
-      let same : after ≡ c .table = subst (λ (x : Result ℕ). Kept x (c .table) after) q (e .kept) in
-      record {
-        is = ap (onTable (view c)) (rw (q, same) at (e .is)) ∙ as-table (view c) o g now;
-        sound = ok;
-        kept = refl;
-      }
-
-  pub progress-done : (d : ℕ) → outcome ≡ done d → (b : Consumer) → b ≡ holding c after → Answers (done d) c b (progress (view c) o g now)
-  progress-done d q b made =
-      let is : answer (done d) (view (holding c after)) ≡ progress (view c) o g now = ap (onTable (view c)) (rw q at (e .is)) ∙ as-table (view c) o g now in
-      rw made (record {
+module _ (c : Consumer) (ok : Sound c) (o g now : ℕ) where
+  -- what the table did, or refused, is what Progress does
+  pub progress-is : (outcome : Result ℕ) (after : LeaseTable) → answers.Answers outcome (c .table) after (leases.extend (view c .table) o g now)
+      → (a : Result ℕ) → a ≡ outcome → Answers a c (holding c after) (progress (view c) o g now)
+  progress-is outcome after e a q =
+      let is : answer outcome (view (holding c after)) ≡ progress (view c) o g now = ap (onTable (view c)) (e .is) ∙ as-table (view c) o g now in
+      rw q (record {
         is = is;
-        sound =
-            sound-with c ok (ok .cursor) (e .sound) (ap (λ (a : Answer ℕ State). a .state) is) (progress-valid (view c) o g now (ok .valid));
-        kept = tt;
+        sound = sound-with c ok (ok .cursor) (e .sound) (ap (λ (x : Answer ℕ State). x .state) is) (progress-valid (view c) o g now (ok .valid));
+        kept = kept outcome (e .kept);
       })
+    where
+      kept : (x : Result ℕ) → Kept x (c .table) after → Kept x c (holding c after)
+      kept (refused r) k = ap (holding c) k
+      kept (done d) k = tt

@@ -6,7 +6,7 @@ use native.Mathlib.Omega.{arith}
 use mathlib.Core.Path.{_≡_, refl, sym, ap, _∙_}
 use mathlib.Core.Bool.{true, false, true≢false}
 use mathlib.Core.List.{List, [], _∷_}
-use mathlib.Core.Option.{Option, none, some}
+use mathlib.Core.Option.{Option, none, some, Option·none-ne-some}
 use lib.Dec.{eqb}
 use lib.ListN.{length}
 use borrow.Author.Tests.{eqb-true}
@@ -19,10 +19,16 @@ use Rattle.cursor.specs.Cursor.{settled}
 use Rattle.lease.specs.declared.Lease.{Lease}
 use Rattle.lease.specs.State.{Counted}
 use Rattle.lease.specs.Operations.{leaseOf, timesHandedOut, nextCount}
+use Rattle.lease.specs.Rest.{deliveriesOf}
 use Rattle.lease.specs.Counts.{raiseAll, allAttemptCounts}
 use Rattle.consumer.specs.State.{State, countOr0}
 use Rattle.consumer.specs.Questions.{countOf}
 use Rattle.consumer.specs.Valid.{Valid}
+
+-- a lease that has no count is none
+pub no-lease : (x : Option Lease) → deliveriesOf x ≡ none → x ≡ none
+no-lease none e = refl
+no-lease (some l) e = absurd (Option·none-ne-some (l .deliveries) (sym e))
 
 -- ## What the leases make of the carried counts
 -- the carried counts raised to those of leases

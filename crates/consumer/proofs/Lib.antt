@@ -4,6 +4,7 @@ pub mod Open
 pub mod Valid
 pub mod Counts
 pub mod Effects
+pub mod Arrays
 pub mod CallsReturns
 pub mod CallsClaim
 pub mod CallsToken

@@ -3,3 +3,4 @@ pub mod Calls
 pub mod Questions
 pub mod Valid
 pub mod View
+pub mod Parts

@@ -21,8 +21,8 @@ use Rattle.consumer.specs.declared.Settings.{Settings}
 use Rattle.consumer.specs.declared.Consumer.{Consumer}
 use Rattle.consumer.specs.declared.calls.ClaimAnswer.{ClaimAnswer}
 use Rattle.consumer.specs.declared.calls.ClaimAnswer.the-variants as claim
-use Rattle.consumer.specs.declared.calls.ClaimTest.{ClaimTest}
-use Rattle.consumer.specs.declared.calls.ClaimTest.the-variants as test
+use Rattle.consumer.specs.declared.steps.ClaimTest.{ClaimTest}
+use Rattle.consumer.specs.declared.steps.ClaimTest.the-variants as test
 use Rattle.consumer.specs.declared.calls.SettleAnswer.{SettleAnswer}
 use Rattle.consumer.specs.declared.calls.SettleAnswer.the-variants as settle
 use Rattle.consumer.specs.declared.calls.NackAnswer.{NackAnswer}

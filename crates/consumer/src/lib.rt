@@ -8,7 +8,10 @@ use lease::LeaseTable;
 use types::Generation;
 
 pub mod calls;
+pub mod in_place;
 pub mod queries;
+// The steps of the calls in place.
+mod steps;
 
 // What a consumer keeps of its configuration, beside what its lease table keeps.
 #[repr(C)]

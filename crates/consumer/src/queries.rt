@@ -8,7 +8,8 @@ ghost use Rattle.lease.specs.Lookup.{leaseAt};
 ghost use Rattle.consumer.specs.Questions.{waitingAt, bit, Committed, IsSettled, LeaseOf, CountOf, InFlight, IsDue, BlocksLeft, reply};
 ghost use Rattle.consumer.specs.View.{view, Sound};
 use crate::Consumer;
-use lease::Attempts;
+use crate::in_place;
+use crate::steps;
 use lease::lookup::LeaseAt;
 use types::Offset;
 use types::lent;
@@ -51,13 +52,15 @@ impl Consumer {
         requires { ⌜ Sound self ⌝ }
         ensures { λ r. ⌜ done (r ∷ []) ≡ reply (view self) (CountOf (offset .0)) ⌝ }
     {
-        if let LeaseAt::Some(lease) = self.table.lease_of(offset) {
-            return lease.deliveries;
-        }
-        let Attempts::Some(count) = self.table.carried_count(offset) else {
-            return 0;
-        };
-        count
+        in_place::count_in_place(
+            self.table.len,
+            self.table.carried_len,
+            offset.0,
+            &self.table.offsets,
+            &self.table.deliveries,
+            &self.table.carried_offsets,
+            &self.table.carried_counts,
+        )
     }
 
     // How many offsets are in flight, their leases run out or not.
@@ -101,7 +104,15 @@ impl Consumer {
         requires { ⌜ Sound self ⌝ }
         ensures { λ r. ⌜ answer (listedOf r) (out .exit .now) ≡ listed (waitingAt (view self) now) (out .entry .now) ⌝ }
     {
-        lent::list_numbers(self.waiting_list(now), out)
+        in_place::waiting_in_place(
+            self.table.len,
+            self.table.carried_len,
+            now,
+            &self.table.offsets,
+            &self.table.deadlines,
+            &self.table.carried_offsets,
+            out,
+        )
     }
 
     // The same, in an array.
@@ -109,18 +120,13 @@ impl Consumer {
         requires { ⌜ Sound self ⌝ }
         ensures { λ r. ⌜ offsetsIn r ≡ waitingAt (view self) now ⌝ }
     {
-        let table = self.table;
-        let n = table.carried();
-        let expired = table.expired_list(now);
-        let mut offsets = table.carried_offsets;
-        let mut i: usize = 0;
-        while i < expired.len {
-            offsets[n + i] = expired.offsets[i];
-            i += 1;
-        }
-        OffsetList {
-            offsets: offsets,
-            len: n + expired.len,
-        }
+        steps::waiting_list(
+            self.table.len,
+            self.table.carried_len,
+            now,
+            &self.table.offsets,
+            &self.table.deadlines,
+            &self.table.carried_offsets,
+        )
     }
 }

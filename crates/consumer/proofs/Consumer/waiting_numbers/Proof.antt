@@ -1,28 +1,20 @@
--- `Consumer::waiting_numbers` meets its contract: what is listed is the waiting list. Assumes nothing.
-use Prim.Native.Nat.{ℕ}
-use mathlib.Core.Path.{_∙_, ap}
-use mathlib.Core.List.{List}
+-- `Consumer::waiting_numbers` meets its contract: the parts of a consumer, lent to `waiting_in_place`, are that consumer. Assumes nothing.
 use borrow.Author.Needs.{needs}
-use Rattle.types.specs.Lists.{listed}
+use Rattle.consumer.proofs.Arrays.{table-full}
 use Rattle.consumer.proofs.Consumer.waiting_numbers.Statement.{statement}
 use Rattle.consumer.proofs.Consumer.waiting_numbers.Tie as tie
 
-waiting-list-requires : tie.Need-waiting-list-requires
-waiting-list-requires c κs = search needs
-
-list-numbers-requires : tie.Need-list-numbers-requires
-list-numbers-requires c κs = search needs
+waiting-in-place-requires : tie.Need-waiting-in-place-requires
+waiting-in-place-requires c κs = search needs
 
 same-length : tie.Need-same-length
 same-length c = search needs
 
 returns : tie.Need-returns
 returns c =
-    let listing = c .before .before in
-    let making = listing .before .before in
-    listing .list-numbers .ensures
-    ∙ ap (λ (l : List ℕ). listed l (making .before .before .args .out .now)) (making .waiting-list .ensures)
+    let k = c .before .before in
+    let s = k .before .before .before .before .before .before .before in
+    k .waiting-in-place .ensures (s .args .t1) (record { full = table-full (s .args .t1 .table) _ (s .good .0 .1 .1 .1 .0); sound = s .pre })
 
 pub waiting-numbers-spec : {M : Type 1} → statement M
-waiting-numbers-spec =
-    tie.close (tie.spec waiting-list-requires list-numbers-requires same-length returns)
+waiting-numbers-spec = tie.close (tie.spec waiting-in-place-requires same-length returns)

@@ -1,0 +1,423 @@
+// The calls on a consumer whose parts lie elsewhere: its numbers come by value and go back beside the answer, its columns are lent and
+// changed where they are, so that nothing is copied. The calls on a `Consumer` are these on its own parts. A refusal changes nothing.
+ghost use mathlib.Core.Path.{_≡_};
+ghost use Prim.Native.Nat.{_≤_};
+ghost use mathlib.Core.List.{[], _∷_};
+ghost use Rattle.types.specs.Limits.{LEASES, CARRIED};
+ghost use Rattle.types.specs.Refusal.{done};
+ghost use Rattle.types.specs.Lists.{listedOf};
+ghost use Rattle.cursor.specs.View.{ackCursor};
+ghost use Rattle.cursor.specs.View as cursor;
+ghost use Rattle.delivery.specs.Config.{delayOf, LentBackoffs};
+ghost use Rattle.lease.specs.Parts.{gathered};
+ghost use Rattle.lease.specs.Parts as lease;
+ghost use Rattle.consumer.specs.Calls.{claim, ack, nack, progress, commit};
+ghost use Rattle.consumer.specs.Questions.{CountOf};
+ghost use Rattle.consumer.specs.View.{claimOf, settleOf, nackOf, progressOf, commitOf};
+ghost use Rattle.consumer.specs.Parts.{claiming, settling, nacking, progressing, committing, counting, awaiting, AnswersIn, CommitsIn, RepliesIn, ListsIn};
+use crate::calls::ClaimAnswer;
+use crate::calls::CommitAnswer;
+use crate::calls::NackAnswer;
+use crate::calls::ProgressAnswer;
+use crate::calls::SettleAnswer;
+use crate::steps;
+use crate::steps::ClaimTest;
+use delivery::Delay;
+use lease::Attempts;
+use lease::LeaseConfig;
+use types::lent;
+use types::lent::Listed;
+use types::limits::CARRIED;
+use types::limits::LEASES;
+use types::limits::MAX;
+use types::limits::RANGES;
+
+// What a claim answers, and the numbers of the table after it.
+pub struct ClaimedAt {
+    pub answer: ClaimAnswer,
+    pub len: usize,
+    pub carried_len: usize,
+    pub next_generation: u64,
+    pub redeliveries: u32,
+}
+
+// `Consumer::claim` on the parts that it looks at.
+pub fn claim_in_place<'a>(
+    config: LeaseConfig,
+    ceiling: u64,
+    max_deliver: u32,
+    threshold: u32,
+    committed: u64,
+    runs: usize,
+    len: usize,
+    carried_len: usize,
+    next_generation: u64,
+    redeliveries: u32,
+    offset: u64,
+    now: u64,
+    starts: &'a [u64; RANGES],
+    ends: &'a [u64; RANGES],
+    offsets: &mut [u64; LEASES],
+    generations: &mut [u64; LEASES],
+    attempt_starts: &mut [u64; LEASES],
+    deadlines: &mut [u64; LEASES],
+    deliveries: &mut [u32; LEASES],
+    carried_offsets: &mut [u64; CARRIED],
+    carried_counts: &mut [u32; CARRIED],
+) -> ClaimedAt
+    requires { ⌜ cursor.Whole (ackCursor committed (starts .now) (ends .now) runs) × lease.Whole (gathered config len «carried_len» «next_generation» redeliveries (offsets .now) (generations .now) («attempt_starts» .now) (deadlines .now) (deliveries .now) («carried_offsets» .now) («carried_counts» .now)) ⌝ }
+    ensures { λ r. ⌜ AnswersIn (claimOf (r .answer))
+        (claiming ceiling «max_deliver» threshold (ackCursor committed (starts .entry .now) (ends .entry .now) runs) (gathered config len «carried_len» «next_generation» redeliveries (offsets .entry .now) (generations .entry .now) («attempt_starts» .entry .now) (deadlines .entry .now) (deliveries .entry .now) («carried_offsets» .entry .now) («carried_counts» .entry .now)))
+        (claiming ceiling «max_deliver» threshold (ackCursor committed (starts .entry .now) (ends .entry .now) runs) (gathered config (r .len) (r .«carried_len») (r .«next_generation») (r .redeliveries) (offsets .exit .now) (generations .exit .now) («attempt_starts» .exit .now) (deadlines .exit .now) (deliveries .exit .now) («carried_offsets» .exit .now) («carried_counts» .exit .now)))
+        (λ s. claim s offset now) ⌝ }
+{
+    let test = steps::claim_test(
+        ceiling,
+        threshold,
+        committed,
+        runs,
+        len,
+        carried_len,
+        next_generation,
+        redeliveries,
+        offset,
+        now,
+        starts,
+        ends,
+        offsets,
+        deadlines,
+        deliveries,
+        carried_offsets,
+        carried_counts,
+    );
+    if let ClaimTest::Refused(answer) = test {
+        return ClaimedAt {
+            answer,
+            len,
+            carried_len,
+            next_generation,
+            redeliveries,
+        };
+    }
+    let claimed = lease::in_place::claim_in_place(
+        config,
+        len,
+        carried_len,
+        next_generation,
+        redeliveries,
+        offset,
+        now,
+        offsets,
+        generations,
+        attempt_starts,
+        deadlines,
+        deliveries,
+        carried_offsets,
+        carried_counts,
+    );
+    let outcome = claimed.outcome;
+    ClaimedAt {
+        answer: steps::handed_out(max_deliver, outcome),
+        len: claimed.len,
+        carried_len: claimed.carried_len,
+        next_generation: claimed.next_generation,
+        redeliveries: claimed.redeliveries,
+    }
+}
+
+// What Ack and Term answer, and the numbers of the cursor and of the leases after them.
+pub struct SettledAt {
+    pub answer: SettleAnswer,
+    pub committed: u64,
+    pub runs: usize,
+    pub len: usize,
+}
+
+// `Consumer::ack` and `Consumer::term` on the parts that they look at. The token is tested first, and the cursor, which has to have
+// room, before the lease goes.
+pub fn settle_in_place(
+    committed: u64,
+    runs: usize,
+    len: usize,
+    offset: u64,
+    generation: u64,
+    starts: &mut [u64; RANGES],
+    ends: &mut [u64; RANGES],
+    offsets: &mut [u64; LEASES],
+    generations: &mut [u64; LEASES],
+    attempt_starts: &mut [u64; LEASES],
+    deadlines: &mut [u64; LEASES],
+    deliveries: &mut [u32; LEASES],
+) -> SettledAt
+    requires { ⌜ cursor.Whole (ackCursor committed (starts .now) (ends .now) runs) × (len ≤ LEASES) ⌝ }
+    ensures { λ r. ⌜ AnswersIn (settleOf (r .answer))
+        (settling (ackCursor committed (starts .entry .now) (ends .entry .now) runs) len (offsets .entry .now) (generations .entry .now) («attempt_starts» .entry .now) (deadlines .entry .now) (deliveries .entry .now))
+        (settling (ackCursor (r .committed) (starts .exit .now) (ends .exit .now) (r .runs)) (r .len) (offsets .exit .now) (generations .exit .now) («attempt_starts» .exit .now) (deadlines .exit .now) (deliveries .exit .now))
+        (λ s. ack s offset generation) ⌝ }
+{
+    let held = lease::in_place::deliveries_in_place(
+        len,
+        offset,
+        generation,
+        offsets,
+        generations,
+        deliveries,
+    );
+    let Attempts::Some(_count) = held else {
+        return SettledAt {
+            answer: SettleAnswer::Fenced,
+            committed,
+            runs,
+            len,
+        };
+    };
+    let noted = cursor::in_place::ack_in_place(committed, starts, ends, runs, offset, RANGES);
+    let outcome = noted.outcome;
+    if steps::is_shed(outcome) {
+        return SettledAt {
+            answer: SettleAnswer::Shed,
+            committed: noted.committed,
+            runs: noted.runs,
+            len,
+        };
+    }
+    let removed = lease::in_place::ack_in_place(
+        len,
+        offset,
+        generation,
+        offsets,
+        generations,
+        attempt_starts,
+        deadlines,
+        deliveries,
+    );
+    SettledAt {
+        answer: SettleAnswer::Settled,
+        committed: noted.committed,
+        runs: noted.runs,
+        len: removed.len,
+    }
+}
+
+// What Nack answers, and the next generation after it.
+pub struct NackedAt {
+    pub answer: NackAnswer,
+    pub next_generation: u64,
+}
+
+// `Consumer::nack` on the parts that it looks at.
+pub fn nack_in_place<'a>(
+    ceiling: u64,
+    backoff_len: usize,
+    len: usize,
+    next_generation: u64,
+    offset: u64,
+    generation: u64,
+    now: u64,
+    delay: Delay,
+    backoff_nanos: &'a [u64; 16],
+    offsets: &'a [u64; LEASES],
+    generations: &mut [u64; LEASES],
+    deadlines: &mut [u64; LEASES],
+    deliveries: &'a [u32; LEASES],
+) -> NackedAt
+    requires { ⌜ LentBackoffs («backoff_nanos» .now) «backoff_len» × (len ≤ LEASES) ⌝ }
+    ensures { λ r. ⌜ AnswersIn (nackOf (r .answer))
+        (nacking ceiling («backoff_nanos» .entry .now) «backoff_len» len «next_generation» (offsets .entry .now) (generations .entry .now) (deadlines .entry .now) (deliveries .entry .now))
+        (nacking ceiling («backoff_nanos» .entry .now) «backoff_len» len (r .«next_generation») (offsets .entry .now) (generations .exit .now) (deadlines .exit .now) (deliveries .entry .now))
+        (λ s. nack s offset generation now (delayOf delay)) ⌝ }
+{
+    let held = lease::in_place::deliveries_in_place(
+        len,
+        offset,
+        generation,
+        offsets,
+        generations,
+        deliveries,
+    );
+    let Attempts::Some(attempt) = held else {
+        return NackedAt {
+            answer: NackAnswer::Fenced,
+            next_generation,
+        };
+    };
+    if next_generation == MAX {
+        return NackedAt {
+            answer: NackAnswer::Exhausted,
+            next_generation,
+        };
+    }
+    if ceiling <= next_generation {
+        return NackedAt {
+            answer: NackAnswer::CheckpointDue,
+            next_generation,
+        };
+    }
+    let delay_nanos = delivery::nack_delay_in_place(backoff_nanos, backoff_len, attempt, delay);
+    let nacked = lease::in_place::nack_in_place(
+        len,
+        next_generation,
+        offset,
+        generation,
+        now,
+        delay_nanos,
+        offsets,
+        generations,
+        deadlines,
+    );
+    let outcome = nacked.outcome;
+    NackedAt {
+        answer: steps::requeued(outcome),
+        next_generation: nacked.next_generation,
+    }
+}
+
+// `Consumer::progress` on the parts that it looks at.
+pub fn progress_in_place<'a>(
+    config: LeaseConfig,
+    len: usize,
+    offset: u64,
+    generation: u64,
+    now: u64,
+    offsets: &'a [u64; LEASES],
+    generations: &'a [u64; LEASES],
+    attempt_starts: &'a [u64; LEASES],
+    deadlines: &mut [u64; LEASES],
+) -> ProgressAnswer
+    requires { ⌜ len ≤ LEASES ⌝ }
+    ensures { λ r. ⌜ AnswersIn (progressOf r)
+        (progressing config len (offsets .entry .now) (generations .entry .now) («attempt_starts» .entry .now) (deadlines .entry .now))
+        (progressing config len (offsets .entry .now) (generations .entry .now) («attempt_starts» .entry .now) (deadlines .exit .now))
+        (λ s. progress s offset generation now) ⌝ }
+{
+    let outcome = lease::in_place::extend_in_place(
+        config,
+        len,
+        offset,
+        generation,
+        now,
+        offsets,
+        generations,
+        attempt_starts,
+        deadlines,
+    );
+    steps::extended(outcome)
+}
+
+// What Commit answers, and the numbers of the cursor and of the table after it.
+pub struct CommittedAt {
+    pub answer: CommitAnswer,
+    pub committed: u64,
+    pub runs: usize,
+    pub len: usize,
+    pub carried_len: usize,
+}
+
+// `Consumer::commit` on the parts that it looks at.
+pub fn commit_in_place(
+    committed: u64,
+    runs: usize,
+    len: usize,
+    carried_len: usize,
+    bound: u64,
+    starts: &mut [u64; RANGES],
+    ends: &mut [u64; RANGES],
+    offsets: &mut [u64; LEASES],
+    generations: &mut [u64; LEASES],
+    attempt_starts: &mut [u64; LEASES],
+    deadlines: &mut [u64; LEASES],
+    deliveries: &mut [u32; LEASES],
+    carried_offsets: &mut [u64; CARRIED],
+    carried_counts: &mut [u32; CARRIED],
+) -> CommittedAt
+    requires { ⌜ cursor.Whole (ackCursor committed (starts .now) (ends .now) runs) × (len ≤ LEASES) × («carried_len» ≤ CARRIED) ⌝ }
+    ensures { λ r. ⌜ CommitsIn (commitOf (r .answer))
+        (committing (ackCursor committed (starts .entry .now) (ends .entry .now) runs) len «carried_len» (offsets .entry .now) (generations .entry .now) («attempt_starts» .entry .now) (deadlines .entry .now) (deliveries .entry .now) («carried_offsets» .entry .now) («carried_counts» .entry .now))
+        (committing (ackCursor (r .committed) (starts .exit .now) (ends .exit .now) (r .runs)) (r .len) (r .«carried_len») (offsets .exit .now) (generations .exit .now) («attempt_starts» .exit .now) (deadlines .exit .now) (deliveries .exit .now) («carried_offsets» .exit .now) («carried_counts» .exit .now))
+        (λ s. commit s bound) ⌝ }
+{
+    if bound <= committed {
+        return CommittedAt {
+            answer: CommitAnswer::Unchanged,
+            committed,
+            runs,
+            len,
+            carried_len,
+        };
+    }
+    if lease::in_place::holds_below_in_place(len, bound, offsets) {
+        return CommittedAt {
+            answer: CommitAnswer::Held,
+            committed,
+            runs,
+            len,
+            carried_len,
+        };
+    }
+    let moved = cursor::in_place::commit_in_place(committed, starts, ends, runs, bound);
+    let released = lease::in_place::release_below_in_place(
+        len,
+        carried_len,
+        bound,
+        offsets,
+        generations,
+        attempt_starts,
+        deadlines,
+        deliveries,
+        carried_offsets,
+        carried_counts,
+    );
+    CommittedAt {
+        answer: CommitAnswer::Committed,
+        committed: moved.committed,
+        runs: moved.runs,
+        len: released.len,
+        carried_len: released.carried_len,
+    }
+}
+
+// `Consumer::count_of` on the parts that it looks at.
+pub fn count_in_place<'a>(
+    len: usize,
+    carried_len: usize,
+    offset: u64,
+    offsets: &'a [u64; LEASES],
+    deliveries: &'a [u32; LEASES],
+    carried_offsets: &'a [u64; CARRIED],
+    carried_counts: &'a [u32; CARRIED],
+) -> u32
+    requires { ⌜ (len ≤ LEASES) × («carried_len» ≤ CARRIED) ⌝ }
+    ensures { λ r. ⌜ RepliesIn (done (r ∷ [])) (counting len «carried_len» (offsets .entry .now) (deliveries .entry .now) («carried_offsets» .entry .now) («carried_counts» .entry .now)) (CountOf offset) ⌝ }
+{
+    let leased = lease::in_place::count_in_place(len, offset, offsets, deliveries);
+    if let Attempts::Some(count) = leased {
+        return count;
+    }
+    let carried = lease::in_place::carried_in_place(
+        carried_len,
+        offset,
+        carried_offsets,
+        carried_counts,
+    );
+    let Attempts::Some(count) = carried else {
+        return 0;
+    };
+    count
+}
+
+// `Consumer::waiting_numbers` on the parts that it looks at.
+pub fn waiting_in_place<'a>(
+    len: usize,
+    carried_len: usize,
+    now: u64,
+    offsets: &'a [u64; LEASES],
+    deadlines: &'a [u64; LEASES],
+    carried_offsets: &'a [u64; CARRIED],
+    out: &mut [u64],
+) -> Listed
+    requires { ⌜ (len ≤ LEASES) × («carried_len» ≤ CARRIED) ⌝ }
+    ensures { λ r. ⌜ ListsIn (listedOf r) (awaiting len «carried_len» (offsets .entry .now) (deadlines .entry .now) («carried_offsets» .entry .now)) now (out .entry .now) (out .exit .now) ⌝ }
+{
+    let list = steps::waiting_list(len, carried_len, now, offsets, deadlines, carried_offsets);
+    lent::list_numbers(list, out)
+}

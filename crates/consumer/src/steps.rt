@@ -1,0 +1,198 @@
+// The steps of the calls in place: the test of a claim, what an answer of the cursor or of the table becomes, and the waiting list.
+ghost use mathlib.Core.Path.{_≡_};
+ghost use Prim.Native.Nat.{_≤_};
+ghost use Rattle.types.specs.Limits.{LEASES, CARRIED};
+ghost use Rattle.cursor.specs.View.{ackCursor};
+ghost use Rattle.cursor.specs.View as cursor;
+ghost use Rattle.cursor.specs.Answers.{ackOf};
+ghost use Rattle.lease.specs.Answers as answers;
+ghost use Rattle.lease.specs.Parts as lease;
+ghost use Rattle.consumer.specs.Calls.{isFull, isShed};
+ghost use Rattle.consumer.specs.View.{claimOf, nackOf, progressOf};
+ghost use Rattle.consumer.specs.Parts.{testing, awaiting, TestsIn, WaitsIn, handedOut};
+use crate::calls::ClaimAnswer;
+use crate::calls::NackAnswer;
+use crate::calls::ProgressAnswer;
+use cursor::BoundedAck;
+use delivery::Disposition;
+use lease::Attempts;
+use lease::Claim;
+use lease::ExtendOutcome;
+use lease::NackOutcome;
+use types::lent::OffsetList;
+use types::limits::CARRIED;
+use types::limits::LEASES;
+use types::limits::MAX;
+use types::limits::RANGES;
+use types::numbers::shorter;
+
+// Whether a claim is open, or what it is refused with.
+pub enum ClaimTest {
+    Open,
+    Refused(ClaimAnswer),
+}
+
+// What stands against a claim: the first of 21, 22, 23, 25, 26 and 27 that is met.
+pub fn claim_test<'a, 'b>(
+    ceiling: u64,
+    threshold: u32,
+    committed: u64,
+    runs: usize,
+    len: usize,
+    carried_len: usize,
+    next_generation: u64,
+    redeliveries: u32,
+    offset: u64,
+    now: u64,
+    starts: &'a [u64; RANGES],
+    ends: &'a [u64; RANGES],
+    offsets: &'b [u64; LEASES],
+    deadlines: &'b [u64; LEASES],
+    deliveries: &'b [u32; LEASES],
+    carried_offsets: &'b [u64; CARRIED],
+    carried_counts: &'b [u32; CARRIED],
+) -> ClaimTest
+    requires { ⌜ cursor.Whole (ackCursor committed (starts .now) (ends .now) runs) × (len ≤ LEASES) × («carried_len» ≤ CARRIED) ⌝ }
+    ensures { λ r. ⌜ TestsIn r (testing ceiling threshold (ackCursor committed (starts .entry .now) (ends .entry .now) runs) len «carried_len» «next_generation» redeliveries (offsets .entry .now) (deadlines .entry .now) (deliveries .entry .now) («carried_offsets» .entry .now) («carried_counts» .entry .now)) offset now ⌝ }
+{
+    if offset == MAX {
+        return ClaimTest::Refused(ClaimAnswer::LastOffset);
+    }
+    if cursor::in_place::is_acked_in_place(committed, starts, ends, runs, offset) {
+        return ClaimTest::Refused(ClaimAnswer::Settled);
+    }
+    if !lease::in_place::is_claimable_in_place(len, offset, now, offsets, deadlines) {
+        return ClaimTest::Refused(ClaimAnswer::InFlight);
+    }
+    if next_generation == MAX {
+        return ClaimTest::Refused(ClaimAnswer::Exhausted);
+    }
+    if ceiling <= next_generation {
+        return ClaimTest::Refused(ClaimAnswer::CheckpointDue);
+    }
+    if threshold <= redeliveries {
+        return ClaimTest::Refused(ClaimAnswer::CheckpointDue);
+    }
+    if is_full(
+        len,
+        carried_len,
+        offset,
+        offsets,
+        deliveries,
+        carried_offsets,
+        carried_counts,
+    ) {
+        return ClaimTest::Refused(ClaimAnswer::Full);
+    }
+    ClaimTest::Open
+}
+
+// Whether there is no room for a lease of an offset, or for its count.
+fn is_full<'a>(
+    len: usize,
+    carried_len: usize,
+    offset: u64,
+    offsets: &'a [u64; LEASES],
+    deliveries: &'a [u32; LEASES],
+    carried_offsets: &'a [u64; CARRIED],
+    carried_counts: &'a [u32; CARRIED],
+) -> bool
+    requires { ⌜ (len ≤ LEASES) × («carried_len» ≤ CARRIED) ⌝ }
+    ensures { λ r. ⌜ lease.HoldsIn (lease.listingAll len «carried_len» (offsets .entry .now) (deliveries .entry .now) («carried_offsets» .entry .now) («carried_counts» .entry .now)) (λ s. r ≡ isFull s offset) ⌝ }
+{
+    let leased = lease::in_place::count_in_place(len, offset, offsets, deliveries);
+    let Attempts::None = leased else {
+        return false;
+    };
+    if LEASES <= len {
+        return true;
+    }
+    let carried = lease::in_place::carried_in_place(
+        carried_len,
+        offset,
+        carried_offsets,
+        carried_counts,
+    );
+    let Attempts::None = carried else {
+        return false;
+    };
+    CARRIED <= len + carried_len
+}
+
+// What a claim answers for the table's answer: a count above the limit is for the dead letters.
+pub fn handed_out(max_deliver: u32, outcome: Claim) -> ClaimAnswer
+    ensures { λ r. ⌜ claimOf r ≡ handedOut «max_deliver» (answers.claimOf outcome) ⌝ }
+{
+    match outcome {
+        Claim::Granted { token, deliveries } => {
+            let disposition = delivery::disposition_of(max_deliver, deliveries);
+            match disposition {
+                Disposition::Deliver => ClaimAnswer::Deliver { token, deliveries },
+                Disposition::DeadLetter => ClaimAnswer::DeadLetter { token, deliveries },
+            }
+        }
+        Claim::InFlight => ClaimAnswer::InFlight,
+        Claim::Exhausted => ClaimAnswer::Exhausted,
+        Claim::Full => ClaimAnswer::Full,
+    }
+}
+
+// Whether the cursor had no room for an ack.
+pub fn is_shed(outcome: BoundedAck) -> bool
+    ensures { λ r. ⌜ r ≡ isShed (ackOf outcome) ⌝ }
+{
+    match outcome {
+        BoundedAck::Recorded => false,
+        BoundedAck::Duplicate => false,
+        BoundedAck::Shed => true,
+    }
+}
+
+// What Nack answers for the table's answer.
+pub fn requeued(outcome: NackOutcome) -> NackAnswer
+    ensures { λ r. ⌜ nackOf r ≡ answers.nackOf outcome ⌝ }
+{
+    match outcome {
+        NackOutcome::Requeued { deadline } => NackAnswer::Requeued { deadline },
+        NackOutcome::Fenced => NackAnswer::Fenced,
+        NackOutcome::Exhausted => NackAnswer::Exhausted,
+    }
+}
+
+// What Progress answers for the table's answer.
+pub fn extended(outcome: ExtendOutcome) -> ProgressAnswer
+    ensures { λ r. ⌜ progressOf r ≡ answers.extendOf outcome ⌝ }
+{
+    match outcome {
+        ExtendOutcome::Extended(deadline) => ProgressAnswer::Extended { deadline },
+        ExtendOutcome::CapReached => ProgressAnswer::CapReached,
+        ExtendOutcome::Fenced => ProgressAnswer::Fenced,
+    }
+}
+
+// The waiting list in an array. The expired offsets behind the carried ones have room there, since each is of a lease.
+pub fn waiting_list<'a>(
+    len: usize,
+    carried_len: usize,
+    now: u64,
+    offsets: &'a [u64; LEASES],
+    deadlines: &'a [u64; LEASES],
+    carried_offsets: &'a [u64; CARRIED],
+) -> OffsetList
+    requires { ⌜ (len ≤ LEASES) × («carried_len» ≤ CARRIED) ⌝ }
+    ensures { λ r. ⌜ WaitsIn r (awaiting len «carried_len» (offsets .entry .now) (deadlines .entry .now) («carried_offsets» .entry .now)) now ⌝ }
+{
+    let expired = lease::in_place::expired_in_place(len, now, offsets, deadlines);
+    let more = expired.offsets;
+    let count = shorter(expired.len, CARRIED - carried_len);
+    let mut listed = *carried_offsets;
+    let mut i: usize = 0;
+    while i < count {
+        listed[carried_len + i] = more[i];
+        i += 1;
+    }
+    OffsetList {
+        offsets: listed,
+        len: carried_len + count,
+    }
+}
