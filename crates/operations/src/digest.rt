@@ -7,6 +7,7 @@ use cursor::AckCursor;
 use delivery::DeliveryConfig;
 use lease::Lease;
 use lease::LeaseTable;
+use lease::in_place::lease_at;
 use types::numbers::chosen;
 use types::numbers::wide;
 
@@ -66,7 +67,14 @@ fn leases(before: u32, table: LeaseTable) -> u32 {
         if n <= i {
             return check;
         }
-        check = lease(check, table.offsets[i], table.leases[i]);
+        let held = lease_at(
+            i,
+            &table.generations,
+            &table.attempt_starts,
+            &table.deadlines,
+            &table.deliveries,
+        );
+        check = lease(check, table.offsets[i], held);
         i += 1;
     }
     check

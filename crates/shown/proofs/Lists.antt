@@ -3,13 +3,11 @@
 use Prim.Native.Nat.{ℕ, zero, suc, _+_, _≤_, _<_, min}
 use native.Mathlib.Numerals.{add-one}
 use native.Mathlib.Omega.{arith}
-use mathlib.Core.Path.{_≡_, refl, sym, ap, _∙_}
-use mathlib.Core.List.{List, [], _∷_, _++_, map}
-use lib.ListN.{length, take, drop, getD, length-map, length-take, drop-of-length-le}
+use mathlib.Core.Path.{_≡_, refl, ap}
+use mathlib.Core.List.{List, [], _∷_}
+use lib.ListN.{length, take, drop, getD, length-take, drop-of-length-le}
 use Rattle.types.specs.Zipped.{zipped}
 use Rattle.types.specs.Keyed.{Entry, entry, entries}
-use Rattle.lease.specs.Operations.{lease}
-use Rattle.lease.specs.declared.Lease.{Lease}
 use Rattle.text.specs.Output.{ascii}
 use Rattle.shown.specs.Shown.{mark, noneWhere}
 
@@ -56,13 +54,6 @@ module _ {A : Type 0} (n : ℕ) (ks : List ℕ) (vs : List A) where
 
   pub entries-nothing : 0 < length ks → 0 < length vs → noneWhere (length (entries (take n ks) (take n vs))) ≡ noneWhere n
   entries-nothing h k = rw (entries-zipped (take n ks) (take n vs)) (zipped-nothing entry n ks vs h k)
-
--- what an index past the end of the leases reads, and that an array of structs has its length
-abbrev pub noLease : Lease
-noLease = lease 0 0 0 0
-
-pub length-mapped : {A B : Type 0} (f : A → B) (l : List A) (n : ℕ) → length (map f l) ≡ n → length l ≡ n
-length-mapped f l n e = sym (length-map l f) ∙ e
 
 -- ## marks and empty lists
 pub mark-later : (i : ℕ) → 0 < i → mark i ≡ ascii ","

@@ -9,6 +9,7 @@ use consumer::Consumer;
 use cursor::AckCursor;
 use lease::Lease;
 use lease::LeaseTable;
+use lease::in_place::lease_at;
 use text::output::put;
 use text::output::put_number;
 use text::templates::fill;
@@ -84,7 +85,14 @@ fn leases(out: &mut [u8], at: usize, table: LeaseTable) -> usize
             break;
         }
         next = before(out, next, i);
-        next = lease(out, next, table.offsets[i], table.leases[i]);
+        let held = lease_at(
+            i,
+            &table.generations,
+            &table.attempt_starts,
+            &table.deadlines,
+            &table.deliveries,
+        );
+        next = lease(out, next, table.offsets[i], held);
         i += 1;
     }
     next

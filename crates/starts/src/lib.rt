@@ -22,7 +22,6 @@ use cursor::Decode as Snapshot;
 use cursor::SnapshotError;
 use journal::LastGroup;
 use journal::Walked;
-use lease::Lease;
 use lease::LeaseConfig;
 use lease::LeaseTable;
 use types::Generation;
@@ -144,18 +143,15 @@ fn carry(cursor: AckCursor, pairs: [Pair; PAIRS], count: usize) -> Carried
 fn resumed_table(config: LeaseConfig, ceiling: u64, carried: Carried) -> LeaseTable
     ensures { λ r. ⌜ TableIs config ceiling carried r ⌝ }
 {
-    let none = Lease {
-        generation: Generation(0),
-        attempt_start: 0,
-        deadline: 0,
-        deliveries: 0,
-    };
     let carried_offsets = carried.offsets;
     let carried_counts = carried.counts;
     LeaseTable {
         config: config,
         offsets: [0; LEASES],
-        leases: [none; LEASES],
+        generations: [0; LEASES],
+        attempt_starts: [0; LEASES],
+        deadlines: [0; LEASES],
+        deliveries: [0; LEASES],
         len: 0,
         carried_offsets: carried_offsets,
         carried_counts: carried_counts,

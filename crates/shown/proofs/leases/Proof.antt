@@ -1,12 +1,16 @@
 -- `leases` meets its contract. The loop's invariant: the entries from i on are left to put. Assumes nothing.
-use Prim.Native.Nat.{_-_}
+use Prim.Native.Nat.{_+_, _-_}
 use native.Mathlib.Omega.{arith}
 use mathlib.Core.Path.{_≡_, refl}
-use lib.ListN.{length}
-use Rattle.lease.specs.State.{leasesOf}
+use mathlib.Core.List.{_∷_}
+use lib.ListN.{length, drop, getD}
+use Rattle.types.specs.Keyed.{entry}
+use Rattle.lease.specs.State.{leasesIn, leasesOf}
+use Rattle.lease.specs.Parts.{Full}
+use Rattle.lease.proofs.Leases.{nil, column-length, column-at}
 use Rattle.text.proofs.Putting.{says-then, Left, left-all, left-next, left-none}
 use Rattle.shown.specs.Shown.{leaseText, marked}
-use Rattle.shown.proofs.Lists.{entries-next, entries-end, entries-nothing, noLease, length-mapped}
+use Rattle.shown.proofs.Lists.{entries-next, entries-end, entries-nothing}
 use borrow.Author.Needs.{needs}
 use Rattle.shown.proofs.leases.Statement.{statement}
 use Rattle.shown.proofs.leases.Tie as tie
@@ -17,8 +21,18 @@ Inv-loop out₀ at table next₀ i₀ out next i = (length out ≡ length out₀
 abbrev μ-loop : tie.MeasureT-loop
 μ-loop out₀ at table next₀ i₀ out next i = 64 - i
 
-full : (c : tie.Start Inv-loop μ-loop) → (length (c .args .t3 .offsets) ≡ 64) × (length (c .args .t3 .leases) ≡ 64)
-full c = (search needs, search (needs, length-mapped))
+-- the start, seen from the loop, and the table's columns
+abbrev start : tie.At-loop Inv-loop μ-loop → tie.Start Inv-loop μ-loop
+start l = l .before .before .before .before .before .before .before .before .before .before .before
+
+full : (s : tie.Start Inv-loop μ-loop) → Full (s .args .t3)
+full s =
+    record {
+      offsets = search needs;
+      leases = record { generations = search needs; starts = search needs; deadlines = search needs; counts = search needs };
+      carried-offsets = search needs;
+      carried-counts = search needs;
+    }
 
 slice-aggregate-put : tie.Need-slice-aggregate-put Inv-loop μ-loop
 slice-aggregate-put c = search needs
@@ -35,17 +49,14 @@ loop-holds c = (refl, left-all _ _)
 before-requires : tie.Need-before-requires Inv-loop μ-loop
 before-requires c κs = search needs
 
+lease-at-requires : tie.Need-lease-at-requires Inv-loop μ-loop
+lease-at-requires c κs = search needs
+
 mul-lease : tie.Need-mul-lease Inv-loop μ-loop
 mul-lease c = omega arith
 
 element-copy-out-lease : tie.Need-element-copy-out-lease Inv-loop μ-loop
 element-copy-out-lease c = omega arith
-
-mul-lease-2 : tie.Need-mul-lease-2 Inv-loop μ-loop
-mul-lease-2 c = omega arith
-
-element-copy-out-lease-2 : tie.Need-element-copy-out-lease-2 Inv-loop μ-loop
-element-copy-out-lease-2 c = omega arith
 
 lease-requires : tie.Need-lease-requires Inv-loop μ-loop
 lease-requires c κs = search needs
@@ -58,22 +69,27 @@ loop-less c = omega arith
 
 loop-again : tie.Need-loop-again Inv-loop μ-loop
 loop-again c =
-    let a = c .before .before .before .before .before .before .before .before .before .before .before .before .before .before .before .before .before .before .before .before .before .before .before .args .t3 in
-    let l = c .before .before .before .before .before .before .before .before .before .before .before .before .loop in
-    let h = full (c .before .before .before .before .before .before .before .before .before .before .before .before .before .before .before .before .before .before .before .before .before .before .before) in
-    let e = entries-next (a .len) (a .offsets) (a .leases) noLease (l .i) (omega arith) (omega (arith, h .0)) (omega (arith, h .1)) in
-    (search needs, left-next (marked leaseText) (leasesOf a) (l .i) _ e (l .inv .1) (says-then (c .before .before .before .before .before .before .before .before .before2 .ensures) (c .before .before .lease .ensures)))
+    let r = c .before .before .before .before .before in
+    let b = r .before .before .before .before .before .before .before .before in
+    let at-loop = b .before .before .before .before in
+    let l = at-loop .loop in
+    let a = start at-loop .args .t3 in
+    let f = full (start at-loop) in
+    let e : drop (l .i) (leasesOf a) ≡ (entry (getD (a .offsets) (l .i) 0) (r .lease-at .result) ∷ drop (l .i + 1) (leasesOf a))
+    = rw (r .lease-at .ensures, ← column-at (f .leases) (l .i))
+    (entries-next (a .len) (a .offsets) (leasesIn a) nil (l .i) (omega arith) (omega (arith, f .offsets)) (omega (arith, column-length (f .leases)))) in
+    (search needs, left-next (marked leaseText) (leasesOf a) (l .i) _ e (l .inv .1) (says-then (b .before2 .ensures) (c .before .before .lease .ensures)))
 
 same-length : tie.Need-same-length Inv-loop μ-loop
 same-length c = search needs
 
 returns : tie.Need-returns Inv-loop μ-loop
 returns c =
-    let a = c .before .before .before .before .before .before .before .before .before .before .before .before .args .t3 in
+    let a = start (c .before) .args .t3 in
     let l = c .before .loop in
-    let h = full (c .before .before .before .before .before .before .before .before .before .before .before .before) in
-    let e = entries-end (a .len) (a .offsets) (a .leases) (l .i) (omega (arith, h .0)) in
-    let nothing = entries-nothing (a .len) (a .offsets) (a .leases) (omega (arith, h .0)) (omega (arith, h .1)) in
+    let h = full (start (c .before)) in
+    let e = entries-end (a .len) (a .offsets) (leasesIn a) (l .i) (omega (arith, h .offsets)) in
+    let nothing = entries-nothing (a .len) (a .offsets) (leasesIn a) (omega (arith, h .offsets)) (omega (arith, column-length (h .leases))) in
     says-then (c .before .before .before .before .before .before .before .before .put .ensures)
     (says-then (rw (← nothing) at (c .before .before .before .before .or-none .ensures)) (left-none (marked leaseText) (leasesOf a) (l .i) e (l .inv .1)))
 
@@ -82,11 +98,11 @@ same-length-2 c = search needs
 
 returns-2 : tie.Need-returns-2 Inv-loop μ-loop
 returns-2 c =
-    let a = c .before .before .before .before .before .before .before .before .before .before .before .before .before .args .t3 in
+    let a = start (c .before .before) .args .t3 in
     let l = c .before .before .loop in
-    let h = full (c .before .before .before .before .before .before .before .before .before .before .before .before .before) in
-    let e = entries-end (a .len) (a .offsets) (a .leases) (l .i) (omega (arith, h .0)) in
-    let nothing = entries-nothing (a .len) (a .offsets) (a .leases) (omega (arith, h .0)) (omega (arith, h .1)) in
+    let h = full (start (c .before .before)) in
+    let e = entries-end (a .len) (a .offsets) (leasesIn a) (l .i) (omega (arith, h .offsets)) in
+    let nothing = entries-nothing (a .len) (a .offsets) (leasesIn a) (omega (arith, h .offsets)) (omega (arith, column-length (h .leases))) in
     says-then (c .before .before .before .before .before .before .before .before .before .put .ensures)
     (says-then (rw (← nothing) at (c .before .before .before .before .before .or-none .ensures)) (left-none (marked leaseText) (leasesOf a) (l .i) e (l .inv .1)))
 
@@ -101,10 +117,9 @@ leases-spec =
     or-none-requires
     loop-holds
     before-requires
+    lease-at-requires
     mul-lease
     element-copy-out-lease
-    mul-lease-2
-    element-copy-out-lease-2
     lease-requires
     add-i
     loop-less

@@ -10,7 +10,7 @@ use Rattle.starts.proofs.Starting.{unlimited-refused, steps-refused, th
 use Rattle.starts.proofs.check_start.Statement.{statement}
 use Rattle.starts.proofs.check_start.Tie as tie
 
--- ---- what is known at a place
+-- ## what is known at a place
 abbrev start : tie.Else1 → tie.Start
 start c = c .before .before .before
 

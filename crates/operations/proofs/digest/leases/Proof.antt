@@ -23,17 +23,14 @@ loop-holds c = tt
 returns : tie.Need-returns Inv-loop μ-loop
 returns c = search needs
 
+lease-at-requires : tie.Need-lease-at-requires Inv-loop μ-loop
+lease-at-requires c κs = search needs
+
 mul-lease : tie.Need-mul-lease Inv-loop μ-loop
 mul-lease c = omega arith
 
 element-copy-out-lease : tie.Need-element-copy-out-lease Inv-loop μ-loop
 element-copy-out-lease c = omega arith
-
-mul-lease-2 : tie.Need-mul-lease-2 Inv-loop μ-loop
-mul-lease-2 c = omega arith
-
-element-copy-out-lease-2 : tie.Need-element-copy-out-lease-2 Inv-loop μ-loop
-element-copy-out-lease-2 c = omega arith
 
 lease-requires : tie.Need-lease-requires Inv-loop μ-loop
 lease-requires c κs = search needs
@@ -60,10 +57,9 @@ leases-spec =
     number-requires
     loop-holds
     returns
+    lease-at-requires
     mul-lease
     element-copy-out-lease
-    mul-lease-2
-    element-copy-out-lease-2
     lease-requires
     add-i
     loop-less
