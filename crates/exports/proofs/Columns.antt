@@ -1,13 +1,12 @@
--- Columns of numbers: put at the front of lent memory by a loop, and taken from ranges and pairs.
+-- Columns of numbers, put at the front of lent memory by a loop.
 -- Assumes nothing.
-use Prim.Native.Nat.{ℕ, zero, suc, _+_, _≤_, _<_, min}
+use Prim.Native.Nat.{ℕ, _+_, _≤_, _<_}
 use native.Mathlib.Omega.{arith}
-use native.Mathlib.Numerals.{add-one}
-use mathlib.Core.Path.{_≡_, refl, ap, _∙_}
-use mathlib.Core.List.{List, [], _∷_, _++_, map, map-append}
+use mathlib.Core.Path.{_≡_, ap, _∙_}
+use mathlib.Core.List.{List, map}
 use lib.ListN.{length, take, drop, getD, set, take-append-drop, length-map, List·getD-map}
-use lib.Seq.{length-take-le, take-suc-set}
-use Rattle.types.specs.Keyed.{Entry, entry, entries}
+use lib.Seq.{length-take-le}
+use Rattle.types.specs.Keyed.{Entry}
 use Rattle.types.proofs.Scan.{map-take}
 use Rattle.types.proofs.Loops.{Filling, filling-more}
 use Rattle.types.specs.Lists.{entryOf, entriesOf}
@@ -41,31 +40,3 @@ module _ (field : Entry ℕ → ℕ) where
   field-fronted pairs {start} {out} {n} {i} h k f =
       let size : length (fields pairs) ≡ length pairs = length-map (entriesOf pairs) field ∙ length-map pairs entryOf in
       rw (map-take entryOf n pairs, map-take field n (entriesOf pairs)) (fronted (omega (arith, size)) k f)
-
--- the entries of two columns: one more, all of them, and how many they are
-entries-more : (k : ℕ) (ks vs : List ℕ) → k < length ks → k < length vs
-    → take (suc k) (entries ks vs) ≡ take k (entries ks vs) ++ entry (getD ks k 0) (getD vs k 0) ∷ []
-entries-more k [] vs h g = absurd (omega arith)
-entries-more k (x ∷ ks) [] h g = absurd (omega arith)
-entries-more zero (x ∷ ks) (v ∷ vs) h g = refl
-entries-more (suc k) (x ∷ ks) (v ∷ vs) h g = ap (λ (l : List (Entry ℕ)). entry x v ∷ l) (entries-more k ks vs (omega arith) (omega arith))
-
-pub entries-all : (k : ℕ) (ks vs : List ℕ) → min (length ks) (length vs) ≤ k → take k (entries ks vs) ≡ entries ks vs
-entries-all zero [] vs h = refl
-entries-all (suc k) [] vs h = refl
-entries-all zero (x ∷ ks) [] h = refl
-entries-all (suc k) (x ∷ ks) [] h = refl
-entries-all zero (x ∷ ks) (v ∷ vs) h = absurd (omega arith)
-entries-all (suc k) (x ∷ ks) (v ∷ vs) h = ap (λ (l : List (Entry ℕ)). entry x v ∷ l) (entries-all k ks vs (omega arith))
-
-pub length-both : (ks vs : List ℕ) → length (entries ks vs) ≡ min (length ks) (length vs)
-length-both [] vs = omega arith
-length-both (x ∷ ks) [] = omega arith
-length-both (x ∷ ks) (v ∷ vs) = omega (arith, length-both ks vs)
-
--- one pair more at the front of an array
-pub gather-more : (pairs : List Pair) (p : Pair) (i : ℕ) (ks vs : List ℕ) → i < length pairs → i < length ks → i < length vs
-    → entryOf p ≡ entry (getD ks i 0) (getD vs i 0) → entriesOf (take i pairs) ≡ take i (entries ks vs)
-    → entriesOf (take (i + 1) (set pairs i p)) ≡ take (i + 1) (entries ks vs)
-gather-more pairs p i ks vs h g₁ g₂ q e =
-    rw (add-one, take-suc-set pairs i p h, entries-more i ks vs g₁ g₂, ← e, ← q) (map-append entryOf (take i pairs) (p ∷ []))

@@ -1,19 +1,17 @@
 -- What the exported functions answer, from what the codecs' contracts say. Assumes nothing.
-use Prim.Native.Nat.{ℕ, _≤_, _<_, min}
+use Prim.Native.Nat.{ℕ, _≤_, _<_}
 use native.Mathlib.Omega.{arith}
 use native.Mathlib.Nat.{suc-inj}
 use mathlib.Core.Path.{_≡_, refl, sym, ap, _∙_}
 use mathlib.Core.List.{List, [], _∷_}
-use lib.Dec.{ltb}
 use lib.ListN.{length, take, length-map}
 use lib.Seq.{length-take-le}
-use borrow.Author.Tests.{lt-ltb, le-ltb, ltb-false}
+use borrow.Author.Tests.{lt-ltb, le-ltb}
 use Rattle.types.specs.Limits.{PAIRS}
 use Rattle.types.specs.Refusal.{Refusal, Result, refused, done, OutTooShort, numbered, answered}
 use Rattle.types.specs.Table.{answer, unless}
-use Rattle.types.specs.Keyed.{Entry, entries}
+use Rattle.types.specs.Keyed.{Entry}
 use Rattle.types.specs.Zipped.{zipped}
-use Rattle.types.proofs.Cases.{split}
 use Rattle.raw.specs.Bytes.{write, outcomeOf}
 use Rattle.raw.specs.declared.Write.{Write}
 use Rattle.cursor.specs.Ranges.{range}
@@ -33,8 +31,7 @@ use Rattle.cursor.specs.declared.Decoded as cursor-decoded
 use Rattle.cursor.proofs.Search.{runs-is}
 use Rattle.attempt.specs.Snapshot.{encodeInto, decodeAttempts}
 use Rattle.types.specs.Lists.{entriesOf, counted}
-use Rattle.attempt.specs.Codec.{encodeOf, decodeOf, encodeFirst, DecodedIs}
-use Rattle.types.specs.declared.Pair.{Pair}
+use Rattle.attempt.specs.Codec.{encodeOf, decodeOf, DecodedIs}
 use Rattle.attempt.specs.declared.Encode.{Encode}
 use Rattle.attempt.specs.declared.Decoded.{Decoded}
 use Rattle.attempt.proofs.Codec.{decoded-refused, decoded-pairs}
@@ -43,7 +40,6 @@ use Rattle.answers.specs.Numbers.{numbersOf, oneValue, values}
 use Rattle.answers.specs.declared.Numbers.{Numbers}
 use Rattle.exports.specs.Answers.{Crossed, crossed, cross}
 use Rattle.exports.specs.Snapshots.{Columns, columns, startsOf, endsOf, keysOf, valuesOf, front, fill, encodeRanges, decodeRanges, decodePairs}
-use Rattle.exports.proofs.Columns.{entries-all, length-both}
 
 -- ## columns into lent ones
 module _ (values : List ℕ) (new lent : Columns) where
@@ -149,24 +145,9 @@ module _ (b : List ℕ) (r : cursor-decoded.Decoded) (is : cursors.DecodedIs b r
           rw (← said (decodes.Refused error) z) (rw (p, q, u, z, n))
 
 -- ## pairs
-module _ (ks vs : List ℕ) (pairs : List Pair) (n m at : ℕ) (out : List ℕ) where
-  pub pairs-written : n ≡ min (length ks) (length vs) → m ≡ min n 128 → entriesOf (take m pairs) ≡ take m (entries ks vs)
-      → (w : Encode) (after : List ℕ) (t : Numbers) → answer (encodeOf w) after ≡ encodeFirst n pairs at out → t ≡ numbersOf (answered oneValue (encodeOf w))
-      → crossed t after ≡ cross oneValue (encodeInto (entries ks vs) at out)
-  pairs-written a h g w after t e u = rw u (ap (cross oneValue) (e ∙ same))
-    where
-      size : length (entries ks vs) ≡ n
-      size = length-both ks vs ∙ sym a
-
-      same : encodeFirst n pairs at out ≡ encodeInto (entries ks vs) at out
-      same =
-          split (ltb PAIRS n)
-          (λ many. rw (size, many))
-          (λ few.
-          let k : n ≤ PAIRS = ltb-false PAIRS n few in
-          let e : m ≡ n = omega (arith, h) in
-          let all : entriesOf (take n pairs) ≡ entries ks vs = rw e at g ∙ entries-all n ks vs (omega (arith, a)) in
-          rw (few, all))
+pub pairs-written : (l : List (Entry ℕ)) (at : ℕ) (out : List ℕ) (w : Encode) (after : List ℕ) (t : Numbers)
+    → answer (encodeOf w) after ≡ encodeInto l at out → t ≡ numbersOf (answered oneValue (encodeOf w)) → crossed t after ≡ cross oneValue (encodeInto l at out)
+pairs-written l at out w after t e u = rw (← e, u)
 
 module _ (b : List ℕ) (r : Decoded) (is : DecodedIs b r) (offsets attempts : List ℕ) where
   abbrev listed : Crossed Columns

@@ -20,7 +20,6 @@ use types::Offset;
 use types::Pair;
 use types::limits::PAIRS;
 use types::limits::RANGES;
-use types::numbers::shorter;
 
 pub mod in_place;
 
@@ -58,27 +57,6 @@ fn list_attempts(pairs: [Pair; PAIRS], n: usize, out: &mut [u32])
         out[i] = pairs[i].attempt;
         i += 1;
     }
-}
-
-// The first n pairs of two columns at the front of an array.
-fn gathered<'a>(offsets: &'a [u64], attempts: &'a [u32], n: usize) -> [Pair; PAIRS]
-    requires { ⌜ (n ≤ 128) × (n ≤ length (now offsets)) × (n ≤ length (now attempts)) ⌝ }
-    ensures { λ r. ⌜ entriesOf (take n r) ≡ take n (entries (now (offsets .entry)) (now (attempts .entry))) ⌝ }
-{
-    let none = Pair {
-        offset: 0,
-        attempt: 0,
-    };
-    let mut pairs = [none; PAIRS];
-    let mut i: usize = 0;
-    while i < n {
-        pairs[i] = Pair {
-            offset: offsets[i],
-            attempt: attempts[i],
-        };
-        i += 1;
-    }
-    pairs
 }
 
 // The check of the bytes.
@@ -145,9 +123,7 @@ pub extern "C" fn ninotskev_encode_attempts<'a>(
 ) -> Numbers
     ensures { λ r. ⌜ crossed r (now (out .exit)) ≡ cross oneValue (encodeInto (entries (now (offsets .entry)) (now (attempts .entry))) at (now (out .entry))) ⌝ }
 {
-    let n = shorter(offsets.len(), attempts.len());
-    let pairs = gathered(offsets, attempts, shorter(n, PAIRS));
-    answers::of_encode(attempt::encode_pairs(pairs, n, out, at))
+    answers::of_encode(attempt::encode_columns(offsets, attempts, out, at))
 }
 
 // Reads the snapshot of attempt counts, and puts its offsets and its counts at the front of two lent columns. Answers the
