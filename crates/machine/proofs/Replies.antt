@@ -16,6 +16,7 @@ use Rattle.types.specs.declared.lent.Listed.{Listed}
 use Rattle.types.specs.declared.lent.Listed.the-variants as lists
 use Rattle.consumer.specs.Questions.{Question, Waiting, waitingAt, reply}
 use Rattle.consumer.specs.View.{view, Sound}
+use Rattle.consumer.specs.Parts.{Whole}
 use Rattle.consumer.specs.declared.Consumer.{Consumer}
 use Rattle.machine.specs.Calls.{look, looked}
 use Rattle.machine.specs.Transitions.{gives, idle}
@@ -26,6 +27,10 @@ use Rattle.machine.specs.declared.calls.Asked.{Asked}
 use Rattle.machine.specs.declared.calls.Reply.{Reply}
 use Rattle.machine.specs.declared.calls.Reply.the-variants as replies
 use Rattle.machine.specs.declared.calls.AskAnswer.the-variants as answers
+
+-- the consumer whose parts are lent
+abbrev pub lent : {c : Consumer} → Whole c → Consumer
+lent {c} w = c
 
 -- ## questions
 -- a reply that fills no list

@@ -19,6 +19,7 @@ use starts::StartAnswer;
 
 pub mod asks;
 pub mod calls;
+pub mod in_place;
 
 // Who can be called is a number: 0 the consumer in the record, 1 the record itself, 2 nobody, so that only a restart is possible.
 #[repr(C)]
@@ -39,7 +40,7 @@ pub struct Started {
 }
 
 // The phase that a step leaves.
-fn phase_after(answer: StepAnswer) -> u64
+pub fn phase_after(answer: StepAnswer) -> u64
     ensures { λ r. ⌜ r ≡ phaseAfter answer ⌝ }
 {
     match answer {
