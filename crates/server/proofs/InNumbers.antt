@@ -20,14 +20,7 @@ use Rattle.starts.specs.Restart as restarts
 use Rattle.starts.specs.Starting.{configurationOf, startFault}
 use Rattle.starts.specs.declared.StartAnswer.the-variants as starts
 use Rattle.starts.proofs.Restarting.{Other, other-faulty}
-use Rattle.cursor.specs.declared.AckCursor.{AckCursor}
-use Rattle.lease.specs.declared.LeaseTable.{LeaseTable}
-use Rattle.consumer.specs.Calls as calls
-use Rattle.consumer.specs.View.{claimOf, settleOf}
-use Rattle.consumer.specs.declared.calls.ClaimAnswer.{ClaimAnswer}
-use Rattle.consumer.specs.declared.calls.SettleAnswer.{SettleAnswer}
-use Rattle.machine.specs.Transitions as transition
-use Rattle.machine.specs.Calls.{Ask, claim, ack, Call, restart, Event, claimed, acked, termed, nacked, progressed, committed, looked, begun, stepped, restarted, failed}
+use Rattle.machine.specs.Calls.{Ask, Call, restart, Event, claimed, acked, termed, nacked, progressed, committed, looked, begun, stepped, restarted, failed}
 use Rattle.machine.specs.Transitions.{Phase, idle, After, onState, asked, transition}
 use Rattle.machine.specs.Answers.{Arguments, argumentsOf, seenOf, AskKept, outAfter}
 use Rattle.machine.specs.View.{phaseOf, Sound, AskedIs, CalledIs, StartedIs, afterOf, CallKept, held}
@@ -39,7 +32,7 @@ use Rattle.machine.specs.declared.calls.AskAnswer.{AskAnswer}
 use Rattle.machine.specs.declared.calls.AskAnswer.the-variants as asks
 use Rattle.machine.specs.declared.calls.CallAnswer.{CallAnswer}
 use Rattle.machine.specs.declared.calls.CallAnswer.the-variants as callAnswers
-use Rattle.answers.specs.Numbers.{numbersOf, notNow, noValues, handOutValues, seenNumbers, numbersIn}
+use Rattle.answers.specs.Numbers.{numbersOf, notNow, noValues, seenNumbers, numbersIn}
 use Rattle.server.specs.Kinds.{askAt, callAt}
 use Rattle.answers.proofs.Starts.{start-numbers}
 use Rattle.server.specs.Transitions.{onAsk, onCall, phaseIn, areaIn, answeredWith, answeredBy, KeptBy, KeptIn, askAfter, AnswersAsk, Declined, SoundIf, AskedOn, holding, AskIs, CallIs, StartIs}
@@ -89,21 +82,6 @@ module _ (x : Consumer) (kind a b c d : ℕ) (out : List ℕ) where
             subst (λ (o : Option Ask). KeptIn (onAsk o (asked (view x) [])) x (r .consumer)) e
             (subst (λ (t : Option After). KeptIn t x (r .consumer)) (h .is []) (ask-kept x (r .consumer) (argumentsOf q) (r .answer) out′ (h .kept)));
       }
-
--- a claim and an ack by themselves
-module _ (x : Consumer) (o g : ℕ) (out : List ℕ) (n : Numbers) where
-  pub claim-numbers : (a : ClaimAnswer) (t : LeaseTable) → consumer.Answers (claimOf a) x (consumer.holding x t) (calls.claim (view x) o g)
-      → n ≡ numbersOf (refusal.answered handOutValues (claimOf a)) → AnswersAsk x 0 o g 0 0 out n (consumer.holding x t) out
-  claim-numbers a t h m =
-      ask-some x 0 o g 0 0 out (claim o g) (record { answer = asks.Claimed a; consumer = consumer.holding x t }) out n refl
-      (record { is = λ area. ap (transition.answeredAs area (claimed o g)) (h .is); sound = h .sound; kept = h .kept; lists = λ area. refl }) m
-
-  pub ack-numbers : (a : SettleAnswer) (c : AckCursor) (t : LeaseTable)
-      → consumer.Answers (settleOf a) x (consumer.holdingBoth x c t) (calls.ack (view x) o g)
-      → n ≡ numbersOf (refusal.answered noValues (settleOf a)) → AnswersAsk x 1 o g 0 0 out n (consumer.holdingBoth x c t) out
-  ack-numbers a c t h m =
-      ask-some x 1 o g 0 0 out (ack o g) (record { answer = asks.Acked a; consumer = consumer.holdingBoth x c t }) out n refl
-      (record { is = λ area. ap (transition.answeredAs area (acked o g)) (h .is); sound = h .sound; kept = h .kept; lists = λ area. refl }) m
 
 -- what keeps a thing keeps what it stands in
 module _ {S T : Type 0} (f : S → T) (x y : S) where
@@ -202,16 +180,6 @@ module _ (m : Machine) (area : List ℕ) (q : Call) (m′ : Machine) (area′ ou
   call-kept callAnswers.NotNow k = k
 
 module _ (m : Machine) (kind a b c d : ℕ) (area out : List ℕ) where
-  pub call-none : Sound m → none ≡ callAt kind a b c d (length out) → CallIs m kind a b c d area out notNow m area out
-  call-none sound e =
-      record {
-        is = ap (λ (o : Option Call). answeredBy (phaseOf m) area out (onCall o (transition (configurationOf (m .configuration)) (phaseOf m) area))) e;
-        sound = sound;
-        configuration = refl;
-        kept =
-            subst (λ (o : Option Call). KeptIn (onCall o (transition (configurationOf (m .configuration)) (phaseOf m) area)) (held m area) (held m area)) e refl;
-      }
-
   pub call-some : (q : Call) (r : Called) (area′ out′ : List ℕ) (n : Numbers) → some q ≡ callAt kind a b c d (length out)
       → CalledIs m q area out r area′ out′ → n ≡ numbersIn (afterOf q (r .answer) (r .machine) area′ out′)
       → CallIs m kind a b c d area out n (r .machine) area′ out′

@@ -1,2 +1,5 @@
 pub mod Found
 pub mod InNumbers
+pub mod InPlace
+pub mod Machine
+pub mod Exported

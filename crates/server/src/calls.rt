@@ -4,10 +4,9 @@ ghost use mathlib.Core.List.{List};
 ghost use Prim.Native.Nat.{ℕ};
 ghost use Rattle.machine.specs.View.{Sound, OffIs};
 ghost use Rattle.server.specs.Transitions.{AskIs, CallIs, StartIs};
-use crate::transitions::ack;
-use crate::transitions::ask;
-use crate::transitions::call;
-use crate::transitions::claim;
+use crate::in_place::ask_in_place;
+use crate::in_place::begin_in_place;
+use crate::in_place::step_in_place;
 use crate::transitions::restart;
 use crate::transitions::start;
 use answers::Numbers;
@@ -53,29 +52,68 @@ pub extern "C" fn ninotskev_restart(machine: &mut Machine, numbers: &mut Numbers
     *numbers = restarted.numbers;
 }
 
-// `call` on the machine in its place.
+// Begins a checkpoint on the machine in its place: call 16.
 #[no_mangle]
-pub extern "C" fn ninotskev_call(
-    machine: &mut Machine,
-    numbers: &mut Numbers,
-    kind: u64,
-    a: u64,
-    b: u64,
-    c: u64,
-    d: u64,
-    area: &mut [u8],
-    out: &mut [u64],
-)
+pub extern "C" fn ninotskev_begin(machine: &mut Machine, numbers: &mut Numbers)
     requires { ⌜ Sound (now machine) ⌝ }
-    ensures { λ _. ⌜ CallIs (now (machine .entry)) kind a b c d (now (area .entry)) (now (out .entry)) (now (numbers .exit)) (now (machine .exit)) (now (area .exit)) (now (out .exit)) ⌝ }
+    ensures { λ _. ⌜ ((area out : List ℕ) → CallIs (now (machine .entry)) 16 0 0 0 0 area out (now (numbers .exit)) (now (machine .exit)) area out) ⌝ }
 {
-    let before = *machine;
-    let called = call(before, kind, a, b, c, d, area, out);
-    *machine = called.machine;
-    *numbers = called.numbers;
+    let done = begin_in_place(
+        machine.phase,
+        machine.writing.consumer.cursor.committed,
+        machine.writing.consumer.cursor.runs,
+        machine.writing.consumer.table.len,
+        machine.writing.consumer.table.carried_len,
+        machine.writing.consumer.next.block,
+        machine.writing.consumer.area_len,
+        machine.writing.written,
+        machine.writing.cursor_len,
+        machine.writing.attempt_len,
+        &mut machine.writing.consumer.cursor.starts,
+        &mut machine.writing.consumer.cursor.ends,
+        &mut machine.writing.consumer.table.offsets,
+        &mut machine.writing.consumer.table.deliveries,
+        &mut machine.writing.consumer.table.carried_offsets,
+        &mut machine.writing.consumer.table.carried_counts,
+        &mut machine.writing.payload,
+    );
+    machine.phase = done.phase;
+    machine.writing.written = done.written;
+    machine.writing.cursor_len = done.cursor_len;
+    machine.writing.attempt_len = done.attempt_len;
+    *numbers = done.numbers;
 }
 
-// `ask` on the machine in its place: of its state the consumer alone is copied.
+// Makes the next block write of a checkpoint, into the lent area: call 17.
+#[no_mangle]
+pub extern "C" fn ninotskev_step(machine: &mut Machine, numbers: &mut Numbers, area: &mut [u8])
+    requires { ⌜ Sound (now machine) ⌝ }
+    ensures { λ _. ⌜ ((out : List ℕ) → CallIs (now (machine .entry)) 17 0 0 0 0 (now (area .entry)) out (now (numbers .exit)) (now (machine .exit)) (now (area .exit)) out) ⌝ }
+{
+    let done = step_in_place(
+        machine.phase,
+        machine.writing.written,
+        machine.writing.cursor_len,
+        machine.writing.attempt_len,
+        machine.writing.consumer.area_len,
+        machine.writing.consumer.table.next_generation.0,
+        machine.writing.consumer.ceiling.0,
+        machine.writing.consumer.next.number,
+        machine.writing.consumer.next.block,
+        machine.writing.consumer.table.redeliveries_since_flush,
+        &machine.writing.payload,
+        area,
+    );
+    machine.phase = done.phase;
+    machine.writing.written = done.written;
+    machine.writing.consumer.ceiling.0 = done.ceiling;
+    machine.writing.consumer.next.number = done.number;
+    machine.writing.consumer.next.block = done.block;
+    machine.writing.consumer.table.redeliveries_since_flush = done.redeliveries;
+    *numbers = done.numbers;
+}
+
+// A call on the state of the machine in its place.
 #[no_mangle]
 pub extern "C" fn ninotskev_ask(
     machine: &mut Machine,
@@ -90,46 +128,48 @@ pub extern "C" fn ninotskev_ask(
     requires { ⌜ Sound (now machine) ⌝ }
     ensures { λ _. ⌜ AskIs (now (machine .entry)) kind a b c d (now (out .entry)) (now (numbers .exit)) (now (machine .exit)) (now (out .exit)) ⌝ }
 {
-    let phase = machine.phase;
-    let before = machine.writing.consumer;
-    let asked = ask(phase, before, kind, a, b, c, d, out);
-    machine.writing.consumer = asked.consumer;
-    *numbers = asked.numbers;
-}
-
-// `claim` on the machine in its place: of its state the table alone is stored back.
-#[no_mangle]
-pub extern "C" fn ninotskev_claim(
-    machine: &mut Machine,
-    numbers: &mut Numbers,
-    offset: u64,
-    clock: u64,
-)
-    requires { ⌜ Sound (now machine) ⌝ }
-    ensures { λ _. ⌜ ((out : List ℕ) → AskIs (now (machine .entry)) 0 offset clock 0 0 out (now (numbers .exit)) (now (machine .exit)) out) ⌝ }
-{
-    let phase = machine.phase;
-    let before = machine.writing.consumer;
-    let claimed = claim(phase, before, offset, clock);
-    machine.writing.consumer.table = claimed.table;
-    *numbers = claimed.numbers;
-}
-
-// `ack` on the machine in its place: of its state the cursor and the table are stored back.
-#[no_mangle]
-pub extern "C" fn ninotskev_ack(
-    machine: &mut Machine,
-    numbers: &mut Numbers,
-    offset: u64,
-    generation: u64,
-)
-    requires { ⌜ Sound (now machine) ⌝ }
-    ensures { λ _. ⌜ ((out : List ℕ) → AskIs (now (machine .entry)) 1 offset generation 0 0 out (now (numbers .exit)) (now (machine .exit)) out) ⌝ }
-{
-    let phase = machine.phase;
-    let before = machine.writing.consumer;
-    let acked = ack(phase, before, offset, generation);
-    machine.writing.consumer.cursor = acked.cursor;
-    machine.writing.consumer.table = acked.table;
-    *numbers = acked.numbers;
+    let done = ask_in_place(
+        machine.phase,
+        kind,
+        a,
+        b,
+        c,
+        d,
+        machine.writing.consumer.cursor.committed,
+        machine.writing.consumer.cursor.runs,
+        machine.writing.consumer.table.config,
+        machine.writing.consumer.table.len,
+        machine.writing.consumer.table.carried_len,
+        machine.writing.consumer.table.next_generation.0,
+        machine.writing.consumer.table.redeliveries_since_flush,
+        machine.writing.consumer.ceiling.0,
+        machine.writing.consumer.next.block,
+        machine.writing.consumer.area_len,
+        machine.writing.consumer.settings.delivery.max_deliver,
+        machine.writing.consumer.settings.delivery.backoff_len,
+        machine
+            .writing
+            .consumer
+            .settings
+            .delivery
+            .attempts_flush_redeliveries,
+        &mut machine.writing.consumer.cursor.starts,
+        &mut machine.writing.consumer.cursor.ends,
+        &mut machine.writing.consumer.table.offsets,
+        &mut machine.writing.consumer.table.generations,
+        &mut machine.writing.consumer.table.attempt_starts,
+        &mut machine.writing.consumer.table.deadlines,
+        &mut machine.writing.consumer.table.deliveries,
+        &mut machine.writing.consumer.table.carried_offsets,
+        &mut machine.writing.consumer.table.carried_counts,
+        &machine.writing.consumer.settings.delivery.backoff_nanos,
+        out,
+    );
+    machine.writing.consumer.cursor.committed = done.figures.committed;
+    machine.writing.consumer.cursor.runs = done.figures.runs;
+    machine.writing.consumer.table.len = done.figures.len;
+    machine.writing.consumer.table.carried_len = done.figures.carried_len;
+    machine.writing.consumer.table.next_generation.0 = done.figures.next_generation;
+    machine.writing.consumer.table.redeliveries_since_flush = done.figures.redeliveries;
+    *numbers = done.numbers;
 }

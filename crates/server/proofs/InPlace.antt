@@ -1,0 +1,93 @@
+-- A begin and a step in place, in numbers: from what the checkpoint's functions say of the parts of a machine. Assumes nothing.
+use Prim.Native.Nat.{ℕ, zero, suc}
+use native.Mathlib.Omega.{arith}
+use mathlib.Core.Path.{_≡_, refl, subst}
+use mathlib.Core.List.{List}
+use Rattle.types.specs.Refusal as refusal
+use Rattle.consumer.specs.Parts.{Whole}
+use Rattle.consumer.specs.declared.Configuration.{Configuration}
+use Rattle.consumer.specs.declared.Consumer.{Consumer}
+use Rattle.checkpoint.specs.Parts.{Lent, BegunAs}
+use Rattle.checkpoint.specs.Writing.{SoundWriting, SteppedIs, stepOf}
+use Rattle.checkpoint.specs.declared.Writing.{Writing}
+use Rattle.checkpoint.specs.declared.BeginAnswer.{BeginAnswer}
+use Rattle.checkpoint.specs.declared.BeginAnswer.the-variants as begins
+use Rattle.checkpoint.specs.declared.Stepped.{Stepped}
+use Rattle.machine.specs.Calls.{begin, step}
+use Rattle.machine.specs.Answers.{begunOf}
+use Rattle.machine.specs.View.{SoundAt, CalledIs, phaseAfter}
+use Rattle.machine.specs.Parts.{consumerOf, Ready}
+use Rattle.machine.specs.declared.in_place.Fixed.{Fixed}
+use Rattle.machine.specs.declared.in_place.Figures.{Figures}
+use Rattle.machine.specs.declared.calls.CallAnswer.the-variants as calls
+use Rattle.machine.proofs.Transitions.{not-begun, not-stepped, begin-refused, begin-done, step-called}
+use Rattle.answers.specs.Numbers.{numbersOf, notNow, oneValue, wroteValues}
+use Rattle.answers.specs.declared.Numbers.{Numbers}
+use Rattle.server.specs.Transitions.{CallIs}
+use Rattle.server.specs.Parts.{machineOf, Askable, Lendable, phaseBegun}
+use Rattle.server.proofs.InNumbers.{idle-sound, call-some}
+
+-- ## a call on the state
+-- the parts that the call is lent are ready for it, and the consumer is whole
+pub whole : (k : ℕ) (x : Consumer) → k ≡ 0 → Askable k x → Whole x
+whole k x e h = record { full = h .sized .table; sound = idle-sound k x e (h .sound) }
+
+pub ready : (k : ℕ) (f : Fixed) (n : Figures) (starts ends ks gs ss ds ns cks cvs backoffs : List ℕ) (x : Consumer)
+    → let y = consumerOf f n starts ends ks gs ss ds ns cks cvs backoffs x in k ≡ 0 → Askable k y → Ready f n starts ends ks gs ss ds ns cks cvs backoffs
+ready k f n starts ends ks gs ss ds ns cks cvs backoffs x e h =
+    let z = h .sized in
+    let ok = idle-sound k _ e (h .sound) in
+    record {
+      cursor = record { starts = z .starts; ends = z .ends; sound = ok .cursor };
+      table = record { full = z .table; sound = ok .table };
+      schedule = record { full = z .backoffs; few = ok .settings .delivery .few };
+      blocks = ok .valid .within;
+    }
+
+-- ## begin
+pub lent-of : (k : ℕ) (w : Writing) → k ≡ 0 → Lendable k w → Lent (w .consumer)
+lent-of zero w e h =
+    let z = h .sized in
+    record {
+      cursor = record { starts = z .starts; ends = z .ends; sound = h .sound .cursor };
+      table = z .table;
+      sound = h .sound;
+    }
+lent-of (suc k) w e h = absurd (omega arith)
+
+module _ (s : Configuration) (k : ℕ) (w : Writing) (ok : SoundAt k w) (a out : List ℕ) where
+  pub begin-declined : (k ≡ 0 → ⊥) → CallIs (machineOf s k w) 16 0 0 0 0 a out notNow (machineOf s k w) a out
+  begin-declined h =
+      call-some (machineOf s k w) 16 0 0 0 0 a out begin (record { answer = calls.NotNow; machine = machineOf s k w }) a out notNow refl
+      (not-begun (machineOf s k w) ok a out h) refl
+
+  module _ (e : k ≡ 0) (w′ : Writing) where
+    begun-called : (answer : BeginAnswer) → BegunAs answer w w′
+        → CalledIs (machineOf s k w) begin a out (record { answer = calls.Begun answer; machine = machineOf s (phaseBegun answer) w′ }) a out
+    begun-called (begins.Begun n) h =
+        begin-done (machineOf s k w) e a out ok (record { answer = begins.Begun n; writing = w′ }) (h .begun) n refl
+    begun-called begins.JournalFull h =
+        rw (h .kept, ← e) (begin-refused (machineOf s k w) e a out ok (record { answer = begins.JournalFull; writing = w′ }) (h .begun) refl)
+
+    pub begun-numbers : (answer : BeginAnswer) → BegunAs answer w w′ → (n : Numbers) (k′ : ℕ) → n ≡ numbersOf (refusal.answered oneValue (begunOf answer))
+        → k′ ≡ phaseBegun answer → CallIs (machineOf s k w) 16 0 0 0 0 a out n (machineOf s k′ w′) a out
+    begun-numbers answer h n k′ same p =
+        rw p
+        (call-some (machineOf s k w) 16 0 0 0 0 a out begin (record { answer = calls.Begun answer; machine = machineOf s (phaseBegun answer) w′ }) a out n refl
+        (begun-called answer h) same)
+
+-- ## step
+pub writing-sound : (k : ℕ) (w : Writing) → k ≡ 1 → SoundAt k w → SoundWriting w
+writing-sound k w e ok = subst (λ (n : ℕ). SoundAt n w) e ok
+
+module _ (s : Configuration) (k : ℕ) (w : Writing) (ok : SoundAt k w) (a out : List ℕ) where
+  pub step-declined : (k ≡ 1 → ⊥) → CallIs (machineOf s k w) 17 0 0 0 0 a out notNow (machineOf s k w) a out
+  step-declined h =
+      call-some (machineOf s k w) 17 0 0 0 0 a out step (record { answer = calls.NotNow; machine = machineOf s k w }) a out notNow refl
+      (not-stepped (machineOf s k w) ok a out h) refl
+
+  pub stepped-numbers : (r : Stepped) (a′ : List ℕ) → k ≡ 1 → SteppedIs w a r a′ → (n : Numbers) (k′ : ℕ) → n ≡ numbersOf (refusal.answered wroteValues (stepOf (r .answer)))
+      → k′ ≡ phaseAfter (r .answer) → CallIs (machineOf s k w) 17 0 0 0 0 a out n (machineOf s k′ (r .writing)) a′ out
+  stepped-numbers r a′ e h n k′ same p =
+      call-some (machineOf s k w) 17 0 0 0 0 a out step (record { answer = calls.Stepped (r .answer); machine = machineOf s k′ (r .writing) }) a′ out n refl
+      (step-called (machineOf s k w) e a a′ r h out k′ p) same

@@ -1,0 +1,93 @@
+-- The parts of a machine, as the calls in place are handed them, and what each makes of every machine that has them.
+use Prim.Native.Nat.{ℕ}
+use mathlib.Core.Path.{_≡_}
+use mathlib.Core.List.{List}
+use lib.ListN.{length}
+use Rattle.lease.specs.Parts.{Full}
+use Rattle.lease.specs.declared.LeaseConfig.{LeaseConfig}
+use Rattle.consumer.specs.declared.Configuration.{Configuration}
+use Rattle.consumer.specs.declared.Consumer.{Consumer}
+use Rattle.checkpoint.specs.Parts.{recording, Parts, withParts}
+use Rattle.checkpoint.specs.declared.Writing.{Writing}
+use Rattle.checkpoint.specs.declared.BeginAnswer.{BeginAnswer}
+use Rattle.checkpoint.specs.declared.BeginAnswer.the-variants as begins
+use Rattle.machine.specs.View.{SoundAt}
+use Rattle.machine.specs.declared.Machine.{Machine}
+use Rattle.machine.specs.declared.in_place.Fixed.{Fixed}
+use Rattle.machine.specs.declared.in_place.Figures.{Figures}
+use Rattle.answers.specs.declared.Numbers.{Numbers}
+use Rattle.server.specs.Transitions.{SoundIf, AskedOn, CallIs}
+
+-- the machine of a phase and a record
+abbrev pub machineOf : Configuration → ℕ → Writing → Machine
+machineOf s k w = record { configuration = s; phase = k; writing = w }
+
+-- the arrays of a consumer have their lengths: a lent array does not show its own
+pub record Sized (c : Consumer) : Type 0 where
+  pub starts : length (c .cursor .starts) ≡ 128
+  pub ends : length (c .cursor .ends) ≡ 128
+  pub table : Full (c .table)
+  pub backoffs : length (c .settings .delivery .«backoff_nanos») ≡ 16
+
+-- ## a call on the state
+-- the numbers of a consumer that its calls leave, and those that they change
+abbrev pub fixedAs : LeaseConfig → (ceiling block areaLen maxDeliver backoffLen threshold : ℕ) → Fixed
+fixedAs config ceiling block size most steps threshold =
+    record { config = config; ceiling = ceiling; block = block; «area_len» = size; «max_deliver» = most; «backoff_len» = steps; threshold = threshold }
+
+abbrev pub figuresAs : (committed runs len carriedLen generation redeliveries : ℕ) → Figures
+figuresAs c r n m g red = record { committed = c; runs = r; len = n; «carried_len» = m; «next_generation» = g; redeliveries = red }
+
+-- a consumer that is sound where it can be called, and whose arrays have their lengths
+pub record Askable (k : ℕ) (x : Consumer) : Type 0 where
+  pub sized : Sized x
+  pub sound : SoundIf k x
+
+-- the parts of such a consumer
+pub record AskableIn (k : ℕ) (parts : Consumer → Consumer) : Type 0 where
+  pub consumer : Consumer
+  pub askable : Askable k (parts consumer)
+
+-- a call on every consumer that has these parts
+abbrev pub AskedIn : ℕ → (before : Consumer → Consumer) (kind a b c d : ℕ) (out : List ℕ) (n : Numbers) (after : Consumer → Consumer) (out′ : List ℕ) → Type 0
+AskedIn k before kind a b c d out n after out′ =
+    (x : Consumer) → Askable k (before x) → AskedOn k (before x) kind a b c d out n (after x) out′
+
+-- ## begin
+-- a record with these parts
+abbrev pub toBegin : (written cursorLen attemptLen : ℕ) → List ℕ → (Consumer → Consumer) → Consumer → Writing
+toBegin w lc la bytes parts c = recording w lc la bytes (parts c)
+
+-- a record that is sound in a phase, and whose arrays have their lengths
+pub record Lendable (k : ℕ) (w : Writing) : Type 0 where
+  pub sized : Sized (w .consumer)
+  pub payload : length (w .payload) ≡ 3606
+  pub sound : SoundAt k w
+
+-- the parts of such a record
+pub record Beginnable (k : ℕ) (parts : Consumer → Writing) : Type 0 where
+  pub consumer : Consumer
+  pub lendable : Lendable k (parts consumer)
+
+-- the number of the phase that a begin leaves
+abbrev pub phaseBegun : BeginAnswer → ℕ
+phaseBegun (begins.Begun n) = 1
+phaseBegun begins.JournalFull = 0
+
+-- call 16 on every machine that has these parts, whatever area and list are lent
+abbrev pub BegunOn : ℕ → (Consumer → Writing) → Numbers → ℕ → (Consumer → Writing) → Type 0
+BegunOn k before n k′ after =
+    (s : Configuration) (c : Consumer) → Lendable k (before c) → (area out : List ℕ)
+    → CallIs (machineOf s k (before c)) 16 0 0 0 0 area out n (machineOf s k′ (after c)) area out
+
+-- ## step
+-- the parts of a record that is sound in a phase
+pub record Steppable (k : ℕ) (p : Parts) : Type 0 where
+  pub writing : Writing
+  pub sound : SoundAt k (withParts p writing)
+
+-- call 17 on every machine that has these parts, whatever list is lent
+abbrev pub SteppedOn : ℕ → Parts → List ℕ → Numbers → ℕ → Parts → List ℕ → Type 0
+SteppedOn k before a n k′ after a′ =
+    (s : Configuration) (w : Writing) → SoundAt k (withParts before w) → (out : List ℕ)
+    → CallIs (machineOf s k (withParts before w)) 17 0 0 0 0 a out n (machineOf s k′ (withParts after w)) a′ out

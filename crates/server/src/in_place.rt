@@ -1,0 +1,310 @@
+// Calls on the parts of a machine that lies in another's memory: its numbers come by value and go back beside the answer, its columns
+// are lent and changed where they lie.
+ghost use Rattle.cursor.specs.View.{ackCursor};
+ghost use Rattle.lease.specs.Parts.{listingAll};
+ghost use Rattle.checkpoint.specs.Parts.{beginning, parts};
+ghost use Rattle.machine.specs.Parts.{consumerOf};
+ghost use Rattle.server.specs.Parts.{fixedAs, figuresAs, AskableIn, AskedIn, toBegin, Beginnable, phaseBegun, BegunOn, Steppable, SteppedOn};
+ghost use mathlib.Core.Path.{_≡_};
+use crate::kinds;
+use crate::kinds::Asking;
+use answers::Numbers;
+use checkpoint::BeginAnswer;
+use lease::LeaseConfig;
+use machine::in_place::Figures;
+use machine::in_place::Fixed;
+use types::limits::CARRIED;
+use types::limits::LEASES;
+use types::limits::RANGES;
+
+// What a call on the state answers, and the numbers of the machine that it changes.
+pub struct AskDone {
+    pub numbers: Numbers,
+    pub figures: Figures,
+}
+
+// A call on the state, where it can be called: that is phase 0.
+fn ask_on(
+    phase: u64,
+    kind: u64,
+    a: u64,
+    b: u64,
+    c: u64,
+    d: u64,
+    fixed: Fixed,
+    figures: Figures,
+    starts: &mut [u64; RANGES],
+    ends: &mut [u64; RANGES],
+    offsets: &mut [u64; LEASES],
+    generations: &mut [u64; LEASES],
+    attempt_starts: &mut [u64; LEASES],
+    deadlines: &mut [u64; LEASES],
+    deliveries: &mut [u32; LEASES],
+    carried_offsets: &mut [u64; CARRIED],
+    carried_counts: &mut [u32; CARRIED],
+    backoff_nanos: &[u64; 16],
+    out: &mut [u64],
+) -> AskDone
+    requires { ⌜ AskableIn phase (consumerOf fixed figures (now starts) (now ends) (now offsets) (now generations) (now «attempt_starts») (now deadlines) (now deliveries) (now «carried_offsets») (now «carried_counts») (now «backoff_nanos»)) ⌝ }
+    ensures { λ r. ⌜ AskedIn phase (consumerOf fixed figures (now (starts .entry)) (now (ends .entry)) (now (offsets .entry)) (now (generations .entry)) (now («attempt_starts» .entry)) (now (deadlines .entry)) (now (deliveries .entry)) (now («carried_offsets» .entry)) (now («carried_counts» .entry)) (now («backoff_nanos» .entry))) kind a b c d (now (out .entry))
+        (r .numbers) (consumerOf fixed (r .figures) (now (starts .exit)) (now (ends .exit)) (now (offsets .exit)) (now (generations .exit)) (now («attempt_starts» .exit)) (now (deadlines .exit)) (now (deliveries .exit)) (now («carried_offsets» .exit)) (now («carried_counts» .exit)) (now («backoff_nanos» .entry))) (now (out .exit)) ⌝ }
+{
+    if phase != 0 {
+        return AskDone {
+            numbers: Numbers(255, 0, 0, 0, 0, 0),
+            figures,
+        };
+    }
+    let asking = kinds::ask_of(kind, a, b, c, d);
+    let Asking::Ask(ask) = asking else {
+        return AskDone {
+            numbers: Numbers(255, 0, 0, 0, 0, 0),
+            figures,
+        };
+    };
+    let done = machine::in_place::ask_in_place(
+        ask,
+        fixed,
+        figures,
+        starts,
+        ends,
+        offsets,
+        generations,
+        attempt_starts,
+        deadlines,
+        deliveries,
+        carried_offsets,
+        carried_counts,
+        backoff_nanos,
+        out,
+    );
+    let answer = done.answer;
+    let after = done.figures;
+    AskDone {
+        numbers: answers::of_ask(answer, out),
+        figures: after,
+    }
+}
+
+// A call on the state.
+pub fn ask_in_place(
+    phase: u64,
+    kind: u64,
+    a: u64,
+    b: u64,
+    c: u64,
+    d: u64,
+    committed: u64,
+    runs: usize,
+    config: LeaseConfig,
+    len: usize,
+    carried_len: usize,
+    next_generation: u64,
+    redeliveries: u32,
+    ceiling: u64,
+    block: usize,
+    area_len: usize,
+    max_deliver: u32,
+    backoff_len: usize,
+    threshold: u32,
+    starts: &mut [u64; RANGES],
+    ends: &mut [u64; RANGES],
+    offsets: &mut [u64; LEASES],
+    generations: &mut [u64; LEASES],
+    attempt_starts: &mut [u64; LEASES],
+    deadlines: &mut [u64; LEASES],
+    deliveries: &mut [u32; LEASES],
+    carried_offsets: &mut [u64; CARRIED],
+    carried_counts: &mut [u32; CARRIED],
+    backoff_nanos: &[u64; 16],
+    out: &mut [u64],
+) -> AskDone
+    requires { ⌜ AskableIn phase (consumerOf (fixedAs config ceiling block «area_len» «max_deliver» «backoff_len» threshold) (figuresAs committed runs len «carried_len» «next_generation» redeliveries) (now starts) (now ends) (now offsets) (now generations) (now «attempt_starts») (now deadlines) (now deliveries) (now «carried_offsets») (now «carried_counts») (now «backoff_nanos»)) ⌝ }
+    ensures { λ r. ⌜ AskedIn phase (consumerOf (fixedAs config ceiling block «area_len» «max_deliver» «backoff_len» threshold) (figuresAs committed runs len «carried_len» «next_generation» redeliveries) (now (starts .entry)) (now (ends .entry)) (now (offsets .entry)) (now (generations .entry)) (now («attempt_starts» .entry)) (now (deadlines .entry)) (now (deliveries .entry)) (now («carried_offsets» .entry)) (now («carried_counts» .entry)) (now («backoff_nanos» .entry))) kind a b c d (now (out .entry))
+        (r .numbers) (consumerOf (fixedAs config ceiling block «area_len» «max_deliver» «backoff_len» threshold) (r .figures) (now (starts .exit)) (now (ends .exit)) (now (offsets .exit)) (now (generations .exit)) (now («attempt_starts» .exit)) (now (deadlines .exit)) (now (deliveries .exit)) (now («carried_offsets» .exit)) (now («carried_counts» .exit)) (now («backoff_nanos» .entry))) (now (out .exit)) ⌝ }
+{
+    let figures = Figures {
+        committed,
+        runs,
+        len,
+        carried_len,
+        next_generation,
+        redeliveries,
+    };
+    let fixed = Fixed {
+        config,
+        ceiling,
+        block,
+        area_len,
+        max_deliver,
+        backoff_len,
+        threshold,
+    };
+    ask_on(
+        phase,
+        kind,
+        a,
+        b,
+        c,
+        d,
+        fixed,
+        figures,
+        starts,
+        ends,
+        offsets,
+        generations,
+        attempt_starts,
+        deadlines,
+        deliveries,
+        carried_offsets,
+        carried_counts,
+        backoff_nanos,
+        out,
+    )
+}
+
+// What a begin answers, and the numbers of the machine that it changes.
+pub struct BeginDone {
+    pub numbers: Numbers,
+    pub phase: u64,
+    pub written: usize,
+    pub cursor_len: usize,
+    pub attempt_len: usize,
+}
+
+// What a step answers, and the numbers of the machine that it changes.
+pub struct StepDone {
+    pub numbers: Numbers,
+    pub phase: u64,
+    pub written: usize,
+    pub ceiling: u64,
+    pub number: u64,
+    pub block: usize,
+    pub redeliveries: u32,
+}
+
+// The phase that a begin leaves.
+fn phase_begun(answer: BeginAnswer) -> u64
+    ensures { λ r. ⌜ r ≡ phaseBegun answer ⌝ }
+{
+    match answer {
+        BeginAnswer::Begun { writes: _ } => 1,
+        BeginAnswer::JournalFull => 0,
+    }
+}
+
+// Call 16, where a checkpoint can be begun: that is phase 0. The columns are read only; each is lent by itself.
+pub fn begin_in_place(
+    phase: u64,
+    committed: u64,
+    runs: usize,
+    len: usize,
+    carried_len: usize,
+    block: usize,
+    area_len: usize,
+    written: usize,
+    cursor_len: usize,
+    attempt_len: usize,
+    starts: &mut [u64; RANGES],
+    ends: &mut [u64; RANGES],
+    offsets: &mut [u64; LEASES],
+    deliveries: &mut [u32; LEASES],
+    carried_offsets: &mut [u64; CARRIED],
+    carried_counts: &mut [u32; CARRIED],
+    payload: &mut [u8; 3606],
+) -> BeginDone
+    requires { ⌜ Beginnable phase (toBegin written «cursor_len» «attempt_len» (now payload) (beginning (ackCursor committed (now starts) (now ends) runs) (listingAll len «carried_len» (now offsets) (now deliveries) (now «carried_offsets») (now «carried_counts»)) block «area_len»)) ⌝ }
+    ensures { λ r. ⌜ BegunOn phase (toBegin written «cursor_len» «attempt_len» (now (payload .entry)) (beginning (ackCursor committed (now (starts .entry)) (now (ends .entry)) runs) (listingAll len «carried_len» (now (offsets .entry)) (now (deliveries .entry)) (now («carried_offsets» .entry)) (now («carried_counts» .entry))) block «area_len»))
+        (r .numbers) (r .phase) (toBegin (r .written) (r .«cursor_len») (r .«attempt_len») (now (payload .exit)) (beginning (ackCursor committed (now (starts .exit)) (now (ends .exit)) runs) (listingAll len «carried_len» (now (offsets .exit)) (now (deliveries .exit)) (now («carried_offsets» .exit)) (now («carried_counts» .exit))) block «area_len»)) ⌝ }
+{
+    if phase != 0 {
+        return BeginDone {
+            numbers: Numbers(255, 0, 0, 0, 0, 0),
+            phase,
+            written,
+            cursor_len,
+            attempt_len,
+        };
+    }
+    let begun = checkpoint::in_place::begin_in_place(
+        written,
+        cursor_len,
+        attempt_len,
+        committed,
+        runs,
+        len,
+        carried_len,
+        block,
+        area_len,
+        starts,
+        ends,
+        offsets,
+        deliveries,
+        carried_offsets,
+        carried_counts,
+        payload,
+    );
+    let answer = begun.answer;
+    BeginDone {
+        numbers: answers::of_begin(answer),
+        phase: phase_begun(answer),
+        written: begun.written,
+        cursor_len: begun.cursor_len,
+        attempt_len: begun.attempt_len,
+    }
+}
+
+// Call 17, where there is a record to step: that is phase 1.
+pub fn step_in_place(
+    phase: u64,
+    written: usize,
+    cursor_len: usize,
+    attempt_len: usize,
+    area_len: usize,
+    next_generation: u64,
+    ceiling: u64,
+    number: u64,
+    block: usize,
+    redeliveries: u32,
+    payload: &[u8; 3606],
+    area: &mut [u8],
+) -> StepDone
+    requires { ⌜ Steppable phase (parts written «cursor_len» «attempt_len» «area_len» «next_generation» ceiling redeliveries number block (now payload)) ⌝ }
+    ensures { λ r. ⌜ SteppedOn phase (parts written «cursor_len» «attempt_len» «area_len» «next_generation» ceiling redeliveries number block (now (payload .entry))) (now (area .entry))
+        (r .numbers) (r .phase) (parts (r .written) «cursor_len» «attempt_len» «area_len» «next_generation» (r .ceiling) (r .redeliveries) (r .number) (r .block) (now (payload .entry))) (now (area .exit)) ⌝ }
+{
+    if phase != 1 {
+        return StepDone {
+            numbers: Numbers(255, 0, 0, 0, 0, 0),
+            phase,
+            written,
+            ceiling,
+            number,
+            block,
+            redeliveries,
+        };
+    }
+    let stepped = checkpoint::in_place::step_in_place(
+        written,
+        cursor_len,
+        attempt_len,
+        area_len,
+        next_generation,
+        ceiling,
+        redeliveries,
+        number,
+        block,
+        payload,
+        area,
+    );
+    let answer = stepped.answer;
+    StepDone {
+        numbers: answers::of_step(answer),
+        phase: machine::phase_after(answer),
+        written: stepped.written,
+        ceiling: stepped.ceiling,
+        number: stepped.number,
+        block: stepped.block,
+        redeliveries: stepped.redeliveries,
+    }
+}
