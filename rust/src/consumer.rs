@@ -97,7 +97,8 @@ impl<S> Consumer<S> {
     /// # Errors
     /// Refusals 21, 22, 23, 25, 26 and 27. After 26 comes a [checkpoint](Consumer::begin).
     pub fn claim(&mut self, offset: Offset, now: u64) -> Result<HandOut, Refusal> {
-        let [generation, deliveries, dead, _] = self.machine.claim(offset.get(), now)?.values;
+        let numbers = [offset.get(), now, 0, 0];
+        let [generation, deliveries, dead, _] = self.machine.ask(Ask::Claim, numbers)?.values;
         let token = LeaseToken {
             offset,
             generation: Generation::new(generation),
@@ -120,9 +121,7 @@ impl<S> Consumer<S> {
     /// # Errors
     /// Refusals 24 and 29.
     pub fn ack(&mut self, token: LeaseToken) -> Result<(), Refusal> {
-        self.machine
-            .ack(token.offset.get(), token.generation.get())
-            .map(drop)
+        self.under(Ask::Ack, token, 0, 0).map(drop)
     }
 
     /// Given up for good: settled as by an ack.

@@ -18,22 +18,15 @@ struct AckCursor {
     runs: usize,
 }
 
-// lease: Lease
-#[derive(Clone, Copy)]
-#[repr(C)]
-struct Lease {
-    generation: u64,
-    attempt_start: u64,
-    deadline: u64,
-    deliveries: u32,
-}
-
 // lease: LeaseTable
 #[repr(C)]
 struct LeaseTable {
     config: LeaseConfig,
     offsets: [u64; 64],
-    leases: [Lease; 64],
+    generations: [u64; 64],
+    attempt_starts: [u64; 64],
+    deadlines: [u64; 64],
+    deliveries: [u32; 64],
     len: usize,
     carried_offsets: [u64; 128],
     carried_counts: [u32; 128],
@@ -89,10 +82,6 @@ pub(crate) struct Numbers {
 
 /// The calls on a consumer, by their numbers in `crates/server/specs/Kinds.antt`.
 #[derive(Clone, Copy, Debug, PartialEq, Eq)]
-#[cfg_attr(
-    not(test),
-    expect(dead_code, reason = "claim and ack have functions of their own")
-)]
 #[repr(u64)]
 pub(crate) enum Ask {
     Claim = 0,
@@ -112,10 +101,6 @@ pub(crate) enum Ask {
     BlocksLeft = 39,
 }
 
-// The calls on the machine that have no function of their own.
-const BEGIN: u64 = 16;
-const STEP: u64 = 17;
-
 extern "C" {
     fn ninotskev_start(
         machine: *mut Machine,
@@ -130,19 +115,6 @@ extern "C" {
         area: *const u8,
         area_len: usize,
     );
-    fn ninotskev_call(
-        machine: *mut Machine,
-        numbers: *mut Numbers,
-        kind: u64,
-        a: u64,
-        b: u64,
-        c: u64,
-        d: u64,
-        area: *mut u8,
-        area_len: usize,
-        out: *mut u64,
-        out_len: usize,
-    );
     fn ninotskev_ask(
         machine: *mut Machine,
         numbers: *mut Numbers,
@@ -154,8 +126,8 @@ extern "C" {
         out: *mut u64,
         out_len: usize,
     );
-    fn ninotskev_claim(machine: *mut Machine, numbers: *mut Numbers, offset: u64, clock: u64);
-    fn ninotskev_ack(machine: *mut Machine, numbers: *mut Numbers, offset: u64, generation: u64);
+    fn ninotskev_begin(machine: *mut Machine, numbers: *mut Numbers);
+    fn ninotskev_step(machine: *mut Machine, numbers: *mut Numbers, area: *mut u8, area_len: usize);
 }
 
 /// The block that a step wrote, and whether it was the last.
@@ -166,14 +138,18 @@ pub(crate) struct Wrote {
 
 impl Numbers {
     // The values, or the refusal.
+    #[inline]
     fn read(self) -> Result<Numbers, Refusal> {
         if self.number == 0 {
             return Ok(self);
         }
-        Err(
-            Refusal::of_number(self.number, self.values[0], self.values[1])
-                .expect("the library answers document 01's numbers"),
-        )
+        Err(self.refusal())
+    }
+
+    #[cold]
+    fn refusal(self) -> Refusal {
+        Refusal::of_number(self.number, self.values[0], self.values[1])
+            .expect("the library answers document 01's numbers")
     }
 }
 
@@ -214,34 +190,12 @@ impl Machine {
         Ok(machine)
     }
 
-    // A call on the machine that isn't on the consumer.
-    fn call(&mut self, kind: u64, area: &mut [u8]) -> Numbers {
-        let mut numbers = Numbers::default();
-        let mut out = [];
-        // SAFETY: references and slices that don't overlap. The machine was made by a start or an off, and changed by calls
-        // alone, so that it meets the invariant.
-        unsafe {
-            ninotskev_call(
-                self,
-                &mut numbers,
-                kind,
-                0,
-                0,
-                0,
-                0,
-                area.as_mut_ptr(),
-                area.len(),
-                out.as_mut_ptr(),
-                out.len(),
-            );
-        }
-        numbers
-    }
-
     // A call on the consumer. Whoever calls has a consumer, and no record is out.
+    #[inline]
     fn on_consumer(&mut self, ask: Ask, [a, b, c, d]: [u64; 4], out: &mut [u64]) -> Numbers {
         let mut numbers = Numbers::default();
-        // SAFETY: as for `call`.
+        // SAFETY: references and a slice that don't overlap. The machine was made by a start or an off, and changed by calls
+        // alone, so that it meets the invariant.
         unsafe {
             ninotskev_ask(
                 self,
@@ -259,27 +213,13 @@ impl Machine {
     }
 
     /// A call on the consumer that answers numbers.
+    #[inline]
     pub(crate) fn ask(&mut self, ask: Ask, numbers: [u64; 4]) -> Result<Numbers, Refusal> {
         self.on_consumer(ask, numbers, &mut []).read()
     }
 
-    /// A claim: as [`Ask::Claim`], with less of the state copied.
-    pub(crate) fn claim(&mut self, offset: u64, now: u64) -> Result<Numbers, Refusal> {
-        let mut numbers = Numbers::default();
-        // SAFETY: as for `call`.
-        unsafe { ninotskev_claim(self, &mut numbers, offset, now) };
-        numbers.read()
-    }
-
-    /// An ack: as [`Ask::Ack`], with less of the state copied.
-    pub(crate) fn ack(&mut self, offset: u64, generation: u64) -> Result<Numbers, Refusal> {
-        let mut numbers = Numbers::default();
-        // SAFETY: as for `call`.
-        unsafe { ninotskev_ack(self, &mut numbers, offset, generation) };
-        numbers.read()
-    }
-
     /// The waiting list at a clock, into a list: how many there are, or 20.
+    #[inline]
     pub(crate) fn waiting(&mut self, now: u64, out: &mut [Offset]) -> Result<u64, Refusal> {
         // SAFETY: an offset is laid out as its number.
         let places =
@@ -291,14 +231,21 @@ impl Machine {
     }
 
     /// Takes the consumer into a record: how many blocks are to be written, or 31.
+    #[inline]
     pub(crate) fn begin(&mut self) -> Result<u64, Refusal> {
-        Ok(self.call(BEGIN, &mut []).read()?.values[0])
+        let mut numbers = Numbers::default();
+        // SAFETY: as for `on_consumer`.
+        unsafe { ninotskev_begin(self, &mut numbers) };
+        Ok(numbers.read()?.values[0])
     }
 
     /// Writes the next block into the area, which has the length that the machine was started on.
+    #[inline]
     pub(crate) fn step(&mut self, area: &mut [u8]) -> Wrote {
-        let numbers = self
-            .call(STEP, area)
+        let mut numbers = Numbers::default();
+        // SAFETY: as for `on_consumer`.
+        unsafe { ninotskev_step(self, &mut numbers, area.as_mut_ptr(), area.len()) };
+        let numbers = numbers
             .read()
             .expect("a step on its own area is not refused");
         Wrote {
@@ -363,10 +310,10 @@ mod tests {
             assert_eq!(self.numbers_end, [0xa5; 64]);
         }
 
-        fn call(&mut self, kind: u64, [a, b, c, d]: [u64; 4], area: &mut [u8], out: &mut [u64]) {
-            // SAFETY: as for `Machine::call`; the machine was started.
+        fn ask(&mut self, kind: u64, [a, b, c, d]: [u64; 4], out: &mut [u64]) {
+            // SAFETY: as for `Machine::on_consumer`; the machine was started.
             unsafe {
-                ninotskev_call(
+                ninotskev_ask(
                     &mut self.machine,
                     &mut self.numbers,
                     kind,
@@ -374,12 +321,29 @@ mod tests {
                     b,
                     c,
                     d,
-                    area.as_mut_ptr(),
-                    area.len(),
                     out.as_mut_ptr(),
                     out.len(),
                 );
             }
+            self.untouched();
+        }
+
+        fn begin(&mut self) {
+            // SAFETY: as for `Machine::begin`; the machine was started.
+            unsafe { ninotskev_begin(&mut self.machine, &mut self.numbers) };
+            self.untouched();
+        }
+
+        fn step(&mut self, area: &mut [u8]) {
+            // SAFETY: as for `Machine::step`; the machine was started.
+            unsafe {
+                ninotskev_step(
+                    &mut self.machine,
+                    &mut self.numbers,
+                    area.as_mut_ptr(),
+                    area.len(),
+                )
+            };
             self.untouched();
         }
     }
@@ -396,10 +360,9 @@ mod tests {
     fn sizes_are_those_of_the_fields() {
         assert_eq!(size_of::<Configuration>(), 152 + 16);
         assert_eq!(size_of::<AckCursor>(), 8 + 1024 + 1024 + 8);
-        assert_eq!(size_of::<Lease>(), 32);
         assert_eq!(
             size_of::<LeaseTable>(),
-            16 + 512 + 64 * 32 + 8 + 1024 + 512 + 8 + 8 + 8
+            16 + 4 * 512 + 256 + 8 + 1024 + 512 + 8 + 8 + 8
         );
         assert_eq!(offset_of!(Machine, writing), 168 + 8);
         assert_eq!(size_of::<Numbers>(), 48);
@@ -440,16 +403,16 @@ mod tests {
     }
 
     fn checkpoints(guarded: &mut Guarded, area: &mut [u8]) {
-        guarded.call(BEGIN, [0; 4], &mut [], &mut []);
+        guarded.begin();
         assert_eq!(guarded.numbers, code(0, 1, [2, 0, 0, 0]));
         assert_eq!(guarded.machine.phase, 1);
         assert_eq!(guarded.machine.writing.cursor_len, 13);
         assert_eq!(guarded.machine.writing.attempt_len, 9);
         assert_eq!(guarded.machine.writing.payload[0], 1);
-        guarded.call(STEP, [0; 4], area, &mut []);
+        guarded.step(area);
         assert_eq!(guarded.numbers, code(0, 2, [1, 0, 0, 0]));
         assert_eq!(guarded.machine.writing.written, 1);
-        guarded.call(STEP, [0; 4], area, &mut []);
+        guarded.step(area);
         assert_eq!(guarded.numbers, code(0, 2, [0, 1, 0, 0]));
         assert_eq!(guarded.machine.phase, 0);
         assert_eq!(guarded.machine.writing.consumer.ceiling, 4096);
@@ -458,16 +421,15 @@ mod tests {
 
     fn claims_and_acks(guarded: &mut Guarded) {
         for offset in [5, 9] {
-            guarded.call(Ask::Claim as u64, [offset, 50, 0, 0], &mut [], &mut []);
+            guarded.ask(Ask::Claim as u64, [offset, 50, 0, 0], &mut []);
         }
         assert_eq!(guarded.numbers, code(0, 3, [1, 1, 0, 0]));
         let table = &guarded.machine.writing.consumer.table;
         assert_eq!((table.len, table.next_generation), (2, 2));
         assert_eq!(table.offsets[..2], [5, 9]);
-        let lease = table.leases[1];
-        assert_eq!((lease.generation, lease.attempt_start), (1, 50));
-        assert_eq!((lease.deadline, lease.deliveries), (150, 1));
-        guarded.call(Ask::Ack as u64, [9, 1, 0, 0], &mut [], &mut []);
+        assert_eq!((table.generations[1], table.attempt_starts[1]), (1, 50));
+        assert_eq!((table.deadlines[1], table.deliveries[1]), (150, 1));
+        guarded.ask(Ask::Ack as u64, [9, 1, 0, 0], &mut []);
         let cursor = &guarded.machine.writing.consumer.cursor;
         assert_eq!((cursor.committed, cursor.runs), (0, 1));
         assert_eq!((cursor.starts[0], cursor.ends[0]), (9, 10));
@@ -476,72 +438,31 @@ mod tests {
     // With a checkpoint of the claim that is left.
     fn restarts(guarded: &mut Guarded, area: &mut [u8]) {
         let mut out = [0; 4];
-        guarded.call(BEGIN, [0; 4], &mut [], &mut []);
+        guarded.begin();
         assert_eq!(guarded.machine.writing.cursor_len, 13 + 16);
         assert_eq!(guarded.machine.writing.attempt_len, 9 + 12);
         // While a record is out, the consumer can't be called.
-        guarded.call(Ask::Claim as u64, [6, 50, 0, 0], &mut [], &mut out);
+        guarded.ask(Ask::Claim as u64, [6, 50, 0, 0], &mut out);
         assert_eq!(guarded.numbers, code(255, 0, [0; 4]));
-        guarded.call(STEP, [0; 4], area, &mut []);
-        guarded.call(STEP, [0; 4], area, &mut []);
+        guarded.step(area);
+        guarded.step(area);
         guarded.restart(area);
         assert_eq!(guarded.numbers, code(0, 0, [0; 4]));
         let table = &guarded.machine.writing.consumer.table;
         assert_eq!((table.carried_len, table.carried_offsets[0]), (1, 5));
         assert_eq!((table.carried_counts[0], table.next_generation), (1, 4098));
         assert_eq!(table.redeliveries_since_flush, 0);
-        guarded.call(Ask::Waiting as u64, [50, 0, 0, 0], &mut [], &mut out);
+        guarded.ask(Ask::Waiting as u64, [50, 0, 0, 0], &mut out);
         assert_eq!(guarded.numbers, code(0, 1, [5, 0, 0, 0]));
         assert_eq!(out[0], 5);
-    }
-
-    #[test]
-    fn a_claim_and_an_ack_by_themselves_are_those_of_the_machine() {
-        let mut whole = Guarded::new();
-        let mut part = Guarded::new();
-        let mut area = [0; 512 * 20];
-        for guarded in [&mut whole, &mut part] {
-            guarded.start(&Configuration::default(), area.len());
-            guarded.call(BEGIN, [0; 4], &mut [], &mut []);
-            guarded.call(STEP, [0; 4], &mut area, &mut []);
-            guarded.call(STEP, [0; 4], &mut area, &mut []);
-        }
-        for (ask, a, b) in [
-            (Ask::Claim, 5, 50),
-            (Ask::Claim, 5, 51),
-            (Ask::Claim, 3, 52),
-            (Ask::Ack, 5, 1),
-            (Ask::Ack, 5, 0),
-            (Ask::Ack, 5, 0),
-            (Ask::Claim, 5, 53),
-            (Ask::Claim, u64::MAX, 53),
-            (Ask::Ack, 3, 1),
-        ] {
-            whole.call(ask as u64, [a, b, 0, 0], &mut [], &mut []);
-            // SAFETY: as for `Machine::call`.
-            unsafe {
-                match ask {
-                    Ask::Claim => ninotskev_claim(&mut part.machine, &mut part.numbers, a, b),
-                    _ => ninotskev_ack(&mut part.machine, &mut part.numbers, a, b),
-                }
-            }
-            part.untouched();
-            assert_eq!(part.numbers, whole.numbers);
-            for question in [Ask::Committed, Ask::InFlight, Ask::LeaseOf, Ask::IsSettled] {
-                let asked = |guarded: &mut Guarded| {
-                    guarded.machine.on_consumer(question, [a, 0, 0, 0], &mut [])
-                };
-                assert_eq!(asked(&mut part), asked(&mut whole));
-            }
-        }
     }
 
     #[test]
     fn a_number_that_is_no_call_is_refused() {
         let mut guarded = Guarded::new();
         guarded.start(&Configuration::default(), 512 * 20);
-        for kind in [7, 15, STEP, 19, 31, 40, u64::MAX] {
-            guarded.call(kind, [0; 4], &mut [0; 512], &mut []);
+        for kind in [7, 15, 16, 17, 18, 19, 31, 40, u64::MAX] {
+            guarded.ask(kind, [0; 4], &mut []);
             assert_eq!(guarded.numbers, code(255, 0, [0; 4]));
         }
     }
@@ -550,7 +471,7 @@ mod tests {
     fn a_consumer_is_not_asked_while_a_record_is_out() {
         let mut guarded = Guarded::new();
         guarded.start(&Configuration::default(), 512 * 20);
-        guarded.call(BEGIN, [0; 4], &mut [], &mut []);
+        guarded.begin();
         let mut list = [7; 2];
         for ask in [Ask::Claim, Ask::Commit, Ask::Waiting, Ask::Committed] {
             let numbers = guarded.machine.on_consumer(ask, [5, 0, 0, 0], &mut list);
@@ -558,14 +479,31 @@ mod tests {
             assert_eq!(numbers, code(255, 0, [0; 4]));
         }
         assert_eq!(list, [7; 2]);
-        let mut numbers = Numbers::default();
-        // SAFETY: as for `Machine::call`.
-        unsafe { ninotskev_claim(&mut guarded.machine, &mut numbers, 5, 0) };
-        assert_eq!(numbers, code(255, 0, [0; 4]));
-        // SAFETY: as for `Machine::call`.
-        unsafe { ninotskev_ack(&mut guarded.machine, &mut numbers, 5, 0) };
-        assert_eq!(numbers, code(255, 0, [0; 4]));
-        guarded.untouched();
+        guarded.begin();
+        assert_eq!(guarded.numbers, code(255, 0, [0; 4]));
+        assert_eq!(guarded.machine.phase, 1);
+    }
+
+    #[test]
+    fn nothing_is_stepped_where_no_record_is_out() {
+        let mut guarded = Guarded::new();
+        guarded.start(&Configuration::default(), 512 * 20);
+        let mut area = [7; 512 * 20];
+        guarded.step(&mut area);
+        assert_eq!(guarded.numbers, code(255, 0, [0; 4]));
+        assert_eq!(area, [7; 512 * 20]);
+        assert_eq!(guarded.machine.phase, 0);
+    }
+
+    #[test]
+    fn a_step_on_another_area_is_refused() {
+        let mut guarded = Guarded::new();
+        guarded.start(&Configuration::default(), 512 * 20);
+        guarded.begin();
+        let mut area = [7; 512];
+        guarded.step(&mut area);
+        assert_eq!(guarded.numbers, code(4, 0, [0; 4]));
+        assert_eq!(area, [7; 512]);
         assert_eq!(guarded.machine.phase, 1);
     }
 
@@ -573,14 +511,14 @@ mod tests {
     fn a_refused_start_keeps_the_machine() {
         let mut guarded = Guarded::new();
         guarded.start(&Configuration::default(), 512 * 20);
-        guarded.call(BEGIN, [0; 4], &mut [], &mut []);
+        guarded.begin();
         assert_eq!(guarded.numbers, code(0, 1, [2, 0, 0, 0]));
         guarded.start(&Configuration::default(), 511);
         assert_eq!(guarded.numbers, code(4, 0, [0; 4]));
         assert_eq!(guarded.machine.phase, 1);
         // What was begun goes on.
         let mut area = [0; 512 * 20];
-        guarded.call(STEP, [0; 4], &mut area, &mut []);
+        guarded.step(&mut area);
         assert_eq!(guarded.numbers, code(0, 2, [1, 0, 0, 0]));
     }
 }
