@@ -21,8 +21,7 @@ use Rattle.raw.specs.declared.Write.{Write}
 use Rattle.raw.specs.declared.Write.the-variants.{Next, OutTooShort}
 use Rattle.raw.specs.Bytes.{IsBytes, le, unle, numberAt, overwrite, write, outcomeOf}
 
--- ---- bytes
-
+-- ## bytes
 pub bytes-append : (a b : List ℕ) → IsBytes a → IsBytes b → IsBytes (a ++ b)
 bytes-append [] b p q = q
 bytes-append (x ∷ a) b p q = (p .0, bytes-append a b (p .1) q)
@@ -51,8 +50,7 @@ bytes-of (b ∷ bs) h = (h 0, bytes-of bs (λ i. h (suc i)))
 pub bytes-known : (bs : List ℕ) → ((i : ℕ) → Fits w8 (getD bs i 0)) → IsBytes bs
 bytes-known bs h = bytes-of bs (λ i. omega (arith, h i))
 
--- ---- numbers
-
+-- ## numbers
 pub length-le : (k n : ℕ) → length (le k n) ≡ k
 length-le zero n = refl
 length-le (suc k) n = ap suc (length-le k (n / 256))
@@ -78,8 +76,7 @@ le-unle (b ∷ bs) p =
     let high : (b + 256 * unle bs) / 256 ≡ unle bs = omega arith in
     rw (low, high, le-unle bs (p .1))
 
--- ---- a number in a list
-
+-- ## a number in a list
 -- a part of a list is a part of its front
 part-front : (k q : ℕ) (l : List ℕ) → take k (drop q l) ≡ drop q (take (q + k) l)
 part-front k zero l = rw zero-add
@@ -117,8 +114,7 @@ module _ (k q n pos : ℕ) (bs : List ℕ) (h : q + k ≤ n) where
       rw (part-front k q (take n (drop pos bs)), take-take (q + k) n (drop pos bs) h)
       (rw (← part-front k q (drop pos bs), drop-drop))
 
--- ---- a write
-
+-- ## a write
 -- two stretches, each a place and a length, have no place in common
 abbrev pub Apart : ℕ → ℕ → ℕ → ℕ → Type 0
 Apart p m q n = (p + m ≤ q) ⊎ (q + n ≤ p)
@@ -180,8 +176,7 @@ pub write-short : (pos : ℕ) (new bs : List ℕ) → length bs < pos + length n
     → write pos new bs ≡ answer (refused refusal.OutTooShort) bs
 write-short pos new bs h = rw (lt-ltb (length bs) (pos + length new) h)
 
--- ---- writes and reads
-
+-- ## writes and reads
 pub read-written : (k n pos : ℕ) (bs : List ℕ) → n < 256 ^ k → pos + k ≤ length bs
     → numberAt k pos (overwrite pos (le k n) bs) ≡ n
 read-written k n pos bs h room =
@@ -233,8 +228,7 @@ overwrite-apart p q a b bs ha hb apart =
         overwrite-sets q b (overwrite p a bs) (rw (length-overwrite p a bs ha) hb)
         ∙ ap (λ (m : List ℕ). sets m q b) (overwrite-sets p a bs ha)
 
--- ---- what a call that wrote left, from its contract
-
+-- ## what a call that wrote left, from its contract
 pub next-of : (r : Write) (n : ℕ) → outcomeOf r ≡ done n → r ≡ Next n
 next-of (Next m) n e = cc
 next-of OutTooShort n e = absurd (let z : _≡_ {A = ℕ} 0 1 = cc in omega arith)

@@ -21,8 +21,7 @@ use Rattle.types.specs.Table.{answer}
 use Rattle.raw.specs.Bytes.{le, numberAt, ReadIs, write}
 use Rattle.raw.proofs.Bytes.{number-past, overwrite-sets, write-room, write-short}
 
--- ---- writing
-
+-- ## writing
 -- `new`, of n bytes, is being written into `before` from pos on: `bs` has the first i of them, and `left` is left
 pub record Storing (before : List ℕ) (pos n : ℕ) (new bs : List ℕ) (i : ℕ) (left : List ℕ) : Type 0 where
   pub size : length new ≡ n
@@ -78,8 +77,7 @@ le-end k i n h =
 pub drop-next : (i : ℕ) (bs : List ℕ) → i < length bs → drop i bs ≡ getD bs i 0 ∷ drop (i + 1) bs
 drop-next i bs h = rw (add-one, drop-cons bs i 0)
 
--- ---- reading
-
+-- ## reading
 module _ (bs : List ℕ) where
   pub read-past : (k pos : ℕ) → length bs ≤ pos → ReadIs k pos bs 0
   read-past k pos h =

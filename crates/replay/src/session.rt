@@ -38,7 +38,7 @@ enum Cutting {
     Other,
 }
 
-// ---- what a line asks
+// ## what a line asks
 
 // The number that `server` gives the call of a form; of a form that is none, one that no call has.
 fn kind_of(form: usize) -> u64 {
@@ -78,7 +78,7 @@ fn lent_to(line: Line, len: usize) -> usize {
     }
 }
 
-// ---- a start
+// ## a start
 
 // Whether the numbers of a start are in range: the first and the third u32, the second 0 or 1.
 fn in_range(v: [u64; 24]) -> bool {
@@ -195,7 +195,7 @@ fn start(session: Session, line: Line, area: &mut [u8]) -> Acted
     acted
 }
 
-// ---- calls
+// ## calls
 
 // How much of the area is the journal after a call that was lent so much: a restart that isn't refused keeps what it was lent.
 fn len_after(form: usize, code: Numbers, len: usize, lent: usize) -> usize
@@ -265,7 +265,7 @@ fn cut(session: Session, kind: Kind, area: &mut [u8]) -> Acted
     }
 }
 
-// ---- lines
+// ## lines
 
 // The state, where it can be called.
 fn state(machine: Machine) -> Said {

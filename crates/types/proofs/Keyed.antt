@@ -17,7 +17,7 @@ eqb-move : (j k x : ℕ) → eqb j k ≡ false → eqb k x ≡ true → eqb j x 
 eqb-move j k x n q = rw (eqb-true k x q) at n
 
 module _ {A : Type 0} where
-  -- ---- look-up after each operation
+  -- ## look-up after each operation
   pub lookup-put-same : (k : ℕ) (v : A) (l : List (Entry A)) → lookup k (put k v l) ≡ some v
   lookup-put-same k v [] = rw (eq-eqb k k refl)
   lookup-put-same k v (e ∷ l) =
@@ -59,7 +59,7 @@ module _ {A : Type 0} where
       (λ q. rw (q, ne-eqb j (e .key) (λ r. omega (arith, ltb-false j b n, ltb-true (e .key) b q))) (lookup-keep-above j b l n))
       (λ q. rw q (ap (cond (eqb j (e .key)) (some (e .value))) (lookup-keep-above j b l n)))
 
-  -- ---- they stay sorted
+  -- ## they stay sorted
   pub rising-weaken : (a b : ℕ) (l : List (Entry A)) → a ≤ b → Rising b l → Rising a l
   rising-weaken a b [] h r = tt
   rising-weaken a b (e ∷ l) h r = (omega arith, r .1)
@@ -86,7 +86,7 @@ module _ {A : Type 0} where
       (λ q. rw (p, q) (h, rw (← eqb-true k (e .key) q) at (r .1)))
       (λ q. rw (p, q) (r .0, rising-put (suc (e .key)) k v l (omega (arith, ltb-false k (e .key) p, eqb-false k (e .key) q)) (r .1))))
 
-  -- ---- lengths
+  -- ## lengths
   pub length-put : (k : ℕ) (v : A) (l : List (Entry A)) → length (put k v l) ≤ suc (length l)
   length-put k v [] = omega arith
   length-put k v (e ∷ l) =
