@@ -10,7 +10,7 @@ use types::limits::MAX32;
 
 // What a consumer says of a message that it was handed.
 pub enum AckVerb {
-    // Done: never handed out again.
+    // Done: not handed out again, unless a restart finds a state that doesn't have it yet.
     Ack,
     // Failed: to be retried after this delay.
     Nack { delay_nanos: u64 },
