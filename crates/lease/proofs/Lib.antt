@@ -9,6 +9,7 @@ mod CountsHanded
 pub mod OffsetsHanded
 mod Bounds
 mod Returns
+mod Whole
 mod Claims
 mod Tokens
 pub mod Found

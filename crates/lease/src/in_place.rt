@@ -72,42 +72,39 @@ pub fn claim_in_place(
         (claim (view (gathered config len «carried_len» next redeliveries (offsets .entry .now) (generations .entry .now) («attempt_starts» .entry .now) (deadlines .entry .now) (deliveries .entry .now) («carried_offsets» .entry .now) («carried_counts» .entry .now))) offset now) ⌝ }
 {
     let place = tables::find(offsets, len, offset);
-    let at = match place {
-        Place::Found(at) => {
-            return claim_again(
-                config,
-                at,
-                len,
-                carried_len,
-                next,
-                redeliveries,
-                offset,
-                now,
-                generations,
-                attempt_starts,
-                deadlines,
-                deliveries,
-            );
-        }
-        Place::Missing(at) => at,
-    };
-    claim_first(
-        config,
-        at,
-        len,
-        carried_len,
-        next,
-        redeliveries,
-        offset,
-        now,
-        offsets,
-        generations,
-        attempt_starts,
-        deadlines,
-        deliveries,
-        carried_offsets,
-        carried_counts,
-    )
+    match place {
+        Place::Found(at) => claim_again(
+            config,
+            at,
+            len,
+            carried_len,
+            next,
+            redeliveries,
+            offset,
+            now,
+            generations,
+            attempt_starts,
+            deadlines,
+            deliveries,
+        ),
+        Place::Missing(at) => claim_first(
+            config,
+            at,
+            len,
+            carried_len,
+            next,
+            redeliveries,
+            offset,
+            now,
+            offsets,
+            generations,
+            attempt_starts,
+            deadlines,
+            deliveries,
+            carried_offsets,
+            carried_counts,
+        ),
+    }
 }
 
 // Claims an offset whose lease stands at a place.

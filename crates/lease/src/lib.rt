@@ -289,7 +289,7 @@ impl LeaseTable {
     // Claims an offset for delivery. One with no lease, or with a lease that has run out, is granted: the attempt begins now,
     // under the next generation, which fences off whoever held the offset before. The count goes on from the lease's, or
     // from the carried one, which the new lease takes over.
-    pub fn claim(self, offset: Offset, now: u64) -> Claimed
+    pub fn claim(mut self, offset: Offset, now: u64) -> Claimed
         requires { ⌜ Sound self ⌝ }
         ensures { λ r. ⌜ Answers (claimOf (r .outcome)) self (r .table) (claim (view self) (offset .0) now) ⌝ }
     {
@@ -300,9 +300,8 @@ impl LeaseTable {
         let mut deliveries = self.deliveries;
         let mut carried_offsets = self.carried_offsets;
         let mut carried_counts = self.carried_counts;
-        let config = self.config;
-        let done = in_place::claim_in_place(
-            config,
+        let claimed = in_place::claim_in_place(
+            self.config,
             self.len,
             self.carried_len,
             self.next_generation.0,
@@ -317,23 +316,21 @@ impl LeaseTable {
             &mut carried_offsets,
             &mut carried_counts,
         );
-        let outcome = done.outcome;
+        self.offsets = offsets;
+        self.generations = generations;
+        self.attempt_starts = attempt_starts;
+        self.deadlines = deadlines;
+        self.deliveries = deliveries;
+        self.len = claimed.len;
+        self.carried_offsets = carried_offsets;
+        self.carried_counts = carried_counts;
+        self.carried_len = claimed.carried_len;
+        self.next_generation.0 = claimed.next_generation;
+        self.redeliveries_since_flush = claimed.redeliveries;
+        let outcome = claimed.outcome;
         Claimed {
             outcome,
-            table: LeaseTable {
-                config,
-                offsets,
-                generations,
-                attempt_starts,
-                deadlines,
-                deliveries,
-                len: done.len,
-                carried_offsets,
-                carried_counts,
-                carried_len: done.carried_len,
-                next_generation: Generation(done.next_generation),
-                redeliveries_since_flush: done.redeliveries,
-            },
+            table: self,
         }
     }
 
@@ -414,9 +411,8 @@ impl LeaseTable {
         let generations = self.generations;
         let attempt_starts = self.attempt_starts;
         let mut deadlines = self.deadlines;
-        let config = self.config;
         let outcome = in_place::extend_in_place(
-            config,
+            self.config,
             self.len,
             token.offset.0,
             token.generation.0,

@@ -3,10 +3,14 @@
 use Prim.Native.Nat.{ℕ, _+_, _-_, _≤_, _<_}
 use native.Mathlib.Omega.{arith}
 use mathlib.Core.Path.{_≡_, refl, sym, ap, _∙_}
-use mathlib.Core.List.{List}
-use lib.ListN.{length, drop, getD, set, take-append-drop}
+use mathlib.Core.Bool.{Bool, true, false, cond, _&&_}
+use mathlib.Core.List.{List, _++_}
+use lib.Dec.{leb}
+use lib.ListN.{length, take, drop, getD, set, take-append-drop}
 use lib.Seq.{drop-set-lt, drop-drop}
-use borrow.Author.Tests.{le-leb, lt-leb, le-ltb}
+use borrow.Author.Tests.{leb-true, le-leb, lt-leb, le-ltb}
+use Rattle.types.specs.Zipped.{removed}
+use Rattle.types.proofs.Cases.{split}
 use Rattle.types.proofs.Loops.{Opening, opening, opening-more, opened, Closing, closing, closing-more, closed}
 use Rattle.tables.specs.Columns.{putIn, takenOut}
 use Rattle.tables.proofs.Columns.{put-in, taken-out}
@@ -20,15 +24,31 @@ module _ {A : Type 0} where
     pub no-room : at ≤ n → length l ≤ n → l ≡ putIn n at a l
     no-room h k = rw (le-leb at n h, le-ltb n (length l) k)
 
+  same : (b : Bool) {x l : List A} → x ≡ l → l ≡ cond b x l
+  same true e = sym e
+  same false e = refl
+
+  nothing-out : (n from to : ℕ) (l : List A) → from ≡ to → l ≡ takenOut n from to l
+  nothing-out n from to l q =
+      let all : n - (to - from) ≡ n = omega arith in
+      same (leb from to && leb to n && leb n (length l))
+      (ap (λ (k : ℕ). removed from k (take n l) ++ drop (n - (to - from)) l) (sym q)
+      ∙ ap (λ (t : List A). t ++ drop (n - (to - from)) l) (take-append-drop from (take n l))
+      ∙ ap (λ (k : ℕ). take n l ++ drop k l) all
+      ∙ take-append-drop n l)
+
   module _ (n from to : ℕ) (l : List A) where
-    pub no-order : to < from → l ≡ takenOut n from to l
-    no-order h = rw (lt-leb from to h)
+    pub none-out : to ≤ from → l ≡ takenOut n from to l
+    none-out h =
+        split (leb from to)
+        (λ e. let q : from ≡ to = omega (arith, h, leb-true from to e) in nothing-out n from to l q)
+        (λ e. rw e)
 
-    pub not-used : from ≤ to → n < to → l ≡ takenOut n from to l
-    not-used h k = rw (le-leb from to h, lt-leb to n k)
+    pub not-used : from < to → n < to → l ≡ takenOut n from to l
+    not-used h k = rw (le-leb from to (omega arith), lt-leb to n k)
 
-    pub not-there : from ≤ to → to ≤ n → length l < n → l ≡ takenOut n from to l
-    not-there h k m = rw (le-leb from to h, le-leb to n k, lt-leb n (length l) m)
+    pub not-there : from < to → to ≤ n → length l < n → l ≡ takenOut n from to l
+    not-there h k m = rw (le-leb from to (omega arith), le-leb to n k, lt-leb n (length l) m)
 
   -- ## a gap opened
   pub record Opens (start column : List A) (len at : ℕ) (x held : A) (i : ℕ) : Type 0 where
@@ -62,8 +82,8 @@ module _ {A : Type 0} where
     pub used : to ≤ len
     pub stays : drop i column ≡ drop i start
 
-  pub closes : (start : List A) (len from to : ℕ) → from ≤ to → to ≤ len → len ≤ length start → Closes start start len from to from to
-  closes start len from to h k w = record { turn = closing start len from to h k w; order = h; used = k; stays = refl }
+  pub closes : (start : List A) (len from to : ℕ) → from < to → to ≤ len → len ≤ length start → Closes start start len from to from to
+  closes start len from to h k w = let q : from ≤ to = omega arith in record { turn = closing start len from to q k w; order = q; used = k; stays = refl }
 
   module _ (d : A) {start column : List A} {len from to i j : ℕ} (inv : Closes start column len from to i j) where
     pub closes-more : j < len → Closes start (set column i (getD column j d)) len from to (i + 1) (j + 1)

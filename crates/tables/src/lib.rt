@@ -112,12 +112,12 @@ pub fn insert_count_128(column: &mut [u32; 128], len: usize, at: usize, x: u32)
     insert_count(column, len, at, x);
 }
 
-// Takes the places from `from` up to `to` out; the places that fall free keep what they held. Where those are no places in
-// use, the column stays as it is.
+// Takes the places from `from` up to `to` out; the places that fall free keep what they held. Where there are none, or they are
+// no places in use, the column stays as it is, and isn't gone through.
 fn remove(column: &mut [u64], len: usize, from: usize, to: usize)
     ensures { λ _. ⌜ now (column .exit) ≡ takenOut len from to (now (column .entry)) ⌝ }
 {
-    if to < from {
+    if to <= from {
         return;
     }
     if len < to {
@@ -139,7 +139,7 @@ fn remove(column: &mut [u64], len: usize, from: usize, to: usize)
 fn remove_counts(column: &mut [u32], len: usize, from: usize, to: usize)
     ensures { λ _. ⌜ now (column .exit) ≡ takenOut len from to (now (column .entry)) ⌝ }
 {
-    if to < from {
+    if to <= from {
         return;
     }
     if len < to {

@@ -1,7 +1,6 @@
 -- `shift` meets its contract. The loop's invariant: the times before i are forward.
 -- Assumes nothing.
 use Prim.Native.Nat.{_-_, _≤_}
-use borrow.Author.Needs.{needs}
 use Rattle.types.specs.Limits.{LEASES}
 use Rattle.types.proofs.Loops.{Mapping, mapping, mapping-more, mapped}
 use Rattle.lease.specs.Helpers.{laterBy}
@@ -28,7 +27,7 @@ element-copy-out-saturating-add : tie.Need-element-copy-out-saturating-add Inv-l
 element-copy-out-saturating-add c = in-use (c .loop-test .taken) (few (c .before))
 
 saturating-add-requires : tie.Need-saturating-add-requires Inv-loop μ-loop
-saturating-add-requires c κs = search needs
+saturating-add-requires c κs = tt
 
 mul-times : tie.Need-mul-times Inv-loop μ-loop
 mul-times c = offset-in-memory (c .before .before .loop-test .taken) (few (c .before .before .before))

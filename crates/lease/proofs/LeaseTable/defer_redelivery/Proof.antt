@@ -1,24 +1,18 @@
 -- `LeaseTable::defer_redelivery` meets its contract.
 -- Assumes nothing.
 use Prim.Native.Nat.{_≤_, _<_}
-use borrow.Author.Needs.{needs}
 use Rattle.types.specs.Limits.{LEASES}
 use Rattle.lease.specs.State.{view}
 use Rattle.lease.specs.Parts.{Full}
 use Rattle.lease.proofs.Bounds.{in-use, offset-in-memory}
 use Rattle.lease.proofs.Slots.{leased, free, lease-at}
 use Rattle.lease.proofs.Questions.{none-expired, still-running, not-deferred, deferred}
+use Rattle.lease.proofs.Whole.{filled}
 use Rattle.lease.proofs.LeaseTable.defer_redelivery.Statement.{statement}
 use Rattle.lease.proofs.LeaseTable.defer_redelivery.Tie as tie
 
 full : (s : tie.Start) → Full (s .args .t1)
-full s =
-    record {
-      offsets = search needs;
-      leases = record { generations = search needs; starts = search needs; deadlines = search needs; counts = search needs };
-      carried-offsets = search needs;
-      carried-counts = search needs;
-    }
+full s = filled (s .good .0)
 
 abbrev start : tie.After-place → tie.Start
 start p = p .before .before .before .before .before .before
@@ -28,13 +22,13 @@ inside : (p : tie.After-place) → (p .place .given .0 .0 < start p .args .t1 .l
 inside p = let s = start p in (leased (s .args .t1) (full s) (s .pre) (p .before .before .find .ensures) (p .place .given .1) .inside, s .pre .len)
 
 find-requires : tie.Need-find-requires
-find-requires c κs = search needs
+find-requires c κs = tt
 
 enum-known-place : tie.Need-enum-known-place
-enum-known-place c = search needs
+enum-known-place c = c .match .keys1
 
 enum-told : tie.Need-enum-told
-enum-told c = search needs
+enum-told c = c .match .keys2
 
 returns : tie.Need-returns
 returns c =
@@ -54,7 +48,7 @@ returns-2 c =
     not-deferred (s .args .t1) (full s) (s .pre) (s .args .offset .0) (s .args .now) (s .args .delay-nanos) (still-running (view (s .args .t1)) (s .args .offset .0) (s .args .now) _ (lease-at (s .args .t1) (full s) (s .pre) (s .args .offset .0) (p .before .before .find .ensures) (p .place .given .1)) (c .if1 .taken))
 
 saturating-add-requires : tie.Need-saturating-add-requires
-saturating-add-requires c κs = search needs
+saturating-add-requires c κs = tt
 
 mul-self : tie.Need-mul-self
 mul-self c = offset-in-memory (inside (c .before .before .before .before) .0) (inside (c .before .before .before .before) .1)

@@ -1,17 +1,13 @@
 -- `LeaseTable::in_flight` meets its contract.
 -- Assumes nothing.
 use mathlib.Core.Path.{sym}
-use borrow.Author.Needs.{needs}
-use Rattle.lease.specs.Parts.{Full}
 use Rattle.lease.proofs.Slots.{in-flight}
+use Rattle.lease.proofs.Whole.{filled}
 use Rattle.lease.proofs.LeaseTable.in_flight.Statement.{statement}
 use Rattle.lease.proofs.LeaseTable.in_flight.Tie as tie
 
-full : (c : tie.Start) → Full (c .args .self)
-full c = record { offsets = search needs; leases = record { generations = search needs; starts = search needs; deadlines = search needs; counts = search needs }; carried-offsets = search needs; carried-counts = search needs }
-
 returns : tie.Need-returns
-returns c = sym (in-flight (c .args .self) (full c) (c .pre))
+returns c = sym (in-flight (c .args .self) (filled (c .good .0)) (c .pre))
 
 pub in-flight-spec : {M : Type 1} → statement M
 in-flight-spec = tie.close (tie.spec returns)

@@ -1,6 +1,5 @@
 -- `LeaseTable::note_attempts_flushed` meets its contract.
 -- Assumes nothing.
-use borrow.Author.Needs.{needs}
 use Rattle.lease.specs.State.{view}
 use Rattle.lease.proofs.Returns.{becomes}
 use Rattle.lease.proofs.Valid.{valid-flushed}
@@ -8,7 +7,7 @@ use Rattle.lease.proofs.LeaseTable.note_attempts_flushed.Statement.{sta
 use Rattle.lease.proofs.LeaseTable.note_attempts_flushed.Tie as tie
 
 after-flush-requires : tie.Need-after-flush-requires
-after-flush-requires c κs = search needs
+after-flush-requires c κs = tt
 
 returns : tie.Need-returns
 returns c =

@@ -1,23 +1,17 @@
 -- `LeaseTable::reseal_from_to` meets its contract.
 -- Assumes nothing.
 use Prim.Native.Nat.{_≤_, _<_}
-use borrow.Author.Needs.{needs}
 use Rattle.types.specs.Limits.{LEASES}
 use Rattle.lease.specs.Parts.{Full}
 use Rattle.lease.proofs.Bounds.{in-use, offset-in-memory}
 use Rattle.lease.proofs.Tokens.{owned-used, not-owned}
 use Rattle.lease.proofs.Questions.{not-resealed, resealed}
+use Rattle.lease.proofs.Whole.{filled}
 use Rattle.lease.proofs.LeaseTable.reseal_from_to.Statement.{statement}
 use Rattle.lease.proofs.LeaseTable.reseal_from_to.Tie as tie
 
 full : (s : tie.Start) → Full (s .args .t1)
-full s =
-    record {
-      offsets = search needs;
-      leases = record { generations = search needs; starts = search needs; deadlines = search needs; counts = search needs };
-      carried-offsets = search needs;
-      carried-counts = search needs;
-    }
+full s = filled (s .good .0)
 
 abbrev start : tie.After-place → tie.Start
 start p = p .before .before .before .before .before .before
@@ -29,13 +23,13 @@ inside p =
     (owned-used (s .args .offset .0) (s .args .from .0) (s .args .t1 .len) (s .args .t1 .offsets) (s .args .t1 .generations) (p .before .before .owned .ensures) (p .place .given .1), s .pre .len)
 
 owned-requires : tie.Need-owned-requires
-owned-requires c κs = search needs
+owned-requires c κs = c .before .before .before .pre .len
 
 enum-known-place : tie.Need-enum-known-place
-enum-known-place c = search needs
+enum-known-place c = c .match .keys1
 
 enum-told : tie.Need-enum-told
-enum-told c = search needs
+enum-told c = c .match .keys2
 
 returns : tie.Need-returns
 returns c =

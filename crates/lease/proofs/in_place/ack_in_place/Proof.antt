@@ -1,7 +1,6 @@
 -- `ack_in_place` meets its contract: that of `LeaseTable::ack`, on every table that has the parts that it is lent.
 -- Assumes nothing.
 use Prim.Native.Nat.{_+_, _≤_, _<_}
-use borrow.Author.Needs.{needs}
 use Rattle.types.specs.Limits.{LEASES}
 use Rattle.tables.proofs.Columns.{taken-out-front}
 use Rattle.lease.specs.Parts.{leasing}
@@ -26,13 +25,13 @@ inside p =
     (owned-used (s .args .offset) (s .args .generation) (s .args .len) (s .args .offsets .now) (s .args .generations .now) (p .before .before .owned .ensures) (p .place .given .1), s .pre)
 
 owned-requires : tie.Need-owned-requires
-owned-requires c κs = search needs
+owned-requires c κs = c .before .before .pre
 
 enum-known-place : tie.Need-enum-known-place
-enum-known-place c = search needs
+enum-known-place c = c .match .keys1
 
 enum-told : tie.Need-enum-told
-enum-told c = search needs
+enum-told c = c .match .keys2
 
 returns : tie.Need-returns
 returns c t w =
@@ -43,19 +42,19 @@ add-next : tie.Need-add-next
 add-next c = next-place (inside (c .before) .0) (inside (c .before) .1)
 
 remove-64-requires : tie.Need-remove-64-requires
-remove-64-requires c κs = search needs
+remove-64-requires c κs = tt
 
 remove-64-requires-2 : tie.Need-remove-64-requires-2
-remove-64-requires-2 c κs = search needs
+remove-64-requires-2 c κs = tt
 
 remove-64-requires-3 : tie.Need-remove-64-requires-3
-remove-64-requires-3 c κs = search needs
+remove-64-requires-3 c κs = tt
 
 remove-64-requires-4 : tie.Need-remove-64-requires-4
-remove-64-requires-4 c κs = search needs
+remove-64-requires-4 c κs = tt
 
 remove-counts-64-requires : tie.Need-remove-counts-64-requires
-remove-counts-64-requires c κs = search needs
+remove-counts-64-requires c κs = tt
 
 sub-t22 : tie.Need-sub-t22
 sub-t22 c = some-left (inside (c .before .before .before .before .before .before .before .before .before .before .before) .0)

@@ -12,7 +12,7 @@ lease-counts-in-place-requires : tie.Need-lease-counts-in-place-requires
 lease-counts-in-place-requires c κs = search needs
 
 merged-requires : tie.Need-merged-requires
-merged-requires c κs = search needs
+merged-requires c κs = tt
 
 returns : tie.Need-returns
 returns c t w =

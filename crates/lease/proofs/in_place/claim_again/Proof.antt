@@ -1,17 +1,17 @@
 -- `claim_again` meets its contract: that of `LeaseTable::claim`, on every table that has the parts that it is lent and the lease of the offset
 -- at the place.
 -- Assumes nothing.
-use Prim.Native.Nat.{ℕ, _≤_}
+use Prim.Native.Nat.{ℕ, _≤_, _<_}
 use native.Mathlib.Omega.{arith}
 use mathlib.Core.Path.{_≡_, refl, ap}
 use lib.ListN.{getD}
-use borrow.Author.Needs.{needs}
 use borrow.Author.Tests.{lt-ltb, le-ltb}
-use Rattle.types.specs.Limits.{MAX, sat32}
+use Rattle.types.specs.Limits.{MAX, LEASES, sat32}
 use Rattle.lease.specs.State.{leasesIn}
 use Rattle.lease.specs.Operations.{lease}
 use Rattle.lease.specs.Helpers.{regranting}
 use Rattle.lease.specs.declared.LeaseTable.{LeaseTable}
+use Rattle.lease.proofs.Bounds.{offset-in-memory, count-in-memory}
 use Rattle.lease.proofs.Leases.{nil, column-at, column-set}
 use Rattle.lease.proofs.Slots.{leased, lease-at}
 use Rattle.lease.proofs.Claims.{claim-in-flight, claim-exhausted, claimed, count-again, granted-again}
@@ -27,11 +27,20 @@ table s =
 fits : (s : tie.Start) → s .args .offset ≤ MAX
 fits s = omega arith
 
+generation-fits : (s : tie.Start) → s .args .generation ≤ MAX
+generation-fits s = omega arith
+
+left : (e : tie.Else2) → e .before .before .before .args .generation < MAX
+left e = omega (arith, generation-fits (e .before .before .before), e .if2 .left)
+
+all : LEASES ≤ LEASES
+all = omega arith
+
 mul-if1 : tie.Need-mul-if1
-mul-if1 c = search needs
+mul-if1 c = offset-in-memory (c .pre) all
 
 element-copy-out-if1 : tie.Need-element-copy-out-if1
-element-copy-out-if1 c = search needs
+element-copy-out-if1 c = c .pre
 
 returns : tie.Need-returns
 returns c t w p =
@@ -44,43 +53,43 @@ returns-2 c t w p =
     claim-exhausted (table s t) (w .sound) (s .args .offset) (s .args .now) (rw (lease-at (table s t) (w .full) (w .sound) (s .args .offset) p refl) (le-ltb _ _ (c .before .if1 .left))) (c .if2 .taken)
 
 mul-saturating-next : tie.Need-mul-saturating-next
-mul-saturating-next c = search needs
+mul-saturating-next c = count-in-memory (c .before .before .before .pre) all
 
 element-copy-out-saturating-next : tie.Need-element-copy-out-saturating-next
-element-copy-out-saturating-next c = search needs
+element-copy-out-saturating-next c = c .before .before .before .pre
 
 saturating-next-requires : tie.Need-saturating-next-requires
-saturating-next-requires c κs = search needs
+saturating-next-requires c κs = tt
 
 mul-generations : tie.Need-mul-generations
-mul-generations c = search needs
+mul-generations c = offset-in-memory (c .before .before .before .before .before .pre) all
 
 element-write-generations : tie.Need-element-write-generations
-element-write-generations c = search needs
+element-write-generations c = c .before .before .before .before .before .pre
 
 mul-attempt-starts : tie.Need-mul-attempt-starts
-mul-attempt-starts c = search needs
+mul-attempt-starts c = offset-in-memory (c .before .before .before .before .before .pre) all
 
 element-write-attempt-starts : tie.Need-element-write-attempt-starts
-element-write-attempt-starts c = search needs
+element-write-attempt-starts c = c .before .before .before .before .before .pre
 
 deadline-requires : tie.Need-deadline-requires
-deadline-requires c κs = search needs
+deadline-requires c κs = tt
 
 mul-deadlines : tie.Need-mul-deadlines
-mul-deadlines c = search needs
+mul-deadlines c = offset-in-memory (c .before .before .before .before .before .before .pre) all
 
 element-write-deadlines : tie.Need-element-write-deadlines
-element-write-deadlines c = search needs
+element-write-deadlines c = c .before .before .before .before .before .before .pre
 
 mul-deliveries : tie.Need-mul-deliveries
-mul-deliveries c = search needs
+mul-deliveries c = count-in-memory (c .before .before .before .before .before .before .pre) all
 
 element-write-deliveries : tie.Need-element-write-deliveries
-element-write-deliveries c = search needs
+element-write-deliveries c = c .before .before .before .before .before .before .pre
 
 granted-requires : tie.Need-granted-requires
-granted-requires c κs = search needs
+granted-requires c κs = left (c .before .before .before)
 
 returns-3 : tie.Need-returns-3
 returns-3 c t w p =

@@ -3,7 +3,6 @@
 use Prim.Native.Nat.{ℕ, _≤_, _<_}
 use native.Mathlib.Omega.{arith}
 use mathlib.Core.Path.{refl, ap}
-use borrow.Author.Needs.{needs}
 use Rattle.types.specs.Limits.{MAX, LEASES}
 use Rattle.tables.proofs.Columns.{put-in-front, taken-out-front}
 use Rattle.tables.proofs.Places.{Spanned}
@@ -55,13 +54,13 @@ returns-2 c =
     claim-full (table s) ok (s .args .offset) (s .args .now) (rw (lacked s .is)) (c .before .if1 .left) (lacked s .is) (rw (in-flight (table s) (s .pre .0 .full) ok) (c .if2 .taken))
 
 count-of-requires : tie.Need-count-of-requires
-count-of-requires c κs = search needs
+count-of-requires c κs = tt
 
 remove-128-requires : tie.Need-remove-128-requires
-remove-128-requires c κs = search needs
+remove-128-requires c κs = tt
 
 remove-counts-128-requires : tie.Need-remove-counts-128-requires
-remove-counts-128-requires c κs = search needs
+remove-counts-128-requires c κs = tt
 
 sub-left : tie.Need-sub-left
 sub-left c = prior (c .before .before .before .before .before) .order
@@ -70,25 +69,25 @@ sub-left-2 : tie.Need-sub-left-2
 sub-left-2 c = let q = prior (c .before .before .before .before .before) in part-within (q .order) (q .inside)
 
 saturating-next-requires : tie.Need-saturating-next-requires
-saturating-next-requires c κs = search needs
+saturating-next-requires c κs = tt
 
 deadline-requires : tie.Need-deadline-requires
-deadline-requires c κs = search needs
+deadline-requires c κs = tt
 
 insert-64-requires : tie.Need-insert-64-requires
-insert-64-requires c κs = search needs
+insert-64-requires c κs = tt
 
 insert-64-requires-2 : tie.Need-insert-64-requires-2
-insert-64-requires-2 c κs = search needs
+insert-64-requires-2 c κs = tt
 
 insert-64-requires-3 : tie.Need-insert-64-requires-3
-insert-64-requires-3 c κs = search needs
+insert-64-requires-3 c κs = tt
 
 insert-64-requires-4 : tie.Need-insert-64-requires-4
-insert-64-requires-4 c κs = search needs
+insert-64-requires-4 c κs = tt
 
 insert-count-64-requires : tie.Need-insert-count-64-requires
-insert-count-64-requires c κs = search needs
+insert-count-64-requires c κs = tt
 
 add-granted : tie.Need-add-granted
 add-granted c = one-more (room (counted c) .if2 .left)

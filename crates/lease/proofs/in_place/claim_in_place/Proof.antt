@@ -3,7 +3,6 @@
 use native.Mathlib.Omega.{arith}
 use mathlib.Core.Path.{subst}
 use lib.ListN.{take}
-use borrow.Author.Needs.{needs}
 use Rattle.tables.specs.Search.{Placed}
 use Rattle.tables.proofs.Search.{found-used}
 use Rattle.lease.specs.Parts.{gathered}
@@ -18,10 +17,10 @@ table s =
     (s .args .offsets .now) (s .args .generations .now) (s .args .attempt-starts .now) (s .args .deadlines .now) (s .args .deliveries .now) (s .args .carried-offsets .now) (s .args .carried-counts .now)
 
 find-requires : tie.Need-find-requires
-find-requires c κs = search needs
+find-requires c κs = tt
 
 enum-known-place : tie.Need-enum-known-place
-enum-known-place c = search needs
+enum-known-place c = c .match .keys1
 
 claim-again-requires : tie.Need-claim-again-requires
 claim-again-requires c κs =
@@ -36,7 +35,7 @@ returns c =
     c .claim-again .ensures (table s) (s .pre) (subst (Placed (s .args .offset) (take (s .args .len) (s .args .offsets .now))) (p .place .given .1) (p .before .before .find .ensures))
 
 enum-known-place-2 : tie.Need-enum-known-place-2
-enum-known-place-2 c = search needs
+enum-known-place-2 c = c .match .keys2
 
 claim-first-requires : tie.Need-claim-first-requires
 claim-first-requires c κs =
@@ -45,7 +44,7 @@ claim-first-requires c κs =
     (s .pre, subst (Placed (s .args .offset) (take (s .args .len) (s .args .offsets .now))) (p .place2 .given .1) (p .before .before .find .ensures))
 
 returns-2 : tie.Need-returns-2
-returns-2 c = search needs
+returns-2 c = c .claim-first .ensures
 
 pub claim-in-place-spec : {M : Type 1} → statement M
 claim-in-place-spec =
@@ -54,7 +53,7 @@ claim-in-place-spec =
     find-requires
     enum-known-place
     claim-again-requires
-    returns
     enum-known-place-2
     claim-first-requires
+    returns
     returns-2)

@@ -1,7 +1,6 @@
 -- `deliveries_in_place` meets its contract: that of `LeaseTable::deliveries`, on every table that has the parts that it is lent.
 -- Assumes nothing.
 use Prim.Native.Nat.{_≤_, _<_}
-use borrow.Author.Needs.{needs}
 use Rattle.types.specs.Limits.{LEASES}
 use Rattle.lease.specs.Parts.{counting}
 use Rattle.lease.specs.declared.LeaseTable.{LeaseTable}
@@ -24,13 +23,13 @@ inside p =
     (owned-used (s .args .offset) (s .args .generation) (s .args .len) (s .args .offsets .now) (s .args .generations .now) (p .before .before .owned .ensures) (p .place .given .1), s .pre)
 
 owned-requires : tie.Need-owned-requires
-owned-requires c κs = search needs
+owned-requires c κs = c .pre
 
 enum-known-place : tie.Need-enum-known-place
-enum-known-place c = search needs
+enum-known-place c = c .match .keys1
 
 enum-told : tie.Need-enum-told
-enum-told c = search needs
+enum-told c = c .match .keys2
 
 returns : tie.Need-returns
 returns c t w =

@@ -1,7 +1,6 @@
 -- `extend_in_place` meets its contract: that of `LeaseTable::extend`, on every table that has the parts that it is lent.
 -- Assumes nothing.
 use Prim.Native.Nat.{_≤_, _<_}
-use borrow.Author.Needs.{needs}
 use Rattle.types.specs.Limits.{LEASES}
 use Rattle.lease.specs.Parts.{extending}
 use Rattle.lease.specs.declared.LeaseTable.{LeaseTable}
@@ -24,13 +23,13 @@ inside p =
     (owned-used (s .args .offset) (s .args .generation) (s .args .len) (s .args .offsets .now) (s .args .generations .now) (p .before .before .owned .ensures) (p .place .given .1), s .pre)
 
 owned-requires : tie.Need-owned-requires
-owned-requires c κs = search needs
+owned-requires c κs = c .pre
 
 enum-known-place : tie.Need-enum-known-place
-enum-known-place c = search needs
+enum-known-place c = c .match .keys1
 
 enum-told : tie.Need-enum-told
-enum-told c = search needs
+enum-told c = c .match .keys2
 
 returns : tie.Need-returns
 returns c t w =
@@ -44,7 +43,7 @@ element-copy-out-start : tie.Need-element-copy-out-start
 element-copy-out-start c = in-use (inside (c .before) .0) (inside (c .before) .1)
 
 cap-requires : tie.Need-cap-requires
-cap-requires c κs = search needs
+cap-requires c κs = tt
 
 returns-2 : tie.Need-returns-2
 returns-2 c t w =
@@ -54,7 +53,7 @@ returns-2 c t w =
     cap-reached (table s t) (w .full) (w .sound) (s .args .offset) (s .args .generation) (p .before .before .owned .ensures) (p .place .given .1) (s .args .now) (rw (← k .cap .ensures) (c .if1 .taken))
 
 deadline-requires : tie.Need-deadline-requires
-deadline-requires c κs = search needs
+deadline-requires c κs = tt
 
 mul-deadlines : tie.Need-mul-deadlines
 mul-deadlines c = offset-in-memory (inside (c .before .before .before .before .before) .0) (inside (c .before .before .before .before .before) .1)

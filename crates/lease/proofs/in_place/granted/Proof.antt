@@ -5,7 +5,7 @@ use Rattle.lease.proofs.in_place.granted.Statement.{statement}
 use Rattle.lease.proofs.in_place.granted.Tie as tie
 
 after-grant-requires : tie.Need-after-grant-requires
-after-grant-requires c κs = search needs
+after-grant-requires c κs = tt
 
 add-t12 : tie.Need-add-t12
 add-t12 c = search needs

@@ -24,13 +24,13 @@ inside p =
     (owned-used (s .args .offset) (s .args .generation) (s .args .len) (s .args .offsets .now) (s .args .generations .now) (p .before .before .owned .ensures) (p .place .given .1), s .pre)
 
 owned-requires : tie.Need-owned-requires
-owned-requires c κs = search needs
+owned-requires c κs = c .before .pre
 
 enum-known-place : tie.Need-enum-known-place
-enum-known-place c = search needs
+enum-known-place c = c .match .keys1
 
 enum-told : tie.Need-enum-told
-enum-told c = search needs
+enum-told c = c .match .keys2
 
 returns : tie.Need-returns
 returns c t w =
@@ -44,7 +44,7 @@ returns-2 c t w =
     none-left (table s t) (w .full) (w .sound) (s .args .offset) (s .args .generation) (p .before .before .owned .ensures) (p .place .given .1) (c .if1 .taken) (s .args .now) (s .args .delay-nanos)
 
 saturating-add-requires : tie.Need-saturating-add-requires
-saturating-add-requires c κs = search needs
+saturating-add-requires c κs = tt
 
 mul-generations : tie.Need-mul-generations
 mul-generations c = offset-in-memory (inside (c .before .before .before) .0) (inside (c .before .before .before) .1)

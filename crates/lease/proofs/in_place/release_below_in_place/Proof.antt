@@ -1,7 +1,6 @@
 -- `release_below_in_place` meets its contract: that of `LeaseTable::release_below`, on every table that has the parts that it is lent.
 -- Assumes nothing.
 use Prim.Native.Nat.{_≤_}
-use borrow.Author.Needs.{needs}
 use Rattle.tables.proofs.Columns.{taken-out-front}
 use Rattle.tables.proofs.Search.{boundary-inside}
 use Rattle.lease.specs.Parts.{releasing}
@@ -30,31 +29,31 @@ used : (c : tie.After-position2) → c .position2 .result ≤ start (second c) .
 used c = let s = start (second c) in boundary-inside (s .args .up-to) (s .args .len) (s .args .offsets .now) (c .position2 .ensures)
 
 position-requires : tie.Need-position-requires
-position-requires c κs = search needs
+position-requires c κs = tt
 
 remove-128-requires : tie.Need-remove-128-requires
-remove-128-requires c κs = search needs
+remove-128-requires c κs = tt
 
 remove-counts-128-requires : tie.Need-remove-counts-128-requires
-remove-counts-128-requires c κs = search needs
+remove-counts-128-requires c κs = tt
 
 position-requires-2 : tie.Need-position-requires-2
-position-requires-2 c κs = search needs
+position-requires-2 c κs = tt
 
 remove-64-requires : tie.Need-remove-64-requires
-remove-64-requires c κs = search needs
+remove-64-requires c κs = tt
 
 remove-64-requires-2 : tie.Need-remove-64-requires-2
-remove-64-requires-2 c κs = search needs
+remove-64-requires-2 c κs = tt
 
 remove-64-requires-3 : tie.Need-remove-64-requires-3
-remove-64-requires-3 c κs = search needs
+remove-64-requires-3 c κs = tt
 
 remove-64-requires-4 : tie.Need-remove-64-requires-4
-remove-64-requires-4 c κs = search needs
+remove-64-requires-4 c κs = tt
 
 remove-counts-64-requires : tie.Need-remove-counts-64-requires
-remove-counts-64-requires c κs = search needs
+remove-counts-64-requires c κs = tt
 
 sub-t25 : tie.Need-sub-t25
 sub-t25 c = used (c .before .before .before .before .before .before .before .before .before .before)
