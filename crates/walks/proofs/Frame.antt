@@ -4,7 +4,7 @@
 --     held k           local k, which holds a value: it is read or overwritten
 --     sets k           a store to local k, whatever stands there
 --     loads ks         the values of several locals, as the operands of a call
---     leaves           the end of a function that returns `()`: the result is stored and read, and every local is freed
+--     freed            the end of a function: the result is read, and every local is freed.        leaves      the same of one that returns `()`, which is stored first
 -- Assumes `Given`.
 use mathlib.Core.Path.{_≡_, refl, sym, ap, subst}
 use Prim.Native.Nat.{ℕ, zero, suc}
@@ -326,7 +326,7 @@ module _ {M : Type 1} {𝓤 : URA M} {H : Heap 𝓤} {A : Atoms 𝓤} (W : Given
     pub loads : {Γ : List (Item 𝓤)} (n : ℕ) → Own ≡ nth 𝓤 H A n Γ → (ks : List ℕ) → T (all-full ss ks) → {vs : List Val} → valuesIn ss ks ≡ vs → Opds (Go {0}) W Γ E (copies ks) vs
     loads {Γ} n e ks ok is = subst (λ (vs : List Val). Opds (Go {0}) W Γ E (copies ks) vs) is (all-loaded n e ks ok)
 
-    freed : {Γ : List (Item 𝓤)} {C : Calls 𝓤 H} {Λ : Loops 𝓤 H} {Kf : Val → SProp 𝓤} → T (full ss zero) → Step (Go {0}) W Γ (prop (Kf (valueIn ss zero))) (Own ∷ Γ) (runs C Λ E return (atRet E Kf))
+    pub freed : {Γ : List (Item 𝓤)} {C : Calls 𝓤 H} {Λ : Loops 𝓤 H} {Kf : Val → SProp 𝓤} → T (full ss zero) → Step (Go {0}) W Γ (prop (Kf (valueIn ss zero))) (Own ∷ Γ) (runs C Λ E return (atRet E Kf))
     freed {Γ} {C} {Λ} {Kf} ok =
         step (λ s. returns ! (look-in ! 0 (held zero ok)) $
         by ! (via 𝓤 (sep 𝓤 (Frame 𝓤 H E ss) (⋆ 𝓤 H A Γ)) (pop 𝓤 H A Own Γ) (frame-freed 𝓤 H A W E ss (⋆ 𝓤 H A Γ) (Kf (valueIn ss zero)) (s .prf))))
