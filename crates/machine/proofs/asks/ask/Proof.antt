@@ -1,121 +1,32 @@
--- `ask` meets its contract: each kind of call goes to its own function. Assumes nothing.
-use lib.ListN.{length}
+-- `ask` meets its contract: the parts of a consumer, lent to `ask_in_place`, are that consumer. Assumes nothing.
 use borrow.Author.Needs.{needs}
-use Rattle.machine.proofs.Replies.{looked-asked, asked-as}
+use Rattle.consumer.specs.Parts.{Whole}
+use Rattle.consumer.proofs.Arrays.{table-full, cursor-whole, backoffs-full}
 use Rattle.machine.proofs.asks.ask.Statement.{statement}
 use Rattle.machine.proofs.asks.ask.Tie as tie
 
-enum-known-ask : tie.Need-enum-known-ask
-enum-known-ask c = search needs
+whole : (s : tie.Start) → Whole (s .args .consumer)
+whole s = record { full = table-full (s .args .consumer .table) _ (s .good .0 .1 .1 .1 .0); sound = s .pre }
 
-ask-claim-requires : tie.Need-ask-claim-requires
-ask-claim-requires c κs = search needs
-
-enum-known-ask-2 : tie.Need-enum-known-ask-2
-enum-known-ask-2 c = search needs
-
-ask-ack-requires : tie.Need-ask-ack-requires
-ask-ack-requires c κs = search needs
-
-enum-known-ask-3 : tie.Need-enum-known-ask-3
-enum-known-ask-3 c = search needs
-
-ask-term-requires : tie.Need-ask-term-requires
-ask-term-requires c κs = search needs
-
-enum-known-ask-4 : tie.Need-enum-known-ask-4
-enum-known-ask-4 c = search needs
-
-ask-nack-requires : tie.Need-ask-nack-requires
-ask-nack-requires c κs = search needs
-
-enum-known-ask-5 : tie.Need-enum-known-ask-5
-enum-known-ask-5 c = search needs
-
-ask-progress-requires : tie.Need-ask-progress-requires
-ask-progress-requires c κs = search needs
-
-enum-known-ask-6 : tie.Need-enum-known-ask-6
-enum-known-ask-6 c = search needs
-
-ask-commit-requires : tie.Need-ask-commit-requires
-ask-commit-requires c κs = search needs
-
-enum-known-ask-7 : tie.Need-enum-known-ask-7
-enum-known-ask-7 c = search needs
-
-reply-requires : tie.Need-reply-requires
-reply-requires c κs = search needs
-
-returns : tie.Need-returns
-returns c =
-    let g = c .before .before in
-    let s = g .before .before .before in
-    asked-as (length (s .args .out .now)) (g .ask .given .1) (c .ask-claim .ensures (s .args .out .now))
-
-returns-2 : tie.Need-returns-2
-returns-2 c =
-    let g = c .before .before in
-    let s = g .before .before .before in
-    asked-as (length (s .args .out .now)) (g .ask2 .given .1) (c .ask-ack .ensures (s .args .out .now))
-
-returns-3 : tie.Need-returns-3
-returns-3 c =
-    let g = c .before .before in
-    let s = g .before .before .before in
-    asked-as (length (s .args .out .now)) (g .ask3 .given .1) (c .ask-term .ensures (s .args .out .now))
-
-returns-4 : tie.Need-returns-4
-returns-4 c =
-    let g = c .before .before in
-    let s = g .before .before .before in
-    asked-as (length (s .args .out .now)) (g .ask4 .given .1) (c .ask-nack .ensures (s .args .out .now))
-
-returns-5 : tie.Need-returns-5
-returns-5 c =
-    let g = c .before .before in
-    let s = g .before .before .before in
-    asked-as (length (s .args .out .now)) (g .ask5 .given .1) (c .ask-progress .ensures (s .args .out .now))
-
-returns-6 : tie.Need-returns-6
-returns-6 c =
-    let g = c .before .before in
-    let s = g .before .before .before in
-    asked-as (length (s .args .out .now)) (g .ask6 .given .1) (c .ask-commit .ensures (s .args .out .now))
+ask-in-place-requires : tie.Need-ask-in-place-requires
+ask-in-place-requires c κs =
+    let s = c .before .before .before .before .before .before .before .before .before .before .before .before .before .before .before .before .before .before .before .before .before .before .before .before .before .before .before .before .before .before in
+    let x = s .args .consumer in
+    record {
+      cursor = cursor-whole (x .cursor) _ (s .good .0 .1 .1 .0) (s .pre .cursor);
+      table = record { full = whole s .full; sound = s .pre .table };
+      schedule = record { full = backoffs-full (x .settings) _ (s .good .0 .1 .1 .1 .1 .1 .1 .1 .0); few = s .pre .settings .delivery .few };
+      blocks = s .pre .valid .within;
+    }
 
 same-length : tie.Need-same-length
 same-length c = search needs
 
-returns-7 : tie.Need-returns-7
-returns-7 c =
-    let k = c .before .before in
-    let g = k .before .before .before in
-    let s = g .before .before .before in
-    asked-as (length (s .args .out .now)) (g .ask7 .given .1) (looked-asked (s .pre) (k .reply .ensures))
+returns : tie.Need-returns
+returns c =
+    let k = c .before .before .before in
+    let s = k .before .before .before .before .before .before .before .before .before .before .before .before .before .before .before .before .before .before .before .before .before .before .before .before .before .before .before .before .before .before .before in
+    k .ask-in-place .ensures (s .args .consumer) (whole s)
 
 pub ask-spec : {M : Type 1} → statement M
-ask-spec =
-    tie.close
-    (tie.spec
-    enum-known-ask
-    ask-claim-requires
-    enum-known-ask-2
-    ask-ack-requires
-    enum-known-ask-3
-    ask-term-requires
-    enum-known-ask-4
-    ask-nack-requires
-    enum-known-ask-5
-    ask-progress-requires
-    enum-known-ask-6
-    ask-commit-requires
-    enum-known-ask-7
-    reply-requires
-    returns
-    returns-2
-    returns-3
-    returns-4
-    returns-5
-    returns-6
-    same-length
-    returns-7)
+ask-spec = tie.close (tie.spec ask-in-place-requires same-length returns)
