@@ -107,7 +107,7 @@ module _ {S T : Type 0} (f : S → T) (x y : S) where
   kept-by (restarted r) k = kept-in r k
   kept-by (failed new) k = tt
 
-  kept-after : (t : Option After) → KeptIn t x y → KeptIn t (f x) (f y)
+  pub kept-after : (t : Option After) → KeptIn t x y → KeptIn t (f x) (f y)
   kept-after none k = ap f k
   kept-after (some t) k = kept-by (t .event) k
 

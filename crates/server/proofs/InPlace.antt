@@ -1,31 +1,36 @@
--- A begin and a step in place, in numbers: from what the checkpoint's functions say of the parts of a machine. Assumes nothing.
+-- Calls in place, in numbers: from what the consumer's and the checkpoint's functions say of the parts of a machine. Assumes nothing.
 use Prim.Native.Nat.{ℕ, zero, suc}
 use native.Mathlib.Omega.{arith}
-use mathlib.Core.Path.{_≡_, refl, subst}
+use mathlib.Core.Path.{_≡_, refl, ap, subst}
 use mathlib.Core.List.{List}
 use Rattle.types.specs.Refusal as refusal
+use Rattle.consumer.specs.Calls as consumer
 use Rattle.consumer.specs.Parts.{Whole}
+use Rattle.consumer.specs.View.{view, Answers, progressOf}
 use Rattle.consumer.specs.declared.Configuration.{Configuration}
 use Rattle.consumer.specs.declared.Consumer.{Consumer}
+use Rattle.consumer.specs.declared.calls.ProgressAnswer.{ProgressAnswer}
 use Rattle.checkpoint.specs.Parts.{Lent, BegunAs}
 use Rattle.checkpoint.specs.Writing.{SoundWriting, SteppedIs, stepOf}
 use Rattle.checkpoint.specs.declared.Writing.{Writing}
 use Rattle.checkpoint.specs.declared.BeginAnswer.{BeginAnswer}
 use Rattle.checkpoint.specs.declared.BeginAnswer.the-variants as begins
 use Rattle.checkpoint.specs.declared.Stepped.{Stepped}
-use Rattle.machine.specs.Calls.{begin, step}
+use Rattle.machine.specs.Calls.{progress, begin, step, progressed}
+use Rattle.machine.specs.Transitions.{answeredAs}
 use Rattle.machine.specs.Answers.{begunOf}
 use Rattle.machine.specs.View.{SoundAt, CalledIs, phaseAfter}
-use Rattle.machine.specs.Parts.{consumerOf, Ready}
+use Rattle.machine.specs.Parts.{consumerOf, left, Ready}
 use Rattle.machine.specs.declared.in_place.Fixed.{Fixed}
 use Rattle.machine.specs.declared.in_place.Figures.{Figures}
+use Rattle.machine.specs.declared.calls.AskAnswer.the-variants as asks
 use Rattle.machine.specs.declared.calls.CallAnswer.the-variants as calls
 use Rattle.machine.proofs.Transitions.{not-begun, not-stepped, begin-refused, begin-done, step-called}
 use Rattle.answers.specs.Numbers.{numbersOf, notNow, oneValue, wroteValues}
 use Rattle.answers.specs.declared.Numbers.{Numbers}
-use Rattle.server.specs.Transitions.{CallIs}
+use Rattle.server.specs.Transitions.{AskedOn, CallIs}
 use Rattle.server.specs.Parts.{machineOf, Askable, Lendable, phaseBegun}
-use Rattle.server.proofs.InNumbers.{idle-sound, call-some}
+use Rattle.server.proofs.InNumbers.{idle-sound, idle-asked, ask-some, call-some}
 
 -- ## a call on the state
 -- the parts that the call is lent are ready for it, and the consumer is whole
@@ -43,6 +48,14 @@ ready k f n starts ends ks gs ss ds ns cks cvs backoffs x e h =
       schedule = record { full = z .backoffs; few = ok .settings .delivery .few };
       blocks = ok .valid .within;
     }
+
+-- Progress, from what the consumer answers
+pub progress-numbers : (k : ℕ) (x : Consumer) (o g now : ℕ) (out : List ℕ) (y : Consumer) (a : ProgressAnswer) (n : Numbers) → k ≡ 0
+    → Answers (progressOf a) x y (consumer.progress (view x) o g now) → n ≡ numbersOf (refusal.answered oneValue (progressOf a)) → AskedOn k x 5 o g now 0 out n y out
+progress-numbers k x o g now out y a n e h same =
+    idle-asked k x 5 o g now 0 out n y out e
+    (ask-some x 5 o g now 0 out (progress o g now) (left (asks.Progressed a) y) out n refl
+    (record { is = λ area. ap (answeredAs area (progressed o g now)) (h .is); sound = h .sound; kept = h .kept; lists = λ area. refl }) same)
 
 -- ## begin
 pub lent-of : (k : ℕ) (w : Writing) → k ≡ 0 → Lendable k w → Lent (w .consumer)

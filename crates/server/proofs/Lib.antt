@@ -1,5 +1,7 @@
 pub mod Found
 pub mod InNumbers
+pub mod Restarted
+pub mod AsCalls
 pub mod InPlace
 pub mod Machine
 pub mod Exported

@@ -53,6 +53,10 @@ abbrev pub AskedIn : ℕ → (before : Consumer → Consumer) (kind a b c d : �
 AskedIn k before kind a b c d out n after out′ =
     (x : Consumer) → Askable k (before x) → AskedOn k (before x) kind a b c d out n (after x) out′
 
+-- Progress, which is call 5, on every consumer that has these parts, whatever list is lent
+abbrev pub ProgressedIn : ℕ → (before : Consumer → Consumer) (offset generation clock : ℕ) (n : Numbers) (after : Consumer → Consumer) → Type 0
+ProgressedIn k before offset generation clock n after = (out : List ℕ) → AskedIn k before 5 offset generation clock 0 out n after out
+
 -- ## begin
 -- a record with these parts
 abbrev pub toBegin : (written cursorLen attemptLen : ℕ) → List ℕ → (Consumer → Consumer) → Consumer → Writing

@@ -6,6 +6,7 @@ ghost use Rattle.machine.specs.View.{Sound, OffIs};
 ghost use Rattle.server.specs.Transitions.{AskIs, CallIs, StartIs};
 use crate::in_place::ask_in_place;
 use crate::in_place::begin_in_place;
+use crate::in_place::progress_in_place;
 use crate::in_place::step_in_place;
 use crate::transitions::restart;
 use crate::transitions::start;
@@ -172,4 +173,32 @@ pub extern "C" fn ninotskev_ask(
     machine.writing.consumer.table.next_generation.0 = done.figures.next_generation;
     machine.writing.consumer.table.redeliveries_since_flush = done.figures.redeliveries;
     *numbers = done.numbers;
+}
+
+// Progress on the machine in its place: call 5 by itself. It is the call that a server makes most often, and this function reads only
+// the parts that it looks at, and stores no number of the machine.
+#[no_mangle]
+pub extern "C" fn ninotskev_progress(
+    machine: &mut Machine,
+    numbers: &mut Numbers,
+    offset: u64,
+    generation: u64,
+    now: u64,
+)
+    requires { ⌜ Sound (machine .now) ⌝ }
+    ensures { λ _. ⌜ ((out : List ℕ) → AskIs (machine .entry .now) 5 offset generation now 0 out (numbers .exit .now) (machine .exit .now) out) ⌝ }
+{
+    let done = progress_in_place(
+        machine.phase,
+        offset,
+        generation,
+        now,
+        machine.writing.consumer.table.config,
+        machine.writing.consumer.table.len,
+        &mut machine.writing.consumer.table.offsets,
+        &mut machine.writing.consumer.table.generations,
+        &mut machine.writing.consumer.table.attempt_starts,
+        &mut machine.writing.consumer.table.deadlines,
+    );
+    *numbers = done;
 }

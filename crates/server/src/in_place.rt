@@ -2,9 +2,10 @@
 // are lent and changed where they lie.
 ghost use Rattle.cursor.specs.View.{ackCursor};
 ghost use Rattle.lease.specs.Parts.{listingAll};
+ghost use Rattle.consumer.specs.Parts.{progressing};
 ghost use Rattle.checkpoint.specs.Parts.{beginning, parts};
 ghost use Rattle.machine.specs.Parts.{consumerOf};
-ghost use Rattle.server.specs.Parts.{fixedAs, figuresAs, AskableIn, AskedIn, toBegin, Beginnable, phaseBegun, BegunOn, Steppable, SteppedOn};
+ghost use Rattle.server.specs.Parts.{fixedAs, figuresAs, AskableIn, AskedIn, ProgressedIn, toBegin, Beginnable, phaseBegun, BegunOn, Steppable, SteppedOn};
 ghost use mathlib.Core.Path.{_≡_};
 use crate::kinds;
 use crate::kinds::Asking;
@@ -161,6 +162,40 @@ pub fn ask_in_place(
         backoff_nanos,
         out,
     )
+}
+
+// Progress, where the state can be called: that is phase 0. Three of the columns are read only; each is lent by itself.
+pub fn progress_in_place(
+    phase: u64,
+    offset: u64,
+    generation: u64,
+    now: u64,
+    config: LeaseConfig,
+    len: usize,
+    offsets: &mut [u64; LEASES],
+    generations: &mut [u64; LEASES],
+    attempt_starts: &mut [u64; LEASES],
+    deadlines: &mut [u64; LEASES],
+) -> Numbers
+    requires { ⌜ AskableIn phase (progressing config len (offsets .now) (generations .now) («attempt_starts» .now) (deadlines .now)) ⌝ }
+    ensures { λ r. ⌜ ProgressedIn phase (progressing config len (offsets .entry .now) (generations .entry .now) («attempt_starts» .entry .now) (deadlines .entry .now)) offset generation now
+        r (progressing config len (offsets .exit .now) (generations .exit .now) («attempt_starts» .exit .now) (deadlines .exit .now)) ⌝ }
+{
+    if phase != 0 {
+        return Numbers(255, 0, 0, 0, 0, 0);
+    }
+    let answer = consumer::in_place::progress_in_place(
+        config,
+        len,
+        offset,
+        generation,
+        now,
+        offsets,
+        generations,
+        attempt_starts,
+        deadlines,
+    );
+    answers::of_progress(answer)
 }
 
 // What a begin answers, and the numbers of the machine that it changes.

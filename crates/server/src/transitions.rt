@@ -1,12 +1,14 @@
 // A start and a restart in numbers, on a machine by value: what each answers, and the machine that it leaves. An exported function is
 // thin over one of these.
 ghost use mathlib.Core.List.{List};
+ghost use mathlib.Core.Path.{_≡_};
 ghost use Prim.Native.Nat.{ℕ};
 ghost use Rattle.machine.specs.View.{Sound};
-ghost use Rattle.server.specs.Transitions.{CallIs, StartIs};
+ghost use Rattle.server.specs.Transitions.{CallIs, StartIs, restartNumbers};
 use answers::Numbers;
 use consumer::Configuration;
 use machine::Machine;
+use machine::calls::CallAnswer;
 use starts::StartAnswer;
 
 pub struct MachineAnswer {
@@ -22,10 +24,23 @@ pub fn restart(machine: Machine, area: &[u8]) -> MachineAnswer
     let called = machine.restart(area);
     let answer = called.answer;
     let after = called.machine;
-    let list = [0u64; 1];
     MachineAnswer {
-        numbers: answers::of_call(answer, &list),
+        numbers: restarted(answer),
         machine: after,
+    }
+}
+
+// What a restart answers, in numbers. `answers::of_call` says the same; but it calls `of_ask`, which the compiler takes in only where
+// one function alone calls it, and that is to be the call on the state.
+fn restarted(answer: CallAnswer) -> Numbers
+    ensures { λ r. ⌜ r ≡ restartNumbers answer ⌝ }
+{
+    match answer {
+        CallAnswer::Restarted(answer) => answers::of_start(answer),
+        CallAnswer::Asked(_answer) => Numbers(255, 0, 0, 0, 0, 0),
+        CallAnswer::Begun(_answer) => Numbers(255, 0, 0, 0, 0, 0),
+        CallAnswer::Stepped(_answer) => Numbers(255, 0, 0, 0, 0, 0),
+        CallAnswer::NotNow => Numbers(255, 0, 0, 0, 0, 0),
     }
 }
 
