@@ -3,7 +3,7 @@
 use std::fmt;
 
 use crate::configuration::Configuration;
-use crate::ffi::{Ask, Machine};
+use crate::ffi::{Ask, Machine, Numbers};
 use crate::journal::{Failed, Journal, JournalFile, NewJournal, Storage};
 use crate::refusal::Refusal;
 use crate::types::{Due, Generation, HandOut, Lease, LeaseToken, Offset};
@@ -97,8 +97,10 @@ impl<S> Consumer<S> {
     /// # Errors
     /// Refusals 21, 22, 23, 25, 26 and 27. After 26 comes a [checkpoint](Consumer::begin).
     pub fn claim(&mut self, offset: Offset, now: u64) -> Result<HandOut, Refusal> {
-        let numbers = [offset.get(), now, 0, 0];
-        let [generation, deliveries, dead, _] = self.machine.ask(Ask::Claim, numbers)?.values;
+        let mut reply = Numbers::default();
+        self.machine
+            .ask(Ask::Claim, [offset.get(), now, 0, 0], &mut reply)?;
+        let [generation, deliveries, dead, _] = reply.values;
         let token = LeaseToken {
             offset,
             generation: Generation::new(generation),
@@ -112,8 +114,10 @@ impl<S> Consumer<S> {
 
     // A call under a token, with what comes after it.
     fn under(&mut self, ask: Ask, token: LeaseToken, now: u64, delay: u64) -> Result<u64, Refusal> {
-        let numbers = [token.offset.get(), token.generation.get(), now, delay];
-        Ok(self.machine.ask(ask, numbers)?.values[0])
+        let given = [token.offset.get(), token.generation.get(), now, delay];
+        let mut reply = Numbers::default();
+        self.machine.ask(ask, given, &mut reply)?;
+        Ok(reply.values[0])
     }
 
     /// Done: the lease goes and the offset is settled.
@@ -155,7 +159,8 @@ impl<S> Consumer<S> {
     /// # Errors
     /// Refusals 24 and 28.
     pub fn progress(&mut self, token: LeaseToken, now: u64) -> Result<u64, Refusal> {
-        self.under(Ask::Progress, token, now, 0)
+        self.machine
+            .progress(token.offset.get(), token.generation.get(), now)
     }
 
     /// Settles every offset below a bound and drops their counts; `false` where that was so before.
@@ -163,7 +168,9 @@ impl<S> Consumer<S> {
     /// # Errors
     /// Refusal 30.
     pub fn commit(&mut self, up_to: Offset) -> Result<bool, Refusal> {
-        let reply = self.machine.ask(Ask::Commit, [up_to.get(), 0, 0, 0])?;
+        let mut reply = Numbers::default();
+        self.machine
+            .ask(Ask::Commit, [up_to.get(), 0, 0, 0], &mut reply)?;
         Ok(reply.values[0] != 0)
     }
 
@@ -177,50 +184,60 @@ impl<S> Consumer<S> {
     }
 
     // A question about an offset, or about none. None of them is ever refused.
-    fn look(&mut self, ask: Ask, offset: u64) -> (u64, [u64; 4]) {
-        let reply = self
-            .machine
-            .ask(ask, [offset, 0, 0, 0])
+    fn look(&mut self, ask: Ask, offset: u64, reply: &mut Numbers) {
+        self.machine
+            .ask(ask, [offset, 0, 0, 0], reply)
             .expect("a question is not refused");
-        (reply.count, reply.values)
+    }
+
+    // The same, where one number is answered.
+    fn look_up(&mut self, ask: Ask, offset: u64) -> u64 {
+        let mut reply = Numbers::default();
+        self.look(ask, offset, &mut reply);
+        reply.values[0]
     }
 
     /// The offset below which all are settled.
     pub fn committed(&mut self) -> Offset {
-        Offset::new(self.look(Ask::Committed, 0).1[0])
+        Offset::new(self.look_up(Ask::Committed, 0))
     }
 
     /// Whether an offset is settled.
     pub fn is_settled(&mut self, offset: Offset) -> bool {
-        self.look(Ask::IsSettled, offset.get()).1[0] != 0
+        self.look_up(Ask::IsSettled, offset.get()) != 0
     }
 
     /// The lease of an offset, run out or not.
     pub fn lease_of(&mut self, offset: Offset) -> Option<Lease> {
-        match self.look(Ask::LeaseOf, offset.get()) {
-            (4, [generation, attempt_start, deadline, deliveries]) => Some(Lease {
-                generation: Generation::new(generation),
-                attempt_start,
-                deadline,
-                deliveries: count(deliveries),
-            }),
-            _ => None,
+        let mut reply = Numbers::default();
+        self.look(Ask::LeaseOf, offset.get(), &mut reply);
+        if reply.count == 0 {
+            return None;
         }
+        let [generation, attempt_start, deadline, deliveries] = reply.values;
+        Some(Lease {
+            generation: Generation::new(generation),
+            attempt_start,
+            deadline,
+            deliveries: count(deliveries),
+        })
     }
 
     /// How often an offset was handed out, as the next checkpoint stores it.
     pub fn count_of(&mut self, offset: Offset) -> u32 {
-        count(self.look(Ask::CountOf, offset.get()).1[0])
+        count(self.look_up(Ask::CountOf, offset.get()))
     }
 
     /// How many offsets are in flight, their leases run out or not.
     pub fn in_flight(&mut self) -> usize {
-        size(self.look(Ask::InFlight, 0).1[0])
+        size(self.look_up(Ask::InFlight, 0))
     }
 
     /// Whether a checkpoint is due, and why.
     pub fn is_due(&mut self) -> Due {
-        let [ceiling, threshold, ..] = self.look(Ask::IsDue, 0).1;
+        let mut reply = Numbers::default();
+        self.look(Ask::IsDue, 0, &mut reply);
+        let [ceiling, threshold, ..] = reply.values;
         Due {
             ceiling: ceiling != 0,
             threshold: threshold != 0,
@@ -229,7 +246,7 @@ impl<S> Consumer<S> {
 
     /// How many blocks of the journal are left.
     pub fn blocks_left(&mut self) -> usize {
-        size(self.look(Ask::BlocksLeft, 0).1[0])
+        size(self.look_up(Ask::BlocksLeft, 0))
     }
 
     /// Gives the state up. What was not checkpointed is lost, as in a power failure, and only a restart is left.

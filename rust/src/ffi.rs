@@ -80,7 +80,7 @@ pub(crate) struct Numbers {
     pub(crate) values: [u64; 4],
 }
 
-/// The calls on a consumer, by their numbers in `crates/server/specs/Kinds.antt`.
+/// The calls on a consumer, by their numbers in `crates/server/specs/Kinds.antt`. Progress, which is 5, has a function of its own.
 #[derive(Clone, Copy, Debug, PartialEq, Eq)]
 #[repr(u64)]
 pub(crate) enum Ask {
@@ -89,7 +89,6 @@ pub(crate) enum Ask {
     Term = 2,
     Nack = 3,
     NackAfter = 4,
-    Progress = 5,
     Commit = 6,
     Waiting = 32,
     Committed = 33,
@@ -126,6 +125,13 @@ extern "C" {
         out: *mut u64,
         out_len: usize,
     );
+    fn ninotskev_progress(
+        machine: *mut Machine,
+        numbers: *mut Numbers,
+        offset: u64,
+        generation: u64,
+        now: u64,
+    );
     fn ninotskev_begin(machine: *mut Machine, numbers: *mut Numbers);
     fn ninotskev_step(machine: *mut Machine, numbers: *mut Numbers, area: *mut u8, area_len: usize);
 }
@@ -137,17 +143,18 @@ pub(crate) struct Wrote {
 }
 
 impl Numbers {
-    // The values, or the refusal.
+    // The refusal, where it is one. The values are read where the library put them, one by one: a copy of them all right behind a
+    // call waits for the library's stores.
     #[inline]
-    fn read(self) -> Result<Numbers, Refusal> {
+    fn check(&self) -> Result<(), Refusal> {
         if self.number == 0 {
-            return Ok(self);
+            return Ok(());
         }
         Err(self.refusal())
     }
 
     #[cold]
-    fn refusal(self) -> Refusal {
+    fn refusal(&self) -> Refusal {
         Refusal::of_number(self.number, self.values[0], self.values[1])
             .expect("the library answers document 01's numbers")
     }
@@ -169,7 +176,7 @@ impl Machine {
         let mut numbers = Numbers::default();
         // SAFETY: three references to values of the library's layout, of which nothing is required.
         unsafe { ninotskev_start(&mut *machine, &mut numbers, configuration, area_len) };
-        numbers.read()?;
+        numbers.check()?;
         Ok(machine)
     }
 
@@ -186,20 +193,25 @@ impl Machine {
             ninotskev_off(&mut *machine, configuration);
             ninotskev_restart(&mut *machine, &mut numbers, area.as_ptr(), area.len());
         }
-        numbers.read()?;
+        numbers.check()?;
         Ok(machine)
     }
 
     // A call on the consumer. Whoever calls has a consumer, and no record is out.
     #[inline]
-    fn on_consumer(&mut self, ask: Ask, [a, b, c, d]: [u64; 4], out: &mut [u64]) -> Numbers {
-        let mut numbers = Numbers::default();
+    fn on_consumer(
+        &mut self,
+        ask: Ask,
+        [a, b, c, d]: [u64; 4],
+        out: &mut [u64],
+        numbers: &mut Numbers,
+    ) {
         // SAFETY: references and a slice that don't overlap. The machine was made by a start or an off, and changed by calls
         // alone, so that it meets the invariant.
         unsafe {
             ninotskev_ask(
                 self,
-                &mut numbers,
+                numbers,
                 ask as u64,
                 a,
                 b,
@@ -209,13 +221,33 @@ impl Machine {
                 out.len(),
             );
         }
-        numbers
     }
 
     /// A call on the consumer that answers numbers.
     #[inline]
-    pub(crate) fn ask(&mut self, ask: Ask, numbers: [u64; 4]) -> Result<Numbers, Refusal> {
-        self.on_consumer(ask, numbers, &mut []).read()
+    pub(crate) fn ask(
+        &mut self,
+        ask: Ask,
+        given: [u64; 4],
+        numbers: &mut Numbers,
+    ) -> Result<(), Refusal> {
+        self.on_consumer(ask, given, &mut [], numbers);
+        numbers.check()
+    }
+
+    /// Extends a lease: its new deadline, or 24 or 28.
+    #[inline]
+    pub(crate) fn progress(
+        &mut self,
+        offset: u64,
+        generation: u64,
+        now: u64,
+    ) -> Result<u64, Refusal> {
+        let mut numbers = Numbers::default();
+        // SAFETY: as for `on_consumer`.
+        unsafe { ninotskev_progress(self, &mut numbers, offset, generation, now) };
+        numbers.check()?;
+        Ok(numbers.values[0])
     }
 
     /// The waiting list at a clock, into a list: how many there are, or 20.
@@ -224,10 +256,10 @@ impl Machine {
         // SAFETY: an offset is laid out as its number.
         let places =
             unsafe { core::slice::from_raw_parts_mut(out.as_mut_ptr().cast::<u64>(), out.len()) };
-        Ok(self
-            .on_consumer(Ask::Waiting, [now, 0, 0, 0], places)
-            .read()?
-            .count)
+        let mut numbers = Numbers::default();
+        self.on_consumer(Ask::Waiting, [now, 0, 0, 0], places, &mut numbers);
+        numbers.check()?;
+        Ok(numbers.count)
     }
 
     /// Takes the consumer into a record: how many blocks are to be written, or 31.
@@ -236,7 +268,8 @@ impl Machine {
         let mut numbers = Numbers::default();
         // SAFETY: as for `on_consumer`.
         unsafe { ninotskev_begin(self, &mut numbers) };
-        Ok(numbers.read()?.values[0])
+        numbers.check()?;
+        Ok(numbers.values[0])
     }
 
     /// Writes the next block into the area, which has the length that the machine was started on.
@@ -245,8 +278,8 @@ impl Machine {
         let mut numbers = Numbers::default();
         // SAFETY: as for `on_consumer`.
         unsafe { ninotskev_step(self, &mut numbers, area.as_mut_ptr(), area.len()) };
-        let numbers = numbers
-            .read()
+        numbers
+            .check()
             .expect("a step on its own area is not refused");
         Wrote {
             block: usize::try_from(numbers.values[0]).expect("a block is below 128"),
@@ -323,6 +356,20 @@ mod tests {
                     d,
                     out.as_mut_ptr(),
                     out.len(),
+                );
+            }
+            self.untouched();
+        }
+
+        fn progress(&mut self, [offset, generation, now]: [u64; 3]) {
+            // SAFETY: as for `Machine::progress`; the machine was started.
+            unsafe {
+                ninotskev_progress(
+                    &mut self.machine,
+                    &mut self.numbers,
+                    offset,
+                    generation,
+                    now,
                 );
             }
             self.untouched();
@@ -474,14 +521,72 @@ mod tests {
         guarded.begin();
         let mut list = [7; 2];
         for ask in [Ask::Claim, Ask::Commit, Ask::Waiting, Ask::Committed] {
-            let numbers = guarded.machine.on_consumer(ask, [5, 0, 0, 0], &mut list);
+            let Guarded {
+                machine, numbers, ..
+            } = &mut *guarded;
+            machine.on_consumer(ask, [5, 0, 0, 0], &mut list, numbers);
             guarded.untouched();
-            assert_eq!(numbers, code(255, 0, [0; 4]));
+            assert_eq!(guarded.numbers, code(255, 0, [0; 4]));
         }
         assert_eq!(list, [7; 2]);
+        guarded.progress([5, 0, 0]);
+        assert_eq!(guarded.numbers, code(255, 0, [0; 4]));
         guarded.begin();
         assert_eq!(guarded.numbers, code(255, 0, [0; 4]));
         assert_eq!(guarded.machine.phase, 1);
+    }
+
+    // Two machines with one lease, made by the same calls at clock 50: visibility 100, hard cap 250.
+    fn leased() -> [Box<Guarded>; 2] {
+        let configuration = Configuration {
+            lease: LeaseConfig {
+                visibility_nanos: 100,
+                hard_cap_nanos: 250,
+            },
+            ..Configuration::default()
+        };
+        [(); 2].map(|()| {
+            let mut guarded = Guarded::new();
+            let mut area = [0; 512 * 20];
+            guarded.start(&configuration, area.len());
+            guarded.begin();
+            guarded.step(&mut area);
+            guarded.step(&mut area);
+            guarded.ask(Ask::Claim as u64, [5, 50, 0, 0], &mut []);
+            assert_eq!(guarded.numbers, code(0, 3, [0, 1, 0, 0]));
+            guarded
+        })
+    }
+
+    // The numbers of the lease, which is the only one.
+    fn lease(guarded: &Guarded) -> [u64; 4] {
+        let table = &guarded.machine.writing.consumer.table;
+        assert_eq!((table.len, table.offsets[0]), (1, 5));
+        let deliveries = u64::from(table.deliveries[0]);
+        let (generation, deadline) = (table.generations[0], table.deadlines[0]);
+        [generation, table.attempt_starts[0], deadline, deliveries]
+    }
+
+    #[test]
+    fn progress_by_itself_is_call_5() {
+        let [mut one, mut other] = leased();
+        for (numbers, answer, deadline) in [
+            ([5, 0, 120], code(0, 1, [220, 0, 0, 0]), 220),
+            // As the hard cap has it.
+            ([5, 0, 260], code(0, 1, [300, 0, 0, 0]), 300),
+            ([5, 0, 300], code(28, 0, [0; 4]), 300),
+            ([5, 1, 260], code(24, 0, [0; 4]), 300),
+            ([0, 5, 260], code(24, 0, [0; 4]), 300),
+            // A clock that runs backwards.
+            ([5, 0, 60], code(0, 1, [160, 0, 0, 0]), 160),
+        ] {
+            one.progress(numbers);
+            let [offset, generation, now] = numbers;
+            other.ask(5, [offset, generation, now, 0], &mut []);
+            assert_eq!((one.numbers, other.numbers), (answer, answer));
+            assert_eq!(lease(&one), [0, 50, deadline, 1]);
+            assert_eq!(lease(&other), lease(&one));
+        }
     }
 
     #[test]

@@ -34,13 +34,29 @@ fn hold(side: &mut impl Side, first: u64, leases: u64) -> Vec<Token> {
         .collect()
 }
 
-/// A claim and an ack of the next offset, with so many leases and so many carried counts held besides.
+/// A claim and an ack of the next offset, with so many leases and so many carried counts held above it.
 fn claim_and_ack<S: Side<Storage = Nowhere>>(leases: u64, carried: u64) -> [f64; 1] {
     let mut side = start::<S>().carrying(HELD..HELD + carried);
     hold(&mut side, HELD + carried, leases);
     let held = (leases as usize, carried as usize);
+    let (time, next) = claims_from(&mut side, 0, held);
+    assert_eq!(side.committed(), next);
+    [time]
+}
+
+/// The same with so many leases held below it, as where the oldest take long: each ack is then ahead of committed.
+fn claim_and_ack_above<S: Side<Storage = Nowhere>>(leases: u64) -> [f64; 1] {
+    let mut side = start::<S>();
+    hold(&mut side, 0, leases);
+    let (time, _) = claims_from(&mut side, leases, (leases as usize, 0));
+    assert_eq!(side.committed(), 0);
+    [time]
+}
+
+/// The time of a claim and an ack of the next offset from one on, with what is held besides; and the offset behind the last.
+fn claims_from(side: &mut impl Side, first: u64, held: (usize, usize)) -> (f64, u64) {
     assert_eq!(side.held(), held);
-    let mut next = 0;
+    let mut next = first;
     let time = per_call(CALLS, TIMES, || {
         for offset in next..next + CALLS {
             let token = side.claim(offset, offset);
@@ -48,8 +64,8 @@ fn claim_and_ack<S: Side<Storage = Nowhere>>(leases: u64, carried: u64) -> [f64;
         }
         next += CALLS;
     });
-    assert_eq!((side.committed(), side.held()), (next, held));
-    [time]
+    assert_eq!(side.held(), held);
+    (time, next)
 }
 
 /// A nack of each of so many leases in turn. The lease has a new generation after it, which the next one is made under.
@@ -177,12 +193,20 @@ fn blocks_of(counts: u64) -> u64 {
 fn claims_and_acks() {
     // a count that is carried takes one of 128 places, and the offset that is claimed another
     for (leases, carried) in [(0, 0), (8, 0), (63, 0), (0, 127), (63, 64)] {
-        let name = format!("claim + ack, {leases} leases and {carried} carried counts besides");
+        let name = format!("claim + ack, {leases} leases and {carried} carried counts above");
         lines(
             [&name],
             ROUNDS,
             || claim_and_ack::<Theirs>(leases, carried),
             || claim_and_ack::<Ours>(leases, carried),
+        );
+    }
+    for leases in [8, 63] {
+        lines(
+            [&format!("claim + ack, {leases} leases below")],
+            ROUNDS,
+            || claim_and_ack_above::<Theirs>(leases),
+            || claim_and_ack_above::<Ours>(leases),
         );
     }
 }
