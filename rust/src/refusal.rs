@@ -14,9 +14,12 @@ pub enum Refusal {
     ZeroThreshold,
     /// 4: the journal is empty, no whole number of blocks, or too long.
     BadArea,
-    /// 5: a body that a sound header counts is unsound.
+    /// 5: a block isn't what it has to be. Either a body that a sound header counts is unsound, or a header is: the
+    /// groups end where it would stand, and a block behind that has the kind of a header and a right check, so that the group
+    /// before isn't the last one. Where the last header is worn there is no such block, and the group before counts, as after
+    /// a power failure. No power failure leaves a journal that is refused.
     Damaged {
-        /// The first such block, from 0.
+        /// The first unsound body on the walk over the groups, or else the block where the walk ended; from 0.
         block: u64,
     },
     /// 6: a cursor snapshot of under 13 bytes.

@@ -230,6 +230,93 @@ fn a_damaged_journal_is_refused() {
     assert_eq!(journal.bytes(), bytes);
 }
 
+/// A journal of three groups, of two blocks each: the first has nothing settled, the second offset 0, the third offset 1 too.
+fn three_groups(path: &Path, configuration: &Configuration) -> Vec<u8> {
+    let journal = NewJournal::create(path, 18).unwrap();
+    let mut consumer = Consumer::start(configuration, journal)
+        .unwrap()
+        .checkpoint()
+        .unwrap();
+    for offset in [0, 1] {
+        let token = consumer.claim(Offset::new(offset), 0).unwrap().token();
+        consumer.ack(token).unwrap();
+        consumer = consumer.checkpoint().unwrap();
+    }
+    drop(consumer);
+    let bytes = fs::read(path).unwrap();
+    assert_eq!(
+        [0, 1, 2, 3, 4, 5, 6].map(|block| bytes[BLOCK * block]),
+        [1, 2, 1, 2, 1, 2, 0]
+    );
+    bytes
+}
+
+/// A restart on a file of these bytes, with a bit of each of some blocks flipped. Where it is refused, the file stays.
+fn restart_worn(
+    path: &Path,
+    configuration: &Configuration,
+    bytes: &[u8],
+    worn: &[usize],
+) -> Result<Consumer, Refusal> {
+    let mut bytes = bytes.to_vec();
+    for block in worn {
+        bytes[BLOCK * block + 9] ^= 1;
+    }
+    fs::write(path, &bytes).unwrap();
+    Consumer::restart(configuration, Journal::open(path).unwrap()).map_err(|(refusal, journal)| {
+        assert_eq!(journal.bytes(), bytes);
+        assert_eq!(fs::read(path).unwrap(), bytes);
+        refusal
+    })
+}
+
+#[test]
+fn a_worn_header_is_refused_while_a_later_one_stands() {
+    let path = fresh_path("worn-header");
+    let configuration = configuration(3, 1, 10, 25);
+    let bytes = three_groups(&path, &configuration);
+    let refusal = |worn: &[usize]| restart_worn(&path, &configuration, &bytes, worn).unwrap_err();
+    assert_eq!(refusal(&[2]), Refusal::Damaged { block: 2 });
+    assert_eq!(refusal(&[0]), Refusal::Damaged { block: 0 });
+    assert_eq!(refusal(&[0, 2]), Refusal::Damaged { block: 0 });
+    // the bodies behind where the walk ended aren't tested
+    assert_eq!(refusal(&[2, 3, 5]), Refusal::Damaged { block: 2 });
+    assert_eq!(
+        refusal(&[2]).to_string(),
+        "refused (5): block 2 of the journal is damaged"
+    );
+    // The block put back, all is there.
+    let mut consumer = restart_worn(&path, &configuration, &bytes, &[]).unwrap();
+    assert!(consumer.is_settled(Offset::new(0)) && consumer.is_settled(Offset::new(1)));
+}
+
+#[test]
+fn an_unsound_body_is_named_before_a_worn_header() {
+    let path = fresh_path("body-first");
+    let configuration = configuration(3, 1, 10, 25);
+    let bytes = three_groups(&path, &configuration);
+    let refusal = restart_worn(&path, &configuration, &bytes, &[1, 2]).unwrap_err();
+    assert_eq!(refusal, Refusal::Damaged { block: 1 });
+}
+
+#[test]
+fn without_a_later_header_the_group_before_counts() {
+    let path = fresh_path("last-header");
+    let configuration = configuration(3, 1, 10, 25);
+    let bytes = three_groups(&path, &configuration);
+    // The last group's header is worn, and then the second group's too.
+    let mut consumer = restart_worn(&path, &configuration, &bytes, &[4]).unwrap();
+    assert!(consumer.is_settled(Offset::new(0)) && !consumer.is_settled(Offset::new(1)));
+    drop(consumer);
+    let mut consumer = restart_worn(&path, &configuration, &bytes, &[2, 4]).unwrap();
+    assert!(!consumer.is_settled(Offset::new(0)));
+    // The next checkpoint is written over the lost ones.
+    drop(consumer.checkpoint().unwrap());
+    let bytes = fs::read(&path).unwrap();
+    assert_eq!((bytes[2 * BLOCK], bytes[2 * BLOCK + 4]), (1, 2));
+    restart(&path, &configuration);
+}
+
 // ## Two processes
 
 const ROLE: &str = "NINOTSKEV_ROLE";

@@ -3,7 +3,7 @@
 use Prim.Native.Nat.{ℕ}
 use mathlib.Core.Path.{_≡_, refl}
 use mathlib.Core.Bool.{false, xor}
-use mathlib.Core.List.{List, [], _++_}
+use mathlib.Core.List.{List, [], _∷_, _++_}
 use mathlib.Core.Option.{none}
 use lib.ListN.{replicate}
 use Rattle.types.specs.Refusal.{refused, done, UnlimitedDeliverNotAllowed, TooManySteps, ZeroThreshold, BadArea}
@@ -18,7 +18,7 @@ use Rattle.lease.specs.Counts.{allAttemptCounts}
 use Rattle.journal.specs.Area.{blockAt}
 use Rattle.journal.specs.Blocks.{headerBlock, bodyBlock}
 use Rattle.journal.specs.Sound.{isKind, wellFormed, soundHeader, soundBody}
-use Rattle.journal.specs.Walks.{stop, groupAt, walkOver, walkFrom, payload}
+use Rattle.journal.specs.Walks.{stop, groupAt, walkOver, walkFrom, headerBehind, payload}
 use Rattle.journal.specs.Answers.{fill, writeBlock, walkIn, readPayload}
 use Rattle.consumer.specs.State.{Configuration, State, stateOf, nextGroupAt, badArea}
 use Rattle.checkpoint.specs.Checkpoint.{begin, step, writing}
@@ -93,10 +93,34 @@ pub restart-second-body-damaged : restart accepted (headed (bodyBlock 1 1 (repli
 unfolding restart badArea fromWalk walkFrom walkOver groupAt soundHeader wellFormed soundBody isKind isSealed blockAt headerBlock bodyBlock crc bits unbits polynomial xor
 restart-second-body-damaged = refl
 
--- a header whose bodies the area has no room for is not sound, and what is no header damages nothing
+-- a header whose bodies the area has no room for is not sound, and what is no header damages nothing; as the block
+-- where the walk ended it isn't looked at either, though its kind and check are right
 pub restart-header-without-room : restart accepted (headed (replicate 512 0)) ≡ done (fresh accepted 1024)
-unfolding restart badArea fromWalk walkFrom walkOver groupAt soundHeader wellFormed isKind isSealed blockAt headerBlock crc bits unbits polynomial xor
+unfolding restart badArea fromWalk walkFrom walkOver groupAt headerBehind soundHeader wellFormed isKind isSealed blockAt headerBlock crc bits unbits polynomial xor
 restart-header-without-room = refl
+
+-- a block of kind 1 with a right check, though no sound header
+abbrev kind1 : List ℕ
+kind1 = headerBlock 7 0 0 0
+
+-- 5, with the block where the walk ended, for such a block right behind it, and in the last block of the area
+pub restart-header-right-behind : restart accepted (replicate 512 0 ++ kind1) ≡ refused (Damaged 0)
+unfolding restart badArea fromWalk walkFrom walkOver groupAt headerBehind soundHeader wellFormed isKind isSealed blockAt headerBlock crc bits unbits polynomial xor
+restart-header-right-behind = refl
+
+pub restart-header-in-the-last-block : restart accepted (replicate 1024 0 ++ kind1) ≡ refused (Damaged 0)
+unfolding restart badArea fromWalk walkFrom walkOver groupAt headerBehind soundHeader wellFormed isKind isSealed blockAt headerBlock crc bits unbits polynomial xor
+restart-header-in-the-last-block = refl
+
+-- a block of kind 1 whose check is wrong is none
+pub restart-wrong-check-behind : restart accepted (replicate 512 0 ++ (1 ∷ replicate 511 0)) ≡ done (fresh accepted 1024)
+unfolding restart badArea fromWalk walkFrom walkOver groupAt headerBehind soundHeader wellFormed isKind isSealed blockAt crc bits unbits polynomial xor
+restart-wrong-check-behind = refl
+
+-- an unsound body on the walk is named first
+pub restart-body-before-header-behind : restart accepted (headed (replicate 1536 0 ++ kind1)) ≡ refused (Damaged 1)
+unfolding restart badArea fromWalk walkFrom walkOver groupAt soundHeader wellFormed soundBody isKind isSealed blockAt headerBlock crc bits unbits polynomial xor
+restart-body-before-header-behind = refl
 
 -- the header of group 1 with snapshots of 13 and 9 bytes, and the group with these bytes as its payload
 abbrev header : List ℕ
@@ -104,6 +128,11 @@ header = headerBlock 1 4096 13 9
 
 abbrev groupWith : List ℕ → List ℕ
 groupWith bytes = header ++ bodyBlock 1 1 bytes
+
+-- 5 for a header behind comes before what is in the last group
+pub restart-header-behind-before-cursor : restart accepted (groupWith (replicate 22 0) ++ (replicate 512 0 ++ kind1)) ≡ refused (Damaged 2)
+unfolding restart badArea fromWalk walkFrom walkOver groupAt headerBehind soundHeader wellFormed soundBody isKind isSealed blockAt headerBlock bodyBlock crc bits unbits polynomial xor
+restart-header-behind-before-cursor = refl
 
 -- after 5, in the last group: the refusals of the cursor's snapshot, then those of the attempts'; here both are of version 0
 pub restart-cursor-before-attempts : readGroup accepted (groupWith (replicate 22 0)) 0 (nextGroupAt 2 2) ≡ refused (CursorUnsupportedVersion 0)

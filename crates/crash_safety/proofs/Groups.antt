@@ -13,7 +13,7 @@ use lib.ListN.{length}
 use Rattle.journal.specs.Area.{blockAt, writeAt, Same}
 use Rattle.journal.specs.Blocks.{bodiesFor, chunkOf, headerBlock, bodyBlock}
 use Rattle.journal.specs.Sound.{hasHeaderKind, soundHeader}
-use Rattle.journal.specs.Walks.{payload}
+use Rattle.journal.specs.Walks.{stop, walk, payload}
 use Rattle.journal.proofs.Area.{write-same, write-other, write-apart}
 use Rattle.journal.proofs.Blocks.{header-length}
 use Rattle.journal.proofs.Sound.{headless}
@@ -29,20 +29,24 @@ pub record OneMore (a : List ℕ) (hi k₀ lo i : ℕ) (next : NextGroup) (heade
   pub header-is : blockAt a i ≡ header
   pub payload-is : payload a i ≡ p
 
-module _ (a : List ℕ) (hi k₀ lo : ℕ) (last : Option ℕ) (next : NextGroup) (g : Groups a hi k₀ lo last next) where
-  -- ## the last group reads the same where its blocks are the same
-  module _ (c : Configuration) (a′ : List ℕ) (size : length a′ ≡ length a) (same : Same a a′ lo (next .block)) where
-    pub read-same : lastGroup c a′ last next ≡ lastGroup c a last next
-    read-same = go last refl (walk-ended a hi none k₀ lo last (next .number) (next .block) (g .walks) .last-is)
-      where
-        go : (l : Option ℕ) → last ≡ l → LastIs a hi none k₀ lo last (next .number) (next .block)
-            → lastGroup c a′ l next ≡ lastGroup c a l next
-        go none e x = rw size
-        go (some h) e (at-once p q r) = absurd (Option·none-ne-some h (sym p ∙ e))
-        go (some h) e (behind i m p q r s t) =
-            let here : i ≡ h = cc in
-            rw (← here, same i s (omega (arith, t .behind)), payload-same a a′ hi lo m i (next .block) same s t, size)
+-- ## the last group reads the same where its blocks are the same
+module _ (a : List ℕ) (hi k₀ lo : ℕ) (last : Option ℕ) (next : NextGroup) (walks : walk a hi k₀ lo ≡ stop last (next .number) (next .block))
+    (c : Configuration)
+    (a′ : List ℕ)
+    (size : length a′ ≡ length a)
+    (same : Same a a′ lo (next .block)) where
+  pub read-same : lastGroup c a′ last next ≡ lastGroup c a last next
+  read-same = go last refl (walk-ended a hi none k₀ lo last (next .number) (next .block) walks .last-is)
+    where
+      go : (l : Option ℕ) → last ≡ l → LastIs a hi none k₀ lo last (next .number) (next .block)
+          → lastGroup c a′ l next ≡ lastGroup c a l next
+      go none e x = rw size
+      go (some h) e (at-once p q r) = absurd (Option·none-ne-some h (sym p ∙ e))
+      go (some h) e (behind i m p q r s t) =
+          let here : i ≡ h = cc in
+          rw (← here, same i s (omega (arith, t .behind)), payload-same a a′ hi lo m i (next .block) same s t, size)
 
+module _ (a : List ℕ) (hi k₀ lo : ℕ) (last : Option ℕ) (next : NextGroup) (g : Groups a hi k₀ lo last next) where
   -- ## a block that is no header
   module _ (i : ℕ) (b : List ℕ) (fits : 512 * i + 512 ≤ length a) (whole : length b ≡ 512) (out : i < next .block → i < lo) where
     pub write-outside : Same a (writeAt a i b) lo (next .block)

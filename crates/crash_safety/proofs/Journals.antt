@@ -17,10 +17,11 @@ use Rattle.attempt.proofs.Snapshot.{attempts-back}
 use Rattle.lease.specs.Counts.{allAttemptCounts}
 use Rattle.journal.specs.Area.{blockAt, writeAt}
 use Rattle.journal.specs.Sound.{hasHeaderKind}
-use Rattle.journal.specs.Walks.{walk, payload}
+use Rattle.journal.specs.Walks.{walk, headerBehind, payload}
 use Rattle.journal.specs.Blocks.{cursorLength, attemptLength, ceilingOf}
 use Rattle.journal.proofs.Area.{whole-says, write-length}
 use Rattle.journal.proofs.Blocks.{header-length, header-ceiling, header-cursor, header-attempt}
+use Rattle.journal.proofs.Walks.{none-behind}
 use Rattle.consumer.specs.State.{Configuration, State}
 use Rattle.consumer.specs.Valid.{Valid}
 use Rattle.consumer.proofs.Area.{area-taken}
@@ -34,12 +35,17 @@ use Rattle.crash_safety.proofs.Invariant.{Groups, Saved, restored, Jour
 use Rattle.crash_safety.proofs.Groups.{read-same, write-outside, groups-kept, one-more}
 
 -- ## a restart
+pub none-after : (c : Configuration) (n : ℕ) (a : List ℕ) (v : Saved) → Journal c n a v → headerBehind a (length a / 512) (v .next .block) ≡ false
+none-after c n a v j =
+    none-behind a (length a / 512) (v .next .block) (λ i l h. j .groups .clear i (omega arith) (omega (arith, j .size)))
+
 pub restart-finds : (c : Configuration) (n : ℕ) (a : List ℕ) (v : Saved) → Passed (startTable c n) → Journal c n a v
     → restart c a ≡ done (restored c n v)
 unfolding restart fromWalk
 restart-finds c n a v accepted j =
     rw (j .size)
-    (checked-passed (startTable c n) (fromWalk c a (walk a (n / 512) 1 0)) accepted ∙ rw (j .groups .walks) (j .reads))
+    (checked-passed (startTable c n) (fromWalk c a (walk a (n / 512) 1 0)) accepted
+    ∙ rw (j .groups .walks, none-after c n a v j) (j .reads))
 
 -- ## a block that is no header, behind the groups
 module _ (c : Configuration) (n : ℕ) (a : List ℕ) (w : Saved) (j : Journal c n a w) (i : ℕ) (b : List ℕ)
@@ -54,7 +60,7 @@ module _ (c : Configuration) (n : ℕ) (a : List ℕ) (w : Saved) (j : Journal c
         size = long ∙ j .size;
         last = j .last;
         groups = groups-kept a (n / 512) 1 0 (j .last) (w .next) (j .groups) i b inside whole (λ q. absurd (omega arith)) h;
-        reads = read-same a (n / 512) 1 0 (j .last) (w .next) (j .groups) c (writeAt a i b) long
+        reads = read-same a (n / 512) 1 0 (j .last) (w .next) (j .groups .walks) c (writeAt a i b) long
             (write-outside a (n / 512) 1 0 (j .last) (w .next) (j .groups) i b inside whole (λ q. absurd (omega arith)))
             ∙ j .reads;
         valid = j .valid;

@@ -18,5 +18,6 @@ pub mod Tokens
 pub mod Settled
 pub mod Checkpoints
 pub mod Recovery
+pub mod Worn
 pub mod Useful
 pub mod Ran

@@ -1,29 +1,25 @@
 -- A fresh consumer on a zeroed journal is within the invariant: there are no groups, no block could be taken for a header, and
 -- the book is empty. Assumes nothing.
-use Prim.Native.Nat.{ℕ, _+_, _*_, _/_, _≤_}
+use Prim.Native.Nat.{ℕ, _/_}
 use native.Mathlib.Omega.{arith}
 use mathlib.Core.Path.{_≡_, refl}
 use mathlib.Core.Bool.{false, _||_}
-use mathlib.Core.List.{List, []}
+use mathlib.Core.List.{[]}
 use mathlib.Core.Option.{none}
-use lib.Dec.{ltb, lit<}
-use lib.ListN.{drop, replicate, length-replicate, getD-replicate}
-use lib.Seq.{getD-take, getD-drop}
+use lib.Dec.{ltb}
+use lib.ListN.{replicate, length-replicate}
 use borrow.Author.Tests.{le-ltb}
 use Rattle.types.specs.Refusal.{done}
 use Rattle.types.specs.Table.{Passed}
 use Rattle.types.proofs.Table.{checked-done}
 use Rattle.cursor.specs.Cursor.{resume}
-use Rattle.journal.specs.Area.{blockAt}
-use Rattle.journal.specs.Blocks.{kindOf}
-use Rattle.journal.specs.Sound.{hasHeaderKind}
-use Rattle.journal.proofs.Sound.{other-kind}
+use Rattle.journal.proofs.Blocks.{zeros}
+use Rattle.journal.proofs.Walks.{headless-zeros, walk-zeros}
 use Rattle.consumer.specs.State.{Configuration, State, nextGroupAt}
 use Rattle.consumer.specs.Valid.{Fits, Valid}
 use Rattle.starts.specs.Restart.{startTable, fresh, start}
 use Rattle.starts.proofs.Open.{start-open}
 use Rattle.starts.proofs.Valid.{fresh-valid}
-use Rattle.starts.proofs.Zeros.{walk-zeros}
 use Rattle.crash_safety.specs.Runs.{freshWorld}
 use Rattle.crash_safety.specs.Book.{blank}
 use Rattle.crash_safety.specs.Demand3.{Finds}
@@ -34,24 +30,16 @@ use Rattle.crash_safety.proofs.Steps.{restored-agrees}
 abbrev nothing : Saved
 nothing = record { cursor = resume 0; counts = []; ceiling = 0; next = nextGroupAt 1 0 }
 
--- no block of a zeroed area is a header
-zeroed-kind : (n j : ℕ) → 512 * j + 512 ≤ n → kindOf (blockAt (replicate n 0) j) ≡ 0
-unfolding blockAt
-zeroed-kind n j h =
-    let zeros : List ℕ = replicate n 0 in
-    rw (getD-take 512 (drop (512 * j) zeros) 0 0 (lit< tt), getD-drop (512 * j) zeros 0 0)
-    (getD-replicate n (512 * j + 0) 0 0 (omega arith))
-
-zeroed-clear : (n j : ℕ) → 512 * j + 512 ≤ n → hasHeaderKind (blockAt (replicate n 0) j) ≡ false
-zeroed-clear n j h = other-kind 1 (blockAt (replicate n 0) j) (λ q. omega (arith, zeroed-kind n j h))
-
 module _ (c : Configuration) (n : ℕ) (v : Valid (fresh c n)) where
   zeroed-journal : Journal c n (replicate n 0) nothing
   zeroed-journal =
       record {
         size = length-replicate n 0;
         last = none;
-        groups = record { walks = walk-zeros n (n / 512); clear = λ j l h. zeroed-clear n j (omega arith) };
+        groups = record {
+          walks = walk-zeros (replicate n 0) (zeros n) (n / 512) 1 0;
+          clear = λ j l h. headless-zeros (replicate n 0) (zeros n) j;
+        };
         reads = rw (length-replicate {A = ℕ} n 0);
         valid = v;
       }

@@ -6,4 +6,5 @@ pub mod Tokens
 pub mod Settled
 pub mod Recovery
 pub mod Useful
+pub mod Worn
 pub mod Ran

@@ -13,7 +13,7 @@ use Rattle.lease.specs.Counts.{allAttemptCounts}
 use Rattle.journal.specs.Area.{blockAt, writeAt}
 use Rattle.journal.specs.Blocks.{headerBlock, bodyBlock}
 use Rattle.journal.specs.Sound.{isKind, wellFormed, soundHeader, soundBody}
-use Rattle.journal.specs.Walks.{groupAt, walkOver, walkFrom, payload}
+use Rattle.journal.specs.Walks.{groupAt, walkOver, walkFrom, headerBehind, payload}
 use Rattle.consumer.specs.State.{badArea}
 use Rattle.consumer.specs.Calls as consumer
 use Rattle.checkpoint.specs.Checkpoint as checkpoint
@@ -39,5 +39,5 @@ items =
 
 pub bound-met : handOuts (delivers 0) (run configuration (freshWorld (fresh configuration 9216) 9216) items)
     ≡ configuration .settings .policy .maxDeliver + restartsIn items * (configuration .settings .policy .flushRedeliveries + 1)
-unfolding handOuts restartsIn run next transition consumer.claim checkpoint.begin checkpoint.step badArea restarts.restart fromWalk allAttemptCounts encodeCursor decodeCursor encodeAttempts1 decodeAttempts blockAt writeAt headerBlock bodyBlock isKind wellFormed soundHeader soundBody groupAt walkOver walkFrom payload isSealed bits unbits polynomial crc xor
+unfolding handOuts restartsIn run next transition consumer.claim checkpoint.begin checkpoint.step badArea restarts.restart fromWalk allAttemptCounts encodeCursor decodeCursor encodeAttempts1 decodeAttempts blockAt writeAt headerBlock bodyBlock isKind wellFormed soundHeader soundBody groupAt walkOver walkFrom headerBehind payload isSealed bits unbits polynomial crc xor
 bound-met = refl

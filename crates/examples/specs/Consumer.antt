@@ -18,7 +18,7 @@ use Rattle.lease.specs.Counts.{allAttemptCounts}
 use Rattle.journal.specs.Area.{blockAt, writeAt}
 use Rattle.journal.specs.Blocks.{headerBlock, bodyBlock}
 use Rattle.journal.specs.Sound.{isKind, wellFormed, soundHeader, soundBody}
-use Rattle.journal.specs.Walks.{groupAt, walkOver, walkFrom, payload}
+use Rattle.journal.specs.Walks.{groupAt, walkOver, walkFrom, headerBehind, payload}
 use Rattle.consumer.specs.State.{Configuration, State, nextGroupAt, badArea}
 use Rattle.consumer.specs.Calls.{HandOut, claim}
 use Rattle.checkpoint.specs.Checkpoint.{writes, begin, Left, going, finished, Lent, lent, step}
@@ -90,7 +90,7 @@ pub record Example14 : Type 0 where
   pub answered : fromStart acts14 ≡ handsOut 0 1 Deliver ∷ handsOut 1 2 Deliver ∷ refused CheckpointDue ∷ handsOut 4098 3 DeadLetter ∷ []
 
 pub example-14 : Example14
-unfolding start claim begin step badArea restart fromWalk allAttemptCounts encodeCursor decodeCursor encodeAttempts1 decodeAttempts blockAt writeAt headerBlock bodyBlock isKind wellFormed soundHeader soundBody groupAt walkOver walkFrom payload isSealed bits unbits polynomial crc xor
+unfolding start claim begin step badArea restart fromWalk allAttemptCounts encodeCursor decodeCursor encodeAttempts1 decodeAttempts blockAt writeAt headerBlock bodyBlock isKind wellFormed soundHeader soundBody groupAt walkOver walkFrom headerBehind payload isSealed bits unbits polynomial crc xor
 example-14 = record { answered = refl }
 
 -- a foreign journal of one group, with a count of a settled offset, a zero and a count for MAX: a restart drops, drops and
@@ -100,5 +100,5 @@ foreign b d = headerBlock 1 7 (length b) (length d) ++ bodyBlock 1 1 (b ++ d)
 
 pub foreign-counts : restart configuration (foreign (encodeCursor (cursor 5 [])) (encodeAttempts1 (entry 3 2 ∷ entry 6 0 ∷ entry 9 1 ∷ entry MAX 4 ∷ [])))
     ≡ done (resumed configuration 1024 (cursor 5 []) (entry 9 1 ∷ entry MAX 4 ∷ []) 7 (nextGroupAt 2 2))
-unfolding badArea restart fromWalk encodeCursor decodeCursor encodeAttempts1 decodeAttempts blockAt headerBlock bodyBlock isKind wellFormed soundHeader soundBody groupAt walkOver walkFrom payload isSealed bits unbits polynomial crc xor
+unfolding badArea restart fromWalk encodeCursor decodeCursor encodeAttempts1 decodeAttempts blockAt headerBlock bodyBlock isKind wellFormed soundHeader soundBody groupAt walkOver walkFrom headerBehind payload isSealed bits unbits polynomial crc xor
 foreign-counts = refl

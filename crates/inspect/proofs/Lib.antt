@@ -1,4 +1,5 @@
 pub mod Verdicts
 pub mod Sequence
 pub mod Ends
+pub mod Named
 mod Rows

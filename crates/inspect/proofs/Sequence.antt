@@ -10,7 +10,7 @@ use Rattle.inspect.specs.Places.{placeAfter, placeAt}
 use Rattle.inspect.specs.declared.places.Place.{Place}
 
 -- the part of the area that a block is
-part-is-block : (a : List ℕ) (i : ℕ) → take (512 * i + 512 - 512 * i) (drop (512 * i) a) ≡ blockAt a i
+pub part-is-block : (a : List ℕ) (i : ℕ) → take (512 * i + 512 - 512 * i) (drop (512 * i) a) ≡ blockAt a i
 unfolding blockAt
 part-is-block a i =
     let r : 512 * i + 512 - 512 * i ≡ 512 = omega arith in

@@ -1,5 +1,6 @@
 // A journal: its blocks, where the walk ends, and what a restart would find.
 use crate::listing::listed;
+use crate::missed::missed;
 use crate::refusals::refused;
 use crate::said::Said;
 use crate::said::says;
@@ -72,11 +73,12 @@ fn stop_said(last: LastGroup, number: u64, block: u64) -> Said {
 }
 
 fn walk(out: &mut [u8], at: usize, area: &[u8]) -> usize {
+    let hi = starts::limit(area);
     let from = starts::origin(area);
-    let walked = journal::walk(area, area.len() / 512, from.number, from.block);
+    let walked = journal::walk(area, hi, from.number, from.block);
     let end = walk_said(walked);
     let numbers = end.numbers;
-    fill(
+    let next = fill(
         out,
         at,
         b"the walk ends at block #, group # would come next; the last group has its header at block #\n|\
@@ -85,7 +87,11 @@ fn walk(out: &mut [u8], at: usize, area: &[u8]) -> usize {
         the walk meets an unsound body at block #\n",
         end.template,
         numbers,
-    )
+    );
+    match walked {
+        Walked::Stopped { number, block, .. } => missed(out, next, area, hi, number, block),
+        _ => next,
+    }
 }
 
 // What a restart would find, or its refusal.

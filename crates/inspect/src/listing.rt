@@ -51,7 +51,7 @@ fn put_rest(out: &mut [u8], at: usize, rest: Said) -> usize {
         ; the groups end here, where the header of group # would stand\n|\
         ; no sound body # of group #\n|\
         ; behind the groups\n|\
-        ; behind the groups, the header of its own is missing\n",
+        ; behind the groups, of the group that would come next\n",
         rest.template,
         numbers,
     )
@@ -113,7 +113,7 @@ fn header_rest(template: usize, block: &[u8]) -> Said {
     says(template, header.attempt_len as u64, bodies as u64)
 }
 
-// Behind the groups, where the header of group `number` was expected last. A restart reads nothing there.
+// Behind the groups, where the header of group `number` was expected last. A restart only looks whether a header stands there.
 fn behind_rest(number: u64, block: &[u8], seen: Seen) -> Said {
     match seen {
         Seen::Empty => says(0, 0, 0),

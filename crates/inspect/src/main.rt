@@ -7,6 +7,7 @@ use text::words::same;
 mod faults;
 mod journals;
 mod listing;
+mod missed;
 mod places;
 mod refusals;
 mod said;

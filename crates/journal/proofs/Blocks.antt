@@ -84,7 +84,7 @@ header-back h k c l a =
       header-attempt (h .number) (h .ceiling) (h .«cursor_len») (h .«attempt_len») a,
     )
 
-zeros : (n : ℕ) → allZero (replicate n 0) ≡ true
+pub zeros : (n : ℕ) → allZero (replicate n 0) ≡ true
 zeros zero = refl
 zeros (suc n) = zeros n
 

@@ -77,6 +77,13 @@ pub unchecked : (kind : ℕ) (b : List ℕ) → isSealed b ≡ false → isKind 
 unfolding isKind
 unchecked kind b e = rw (e, and-false (eqb (length b) 512 && eqb (kindOf b) kind))
 
+pub zero-headless : (b : List ℕ) → allZero b ≡ true → hasHeaderKind b ≡ false
+zero-headless b z = other-kind 1 b (λ q. omega (arith, zero-kind b z))
+  where
+    zero-kind : (l : List ℕ) → allZero l ≡ true → kindOf l ≡ 0
+    zero-kind [] e = refl
+    zero-kind (x ∷ l) e = eqb-true x 0 (both (eqb x 0) (allZero l) e .0)
+
 module _ (hi k i : ℕ) (b : List ℕ) where
   pub headless : hasHeaderKind b ≡ false → soundHeader hi k i b ≡ false
   unfolding soundHeader wellFormed
@@ -90,11 +97,7 @@ module _ (hi k i : ℕ) (b : List ℕ) where
   body-header e = headless (other-kind 1 b (λ q. omega arith))
 
   pub zero-header : allZero b ≡ true → soundHeader hi k i b ≡ false
-  zero-header z = headless (other-kind 1 b (λ q. omega (arith, zero-kind b z)))
-    where
-      zero-kind : (l : List ℕ) → allZero l ≡ true → kindOf l ≡ 0
-      zero-kind [] e = refl
-      zero-kind (x ∷ l) e = eqb-true x 0 (both (eqb x 0) (allZero l) e .0)
+  zero-header z = headless (zero-headless b z)
 
 -- ## What a sound block says
 pub record Kind (kind : ℕ) (b : List ℕ) : Type 0 where

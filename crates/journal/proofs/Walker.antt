@@ -1,20 +1,22 @@
 -- The walker's steps over plain values. In the loop over the bodies of a group, the first unsound one is to be found
 -- among those that are left; a turn reads its block as a part of the area; in the walk's loop, the rest of the walk
--- answers what the whole answers. Assumes nothing.
-use Prim.Native.Nat.{ℕ, suc, _+_, _*_, _-_, _≤_, _<_, _^_, min}
+-- answers what the whole answers; in the search behind a block, none of those before has kind 1 and a right check.
+-- Assumes nothing.
+use Prim.Native.Nat.{ℕ, suc, _+_, _*_, _-_, _/_, _≤_, _<_, _^_, min}
 use native.Mathlib.Omega.{arith}
+use native.Mathlib.Decide.{decLt}
 use native.Mathlib.Numerals.{add-one}
 use mathlib.Core.Path.{_≡_, sym, _∙_}
 use mathlib.Core.Bool.{Bool, true, false}
 use mathlib.Core.List.{List}
 use mathlib.Core.Option.{Option, some}
-use lib.ListN.{length, drop}
+use lib.ListN.{length, drop, length-take, length-drop}
 use Rattle.types.specs.Refusal.{Result, refused, BadArea}
 use Rattle.raw.specs.Bytes.{IsBytes}
 use Rattle.raw.proofs.Bytes.{bytes-take, bytes-drop, number-lt}
 use Rattle.journal.specs.Area.{badLength, blocks, blockAt}
 use Rattle.journal.specs.Blocks.{Counted, usedIn, bodyCount, cursorLength, attemptLength}
-use Rattle.journal.specs.Sound.{soundHeader, soundBody}
+use Rattle.journal.specs.Sound.{hasHeaderKind, soundHeader, soundBody}
 use Rattle.journal.specs.Walks.{
   firstUnsound,
   Found,
@@ -29,11 +31,12 @@ use Rattle.journal.specs.Walks.{
   after,
   walkFrom,
   walk,
+  headerBehind,
 }
 use Rattle.journal.specs.Answers.{walkIn}
 use Rattle.journal.proofs.Area.{partAt, part-is}
-use Rattle.journal.proofs.Sound.{Header, header-says, well-formed-counted}
-use Rattle.journal.proofs.Walks.{says-nothing, says-bodies, group-says, past-end, walk-turn}
+use Rattle.journal.proofs.Sound.{Header, header-says, well-formed-counted, no-kind}
+use Rattle.journal.proofs.Walks.{says-nothing, says-bodies, group-says, past-end, walk-turn, none-behind, some-behind}
 
 -- ## The bodies of a group
 module _ (a : List ℕ) (k i n t : ℕ) where
@@ -128,6 +131,42 @@ module _ (a : List ℕ) (hi k i e : ℕ) (found : groupAt a hi k i ≡ group e) 
 
   pub group-advances : i < e
   group-advances = omega (arith, group-says a hi k i e found .behind)
+
+-- ## The search for a header behind a block
+module _ (a : List ℕ) where
+  -- a block behind the area's end has no 512 bytes
+  no-block : (i : ℕ) → length a / 512 ≤ i → hasHeaderKind (blockAt a i) ≡ false
+  unfolding blockAt
+  no-block i h =
+      let short : length (blockAt a i) ≡ min 512 (length a - 512 * i) = simp (length-take, length-drop) in
+      sym (no-kind 1 (blockAt a i) (λ k. omega (arith, k .whole, short)))
+
+  module _ (at : ℕ) where
+    -- no block between has kind 1 and a right check
+    abbrev pub Searched : ℕ → Type 0
+    Searched i = (j : ℕ) → at < j → j < i → hasHeaderKind (blockAt a j) ≡ false
+
+    pub search-none : (i : ℕ) → i ≤ suc at → Searched i
+    search-none i h j l m = absurd (omega arith)
+
+    module _ (i : ℕ) (u : Bool) (test : u ≡ hasHeaderKind (partAt a i)) where
+      tested-kind : hasHeaderKind (blockAt a i) ≡ u
+      tested-kind = sym (test ∙ rw (part-is a i))
+
+      pub search-more : u ≡ false → Searched i → Searched (i + 1)
+      search-more t s j l h =
+          elim (decLt j i) [
+            | yes q ↦ s j l q
+            | no q ↦ let e : j ≡ i = omega arith in rw e (tested-kind ∙ t)
+          ]
+
+      pub search-found : (hi : ℕ) → at < i → i < hi → u ≡ true → true ≡ headerBehind a hi at
+      search-found hi l h t = sym (some-behind a hi at i l h (tested-kind ∙ t))
+
+    -- the blocks behind the area's end count for nothing
+    pub search-ended : (hi i : ℕ) → min hi (length a / 512) ≤ i → Searched i → false ≡ headerBehind a hi at
+    search-ended hi i h s =
+        sym (none-behind a hi at (λ j l m. elim (decLt j i) [ yes q ↦ s j l q | no q ↦ no-block j (omega arith) ]))
 
 -- what the call answers
 module _ (hi k i : ℕ) (a : List ℕ) where

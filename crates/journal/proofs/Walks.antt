@@ -1,7 +1,7 @@
 -- The walk, for any area, end, first number and first block: what it says of where it ended, that it depends on
 -- nothing behind that place, and what a write or a whole group there makes of it. The definition counts its turns;
 -- `walk-turn` and `walk-ind` free all other laws of the count. Assumes nothing.
-use Prim.Native.Nat.{ℕ, zero, suc, _+_, _*_, _≤_, _<_}
+use Prim.Native.Nat.{ℕ, zero, suc, _+_, _*_, _-_, _≤_, _<_}
 use native.Mathlib.Omega.{arith}
 use native.Mathlib.Decide.{ℕ-discrete}
 use mathlib.Core.Path.{_≡_, refl, sym, ap, subst, _∙_}
@@ -10,7 +10,7 @@ use mathlib.Core.List.{List}
 use mathlib.Core.Option.{Option, none, some, Option·none-ne-some}
 use lib.ListN.{length, drop}
 use Rattle.types.specs.Refusal.{Result}
-use Rattle.types.proofs.Cases.{split}
+use Rattle.types.proofs.Cases.{split, neither}
 use Rattle.raw.specs.Bytes.{allZero}
 use Rattle.journal.specs.Area.{blockAt, writeAt, Same}
 use Rattle.journal.specs.Blocks.{usedIn, bodyCount, payloadLength}
@@ -31,9 +31,11 @@ use Rattle.journal.specs.Walks.{
   walkOver,
   walkFrom,
   walk,
+  anyHeader,
+  headerBehind,
 }
 use Rattle.journal.proofs.Area.{write-same, write-other, write-apart}
-use Rattle.journal.proofs.Sound.{Header, header-says, says-header, headless, zero-header, zeros-take, zeros-drop}
+use Rattle.journal.proofs.Sound.{Header, header-says, says-header, headless, differ, zero-headless, zero-header, zeros-take, zeros-drop}
 
 -- ## One group
 -- the first unsound body that the block i counts, as the header of group k
@@ -103,12 +105,12 @@ module _ (a : List ℕ) (hi k i : ℕ) where
 abbrev stopAt : Option ℕ → ℕ → ℕ → Stop
 stopAt last k i = record { last = last; number = k; block = i }
 
-stop-inj : {l l′ : Option ℕ} {k k′ i i′ : ℕ} → stop l k i ≡ stop l′ k′ i′ → (l′ ≡ l) × (k′ ≡ k) × (i′ ≡ i)
+pub stop-inj : {l l′ : Option ℕ} {k k′ i i′ : ℕ} → stop l k i ≡ stop l′ k′ i′ → (l′ ≡ l) × (k′ ≡ k) × (i′ ≡ i)
 stop-inj {l} {l′} {k} {k′} {i} {i′} p =
     let q : stopAt l′ k′ i′ ≡ stopAt l k i = cc in
     (ap (λ (s : Stop). s .last) q, ap (λ (s : Stop). s .number) q, ap (λ (s : Stop). s .block) q)
 
-stop-damaged : {l : Option ℕ} {k i j : ℕ} {P : Type 0} → damaged j ≡ stop l k i → P
+pub stop-damaged : {l : Option ℕ} {k i j : ℕ} {P : Type 0} → damaged j ≡ stop l k i → P
 stop-damaged p = absurd (let z : _≡_ {A = ℕ} 0 1 = cc in omega arith)
 
 module _ (a : List ℕ) (hi : ℕ) where
@@ -332,6 +334,36 @@ module _ (a a′ : List ℕ) (hi lo k₀ : ℕ) where
     walk-longer e′ s g n =
         walk-passes e′ s g ∙ walk-turn a′ hi (some e) (suc k) e′ ∙ rw (says-nothing a′ hi (suc k) e′ n)
 
+-- ## Headers behind a block
+module _ (a : List ℕ) where
+  none-any : (m i : ℕ) → ((j : ℕ) → i ≤ j → j < i + m → hasHeaderKind (blockAt a j) ≡ false) → anyHeader a m i ≡ false
+  none-any zero i n = refl
+  none-any (suc m) i n =
+      rw (n i (omega arith) (omega arith)) (none-any m (suc i) (λ j l h. n j (omega arith) (omega arith)))
+
+  any-none : (m i : ℕ) → anyHeader a m i ≡ false → (j : ℕ) → i ≤ j → j < i + m → hasHeaderKind (blockAt a j) ≡ false
+  any-none zero i e j l h = absurd (omega arith)
+  any-none (suc m) i e j l h =
+      let n = neither (hasHeaderKind (blockAt a i)) (anyHeader a m (suc i)) e in
+      elim (ℕ-discrete j i) [
+        | yes q ↦ rw q (n .0)
+        | no q ↦ any-none m (suc i) (n .1) j (omega arith) (omega arith)
+      ]
+
+  module _ (hi i : ℕ) where
+    -- none, where no block between has kind 1 and a right check, and the other way round
+    pub none-behind : ((j : ℕ) → i < j → j < hi → hasHeaderKind (blockAt a j) ≡ false) → headerBehind a hi i ≡ false
+    unfolding headerBehind
+    none-behind n = none-any (hi - suc i) (suc i) (λ j l h. n j (omega arith) (omega arith))
+
+    pub behind-none : headerBehind a hi i ≡ false → (j : ℕ) → i < j → j < hi → hasHeaderKind (blockAt a j) ≡ false
+    unfolding headerBehind
+    behind-none e j l h = any-none (hi - suc i) (suc i) e j (omega arith) (omega arith)
+
+    pub some-behind : (j : ℕ) → i < j → j < hi → hasHeaderKind (blockAt a j) ≡ true → headerBehind a hi i ≡ true
+    some-behind j l h t =
+        split (headerBehind a hi i) (λ e. e) (λ e. absurd (differ t (behind-none e j l h)))
+
 -- ## A block written
 -- behind the groups, or in front of the first, it leaves the walk as it was, unless it is the sound header expected
 module _ (a : List ℕ) (hi lo k₀ : ℕ) (l : Option ℕ) (k e i : ℕ) (b : List ℕ)
@@ -360,9 +392,16 @@ write-headless a i b fits whole n j h =
       | no q ↦ rw (write-other a i b fits whole j q) h
     ]
 
--- over zeros a walk ends where it begins
-pub walk-zeros : (a : List ℕ) (hi k i : ℕ) → allZero a ≡ true → walk a hi k i ≡ stop none k i
-unfolding blockAt
-walk-zeros a hi k i z =
-    let b : allZero (blockAt a i) ≡ true = zeros-take 512 (drop (512 * i) a) (zeros-drop (512 * i) a z) in
-    walk-turn a hi none k i ∙ rw (says-nothing a hi k i (zero-header hi k i (blockAt a i) b))
+-- ## Zeros
+module _ (a : List ℕ) (z : allZero a ≡ true) where
+  block-zeros : (i : ℕ) → allZero (blockAt a i) ≡ true
+  unfolding blockAt
+  block-zeros i = zeros-take 512 (drop (512 * i) a) (zeros-drop (512 * i) a z)
+
+  -- no block is a header, so a walk ends where it begins
+  pub headless-zeros : (i : ℕ) → hasHeaderKind (blockAt a i) ≡ false
+  headless-zeros i = zero-headless (blockAt a i) (block-zeros i)
+
+  pub walk-zeros : (hi k i : ℕ) → walk a hi k i ≡ stop none k i
+  walk-zeros hi k i =
+      walk-turn a hi none k i ∙ rw (says-nothing a hi k i (zero-header hi k i (blockAt a i) (block-zeros i)))

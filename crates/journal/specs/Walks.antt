@@ -1,14 +1,15 @@
 -- The walk over a journal, which ends at the first block that is no sound header (01, "journal"), with its first
--- block, its first group number and the block where it must end; and the payload of a group.
-use Prim.Native.Nat.{ℕ, zero, suc, _+_}
-use mathlib.Core.Bool.{cond}
+-- block, its first group number and the block where it must end; the search for a header behind that place; and the
+-- payload of a group.
+use Prim.Native.Nat.{ℕ, zero, suc, _+_, _-_}
+use mathlib.Core.Bool.{Bool, false, cond, _||_}
 use mathlib.Core.List.{List, [], _++_}
 use mathlib.Core.Option.{Option, none, some}
 use lib.ListN.{take}
 use Rattle.types.specs.Refusal.{Result, refused, done, Damaged}
 use Rattle.journal.specs.Area.{blockAt}
 use Rattle.journal.specs.Blocks.{bodiesFor, usedIn, bodyCount, payloadLength, contentOf}
-use Rattle.journal.specs.Sound.{soundHeader, soundBody}
+use Rattle.journal.specs.Sound.{hasHeaderKind, soundHeader, soundBody}
 
 -- the first unsound one of m bodies from index j on, of the group k whose header, at block i, counts n bodies with t
 -- bytes
@@ -70,6 +71,15 @@ walkFrom a hi last k i = walkOver hi a hi last k i
 -- the walk from block i on, where group k is expected first; no group may pass block hi
 abbrev pub walk : List ℕ → ℕ → ℕ → ℕ → Result Stop
 walk a hi k i = walkFrom a hi none k i
+
+-- one of m blocks from block i on has kind 1 and a right check
+abbrev pub anyHeader : List ℕ → ℕ → ℕ → Bool
+anyHeader a zero i = false
+anyHeader a (suc m) i = hasHeaderKind (blockAt a i) || anyHeader a m (suc i)
+
+-- a block behind block i, and before block hi, has kind 1 and a right check
+unfoldable pub headerBehind : List ℕ → ℕ → ℕ → Bool
+headerBehind a hi i = anyHeader a (hi - suc i) (suc i)
 
 -- the content of m bodies from block i on
 abbrev pub contents : List ℕ → ℕ → ℕ → List ℕ

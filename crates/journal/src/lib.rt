@@ -10,7 +10,7 @@ ghost use Rattle.crc.specs.Seal.{sealed};
 ghost use Rattle.journal.specs.Blocks.{bodiesFor, Counted, usedIn, chunkOf, opening, bodyBlock};
 ghost use Rattle.journal.specs.Area.{badLength, outside};
 ghost use Rattle.journal.specs.Sound.{isKind, hasHeaderKind, wellFormed, soundHeader, soundBody};
-ghost use Rattle.journal.specs.Walks.{firstUnsound, orUnsound, groupAt, contents};
+ghost use Rattle.journal.specs.Walks.{firstUnsound, orUnsound, groupAt, headerBehind, contents};
 ghost use Rattle.journal.specs.Answers.{fill, writeBlock, walkIn, readPayload, headerIn, headerBytes, blockOf, filledOf, foundOf, walkedOf, payloadRead};
 use types::numbers::shorter;
 
@@ -347,6 +347,26 @@ pub fn walk(area: &[u8], hi: usize, first_number: u64, first_block: usize) -> Wa
         number: number,
         block: at,
     }
+}
+
+// Whether a block behind block `at`, and before block `hi`, has kind 1 and a right check.
+pub fn header_behind(area: &[u8], hi: usize, at: usize) -> bool
+    ensures { λ r. ⌜ r ≡ headerBehind (now (area .entry)) hi at ⌝ }
+{
+    let end = shorter(hi, area.len() / 512);
+    if end <= at {
+        return false;
+    }
+    let mut i = at + 1;
+    while i < end {
+        let from = 512 * i;
+        let to = from + 512;
+        if is_head(&area[from..to]) {
+            return true;
+        }
+        i += 1;
+    }
+    false
 }
 
 // What a header says. Bytes that a part of another length lacks are read as zeros.

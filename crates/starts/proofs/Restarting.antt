@@ -3,21 +3,21 @@
 use Prim.Native.Nat.{ℕ, _+_, _/_, min}
 use native.Mathlib.Omega.{arith}
 use mathlib.Core.Path.{_≡_, refl, sym, ap, _∙_}
-use mathlib.Core.Bool.{false}
+use mathlib.Core.Bool.{Bool, true, false}
 use mathlib.Core.List.{List, [], _∷_}
 use mathlib.Core.Option.{Option, none, some, Option·none-ne-some}
 use lib.ListN.{length}
 use types.Run.{OneOf, miss}
 use denote.Enum.Declared.{tagOf}
-use Rattle.types.specs.Refusal.{Refusal, Result, refused, done}
+use Rattle.types.specs.Refusal.{Refusal, Result, refused, done, Damaged}
 use Rattle.types.specs.Table.{first, Passed, unless}
 use Rattle.types.proofs.Table.{first-none}
 use Rattle.types.proofs.Checked.{refused-not-done, done-inj}
 use Rattle.raw.specs.Bytes.{IsBytes}
 use Rattle.journal.specs.Area.{badLength, blocks, blockAt}
-use Rattle.journal.specs.Answers.{walkedOf, walkIn}
+use Rattle.journal.specs.Answers.{lastOf, walkedOf, walkIn}
 use Rattle.journal.specs.Blocks.{bodiesFor, payloadLength}
-use Rattle.journal.specs.Walks.{stop, walk}
+use Rattle.journal.specs.Walks.{stop, headerBehind}
 use Rattle.journal.specs.declared.LastGroup.{LastGroup}
 use Rattle.journal.specs.declared.LastGroup.the-variants.{At, None}
 use Rattle.journal.specs.declared.Walked.{Walked}
@@ -33,8 +33,8 @@ use Rattle.consumer.specs.declared.Configuration.{Configuration}
 use Rattle.consumer.specs.declared.NextGroup.{NextGroup}
 use Rattle.consumer.specs.declared.Consumer.{Consumer}
 use Rattle.consumer.proofs.Area.{area-taken}
-use Rattle.starts.specs.Restart.{startTable, readGroup, origin, fromWalk, restart}
-use Rattle.starts.specs.Starting.{configurationOf, keptOf, nextGroupOf, startFault, FreshIs, StartedIs, Lies, WalkedIs, Parts, ResumedIs}
+use Rattle.starts.specs.Restart.{startTable, readGroup, origin, limit, walkOf, lastGroup, fromWalk, restart}
+use Rattle.starts.specs.Starting.{configurationOf, keptOf, nextGroupOf, startFault, FreshIs, StartedIs, Lies, LastLies, WalkedIs, Parts, ResumedIs}
 use Rattle.starts.specs.declared.Started.{Started}
 use Rattle.starts.specs.declared.StartAnswer.{StartAnswer}
 use Rattle.starts.specs.declared.StartAnswer.the-variants as answers
@@ -45,7 +45,7 @@ use Rattle.starts.proofs.Starting.{same-configuration, kept-open, setti
 -- ## The last group of a walk
 module _ (a : List ℕ) where
   -- its header is sound, so its bodies lie in the area, and its lengths are those that 01 allows
-  last-lies : (i k e : ℕ) → badLength (length a) ≡ false → walk a (blocks a) (origin a .number) (origin a .block) ≡ stop (some i) k e → Lies a i
+  last-lies : (i k e : ℕ) → badLength (length a) ≡ false → walkOf a ≡ stop (some i) k e → Lies a i
   last-lies i k e area w = go (walk-ended a (blocks a) none (origin a .number) (origin a .block) (some i) k e w .last-is)
     where
       lies : (m : ℕ) → Header (blocks a) m i (blockAt a i) → Lies a i
@@ -62,44 +62,58 @@ module _ (a : List ℕ) where
       go (at-once p q r) = absurd (Option·none-ne-some i (sym p))
       go (behind h m p q r s g) = let same : h ≡ i = cc in lies m (rw same at (g .header))
 
-  pub stopped-lies : (w : Walked) (l : LastGroup) (i k e : ℕ) → WalkedIs a w → w ≡ walked.Stopped l k e → l ≡ At i → Lies a i
-  stopped-lies w l i k e h p q =
-      last-lies i k e (h .area) (sym (h .is) ∙ ap walkedOf (p ∙ ap (λ (x : LastGroup). walked.Stopped x k e) q))
+  pub stopped-lies : (w : Walked) (l : LastGroup) (k e : ℕ) → WalkedIs a w → w ≡ walked.Stopped l k e → LastLies a l
+  stopped-lies w (At i) k e h p = last-lies i k e (h .area) (sym (h .is) ∙ ap walkedOf p)
+  stopped-lies w None k e h p = tt
+
+  pub last-there : (l : LastGroup) (i : ℕ) → LastLies a l → l ≡ At i → Lies a i
+  last-there l i h q = rw q at h
 
   -- ## What each end of the walk is answered with
-  module _ (s : Configuration) (w : Walked) where
-    pub group-resumed : (l : LastGroup) (i k e : ℕ) → w ≡ walked.Stopped l k e → l ≡ At i
-        → (r : Started) → ResumedIs s (length a) (readGroup (keptOf s) a i (nextGroupAt k e)) r
-        → ResumedIs s (length a) (fromWalk (keptOf s) a (walkedOf w)) r
-    unfolding fromWalk
-    group-resumed l i k e p q r h = rw (p, q) h
+  module _ (s : Configuration) where
+    pub last-read : (l : LastGroup) (i : ℕ) (next : NextGroup) → l ≡ At i
+        → (r : Started) → ResumedIs s (length a) (readGroup (keptOf s) a i (nextGroupOf next)) r
+        → ResumedIs s (length a) (lastGroup (keptOf s) a (lastOf l) (nextGroupOf next)) r
+    last-read l i next q r h = rw q h
 
-    module _ (c : Consumer) (f : FreshIs s (length a) c) where
-      pub none-resumed : (l : LastGroup) (k e : ℕ) → w ≡ walked.Stopped l k e → l ≡ None
-          → ResumedIs s (length a) (fromWalk (keptOf s) a (walkedOf w)) (record { answer = answers.Started; consumer = c })
-      unfolding fromWalk
-      none-resumed l k e p q =
-          rw (p, q)
-          (record {
-            is = ap done (f .is);
-            beside =
-                record {
-                  cursor = f .cursor;
-                  leases = f .table .len;
-                  carried = f .table .carried-len;
-                  settings = f .settings;
-                };
-          })
+    pub none-read : (l : LastGroup) (next : NextGroup) (c : Consumer) → FreshIs s (length a) c → l ≡ None
+        → ResumedIs s (length a) (lastGroup (keptOf s) a (lastOf l) (nextGroupOf next)) (record { answer = answers.Started; consumer = c })
+    none-read l next c f q =
+        rw q
+        (record {
+          is = ap done (f .is);
+          beside =
+              record {
+                cursor = f .cursor;
+                leases = f .table .len;
+                carried = f .table .carried-len;
+                settings = f .settings;
+              };
+        })
 
-      pub area-resumed : w ≡ walked.BadArea
+    module _ (w : Walked) where
+      pub area-resumed : (c : Consumer) → FreshIs s (length a) c → w ≡ walked.BadArea
           → ResumedIs s (length a) (fromWalk (keptOf s) a (walkedOf w)) (record { answer = answers.BadArea; consumer = c })
       unfolding fromWalk
-      area-resumed p = rw p (record { is = refl; beside = f .is })
+      area-resumed c f p = rw p (record { is = refl; beside = f .is })
 
-      pub damaged-resumed : (j : ℕ) → w ≡ walked.Damaged j
-          → ResumedIs s (length a) (fromWalk (keptOf s) a (walkedOf w)) (record { answer = answers.Damaged j; consumer = c })
-      unfolding fromWalk
-      damaged-resumed j p = rw p (record { is = refl; beside = f .is })
+      module _ (r : Started) where
+        pub damaged-resumed : (j : ℕ) → w ≡ walked.Damaged j → ResumedIs s (length a) (refused (Damaged j)) r
+            → ResumedIs s (length a) (fromWalk (keptOf s) a (walkedOf w)) r
+        unfolding fromWalk
+        damaged-resumed j p h = rw p h
+
+        -- a walk that ended, and what was found behind that place
+        module _ (l : LastGroup) (k e : ℕ) (p : w ≡ walked.Stopped l k e) (hi : ℕ) (whole : hi ≡ limit a) (found : Bool) (is : found ≡ headerBehind a hi e) where
+          pub worn-resumed : found ≡ true → ResumedIs s (length a) (refused (Damaged e)) r
+              → ResumedIs s (length a) (fromWalk (keptOf s) a (walkedOf w)) r
+          unfolding fromWalk
+          worn-resumed t h = rw (p, ← whole, ← is, t) h
+
+          pub last-resumed : found ≡ false → ResumedIs s (length a) (lastGroup (keptOf s) a (lastOf l) (nextGroupAt k e)) r
+              → ResumedIs s (length a) (fromWalk (keptOf s) a (walkedOf w)) r
+          unfolding fromWalk
+          last-resumed t h = rw (p, ← whole, ← is, t) h
 
 -- ## The tests before
 -- every answer but `Started` is a refusal
@@ -144,15 +158,15 @@ module _ (s : Configuration) (a : List ℕ) (d : StartAnswer) (e : startFault d 
     passed : Passed (startTable (configurationOf s) (length a))
     passed = first-none (startTable (configurationOf s) (length a)) untouched
 
-    pub walked-whole : (from : NextGroup) → nextGroupOf from ≡ origin a
-        → (w : Walked) → walkedOf w ≡ walkIn (length a / 512) (from .number) (from .block) a → WalkedIs a w
+    pub walked-whole : (from : NextGroup) → nextGroupOf from ≡ origin a → (hi : ℕ) → hi ≡ limit a
+        → (w : Walked) → walkedOf w ≡ walkIn hi (from .number) (from .block) a → WalkedIs a w
     unfolding walkIn
-    walked-whole from begins w h =
+    walked-whole from begins hi whole w h =
         let area : badLength (length a) ≡ false = area-taken (length a) (kept-open s (length a) full f passed .area) in
-        let all : min (blocks a) (blocks a) ≡ blocks a = omega arith in
+        let all : min hi (blocks a) ≡ blocks a = omega (arith, whole) in
         record { area = area; is = rw (area, all, ap (λ (x : state.NextGroup). x .number) begins, ap (λ (x : state.NextGroup). x .block) begins) at h }
 
-    right-is : restart (configurationOf s) a ≡ fromWalk (keptOf s) a (walk a (blocks a) (origin a .number) (origin a .block))
+    right-is : restart (configurationOf s) a ≡ fromWalk (keptOf s) a (walkOf a)
     unfolding restart
     right-is = rw untouched (rw (same-configuration s (length a) full f passed))
 

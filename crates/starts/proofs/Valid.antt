@@ -27,13 +27,13 @@ use Rattle.attempt.specs.Snapshot.{PairsFit, decodeAttempts}
 use Rattle.attempt.proofs.Snapshot.{decoded-rising, decoded-fit, decoded-few}
 use Rattle.lease.specs.State.{startingAt, Counted}
 use Rattle.lease.proofs.Valid.{valid-start, valid-carried}
-use Rattle.journal.specs.Area.{blocks, blockAt}
+use Rattle.journal.specs.Area.{blockAt}
 use Rattle.journal.specs.Blocks.{bodiesFor, ceilingOf, cursorLength, attemptLength, payloadLength, contentOf}
-use Rattle.journal.specs.Walks.{Stop, walk, contents, payload}
+use Rattle.journal.specs.Walks.{Stop, contents, payload}
 use Rattle.journal.proofs.Walks.{walk-ended}
 use Rattle.consumer.specs.State.{Configuration, State, NextGroup, nextGroupAt, countOr0}
 use Rattle.consumer.specs.Valid.{Fits, Valid}
-use Rattle.starts.specs.Restart.{startTable, resumed, fresh, start, isDropped, unsettledCounts, fromSnapshots, readGroup, origin, lastGroup, fromWalk, restart}
+use Rattle.starts.specs.Restart.{startTable, resumed, fresh, start, isDropped, unsettledCounts, fromSnapshots, readGroup, origin, limit, walkOf, endTable, lastGroup, fromWalk, restart}
 use Rattle.starts.proofs.Open.{StartOpen, start-open, start-says}
 
 -- ## The state that is resumed
@@ -189,18 +189,19 @@ module _ (a : List ℕ) (h : IsBytes a) where
     last-valid none next at e = rw (← done-inj e) (fresh-valid c (length a) p f)
     last-valid (some i) next at e = group-valid i next at e
 
-    walked-valid : (w : Result Stop) → walk a (blocks a) (origin a .number) (origin a .block) ≡ w → fromWalk c a w ≡ done s → Valid s
+    walked-valid : (w : Result Stop) → walkOf a ≡ w → fromWalk c a w ≡ done s → Valid s
     unfolding fromWalk
     walked-valid (refused r) q e = refused-not-done e
     walked-valid (done end) q e =
-        let r = walk-ended a (blocks a) none (origin a .number) (origin a .block) (end .last) (end .number) (end .block) q in
-        last-valid (end .last) (nextGroupAt (end .number) (end .block))
+        let r = walk-ended a (limit a) none (origin a .number) (origin a .block) (end .last) (end .number) (end .block) q in
+        let next : NextGroup = nextGroupAt (end .number) (end .block) in
+        last-valid (end .last) next
         (record { within = r .within (omega arith); numbered = omega (arith, r .numbered) })
-        e
+        (checked-says (endTable a (end .block)) (lastGroup c a (end .last) next) s e .1)
 
 -- every area: whatever its bytes are, the restart is refused or the invariant holds
 pub restart-valid : (c : Configuration) (a : List ℕ) (s : State) → IsBytes a → restart c a ≡ done s → Fits (c .settings) → Valid s
 unfolding restart
 restart-valid c a s h e f =
-    let d = checked-says (startTable c (length a)) (fromWalk c a (walk a (blocks a) (origin a .number) (origin a .block))) s e in
-    walked-valid a h c s (start-open c (length a) (d .0)) f (walk a (blocks a) (origin a .number) (origin a .block)) refl (d .1)
+    let d = checked-says (startTable c (length a)) (fromWalk c a (walkOf a)) s e in
+    walked-valid a h c s (start-open c (length a) (d .0)) f (walkOf a) refl (d .1)

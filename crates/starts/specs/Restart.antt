@@ -1,12 +1,12 @@
--- How a consumer starts, fresh or from a journal (01, "consumer"): the tests of configuration and area, the walk, and the last group
--- read. A restart reads the configuration and the area and writes nothing.
+-- How a consumer starts, fresh or from a journal (01, "consumer"): the tests of configuration and area, the walk, the test of what
+-- stands behind it (02, d), and the last group read. A restart reads the configuration and the area and writes nothing.
 use Prim.Native.Nat.{ℕ}
 use mathlib.Core.Bool.{Bool, cond, _||_}
 use mathlib.Core.List.{List, [], _∷_, _++_}
 use mathlib.Core.Option.{Option, none, some}
 use lib.Dec.{eqb}
 use lib.ListN.{length, take, drop}
-use Rattle.types.specs.Refusal.{Result, refused, done, ZeroThreshold, BadArea}
+use Rattle.types.specs.Refusal.{Result, refused, done, ZeroThreshold, BadArea, Damaged}
 use Rattle.types.specs.Table.{Row, _⇒_, checked}
 use Rattle.types.specs.Keyed.{Entry}
 use Rattle.cursor.specs.Cursor.{Cursor, settled, resume}
@@ -16,7 +16,7 @@ use Rattle.delivery.specs.Policy.{policyTable}
 use Rattle.lease.specs.State.{startingAt, withCarried}
 use Rattle.journal.specs.Area.{blocks, blockAt}
 use Rattle.journal.specs.Blocks.{cursorLength, attemptLength, ceilingOf}
-use Rattle.journal.specs.Walks.{Stop, walk, payload}
+use Rattle.journal.specs.Walks.{Stop, walk, headerBehind, payload}
 use Rattle.consumer.specs.State.{Settings, Configuration, State, stateOf, NextGroup, nextGroupAt, badArea}
 
 -- 1 to 3
@@ -71,16 +71,27 @@ readGroup c a i next =
 abbrev pub origin : List ℕ → NextGroup
 origin a = nextGroupAt 1 0
 
+-- the block that no group may pass, and the walk up to there
+abbrev pub limit : List ℕ → ℕ
+limit a = blocks a
+
+abbrev pub walkOf : List ℕ → Result Stop
+walkOf a = walk a (limit a) (origin a .number) (origin a .block)
+
+-- 5, with the block where the walk ended: behind it is one of kind 1 with a right check
+abbrev pub endTable : List ℕ → ℕ → List Row
+endTable a end = headerBehind a (limit a) end ⇒ Damaged end ∷ []
+
 -- what the last group says, with where the next one goes, or a fresh consumer where there is none
 abbrev pub lastGroup : Configuration → List ℕ → Option ℕ → NextGroup → Result State
 lastGroup c a none next = done (fresh c (length a))
 lastGroup c a (some i) next = readGroup c a i next
 
--- from where the walk ended: 5, or the last group
+-- from where the walk ended: 5 of an unsound body on it, then 5 of what stands behind it, then the last group
 unfoldable pub fromWalk : Configuration → List ℕ → Result Stop → Result State
 fromWalk c a (refused r) = refused r
-fromWalk c a (done stop) = lastGroup c a (stop .last) (nextGroupAt (stop .number) (stop .block))
+fromWalk c a (done stop) =
+    checked (endTable a (stop .block)) (lastGroup c a (stop .last) (nextGroupAt (stop .number) (stop .block)))
 
 unfoldable pub restart : Configuration → List ℕ → Result State
-restart c a =
-    checked (startTable c (length a)) (fromWalk c a (walk a (blocks a) (origin a .number) (origin a .block)))
+restart c a = checked (startTable c (length a)) (fromWalk c a (walkOf a))

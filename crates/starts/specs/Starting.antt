@@ -6,9 +6,10 @@ use mathlib.Core.List.{List, _++_}
 use mathlib.Core.Option.{Option, none, some}
 use mathlib.Core.Bool.{false}
 use lib.ListN.{length, take, replicate}
-use Rattle.journal.specs.Area.{badLength, outside, blocks, blockAt}
+use Rattle.journal.specs.Area.{badLength, outside, blockAt}
 use Rattle.journal.specs.Answers.{walkedOf}
-use Rattle.journal.specs.Walks.{walk}
+use Rattle.journal.specs.declared.LastGroup.{LastGroup}
+use Rattle.journal.specs.declared.LastGroup.the-variants.{At, None}
 use Rattle.journal.specs.declared.Walked.{Walked}
 use Rattle.journal.specs.Blocks.{bodiesFor, cursorLength, attemptLength, payloadLength}
 use Rattle.types.specs.Refusal.{Refusal, Result, refused, done}
@@ -33,7 +34,7 @@ use Rattle.consumer.specs.declared.Settings.{Settings}
 use Rattle.consumer.specs.declared.Configuration.{Configuration}
 use Rattle.consumer.specs.declared.NextGroup.{NextGroup}
 use Rattle.consumer.specs.declared.Consumer.{Consumer}
-use Rattle.starts.specs.Restart.{fresh, origin}
+use Rattle.starts.specs.Restart.{fresh, walkOf}
 use Rattle.starts.specs.declared.Carried.{Carried}
 use Rattle.starts.specs.declared.Started.{Started}
 use Rattle.starts.specs.declared.StartAnswer.{StartAnswer}
@@ -125,7 +126,12 @@ pub record Lies (a : List ℕ) (i : ℕ) : Type 0 where
 -- what a walk over the whole area answered, from where it begins; the area is one that 01 allows
 pub record WalkedIs (a : List ℕ) (r : Walked) : Type 0 where
   pub area : badLength (length a) ≡ false
-  pub is : walkedOf r ≡ walk a (blocks a) (origin a .number) (origin a .block)
+  pub is : walkedOf r ≡ walkOf a
+
+-- the last group of a walk, if there was one, lies in the area
+abbrev pub LastLies : List ℕ → LastGroup → Type 0
+LastLies a (At i) = Lies a i
+LastLies a None = Unit {0}
 
 -- the parts of a consumer that goes on from a journal
 pub record Parts (s : Configuration) (c : Consumer) : Type 0 where

@@ -3,15 +3,16 @@ ghost use mathlib.Core.Path.{_≡_};
 ghost use Prim.Native.Nat.{_-_, _≤_};
 ghost use mathlib.Core.Bool.{not};
 ghost use lib.ListN.{length, take, drop};
+ghost use Rattle.types.specs.Refusal.{refused, Damaged};
 ghost use Rattle.types.specs.Table.{first};
 ghost use Rattle.types.specs.Lists.{entryOf, entriesOf};
 ghost use Rattle.cursor.specs.View as cursors;
 ghost use Rattle.cursor.specs.Snapshot.{decodeCursor};
 ghost use Rattle.attempt.specs.Snapshot.{decodeAttempts};
-ghost use Rattle.journal.specs.Answers.{walkedOf};
+ghost use Rattle.journal.specs.Answers.{lastOf, walkedOf};
 ghost use Rattle.consumer.specs.State.{badArea};
-ghost use Rattle.starts.specs.Restart.{startTable, start, isDropped, unsettledCounts, fromSnapshots, readGroup, origin, fromWalk, restart};
-ghost use Rattle.starts.specs.Starting.{configurationOf, startFault, FreshIs, StartedIs, CarriedIs, TableIs, consumerOf, keptOf, nextGroupOf, ResumedIs, Lies, WalkedIs};
+ghost use Rattle.starts.specs.Restart.{startTable, start, isDropped, unsettledCounts, fromSnapshots, readGroup, origin, limit, lastGroup, fromWalk, restart};
+ghost use Rattle.starts.specs.Starting.{configurationOf, startFault, FreshIs, StartedIs, CarriedIs, TableIs, consumerOf, keptOf, nextGroupOf, ResumedIs, Lies, LastLies, WalkedIs};
 use attempt::AttemptSnapshotError;
 use attempt::Decode;
 use consumer::Configuration;
@@ -268,8 +269,37 @@ fn read_group(configuration: Configuration, area: &[u8], at: usize, next: NextGr
     )
 }
 
-// The consumer of the last group that a walk over the whole area met, or a fresh one where there is none: 5 to 19. The walk
-// answers no 4, since the area's length was tested before.
+// The answer 5 that names this block.
+fn damaged(configuration: Configuration, area_len: usize, block: usize) -> Started
+    ensures { λ r. ⌜ ResumedIs configuration «area_len» (refused (Damaged block)) r ⌝ }
+{
+    Started {
+        answer: StartAnswer::Damaged { block: block },
+        consumer: fresh(configuration, area_len),
+    }
+}
+
+// The consumer of the last group of a walk, or a fresh one where there is none: 6 to 19.
+fn read_last(configuration: Configuration, area: &[u8], last: LastGroup, next: NextGroup) -> Started
+    requires { ⌜ LastLies (now area) last ⌝ }
+    ensures { λ r. ⌜ ResumedIs configuration (length (now (area .entry))) (lastGroup (keptOf configuration) (now (area .entry)) (lastOf last) (nextGroupOf next)) r ⌝ }
+{
+    match last {
+        LastGroup::At(at) => {
+            return read_group(configuration, area, at, next);
+        }
+        LastGroup::None => {
+            return Started {
+                answer: StartAnswer::Started,
+                consumer: fresh(configuration, area.len()),
+            };
+        }
+    }
+}
+
+// The consumer of the last group that a walk over the whole area met, or a fresh one where there is none: 5 to 19. A block of
+// kind 1 with a right check behind the place where the walk ended is 5. The walk answers no 4, since the area's length was
+// tested before.
 fn resume_from(configuration: Configuration, area: &[u8], walked: Walked) -> Started
     requires { ⌜ WalkedIs (now area) walked ⌝ }
     ensures { λ r. ⌜ ResumedIs configuration (length (now (area .entry))) (fromWalk (keptOf configuration) (now (area .entry)) (walkedOf walked)) r ⌝ }
@@ -279,32 +309,24 @@ fn resume_from(configuration: Configuration, area: &[u8], walked: Walked) -> Sta
             last,
             number,
             block,
-        } => match last {
-            LastGroup::At(at) => {
-                let next = NextGroup {
-                    number: number,
-                    block: block,
-                };
-                return read_group(configuration, area, at, next);
+        } => {
+            if journal::header_behind(area, limit(area), block) {
+                return damaged(configuration, area.len(), block);
             }
-            LastGroup::None => {
-                return Started {
-                    answer: StartAnswer::Started,
-                    consumer: fresh(configuration, area.len()),
-                };
-            }
-        },
+            let next = NextGroup {
+                number: number,
+                block: block,
+            };
+            return read_last(configuration, area, last, next);
+        }
         Walked::BadArea => {
             return Started {
                 answer: StartAnswer::BadArea,
                 consumer: fresh(configuration, area.len()),
             };
         }
-        Walked::Damaged(block) => {
-            return Started {
-                answer: StartAnswer::Damaged { block: block },
-                consumer: fresh(configuration, area.len()),
-            };
+        Walked::Damaged(body) => {
+            return damaged(configuration, area.len(), body);
         }
     }
 }
@@ -317,6 +339,13 @@ pub fn origin(area: &[u8]) -> NextGroup
         number: 1,
         block: 0,
     }
+}
+
+// The block that no group of an area may pass.
+pub fn limit(area: &[u8]) -> usize
+    ensures { λ r. ⌜ r ≡ limit (now (area .entry)) ⌝ }
+{
+    area.len() / 512
 }
 
 // A fresh consumer for an area of so many zeroed bytes: 1 to 4.
@@ -343,6 +372,6 @@ pub fn restart(configuration: Configuration, area: &[u8]) -> Started
         };
     };
     let from = origin(area);
-    let walked = journal::walk(area, area.len() / 512, from.number, from.block);
+    let walked = journal::walk(area, limit(area), from.number, from.block);
     resume_from(configuration, area, walked)
 }

@@ -81,6 +81,11 @@ fn zeros(bytes: &[u8]) -> bool {
     bytes.iter().all(|&byte| byte == 0)
 }
 
+/// Kind 1 and a right check, whatever else the block says.
+pub fn is_header(block: &[u8]) -> bool {
+    block[0] == HEADER_KIND && checks(block)
+}
+
 /// What the block says, if it is a sound header of the group. `left` is the number of blocks of the area from this one on.
 pub fn sound_header(block: &[u8], group: u32, left: usize) -> Option<Header> {
     let header = Header {
@@ -90,8 +95,7 @@ pub fn sound_header(block: &[u8], group: u32, left: usize) -> Option<Header> {
         cursor: u16_at(block, 16),
         attempts: u16_at(block, 18),
     };
-    let sound = block[0] == HEADER_KIND
-        && checks(block)
+    let sound = is_header(block)
         && header.group == group
         && zeros(&block[2..4])
         && zeros(&block[20..CHECK])

@@ -1,6 +1,6 @@
 //! 01's consumer over the original's cursor, lease table and delivery policy. Each call runs down 01's refusals in their order, then
 //! lets the original act.
-use crate::journal::{walk, writes, Stored};
+use crate::journal::{read, writes, Stored};
 use ironbus::cursor::{AckCursor, BoundedAck};
 use ironbus::delivery::{DeliveryConfig, Disposition};
 use ironbus::lease::{AckOutcome, Claim, ExtendOutcome, LeaseConfig, LeaseTable, LeaseToken, NackOutcome};
@@ -70,7 +70,7 @@ fn token(offset: u64, generation: u64) -> LeaseToken {
 impl Consumer {
     /// Restarts on an area whose length is tested; a fresh consumer is one restarted on a zeroed area.
     pub fn restart(settings: &Settings, area: &[u8]) -> Result<Consumer, Code> {
-        let found = walk(area)?;
+        let found = read(area)?;
         let (cursor, pairs, ceiling) = match &found.last {
             Some(stored) => {
                 let cursor = decode_cursor(&stored.cursor)?;

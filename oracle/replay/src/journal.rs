@@ -1,5 +1,5 @@
 //! The journal: the walk of a restart and the block writes of a checkpoint.
-use crate::block::{bodies_for, body_block, header_block, sound_body, sound_header, Header, BLOCK, PAYLOAD, ROOM};
+use crate::block::{bodies_for, body_block, header_block, is_header, sound_body, sound_header, Header, BLOCK, PAYLOAD, ROOM};
 use lists::codecs::Code;
 
 pub const AREA: u64 = 65_536;
@@ -31,6 +31,21 @@ pub fn area_length(length: u64) -> Result<(), Code> {
 
 pub fn block_of(area: &[u8], block: usize) -> &[u8] {
     &area[BLOCK * block..BLOCK * (block + 1)]
+}
+
+/// What the groups of an area come to. A block behind the one where the walk ended that is a header still is refusal 5, naming
+/// where it ended (02, d); an unsound body on the walk comes first.
+pub fn read(area: &[u8]) -> Result<Found, Code> {
+    let found = walk(area)?;
+    if header_behind(area, found.block) {
+        return Err(vec![DAMAGED, found.block as u64]);
+    }
+    Ok(found)
+}
+
+/// Whether a header stands behind the block.
+pub fn header_behind(area: &[u8], block: usize) -> bool {
+    area.chunks(BLOCK).skip(block + 1).any(is_header)
 }
 
 /// Walks from block 0 to the first block that is no sound header; the last group counts.

@@ -1,8 +1,10 @@
 //! 01's examples and the phases of the program, as scripts with their answers; and that the made scripts meet everything.
+use crate::block::{seal, sound_header};
 use crate::compare::{answers, difference};
+use crate::journal::{block_of, header_behind, walk};
 use crate::make::script;
 use crate::program::Program;
-use std::collections::BTreeSet;
+use std::collections::{BTreeMap, BTreeSet};
 
 /// Runs lines written as `LINE => ANSWER`; several steps of a checkpoint are written `checkpoint => BLOCK,..`.
 fn play(text: &str) {
@@ -146,6 +148,53 @@ fn worn_blocks() {
     );
 }
 
+/// 02, d: a worn header of three groups. While a header stands behind it, a restart is refused by its block, behind the bodies
+/// before it; else the group before is taken. What stands behind counts by kind and check alone.
+#[test]
+fn worn_headers() {
+    let before = "start 3 0 9 10 25 9216 => started
+        checkpoint => 1,0
+        checkpoint => 3,2
+        claim 0 0 => deliver 0 0 1
+        checkpoint => 5,4\n";
+    let [none, first, second] = [(0, 1, 0), (4096, 2, 2), (4096, 3, 4)].map(|(next, group, block)| {
+        format!(
+            "restart => restarted
+            state => state committed 0 ranges none leases none carried none next {next} ceiling {next} counter 0 group {group} block {block}"
+        )
+    });
+    for (worn, right) in [
+        ("poke 0 511 0 => poked", "restart => refused 5 0"),
+        ("poke 2 511 0 => poked", "restart => refused 5 2"),
+        ("poke 4 511 0 => poked", &second[..]),
+        ("poke 2 511 0 => poked\npoke 4 0 2 => poked", &first[..]),
+        ("poke 0 511 0 => poked\npoke 2 4 9 => poked\npoke 4 0 0 => poked", &none[..]),
+        ("poke 2 511 0 => poked\npoke 1 9 1 => poked", "restart => refused 5 1"),
+        (
+            "poke 2 511 0 => poked\npoke 3 9 1 => poked\npoke 5 9 1 => poked",
+            "restart => refused 5 2",
+        ),
+        (
+            &format!("poke 2 511 0 => poked\npoke 4 511 0 => poked\n{}", head(17)),
+            "restart => refused 5 2",
+        ),
+        (&head(17), "restart => refused 5 6"),
+        (&head(7), "restart => refused 5 6"),
+        (&head(4), &second[..]),
+    ] {
+        play(&format!("{before}{worn}\n{right}"));
+    }
+}
+
+/// Makes a block one of kind 1 with a right check and zeros else, whatever it was.
+fn head(block: usize) -> String {
+    let mut bytes = [0; 512];
+    bytes[0] = 1;
+    seal(&mut bytes);
+    let pokes = (0..512).map(|i| format!("poke {block} {i} {} => poked\n", bytes[i]));
+    pokes.collect()
+}
+
 #[test]
 fn calls_out_of_place() {
     play(
@@ -218,4 +267,63 @@ fn scripts_have_everything() {
     }
     assert_eq!(words.len(), 20, "{words:?}");
     assert_eq!(refusals, (1..=5).chain(7..=11).chain(14..=18).chain(21..=31).collect());
+}
+
+/// What a restart on an area meets of worn headers.
+#[derive(Clone, Copy, Debug, PartialEq, Eq, PartialOrd, Ord)]
+enum Worn {
+    /// A header behind the walk, which ended in the first group or in a later one.
+    First,
+    Middle,
+    /// The headers behind the walk are sound in kind and check alone.
+    LookAlike,
+    /// No header behind the walk, which ended where its group has bodies.
+    Last,
+    /// An unsound body on the walk, and headers behind it.
+    BodyFirst,
+    None,
+}
+
+/// Whether a sound header stands behind the block, of whatever group.
+fn sound_behind(area: &[u8], block: usize) -> bool {
+    let blocks = area.len() / 512;
+    (block + 1..blocks).any(|i| {
+        let header = block_of(area, i);
+        let group = u32::from_le_bytes(header[4..8].try_into().unwrap());
+        sound_header(header, group, blocks - i).is_some()
+    })
+}
+
+fn worn(area: &[u8]) -> Worn {
+    match walk(area) {
+        Err(code) if header_behind(area, code[1] as usize) => Worn::BodyFirst,
+        Err(_) => Worn::None,
+        Ok(found) if sound_behind(area, found.block) => match found.last {
+            None => Worn::First,
+            Some(_) => Worn::Middle,
+        },
+        Ok(found) if header_behind(area, found.block) => Worn::LookAlike,
+        Ok(found) => match area.chunks(512).nth(found.block + 1) {
+            Some(block) if block[0] == 2 => Worn::Last,
+            _ => Worn::None,
+        },
+    }
+}
+
+/// The scripts that `oracle/run compare` uses meet request d's rule often, wherever the header is worn.
+#[test]
+fn scripts_have_worn_headers() {
+    let mut met = BTreeMap::new();
+    for seed in 1..=40 {
+        let mut program = Program::default();
+        for line in script(seed, 2_000) {
+            if let (b"restart", Some(started)) = (&line[..], &program.started) {
+                *met.entry(worn(&started.area)).or_insert(0) += 1;
+            }
+            program.answer(&line);
+        }
+    }
+    for kind in [Worn::First, Worn::Middle, Worn::LookAlike, Worn::Last, Worn::BodyFirst] {
+        assert!(met.get(&kind) >= Some(&100), "{met:?}");
+    }
 }

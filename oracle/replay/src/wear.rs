@@ -12,13 +12,13 @@ impl Maker {
         }
     }
 
-    fn block(&self, block: usize) -> Option<Vec<u8>> {
+    pub fn block(&self, block: usize) -> Option<Vec<u8>> {
         let started = self.program.started.as_ref()?;
         Some(block_of(&started.area, block).to_vec())
     }
 
     /// Makes a block what is given, by pokes where it differs.
-    fn make_block(&mut self, block: usize, new: &[u8]) {
+    pub fn make_block(&mut self, block: usize, new: &[u8]) {
         let Some(old) = self.block(block) else { return };
         for i in (0..BLOCK).filter(|&i| old[i] != new[i]) {
             self.poke(block, i, &new[i..=i]);
@@ -77,7 +77,7 @@ pub fn worn(maker: &mut Maker) {
 }
 
 /// The same journal with less and less of its area.
-fn shorter(maker: &mut Maker) {
+pub fn shorter(maker: &mut Maker) {
     let mut blocks = maker.blocks();
     while blocks > 0 && maker.random.below(6) > 0 {
         blocks -= maker.random.below(3).min(blocks);

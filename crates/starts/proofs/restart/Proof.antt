@@ -36,25 +36,29 @@ returns c =
 origin-requires : tie.Need-origin-requires
 origin-requires c κs = search needs
 
+limit-requires : tie.Need-limit-requires
+limit-requires c κs = search needs
+
 walk-requires : tie.Need-walk-requires
 walk-requires c κs = search needs
 
-whole : (c : tie.After-walk) → WalkedIs (c .before .before .before .before .before .before .args .area .now) (c .walk .result)
+whole : (c : tie.After-walk) → WalkedIs (c .before .before .before .before .before .before .before .args .area .now) (c .walk .result)
 whole c =
-    let k = c .before .before .before .before in
+    let k = c .before .before .before .before .before in
     let s = k .before .before in
     walked-whole (s .args .configuration) (s .args .area .now) (k .check-start .result) (k .check-start .ensures) (full s)
-    (fits s) (c .before .before .enum-told .given .1) (c .before .origin .result) (c .before .origin .ensures) (c .walk .result) (c .walk .ensures)
+    (fits s) (c .before .before .before .enum-told .given .1) (c .before .before .origin .result) (c .before .before .origin .ensures)
+    (c .before .limit .result) (c .before .limit .ensures) (c .walk .result) (c .walk .ensures)
 
 resume-from-requires : tie.Need-resume-from-requires
 resume-from-requires c κs = whole c
 
 returns-2 : tie.Need-returns-2
 returns-2 c =
-    let k = c .before .before .before .before .before in
+    let k = c .before .before .before .before .before .before in
     let s = k .before .before in
     restarted (s .args .configuration) (s .args .area .now) (k .check-start .result) (k .check-start .ensures) (full s) (fits s)
-    (c .before .before .before .enum-told .given .1) (bytes-known (s .args .area .now) (k .before .shared-slice-known .given))
+    (c .before .before .before .before .enum-told .given .1) (bytes-known (s .args .area .now) (k .before .shared-slice-known .given))
     (c .before .walk .result) (whole (c .before)) (c .resume-from .result) (c .resume-from .ensures)
 
 pub restart-spec : {M : Type 1} → statement M
@@ -66,6 +70,7 @@ restart-spec =
     fresh-requires
     returns
     origin-requires
+    limit-requires
     walk-requires
     resume-from-requires
     returns-2)

@@ -1,29 +1,45 @@
--- `resume_from` meets its contract: each end of the walk has its answer, and the last group lies in the area. Assumes nothing.
+-- `resume_from` meets its contract: each end of the walk has its answer, what stands behind it is tested, and the last group lies in
+-- the area. Assumes nothing.
 use borrow.Author.Needs.{needs}
-use Rattle.starts.proofs.Restarting.{stopped-lies, group-resumed, none-resumed, area-resumed, damaged-resumed}
+use Rattle.starts.proofs.Restarting.{stopped-lies, worn-resumed, last-resumed, area-resumed, damaged-resumed}
 use Rattle.starts.proofs.resume_from.Statement.{statement}
 use Rattle.starts.proofs.resume_from.Tie as tie
 
 enum-known-walked : tie.Need-enum-known-walked
 enum-known-walked c = search needs
 
-enum-known-last : tie.Need-enum-known-last
-enum-known-last c = search needs
+limit-requires : tie.Need-limit-requires
+limit-requires c κs = search needs
 
-read-group-requires : tie.Need-read-group-requires
-read-group-requires c κs =
-    let l = c .before in
-    let w = l .before .before .before in
-    let s = w .before .before .before in
-    stopped-lies (s .args .area .now) (s .args .walked) _ _ _ _ (s .pre) (w .walked .given .1) (l .last .given .1)
+header-behind-requires : tie.Need-header-behind-requires
+header-behind-requires c κs = search needs
+
+damaged-requires : tie.Need-damaged-requires
+damaged-requires c κs = search needs
 
 returns : tie.Need-returns
 returns c =
-    let l = c .before .before in
-    let w = l .before .before .before in
+    let t = c .before in
+    let h = t .before in
+    let w = h .before .before .before in
     let s = w .before .before .before in
-    group-resumed (s .args .area .now) (s .args .configuration) (s .args .walked) _ _ _ _ (w .walked .given .1)
-    (l .last .given .1) (c .read-group .result) (c .read-group .ensures)
+    worn-resumed (s .args .area .now) (s .args .configuration) (s .args .walked) (c .damaged .result) _ _ _ (w .walked .given .1) _
+    (h .before .limit .ensures) _ (h .header-behind .ensures) (t .if1 .taken) (c .damaged .ensures)
+
+read-last-requires : tie.Need-read-last-requires
+read-last-requires c κs =
+    let w = c .before .before .before .before in
+    let s = w .before .before .before in
+    stopped-lies (s .args .area .now) (s .args .walked) _ _ _ (s .pre) (w .walked .given .1)
+
+returns-2 : tie.Need-returns-2
+returns-2 c =
+    let t = c .before in
+    let h = t .before in
+    let w = h .before .before .before in
+    let s = w .before .before .before in
+    last-resumed (s .args .area .now) (s .args .configuration) (s .args .walked) (c .read-last .result) _ _ _ (w .walked .given .1) _
+    (h .before .limit .ensures) _ (h .header-behind .ensures) (t .if1 .left) (c .read-last .ensures)
 
 enum-told : tie.Need-enum-told
 enum-told c = search needs
@@ -31,53 +47,39 @@ enum-told c = search needs
 fresh-requires : tie.Need-fresh-requires
 fresh-requires c κs = search needs
 
-returns-2 : tie.Need-returns-2
-returns-2 c =
-    let l = c .before in
-    let w = l .before .before .before in
-    let s = w .before .before .before in
-    none-resumed (s .args .area .now) (s .args .configuration) (s .args .walked) (c .fresh .result) (c .fresh .ensures) _ _ _
-    (w .walked .given .1) (l .enum-told .given .1)
-
-enum-told-2 : tie.Need-enum-told-2
-enum-told-2 c = search needs
-
-fresh-requires-2 : tie.Need-fresh-requires-2
-fresh-requires-2 c κs = search needs
-
 returns-3 : tie.Need-returns-3
 returns-3 c =
     let s = c .before .before .before .before in
-    area-resumed (s .args .area .now) (s .args .configuration) (s .args .walked) (c .fresh2 .result) (c .fresh2 .ensures)
-    (c .before .enum-told2 .given .1)
+    area-resumed (s .args .area .now) (s .args .configuration) (s .args .walked) (c .fresh .result) (c .fresh .ensures)
+    (c .before .enum-told .given .1)
 
 enum-known-walked-2 : tie.Need-enum-known-walked-2
 enum-known-walked-2 c = search needs
 
-fresh-requires-3 : tie.Need-fresh-requires-3
-fresh-requires-3 c κs = search needs
+damaged-requires-2 : tie.Need-damaged-requires-2
+damaged-requires-2 c κs = search needs
 
 returns-4 : tie.Need-returns-4
 returns-4 c =
     let w = c .before .before in
     let s = w .before .before .before in
-    damaged-resumed (s .args .area .now) (s .args .configuration) (s .args .walked) (c .fresh3 .result) (c .fresh3 .ensures) _
-    (w .walked2 .given .1)
+    damaged-resumed (s .args .area .now) (s .args .configuration) (s .args .walked) (c .damaged2 .result) _ (w .walked2 .given .1)
+    (c .damaged2 .ensures)
 
 pub resume-from-spec : {M : Type 1} → statement M
 resume-from-spec =
     tie.close
     (tie.spec
     enum-known-walked
-    enum-known-last
-    read-group-requires
+    limit-requires
+    header-behind-requires
+    damaged-requires
     returns
+    read-last-requires
+    returns-2
     enum-told
     fresh-requires
-    returns-2
-    enum-told-2
-    fresh-requires-2
     returns-3
     enum-known-walked-2
-    fresh-requires-3
+    damaged-requires-2
     returns-4)

@@ -1,0 +1,37 @@
+-- The headers from a block on, by kind and check alone (02, d), and the groups that they name: `inspect` asks behind the block
+-- where a walk ended.
+use Prim.Native.Nat.{ℕ, zero, suc, max}
+use mathlib.Core.Path.{_≡_}
+use mathlib.Core.Bool.{cond}
+use mathlib.Core.List.{List, [], _∷_}
+use mathlib.Core.Option.{Option, none, some}
+use lib.ListN.{length}
+use Rattle.journal.specs.Area.{blockAt}
+use Rattle.journal.specs.Blocks.{groupOf}
+use Rattle.journal.specs.Sound.{hasHeaderKind}
+use Rattle.inspect.specs.declared.missed.FirstHeader.{FirstHeader}
+use Rattle.inspect.specs.declared.missed.FirstHeader.the-variants.{At, None}
+use Rattle.inspect.specs.declared.missed.Headers.{Headers}
+
+-- the first header among m blocks from block i on
+unfoldable pub firstHeader : List ℕ → ℕ → ℕ → Option ℕ
+firstHeader a zero i = none
+firstHeader a (suc m) i = cond (hasHeaderKind (blockAt a i)) (some i) (firstHeader a m (suc i))
+
+abbrev pub firstOf : FirstHeader → Option ℕ
+firstOf (At i) = some i
+firstOf None = none
+
+-- the groups that the headers among m blocks from block i on name
+unfoldable pub named : List ℕ → ℕ → ℕ → List ℕ
+named a zero i = []
+named a (suc m) i = cond (hasHeaderKind (blockAt a i)) (groupOf (blockAt a i) ∷ named a m (suc i)) (named a m (suc i))
+
+abbrev pub greatest : List ℕ → ℕ
+greatest [] = 0
+greatest (k ∷ ks) = max k (greatest ks)
+
+-- how many headers name a group, and the greatest one
+pub record HeadersAre (ks : List ℕ) (h : Headers) : Type 0 where
+  pub count : h .count ≡ length ks
+  pub number : h .number ≡ greatest ks

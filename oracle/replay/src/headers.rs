@@ -1,0 +1,92 @@
+//! Scenes in which headers are changed, in the first group, a middle one and the last, while later ones stand (02, d).
+use crate::block::BLOCK;
+use crate::make::Maker;
+use crate::scenes::checkpoint;
+use crate::wear::shorter;
+
+/// Groups of one body and of two; then a header of theirs is changed, and more behind or before it, and put back; restarts on all of it.
+pub fn headers(maker: &mut Maker) {
+    maker.start("3 0 9", 10, 25, 24, &[]);
+    let headers = groups(maker);
+    let before: Vec<Vec<u8>> = (0..24).filter_map(|block| maker.block(block)).collect();
+    for _ in 0..4 {
+        let any = maker.random.below(headers.len() as u64) as usize;
+        let worn = maker.random.pick(&[0, any, any, headers.len() - 1]);
+        wear(maker, headers[worn]);
+        maker.say("restart");
+        maker.say("state");
+        match maker.random.below(4) {
+            0 => behind(maker, &headers[worn + 1..]),
+            1 => body(maker, &headers),
+            _ => look_alike(maker, headers[worn]),
+        }
+        for (block, bytes) in before.iter().enumerate() {
+            maker.make_block(block, bytes);
+        }
+        maker.say("restart");
+    }
+    let worn = maker.random.pick(&headers);
+    wear(maker, worn);
+    shorter(maker);
+}
+
+/// Two to six checkpoints; answers where their headers stand.
+fn groups(maker: &mut Maker) -> Vec<usize> {
+    let mut headers: Vec<usize> = checkpoint(maker).into_iter().collect();
+    for i in 0..1 + maker.random.below(5) {
+        for j in 0..maker.random.pick(&[0, 1, 2, 3, 40]) {
+            maker.say(format!("claim {} 0", 40 * i + j));
+        }
+        headers.extend(checkpoint(maker));
+    }
+    headers
+}
+
+/// Changes a header, so that it is no sound one at its place: all of it lost, a bit wrong, or a field with the check made anew.
+fn wear(maker: &mut Maker, block: usize) {
+    let Some(old) = maker.block(block) else { return };
+    let field = match maker.random.below(8) {
+        0 => return maker.make_block(block, &[0; BLOCK]),
+        1 => (0, 2),
+        2 => (4, old[4].wrapping_add(1)),
+        3 => (16, 12),
+        4 => (300, 1),
+        _ => {
+            let at = maker.random.below(BLOCK as u64) as usize;
+            let bit = 1 << maker.random.below(8);
+            return maker.poke(block, at, &[old[at] ^ bit]);
+        }
+    };
+    maker.poke(block, field.0, &[field.1]);
+    maker.reseal(block);
+}
+
+/// The headers behind are changed too, the last one first.
+fn behind(maker: &mut Maker, headers: &[usize]) {
+    for &header in headers.iter().rev() {
+        wear(maker, header);
+        maker.say("restart");
+    }
+    maker.say("state");
+}
+
+/// A body is worn, before the header or behind it.
+fn body(maker: &mut Maker, headers: &[usize]) {
+    let body = maker.random.pick(headers) + 1;
+    let at = maker.random.below(BLOCK as u64) as usize;
+    let Some(old) = maker.block(body) else { return };
+    maker.poke(body, at, &[old[at].wrapping_add(1)]);
+    maker.say("restart");
+}
+
+/// Two blocks behind the header, of a group or of none, get kind 1 and then a right check.
+fn look_alike(maker: &mut Maker, header: usize) {
+    let left = maker.blocks() - header as u64 - 1;
+    for _ in 0..2 {
+        let block = header + 1 + maker.random.below(left) as usize;
+        maker.poke(block, 0, &[1]);
+        maker.say("restart");
+        maker.reseal(block);
+        maker.say("restart");
+    }
+}
