@@ -1,23 +1,20 @@
 -- What an ack and a commit answer, from what the search found and what was done to the columns. Assumes nothing.
-use Prim.Native.Nat.{ℕ, _-_, _≤_, _<_, min}
+use Prim.Native.Nat.{ℕ, _≤_, _<_, min}
 use native.Mathlib.Omega.{arith}
 use mathlib.Core.Path.{_≡_, refl, sym, ap, subst, _∙_}
 use mathlib.Core.Bool.{Bool, true, false, _||_, and-false}
-use mathlib.Core.List.{List}
 use lib.Dec.{leb, eqb}
 use lib.ListN.{length}
 use borrow.Author.Tests.{eqb-false, le-leb, lt-leb}
 use Rattle.types.specs.Limits.{MAX, RANGES}
 use Rattle.types.specs.Refusal.{refused, done, Shed}
-use Rattle.types.specs.Table.{Answer, answer}
+use Rattle.types.specs.Table.{answer}
 use Rattle.types.proofs.Cases.{neither}
 use Rattle.cursor.specs.Cursor.{Cursor, Valid, settled, fragments, recorded, ackBounded, committedTo, commitUpTo}
-use Rattle.cursor.specs.View.{ackCursor, view, Sound}
-use Rattle.cursor.specs.Answers.{ackOf, Updated}
+use Rattle.cursor.specs.View.{view, Sound}
+use Rattle.cursor.specs.Answers.{Updated}
 use Rattle.cursor.specs.Place.{Open, Spotted}
 use Rattle.cursor.specs.declared.AckCursor.{AckCursor}
-use Rattle.cursor.specs.declared.BoundedAck.the-variants.{Recorded}
-use Rattle.cursor.specs.declared.in_place.Noted.{Noted}
 use Rattle.cursor.specs.declared.in_place.Spot.the-variants.{Settled}
 use Rattle.cursor.proofs.Cursor.{recorded-valid, commit-valid}
 
@@ -41,11 +38,6 @@ near-lands {c} limit t = rw (t .nearby) (and-false (leb (min limit RANGES) (leng
 -- an offset that is not settled is not the last
 pub not-last : {c : Cursor} {o : ℕ} {near : Bool} {after : Cursor} → Open c o near after → o ≤ MAX → o < MAX
 not-last {c} {o} t h = omega (arith, eqb-false o MAX (neither (settled c o) (eqb o MAX) (t .unsettled) .1))
-
--- the answer of the code with these parts
-pub noted : {g : AckCursor} {s e : List ℕ} {n k : ℕ} {right : Answer Bool Cursor} (r : Noted) → r ≡ record { outcome = Recorded; committed = n; runs = k }
-    → Updated g (done true) (ackCursor n s e k) right → Updated g (ackOf (r .outcome)) (ackCursor (r .committed) s e (r .runs)) right
-noted {g} {s} {e} {n} {k} {right} r p u = subst (λ (q : Noted). Updated g (ackOf (q .outcome)) (ackCursor (q .committed) s e (q .runs)) right) (sym p) u
 
 module _ (g : AckCursor) (x limit : ℕ) (ok : Sound g) where
   pub duplicate : Spotted (view g) x Settled → Updated g (done false) g (ackBounded (view g) x limit)

@@ -8,3 +8,4 @@ pub mod Snapshot
 pub mod Reading
 pub mod Writing
 pub mod Taking
+pub mod Edits

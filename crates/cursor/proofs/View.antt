@@ -1,6 +1,6 @@
 -- The columns of a cursor and the ranges that they stand for: what a place of a column says of the range there, and what
 -- a change of the columns does to the ranges. Assumes nothing.
-use Prim.Native.Nat.{ℕ, zero, suc, _+_, _-_, _≤_, _<_}
+use Prim.Native.Nat.{ℕ, zero, suc, _+_, _≤_, _<_}
 use native.Mathlib.Omega.{arith}
 use native.Mathlib.Nat.{suc-inj}
 use native.Mathlib.Numerals.{add-one}
@@ -18,8 +18,7 @@ use Rattle.types.proofs.Sorted.{up-to-next}
 use Rattle.types.proofs.Zipped.{zipped-length, zipped-getD, zipped-set-left, zipped-set-right, zipped-inserted, zipped-removed}
 use Rattle.cursor.specs.Ranges.{range, Above}
 use Rattle.cursor.specs.Cursor.{cursor}
-use Rattle.cursor.specs.View.{ackCursor, view}
-use Rattle.cursor.specs.Place.{rangeAt, stretched, joinedAt}
+use Rattle.cursor.specs.Place.{rangeAt}
 use Rattle.cursor.specs.declared.Range.{Range}
 use Rattle.cursor.proofs.Place.{place, endBefore, nextAt}
 
@@ -81,20 +80,7 @@ module _ (n : ℕ) (s e : List ℕ) (hs : n ≤ length s) (he : n ≤ length e) 
       rw (range-is i h, take-set-lt n s i x h)
       (zipped-set-left range i x 0 (take n s) (take n e) ∙ rw (getD-take n e i 0 h))
 
-  ranges-end : (i y : ℕ) → i < n → zipped range (take n s) (take n (set e i y)) ≡ set ranges i (range (rangeAt i ranges .start) y)
+  pub ranges-end : (i y : ℕ) → i < n → zipped range (take n s) (take n (set e i y)) ≡ set ranges i (range (rangeAt i ranges .start) y)
   ranges-end i y h =
       rw (range-is i h, take-set-lt n e i y h)
       (zipped-set-right range i 0 y (take n s) (take n e) ∙ rw (getD-take n s i 0 h))
-
-  pub stretched-is : (lo i y r : ℕ) (e′ : List ℕ) → i ≤ n → r ∷ e′ ≡ set (lo ∷ e) i y → view (ackCursor r s e′ n) ≡ stretched i y (view (ackCursor lo s e n))
-  stretched-is lo zero y r e′ h p = let q : r ≡ y = cc in let t : e′ ≡ e = cc in rw (q, t)
-  stretched-is lo (suc k) y r e′ h p = let q : r ≡ lo = cc in let t : e′ ≡ set e k y = cc in rw (q, t) (ap (cursor lo) (ranges-end k y h))
-
--- the range at a place, of one column taken out and of the other joined to the end before it
-pub joined-is : (lo n at r : ℕ) (s e s′ e′ e″ : List ℕ) → n ≤ length s → n ≤ length e → at < n → n ≤ length s′ → n ≤ length e′
-    → take (n - (at + 1 - at)) s′ ≡ removed at (at + 1) (take n s) → take (n - (at + 1 - at)) e′ ≡ removed at (at + 1) (take n e) → r ∷ e″ ≡ set (lo ∷ e′) at (getD e at 0)
-    → view (ackCursor r s′ e″ (n - 1)) ≡ joinedAt at (view (ackCursor lo s e n))
-joined-is lo n at r s e s′ e′ e″ hs he h ls le p q t =
-    let k : n - (at + 1 - at) ≡ n - 1 = omega arith in
-    stretched-is (n - 1) s′ e′ (omega arith) (omega arith) lo at (getD e at 0) r e″ (omega arith) t
-    ∙ rw (ranges-removed n s e hs he at (at + 1) (n - 1) s′ e′ (rw k at p) (rw k at q), range-is n s e hs he at h)

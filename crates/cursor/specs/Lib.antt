@@ -6,3 +6,4 @@ pub mod Answers
 pub mod Taking
 pub mod Place
 pub mod Examples
+pub mod Edits

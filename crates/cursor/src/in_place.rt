@@ -1,11 +1,13 @@
 // The calls on a cursor whose parts lie elsewhere: its numbers come by value and go back beside the answer, its columns are lent and
-// changed where they are, so that nothing is copied. The calls on an `AckCursor` are these on its own parts.
+// changed where they are, so that nothing is copied. An ack and a commit are planned first, with both columns lent to be read: the plan
+// has the new numbers, and what becomes of each column. Then each column is changed by a call of its own. The calls on an `AckCursor`
+// make the same plans, and lend its own columns one at a time.
 ghost use mathlib.Core.Path.{_≡_};
 ghost use Prim.Native.Nat.{_-_, _≤_, _<_};
 ghost use mathlib.Core.Bool.{_&&_};
 ghost use mathlib.Core.List.{_∷_};
 ghost use lib.Dec.{ltb, eqb};
-ghost use lib.ListN.{length, take, getD, set};
+ghost use lib.ListN.{length, take, getD};
 ghost use Rattle.types.specs.Refusal.{done};
 ghost use Rattle.types.specs.Table.{answer};
 ghost use Rattle.types.specs.Sorted.{Ascending, upTo};
@@ -13,7 +15,8 @@ ghost use Rattle.raw.specs.Bytes.{write, outcomeOf};
 ghost use Rattle.cursor.specs.Cursor.{settled, ackBounded, commitUpTo};
 ghost use Rattle.cursor.specs.View.{ackCursor, view, Whole};
 ghost use Rattle.cursor.specs.Answers.{ackOf, Updated};
-ghost use Rattle.cursor.specs.Place.{Spotted, joinedAt};
+ghost use Rattle.cursor.specs.Place.{Spotted};
+ghost use Rattle.cursor.specs.Edits.{edited, ackPlan, stretchPlan, joinPlan, AckPlanned, CommitPlanned};
 ghost use Rattle.cursor.specs.Snapshot.{encodeCursor};
 use crate::AckCursor;
 use crate::BoundedAck;
@@ -42,62 +45,13 @@ pub fn ack_in_place(
     requires { ⌜ Whole (ackCursor committed (now starts) (now ends) runs) ⌝ }
     ensures { λ r. ⌜ Updated (ackCursor committed (now (starts .entry)) (now (ends .entry)) runs) (ackOf (r .outcome)) (ackCursor (r .committed) (now (starts .exit)) (now (ends .exit)) (r .runs)) (ackBounded (view (ackCursor committed (now (starts .entry)) (now (ends .entry)) runs)) offset «max_runs») ⌝ }
 {
-    let spot = locate(committed, starts, ends, runs, offset);
-    match spot {
-        Spot::Settled => Noted {
-            outcome: BoundedAck::Duplicate,
-            committed,
-            runs,
-        },
-        Spot::Behind(i) => recorded(stretch(committed, ends, i, offset + 1), runs),
-        Spot::Between(i) => recorded(join(committed, starts, ends, runs, i), runs - 1),
-        Spot::Before(i) => {
-            starts[i] = offset;
-            recorded(committed, runs)
-        }
-        Spot::Apart(i) => {
-            if runs < max_runs {
-                if runs < RANGES {
-                    tables::insert_128(starts, runs, i, offset);
-                    tables::insert_128(ends, runs, i, offset + 1);
-                    return recorded(committed, runs + 1);
-                }
-            }
-            Noted {
-                outcome: BoundedAck::Shed,
-                committed,
-                runs,
-            }
-        }
-    }
-}
-
-// A new answer to an ack.
-fn recorded(committed: u64, runs: usize) -> Noted
-    ensures { λ r. ⌜ r ≡ record { outcome = BoundedAck.Recorded; committed = committed; runs = runs } ⌝ }
-{
-    Noted {
-        outcome: BoundedAck::Recorded,
-        committed,
-        runs,
-    }
-}
-
-// The range at a place becomes part of what ends before it, which is committed at the first place. Answers committed.
-fn join(
-    committed: u64,
-    starts: &mut [u64; RANGES],
-    ends: &mut [u64; RANGES],
-    runs: usize,
-    at: usize,
-) -> u64
-    requires { ⌜ Whole (ackCursor committed (now starts) (now ends) runs) × (at < runs) ⌝ }
-    ensures { λ r. ⌜ view (ackCursor r (now (starts .exit)) (now (ends .exit)) (runs - 1)) ≡ joinedAt at (view (ackCursor committed (now (starts .entry)) (now (ends .entry)) runs)) ⌝ }
-{
-    let end = ends[at];
-    tables::remove_128(starts, runs, at, at + 1);
-    tables::remove_128(ends, runs, at, at + 1);
-    stretch(committed, ends, at, end)
+    let plan = plan_ack(committed, starts, ends, runs, offset, max_runs);
+    let noted = plan.noted;
+    let on_starts = plan.starts;
+    let on_ends = plan.ends;
+    apply(starts, runs, on_starts);
+    apply(ends, runs, on_ends);
+    noted
 }
 
 // What a commit answers, beside the columns.
@@ -118,22 +72,12 @@ pub fn commit_in_place(
     requires { ⌜ Whole (ackCursor committed (now starts) (now ends) runs) ⌝ }
     ensures { λ r. ⌜ Updated (ackCursor committed (now (starts .entry)) (now (ends .entry)) runs) (done (r .advanced)) (ackCursor (r .committed) (now (starts .exit)) (now (ends .exit)) (r .runs)) (commitUpTo (view (ackCursor committed (now (starts .entry)) (now (ends .entry)) runs)) bound) ⌝ }
 {
-    if bound <= committed {
-        return Moved {
-            advanced: false,
-            committed,
-            runs,
-        };
-    }
-    let k = partition_point(starts, runs, bound);
-    let end = end_before(committed, ends, k);
-    tables::remove_128(starts, runs, 0, k);
-    tables::remove_128(ends, runs, 0, k);
-    Moved {
-        advanced: true,
-        committed: larger(bound, end),
-        runs: runs - k,
-    }
+    let plan = plan_commit(committed, starts, ends, runs, bound);
+    let moved = plan.moved;
+    let on_both = plan.both;
+    apply(starts, runs, on_both);
+    apply(ends, runs, on_both);
+    moved
 }
 
 // `is_acked` on the parts of a cursor.
@@ -171,6 +115,178 @@ pub fn encode_in_place<'a>(
     let end = at + (len - 4);
     let check = crc::crc32c(&out[at..end]);
     raw::write_u32(out, end, check)
+}
+
+// What becomes of a column of which the first places are in use.
+pub(crate) enum Edit {
+    Keep,
+    // This number is set at a place.
+    Set { at: usize, x: u64 },
+    // This number is put in at a place, what stood from there on one place further.
+    Insert { at: usize, x: u64 },
+    // The places from one up to another are taken out.
+    Remove { from: usize, to: usize },
+}
+
+// Changes a column where it lies. An edit at a place that the column doesn't have changes nothing.
+pub(crate) fn apply(column: &mut [u64; RANGES], runs: usize, edit: Edit)
+    requires { ⌜ length (now column) ≡ 128 ⌝ }
+    ensures { λ _. ⌜ now (column .exit) ≡ edited runs edit (now (column .entry)) ⌝ }
+{
+    match edit {
+        Edit::Keep => {}
+        Edit::Set { at, x } => {
+            if at < RANGES {
+                column[at] = x;
+            }
+        }
+        Edit::Insert { at, x } => tables::insert_128(column, runs, at, x),
+        Edit::Remove { from, to } => tables::remove_128(column, runs, from, to),
+    }
+}
+
+// What an ack answers, and what becomes of each column.
+pub(crate) struct AckPlan {
+    pub(crate) noted: Noted,
+    pub(crate) starts: Edit,
+    pub(crate) ends: Edit,
+}
+
+// What an ack does. Nothing is changed yet.
+pub(crate) fn plan_ack<'a>(
+    committed: u64,
+    starts: &'a [u64; RANGES],
+    ends: &'a [u64; RANGES],
+    runs: usize,
+    offset: u64,
+    max_runs: usize,
+) -> AckPlan
+    requires { ⌜ Whole (ackCursor committed (now starts) (now ends) runs) ⌝ }
+    ensures { λ r. ⌜ AckPlanned (ackCursor committed (now (starts .entry)) (now (ends .entry)) runs) offset «max_runs» r ⌝ }
+{
+    let spot = locate(committed, starts, ends, runs, offset);
+    match spot {
+        Spot::Settled => keeping(BoundedAck::Duplicate, committed, runs),
+        Spot::Behind(i) => stretch(committed, runs, i, offset + 1),
+        Spot::Between(i) => join(committed, ends, runs, i),
+        Spot::Before(i) => {
+            let at_start = Edit::Set { at: i, x: offset };
+            recorded(committed, runs, at_start, Edit::Keep)
+        }
+        Spot::Apart(i) => {
+            if runs < max_runs {
+                if runs < RANGES {
+                    let start = Edit::Insert { at: i, x: offset };
+                    let end = Edit::Insert {
+                        at: i,
+                        x: offset + 1,
+                    };
+                    return recorded(committed, runs + 1, start, end);
+                }
+            }
+            keeping(BoundedAck::Shed, committed, runs)
+        }
+    }
+}
+
+// An ack that changes nothing.
+fn keeping(outcome: BoundedAck, committed: u64, runs: usize) -> AckPlan
+    ensures { λ r. ⌜ r ≡ ackPlan outcome committed runs Edit.Keep Edit.Keep ⌝ }
+{
+    AckPlan {
+        noted: Noted {
+            outcome,
+            committed,
+            runs,
+        },
+        starts: Edit::Keep,
+        ends: Edit::Keep,
+    }
+}
+
+// An ack that is recorded.
+fn recorded(committed: u64, runs: usize, starts: Edit, ends: Edit) -> AckPlan
+    ensures { λ r. ⌜ r ≡ ackPlan BoundedAck.Recorded committed runs starts ends ⌝ }
+{
+    AckPlan {
+        noted: Noted {
+            outcome: BoundedAck::Recorded,
+            committed,
+            runs,
+        },
+        starts,
+        ends,
+    }
+}
+
+// The end before a place moves, which is committed at the first place.
+fn stretch(committed: u64, runs: usize, at: usize, end: u64) -> AckPlan
+    ensures { λ r. ⌜ r ≡ stretchPlan committed runs at end ⌝ }
+{
+    if at == 0 {
+        return recorded(end, runs, Edit::Keep, Edit::Keep);
+    }
+    let moved = Edit::Set { at: at - 1, x: end };
+    recorded(committed, runs, Edit::Keep, moved)
+}
+
+// The range at a place becomes part of what ends before it: its start goes, and the end before it, for which at the first place
+// committed is its end.
+fn join(committed: u64, ends: &[u64; RANGES], runs: usize, at: usize) -> AckPlan
+    requires { ⌜ (at < runs) × (runs ≤ 128) ⌝ }
+    ensures { λ r. ⌜ r ≡ joinPlan committed (now (ends .entry)) runs at ⌝ }
+{
+    let start = Edit::Remove {
+        from: at,
+        to: at + 1,
+    };
+    if at == 0 {
+        return recorded(ends[at], runs - 1, start, start);
+    }
+    let end = Edit::Remove {
+        from: at - 1,
+        to: at,
+    };
+    recorded(committed, runs - 1, start, end)
+}
+
+// What a commit answers, and what becomes of both columns.
+pub(crate) struct CommitPlan {
+    pub(crate) moved: Moved,
+    pub(crate) both: Edit,
+}
+
+// What a commit does. Nothing is changed yet.
+pub(crate) fn plan_commit<'a>(
+    committed: u64,
+    starts: &'a [u64; RANGES],
+    ends: &'a [u64; RANGES],
+    runs: usize,
+    bound: u64,
+) -> CommitPlan
+    requires { ⌜ Whole (ackCursor committed (now starts) (now ends) runs) ⌝ }
+    ensures { λ r. ⌜ CommitPlanned (ackCursor committed (now (starts .entry)) (now (ends .entry)) runs) bound r ⌝ }
+{
+    if bound <= committed {
+        return CommitPlan {
+            moved: Moved {
+                advanced: false,
+                committed,
+                runs,
+            },
+            both: Edit::Keep,
+        };
+    }
+    let k = partition_point(starts, runs, bound);
+    let end = end_before(committed, ends, k);
+    CommitPlan {
+        moved: Moved {
+            advanced: true,
+            committed: larger(bound, end),
+            runs: runs - k,
+        },
+        both: Edit::Remove { from: 0, to: k },
+    }
 }
 
 // Where an offset stands. Places count from 0, and committed is the end before place 0.
@@ -211,19 +327,6 @@ fn locate(committed: u64, starts: &[u64; RANGES], ends: &[u64; RANGES], runs: us
         return Spot::Before(i);
     }
     Spot::Apart(i)
-}
-
-// Moves the end before a place, which is committed at the first place. Answers committed.
-fn stretch(committed: u64, ends: &mut [u64; RANGES], at: usize, end: u64) -> u64
-    requires { ⌜ at ≤ 128 ⌝ }
-    ensures { λ r. ⌜ r ∷ now (ends .exit) ≡ set (committed ∷ now (ends .entry)) at end ⌝ }
-{
-    if at == 0 {
-        return end;
-    }
-    let k = at - 1;
-    ends[k] = end;
-    committed
 }
 
 // The end before a place, which is committed at the first place.

@@ -1,7 +1,7 @@
 // The commit cursor of a work group: how one shared cursor advances under acks that come out of order. `committed` is
 // the offset below which all are acked; what is acked ahead of it is kept as ranges, in order and apart from each other.
 // An ack at committed moves it over that offset and over the range that begins right behind it. A cursor goes in by value
-// and comes back; nothing is kept elsewhere.
+// and comes back; nothing is kept elsewhere, and an ack or a commit shifts its ranges within its own columns.
 ghost use mathlib.Core.Path.{_≡_};
 ghost use Prim.Native.Nat.{ℕ, _+_, _<_, min};
 ghost use mathlib.Core.List.{List, [], _∷_, _++_};
@@ -18,9 +18,10 @@ ghost use Rattle.cursor.specs.Answers.{ackOf, Updated, resumeFault, Resu
 ghost use Rattle.cursor.specs.Taking.{Taken};
 ghost use Rattle.cursor.specs.declared.Range.{Range};
 ghost use Rattle.cursor.specs.Place.{rangeAt};
-use crate::in_place::ack_in_place;
-use crate::in_place::commit_in_place;
+use crate::in_place::apply;
 use crate::in_place::is_acked_in_place;
+use crate::in_place::plan_ack;
+use crate::in_place::plan_commit;
 use types::Offset;
 use types::lent;
 use types::lent::Listed;
@@ -57,15 +58,16 @@ pub enum BoundedAck {
     Shed,
 }
 
+// What an ack answers. The cursor stands first: behind a smaller field it would be copied once more on its way out.
 pub struct Acked {
-    pub outcome: BoundedAck,
     pub cursor: AckCursor,
+    pub outcome: BoundedAck,
 }
 
-// Whether the bound was above committed.
+// The cursor, first as in `Acked`, and whether the bound was above committed.
 pub struct Committed {
-    pub advanced: bool,
     pub cursor: AckCursor,
+    pub advanced: bool,
 }
 
 // Ranges that no cursor has: refusals 10, 11 and 12.
@@ -245,50 +247,51 @@ impl AckCursor {
     // makes a range more; where there are max_runs already, or 128, it is shed and nothing changes. An ack at committed
     // and one that joins a range make none, and are never shed: what fills the gaps towards committed always lands. A limit of 0 takes
     // acks at committed alone; where 0 stands for no limit, the caller hands in the largest number.
-    pub fn ack_bounded(self, offset: Offset, max_runs: usize) -> Acked
+    pub fn ack_bounded(mut self, offset: Offset, max_runs: usize) -> Acked
         requires { ⌜ Sound self ⌝ }
         ensures { λ r. ⌜ Updated self (ackOf (r .outcome)) (r .cursor) (ackBounded (view self) (offset .0) «max_runs») ⌝ }
     {
-        let mut starts = self.starts;
-        let mut ends = self.ends;
-        let noted = ack_in_place(
+        let runs = self.runs;
+        let plan = plan_ack(
             self.committed,
-            &mut starts,
-            &mut ends,
-            self.runs,
+            &self.starts,
+            &self.ends,
+            runs,
             offset.0,
             max_runs,
         );
+        let noted = plan.noted;
+        let on_starts = plan.starts;
+        let on_ends = plan.ends;
+        apply(&mut self.starts, runs, on_starts);
+        apply(&mut self.ends, runs, on_ends);
+        self.committed = noted.committed;
+        self.runs = noted.runs;
         let outcome = noted.outcome;
         Acked {
+            cursor: self,
             outcome,
-            cursor: AckCursor {
-                committed: noted.committed,
-                starts,
-                ends,
-                runs: noted.runs,
-            },
         }
     }
 
     // Settles every offset below a bound. A range that the bound lies in, or touches, is swallowed whole. A bound at or
     // below committed changes nothing: committed never moves back. A cursor doesn't know the log, so the caller sees to it that the
     // bound isn't past its end.
-    pub fn commit_up_to(self, up_to: Offset) -> Committed
+    pub fn commit_up_to(mut self, up_to: Offset) -> Committed
         requires { ⌜ Sound self ⌝ }
         ensures { λ r. ⌜ Updated self (done (r .advanced)) (r .cursor) (commitUpTo (view self) («up_to» .0)) ⌝ }
     {
-        let mut starts = self.starts;
-        let mut ends = self.ends;
-        let moved = commit_in_place(self.committed, &mut starts, &mut ends, self.runs, up_to.0);
+        let runs = self.runs;
+        let plan = plan_commit(self.committed, &self.starts, &self.ends, runs, up_to.0);
+        let moved = plan.moved;
+        let on_both = plan.both;
+        apply(&mut self.starts, runs, on_both);
+        apply(&mut self.ends, runs, on_both);
+        self.committed = moved.committed;
+        self.runs = moved.runs;
         Committed {
+            cursor: self,
             advanced: moved.advanced,
-            cursor: AckCursor {
-                committed: moved.committed,
-                starts,
-                ends,
-                runs: moved.runs,
-            },
         }
     }
 

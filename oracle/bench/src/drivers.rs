@@ -70,6 +70,18 @@ pub mod in_place {
         }
         cursor.committed()
     }
+
+    /// Each ack makes a range before all others, n times over.
+    pub fn acks_apart(n: u32) -> u64 {
+        let mut new = 0;
+        for _ in 0..n {
+            let mut cursor = AckCursor::zero();
+            for k in (1..128).rev() {
+                new += u64::from(cursor.ack(2 * k) == 0);
+            }
+        }
+        new
+    }
 }
 
 pub mod original {
@@ -91,6 +103,17 @@ pub mod original {
             }
         }
         cursor.committed().get()
+    }
+
+    pub fn acks_apart(n: u32) -> u64 {
+        let mut new = 0;
+        for _ in 0..n {
+            let mut cursor = AckCursor::new();
+            for k in (1..128).rev() {
+                new += u64::from(cursor.ack(Offset::new(2 * k)));
+            }
+        }
+        new
     }
 
     /// With `window` offsets claimed, claims one more and acks the oldest, n times over.

@@ -2,6 +2,7 @@
 //! each is kept, since other work on the machine can only add to a time. Prints the table of docs/PERFORMANCE.md.
 mod checks;
 mod drivers;
+mod stack;
 
 use drivers::{here, in_place, original};
 use ironbus::attempt::{decode_attempt_snapshot, encode_attempt_snapshot};
@@ -166,6 +167,14 @@ fn calls() {
         theirs,
         || keep(in_place::acks_reversed(black_box(batches))),
     );
+    let rounds = 16;
+    assert_eq!(original::acks_apart(rounds), in_place::acks_apart(rounds));
+    line(
+        "ack, 127 offsets apart from the last down, in place",
+        127 * rounds,
+        || keep(original::acks_apart(black_box(rounds))),
+        || keep(in_place::acks_apart(black_box(rounds))),
+    );
     for window in [0, 8, 63] {
         let n = 1000;
         assert_eq!(original::claims_and_acks(window, n), here::claims_and_acks(window, n));
@@ -180,10 +189,19 @@ fn calls() {
     }
 }
 
+/// The stack of a loop of acks by value, with the cursor that it holds.
+fn stacks() {
+    println!("\n| stack, with the cursor | original, B | here, B |\n|---|---|---|");
+    let theirs = stack::of(|| keep(original::acks_reversed(black_box(1))));
+    let ours = stack::of(|| keep(here::acks_reversed(black_box(1))));
+    println!("| acks | {theirs} | {ours} |");
+}
+
 fn main() {
     println!("| what | original, ns | here, ns | ratio |\n|---|---|---|---|");
     checks();
     cursor_snapshots();
     attempt_snapshots();
     calls();
+    stacks();
 }
