@@ -1,5 +1,5 @@
-//! Links the proved library, `target/staticlib/libserver.a` of the repository, which `rt staticlib server` writes. Another
-//! place can be named by the environment variable `NINOTSKEV_LIB`: the folder that has `libserver.a`.
+//! Links the proved libraries, `target/staticlib/libserver.a` and `libexports.a` of the repository, which `rt staticlib` writes.
+//! Another place can be named by the environment variable `NINOTSKEV_LIB`: the folder that has them.
 
 use std::env;
 use std::path::PathBuf;
@@ -10,15 +10,17 @@ fn main() {
         || PathBuf::from(env!("CARGO_MANIFEST_DIR")).join("../target/staticlib"),
         PathBuf::from,
     );
-    let archive = folder.join("libserver.a");
-    println!("cargo:rerun-if-changed={}", archive.display());
-    if !archive.is_file() {
-        panic!(
-            "{} is missing. Write it by `rt staticlib server` in the folder above rust/, or name the folder that has it by \
-             NINOTSKEV_LIB.",
-            archive.display()
-        );
-    }
     println!("cargo:rustc-link-search=native={}", folder.display());
-    println!("cargo:rustc-link-lib=static=server");
+    for library in ["server", "exports"] {
+        let archive = folder.join(format!("lib{library}.a"));
+        println!("cargo:rerun-if-changed={}", archive.display());
+        if !archive.is_file() {
+            panic!(
+                "{} is missing. Write it by `rt staticlib {library}` in the folder above rust/, or name the folder that has it \
+                 by NINOTSKEV_LIB.",
+                archive.display()
+            );
+        }
+        println!("cargo:rustc-link-lib=static={library}");
+    }
 }

@@ -6,6 +6,7 @@ use crate::configuration::Configuration;
 use crate::ffi::{Ask, Machine, Numbers};
 use crate::journal::{Failed, Journal, JournalFile, NewJournal, Storage};
 use crate::refusal::Refusal;
+use crate::snapshot::MAX_PAIRS;
 use crate::types::{Due, Generation, HandOut, Lease, LeaseToken, Offset};
 
 /// The delivery state of one consumer: which messages are settled, who holds which until when, and how often each was handed out.
@@ -226,6 +227,19 @@ impl<S> Consumer<S> {
     /// How often an offset was handed out, as the next checkpoint stores it.
     pub fn count_of(&mut self, offset: Offset) -> u32 {
         count(self.look_up(Ask::CountOf, offset.get()))
+    }
+
+    /// How often each offset was handed out, rising by offset, as the next checkpoint stores it.
+    pub fn all_attempt_counts(&mut self) -> Vec<(Offset, u32)> {
+        // At the last clock every deadline has come, so that the waiting list has every lease and every carried count.
+        let mut list = [Offset::ZERO; MAX_PAIRS];
+        let n = self
+            .waiting(u64::MAX, &mut list)
+            .expect("there are at most 128 counts");
+        let offsets = &mut list[..n];
+        offsets.sort_unstable();
+        let counted = |offset: &Offset| (*offset, self.count_of(*offset));
+        offsets.iter().map(counted).collect()
     }
 
     /// How many offsets are in flight, their leases run out or not.

@@ -1,9 +1,10 @@
-//! The proved library, and the only unsafe code of this crate.
+//! The proved libraries, and the only unsafe code of this crate.
 //!
 //! `crates/server/src/calls.rt` of the repository has the functions with their contracts. They take the state behind `&mut`
 //! and require one thing, the invariant of the state that every start, restart and call is proved to leave. So a [`Machine`] is
 //! made here by a start or a restart alone, nothing outside this file sees its fields, and the structs below are laid out as
-//! the library's, field by field, which `tests` at the end compares.
+//! the library's, field by field, which `tests` at the end compares. The codecs of attempt snapshots, of `crates/exports/src/lib.rt`,
+//! require nothing but slices that don't overlap.
 
 use crate::configuration::{Configuration, LeaseConfig, Settings};
 use crate::refusal::Refusal;
@@ -134,6 +135,98 @@ extern "C" {
     );
     fn ninotskev_begin(machine: *mut Machine, numbers: *mut Numbers);
     fn ninotskev_step(machine: *mut Machine, numbers: *mut Numbers, area: *mut u8, area_len: usize);
+    fn ninotskev_encode_attempts(
+        offsets: *const u64,
+        offsets_len: usize,
+        attempts: *const u32,
+        attempts_len: usize,
+        out: *mut u8,
+        out_len: usize,
+        at: usize,
+    ) -> Numbers;
+    fn ninotskev_encode_attempts_v2(
+        offsets: *const u64,
+        offsets_len: usize,
+        attempts: *const u32,
+        attempts_len: usize,
+        out: *mut u8,
+        out_len: usize,
+        at: usize,
+    ) -> Numbers;
+    fn ninotskev_decode_attempts(
+        input: *const u8,
+        input_len: usize,
+        offsets: *mut u64,
+        offsets_len: usize,
+        attempts: *mut u32,
+        attempts_len: usize,
+    ) -> Numbers;
+}
+
+/// Writes an attempt snapshot of version 1 from the start of the bytes: 19, 20.
+pub(crate) fn encode_attempts(
+    offsets: &[u64],
+    attempts: &[u32],
+    out: &mut [u8],
+) -> Result<(), Refusal> {
+    let (o, a) = (offsets.as_ptr(), attempts.as_ptr());
+    // SAFETY: slices that don't overlap, of which nothing else is required.
+    let numbers = unsafe {
+        ninotskev_encode_attempts(
+            o,
+            offsets.len(),
+            a,
+            attempts.len(),
+            out.as_mut_ptr(),
+            out.len(),
+            0,
+        )
+    };
+    numbers.check()
+}
+
+/// Likewise of version 2.
+pub(crate) fn encode_attempts_v2(
+    offsets: &[u64],
+    attempts: &[u32],
+    out: &mut [u8],
+) -> Result<(), Refusal> {
+    let (o, a) = (offsets.as_ptr(), attempts.as_ptr());
+    // SAFETY: as for `encode_attempts`.
+    let numbers = unsafe {
+        ninotskev_encode_attempts_v2(
+            o,
+            offsets.len(),
+            a,
+            attempts.len(),
+            out.as_mut_ptr(),
+            out.len(),
+            0,
+        )
+    };
+    numbers.check()
+}
+
+/// Reads an attempt snapshot of either version into two columns: how many pairs there are, or 13 to 20.
+pub(crate) fn decode_attempts(
+    input: &[u8],
+    offsets: &mut [u64],
+    attempts: &mut [u32],
+) -> Result<u64, Refusal> {
+    let (o, a) = (offsets.as_mut_ptr(), attempts.as_mut_ptr());
+    // SAFETY: as for `encode_attempts`.
+    let numbers = unsafe {
+        ninotskev_decode_attempts(
+            input.as_ptr(),
+            input.len(),
+            o,
+            offsets.len(),
+            a,
+            attempts.len(),
+        )
+    };
+    numbers.check()?;
+    Ok(numbers.values[0])
 }
 
 /// The block that a step wrote, and whether it was the last.
@@ -456,6 +549,7 @@ mod tests {
         assert_eq!(guarded.machine.writing.cursor_len, 13);
         assert_eq!(guarded.machine.writing.attempt_len, 9);
         assert_eq!(guarded.machine.writing.payload[0], 1);
+        assert_eq!(guarded.machine.writing.payload[13], 2);
         guarded.step(area);
         assert_eq!(guarded.numbers, code(0, 2, [1, 0, 0, 0]));
         assert_eq!(guarded.machine.writing.written, 1);

@@ -107,6 +107,7 @@ mod consumer;
 mod ffi;
 mod journal;
 mod refusal;
+mod snapshot;
 mod types;
 
 pub use configuration::{Configuration, DeliveryConfig, LeaseConfig, Settings};
@@ -115,4 +116,7 @@ pub use journal::{
     Failed, Journal, JournalError, JournalFile, NewJournal, Storage, BLOCK, MAX_BLOCKS,
 };
 pub use refusal::Refusal;
+pub use snapshot::{
+    decode_attempt_snapshot, encode_attempt_snapshot, encode_attempt_snapshot_v2, MAX_PAIRS,
+};
 pub use types::{Due, Generation, HandOut, Lease, LeaseToken, Offset};

@@ -54,7 +54,7 @@ pub enum Refusal {
     TooManyRuns,
     /// 13: an attempt snapshot of under 9 bytes.
     AttemptTruncated,
-    /// 14: an attempt snapshot of another version.
+    /// 14: an attempt snapshot of a version other than 1 and 2.
     AttemptUnsupportedVersion {
         /// Its first byte.
         version: u64,

@@ -2,3 +2,4 @@ pub mod Snapshot
 pub mod Codec
 mod Writing
 mod Reading
+mod LentEncoder

@@ -11,7 +11,7 @@ use Rattle.types.specs.Table.{_⇒_, Answer, answer, guarded}
 use Rattle.types.specs.Keyed.{Entry}
 use Rattle.types.specs.Lists.{pair, entriesOf, counted}
 use Rattle.types.specs.declared.Pair.{Pair}
-use Rattle.attempt.specs.Snapshot.{encodeInto, readPairs, decodeInto}
+use Rattle.attempt.specs.Snapshot.{encodeVersion, pairsOf, decodeInto}
 use Rattle.attempt.specs.declared.Encode.{Encode}
 use Rattle.attempt.specs.declared.Encode.the-variants as encodes
 use Rattle.attempt.specs.declared.AttemptSnapshotError.{AttemptSnapshotError}
@@ -55,9 +55,15 @@ fillOf (fills.Refused error) = refused (attemptError error)
 fillOf fills.OutTooShort = refused refusal.OutTooShort
 
 -- encoding the first n pairs of an array of 128: over 128 is 19
+abbrev pub encodeFront : ℕ → ℕ → List Pair → ℕ → List ℕ → Answer ℕ (List ℕ)
+encodeFront version n pairs at out =
+    guarded (ltb PAIRS n ⇒ refusal.TooManyPairs ∷ []) out (encodeVersion version (entriesOf (take n pairs)) at out)
+
 abbrev pub encodeFirst : ℕ → List Pair → ℕ → List ℕ → Answer ℕ (List ℕ)
-encodeFirst n pairs at out =
-    guarded (ltb PAIRS n ⇒ refusal.TooManyPairs ∷ []) out (encodeInto (entriesOf (take n pairs)) at out)
+encodeFirst n pairs at out = encodeFront 1 n pairs at out
+
+abbrev pub encodeFirst2 : ℕ → List Pair → ℕ → List ℕ → Answer ℕ (List ℕ)
+encodeFirst2 n pairs at out = encodeFront 2 n pairs at out
 
 -- decoding into an array without pairs
 pub record DecodedIs (b : List ℕ) (r : Decoded) : Type 0 where
@@ -73,6 +79,6 @@ pub record RefusedIs (error : AttemptSnapshotError) (r : Decoded) : Type 0 where
 -- the outcome for a lent list of a length, which the pairs in the bytes then go into, and that they are there and fit
 pub record RoomIs (b : List ℕ) (room : ℕ) (r : Fill) : Type 0 where
   pub is : (lent : List (Entry ℕ)) → length lent ≡ room
-      → let n = counted (fillOf r) in answer (fillOf r) (readPairs n 5 b ++ drop n lent) ≡ decodeInto b lent
+      → let n = counted (fillOf r) in answer (fillOf r) (pairsOf n b ++ drop n lent) ≡ decodeInto b lent
   pub within : 12 * counted (fillOf r) ≤ length b
   pub fits : counted (fillOf r) ≤ room

@@ -12,14 +12,14 @@ use Rattle.attempt.specs.Snapshot.{pairsTable, decodeAttempts}
 abbrev ten : ℕ → (a b c d e f g h i : ℕ) → List ℕ
 ten version a b c d e f g h i = version ∷ a ∷ b ∷ c ∷ d ∷ e ∷ f ∷ g ∷ h ∷ i ∷ []
 
--- attempt bytes, length 10: version 2 refusal 14, version 1 refusal 15
+-- attempt bytes, length 10: version 3 refusal 14 (01 has version 2, which request j makes a version), version 1 refusal 15
 pub record Example12 (a b c d e f g h i : ℕ) : Type 0 where
-  pub version-2 : decodeAttempts (ten 2 a b c d e f g h i) ≡ refused (AttemptUnsupportedVersion 2)
+  pub version-3 : decodeAttempts (ten 3 a b c d e f g h i) ≡ refused (AttemptUnsupportedVersion 3)
   pub version-1 : decodeAttempts (ten 1 a b c d e f g h i) ≡ refused (AttemptBadLength 10)
 
 pub example-12 : (a b c d e f g h i : ℕ) → Example12 a b c d e f g h i
 unfolding decodeAttempts
-example-12 a b c d e f g h i = record { version-2 = refl; version-1 = refl }
+example-12 a b c d e f g h i = record { version-3 = refl; version-1 = refl }
 
 -- n pairs that rise from an offset on
 abbrev from : ℕ → ℕ → List (Entry ℕ)

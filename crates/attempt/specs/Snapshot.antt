@@ -1,7 +1,9 @@
--- The attempt snapshot of document 01, "Records and their measures": version 1, u32 count, pairs (u64 offset, u32 attempt),
--- CRC32C; and refusals 13 to 20. A pair is an entry of a keyed list: the offset is its key, the attempt count its value.
-use Prim.Native.Nat.{ℕ, zero, suc, _+_, _-_, _/_, _%_, _≤_}
-use mathlib.Core.Bool.{not}
+-- The attempt snapshot of document 01, "Records and their measures", with version 2 of request j: the version, u32 count, pairs
+-- (u64 offset, u32 attempt), CRC32C; and refusals 13 to 20. Version 1 has each attempt count behind its offset; version 2 has all
+-- offsets first and then all attempts in the same order. A pair is an entry of a keyed list: the offset is its key, the attempt
+-- count its value.
+use Prim.Native.Nat.{ℕ, zero, suc, _+_, _*_, _-_, _/_, _%_, _≤_}
+use mathlib.Core.Bool.{Bool, true, false, not, _||_}
 use mathlib.Core.List.{List, [], _∷_, _++_}
 use lib.Dec.{ltb, leb, eqb}
 use lib.ListN.{length, drop, getD}
@@ -17,50 +19,99 @@ use Rattle.crc.specs.Seal.{sealed, isSealed}
 abbrev pub PairsFit : List (Entry ℕ) → Type 0
 PairsFit l = All (λ offset attempt. (offset ≤ MAX) × (attempt ≤ MAX32)) l
 
--- the bytes of a pair, and of pairs in their order
+-- whether a version has offsets and attempts apart
+abbrev pub apart : ℕ → Bool
+apart version = eqb version 2
+
+-- the bytes of all offsets, and of all attempts
+abbrev pub offsetsBytes : List (Entry ℕ) → List ℕ
+offsetsBytes [] = []
+offsetsBytes (p ∷ l) = le 8 (p .key) ++ offsetsBytes l
+
+abbrev pub attemptsBytes : List (Entry ℕ) → List ℕ
+attemptsBytes [] = []
+attemptsBytes (p ∷ l) = le 4 (p .value) ++ attemptsBytes l
+
+-- the bytes of a pair, and of pairs in their order, each by itself or with the two apart
 abbrev pub pairBytes : Entry ℕ → List ℕ
 pairBytes p = le 8 (p .key) ++ le 4 (p .value)
 
-abbrev pub pairsBytes : List (Entry ℕ) → List ℕ
-pairsBytes [] = []
-pairsBytes (p ∷ l) = pairBytes p ++ pairsBytes l
+abbrev pub pairsBytes : Bool → List (Entry ℕ) → List ℕ
+pairsBytes false [] = []
+pairsBytes false (p ∷ l) = pairBytes p ++ pairsBytes false l
+pairsBytes true l = offsetsBytes l ++ attemptsBytes l
 
--- version 1, without its check and whole
-abbrev pub bodyBytes : List (Entry ℕ) → List ℕ
-bodyBytes l = 1 ∷ (le 4 (length l) ++ pairsBytes l)
+-- a version, without its check and whole
+abbrev pub bodyBytes : ℕ → List (Entry ℕ) → List ℕ
+bodyBytes version l = version ∷ (le 4 (length l) ++ pairsBytes (apart version) l)
 
-unfoldable pub encodeAttempts1 : List (Entry ℕ) → List ℕ
-encodeAttempts1 l = sealed (bodyBytes l)
+unfoldable pub encodeAttempts : ℕ → List (Entry ℕ) → List ℕ
+encodeAttempts version l = sealed (bodyBytes version l)
+
+abbrev pub encodeAttempts1 : List (Entry ℕ) → List ℕ
+encodeAttempts1 l = encodeAttempts 1 l
+
+abbrev pub encodeAttempts2 : List (Entry ℕ) → List ℕ
+encodeAttempts2 l = encodeAttempts 2 l
 
 -- written into lent bytes from a place on: over 128 pairs 19, then without room 20
+abbrev pub encodeVersion : ℕ → List (Entry ℕ) → ℕ → List ℕ → Answer ℕ (List ℕ)
+encodeVersion version l at out =
+    guarded (ltb PAIRS (length l) ⇒ refusal.TooManyPairs ∷ []) out (write at (encodeAttempts version l) out)
+
 abbrev pub encodeInto : List (Entry ℕ) → ℕ → List ℕ → Answer ℕ (List ℕ)
-encodeInto l at out =
-    guarded (ltb PAIRS (length l) ⇒ refusal.TooManyPairs ∷ []) out (write at (encodeAttempts1 l) out)
+encodeInto l at out = encodeVersion 1 l at out
 
--- the pair at a place of the bytes, and n pairs from there on, 12 bytes each
-abbrev pub readPair : ℕ → List ℕ → Entry ℕ
-readPair pos b = entry (numberAt 8 pos b) (numberAt 4 (pos + 8) b)
+abbrev pub encodeInto2 : List (Entry ℕ) → ℕ → List ℕ → Answer ℕ (List ℕ)
+encodeInto2 l at out = encodeVersion 2 l at out
 
-abbrev pub readPairs : ℕ → ℕ → List ℕ → List (Entry ℕ)
-readPairs zero pos b = []
-readPairs (suc n) pos b = readPair pos b ∷ readPairs n (pos + 12) b
+-- where the two numbers of pair i of n stand, from 0
+abbrev pub offsetAt : Bool → ℕ → ℕ
+offsetAt false i = 5 + 12 * i
+offsetAt true i = 5 + 8 * i
+
+abbrev pub attemptAt : Bool → ℕ → ℕ → ℕ
+attemptAt false n i = 13 + 12 * i
+attemptAt true n i = 5 + 8 * n + 4 * i
+
+-- pair i of n, and k pairs from there on
+abbrev pub readPair : Bool → ℕ → ℕ → List ℕ → Entry ℕ
+readPair split n i b = entry (numberAt 8 (offsetAt split i) b) (numberAt 4 (attemptAt split n i) b)
+
+abbrev pub readPairs : Bool → ℕ → ℕ → ℕ → List ℕ → List (Entry ℕ)
+readPairs split n zero i b = []
+readPairs split n (suc k) i b = readPair split n i b ∷ readPairs split n k (i + 1) b
+
+-- n pairs in bytes of a version, and in bytes that name their version
+abbrev pub pairsAs : ℕ → ℕ → List ℕ → List (Entry ℕ)
+pairsAs version n b = readPairs (apart version) n n 0 b
+
+abbrev pub pairsOf : ℕ → List ℕ → List (Entry ℕ)
+pairsOf n b = pairsAs (getD b 0 0) n b
 
 -- the number of pairs by the length of the bytes, and the pairs
 abbrev pub pairCount : List ℕ → ℕ
 pairCount b = (length b - 9) / 12
 
 abbrev pub pairsIn : List ℕ → List (Entry ℕ)
-pairsIn b = readPairs (pairCount b) 5 b
+pairsIn b = pairsOf (pairCount b) b
 
--- 13 to 17
-abbrev pub frameTable : List ℕ → List Row
-frameTable b =
+-- 13 to 17, where some versions are known
+abbrev pub framedTable : (ℕ → Bool) → List ℕ → List Row
+framedTable known b =
     ltb (length b) 9 ⇒ refusal.AttemptTruncated
-    ∷ not (eqb (getD b 0 0) 1) ⇒ refusal.AttemptUnsupportedVersion (getD b 0 0)
+    ∷ not (known (getD b 0 0)) ⇒ refusal.AttemptUnsupportedVersion (getD b 0 0)
     ∷ not (eqb ((length b - 9) % 12) 0) ⇒ refusal.AttemptBadLength (length b)
     ∷ not (eqb (numberAt 4 1 b) (pairCount b)) ⇒ refusal.CountMismatch (numberAt 4 1 b) (pairCount b)
     ∷ not (isSealed b) ⇒ refusal.AttemptBadCrc
     ∷ []
+
+-- versions 1 and 2
+abbrev pub known : ℕ → Bool
+known version = eqb version 1 || eqb version 2
+
+abbrev pub frameTable : List ℕ → List Row
+frameTable b = framedTable known b
 
 -- 18 for each pair behind an offset, and for each pair behind another
 abbrev pub orderAfter : ℕ → List (Entry ℕ) → List Row
@@ -85,6 +136,13 @@ decodeTable b = frameTable b ++ pairsTable (pairsIn b)
 -- the pairs that bytes hold
 unfoldable pub decodeAttempts : List ℕ → Result (List (Entry ℕ))
 decodeAttempts b = checked (decodeTable b) (done (pairsIn b))
+
+-- a reader of the old kind, which knows version 1 alone
+abbrev pub oldTable : List ℕ → List Row
+oldTable b = framedTable (λ version. eqb version 1) b ++ pairsTable (pairsAs 1 (pairCount b) b)
+
+unfoldable pub oldReader : List ℕ → Result (List (Entry ℕ))
+oldReader b = checked (oldTable b) (done (pairsAs 1 (pairCount b) b))
 
 -- put at the front of a lent list, whose other places stay; 20 where it is too short
 abbrev pub fill : Result (List (Entry ℕ)) → List (Entry ℕ) → Answer ℕ (List (Entry ℕ))

@@ -1,18 +1,21 @@
-// The attempt snapshot: delivery counts as bytes that outlast a restart, closed by a check. Its version and the layout of a
-// pair are known here alone.
+// The attempt snapshot: delivery counts as bytes that outlast a restart, closed by a check. Its versions and where the numbers of
+// a pair stand are known here alone. Version 1 is the original's; version 2 has all offsets first, so that counts which change
+// leave the offsets' bytes as they are.
 ghost use mathlib.Core.Path.{_≡_};
 ghost use mathlib.Core.List.{_++_};
-ghost use Prim.Native.Nat.{_+_, _*_, _≤_, min};
-ghost use lib.ListN.{length, take, drop};
+ghost use Prim.Native.Nat.{_+_, _*_, _<_, _≤_, min};
+ghost use lib.ListN.{length, take, drop, getD};
+ghost use Rattle.types.specs.Limits.{MAX};
 ghost use Rattle.types.specs.Refusal.{done};
 ghost use Rattle.types.specs.Table.{answer, checked};
 ghost use Rattle.types.specs.Keyed.{entry, entries};
 ghost use Rattle.types.specs.Lists.{entryOf, entriesOf, counted};
-ghost use Rattle.raw.specs.Bytes.{overwrite};
-ghost use Rattle.attempt.specs.Snapshot.{pairBytes, pairsBytes, bodyBytes, encodeInto};
-ghost use Rattle.attempt.specs.Snapshot.{readPair, readPairs, pairCount, pairsTable, decodeTable, decodeInto};
+ghost use Rattle.raw.specs.Bytes.{le, overwrite};
+ghost use Rattle.attempt.specs.Snapshot.{apart, pairsBytes, bodyBytes, encodeVersion, encodeInto, encodeInto2};
+ghost use Rattle.attempt.specs.Snapshot.{offsetAt, attemptAt, readPair, pairsAs, pairsOf, pairCount};
+ghost use Rattle.attempt.specs.Snapshot.{known, pairsTable, decodeTable, decodeInto};
 ghost use Rattle.attempt.specs.Codec.{blank, encodeOf, decodeOf, fillOf};
-ghost use Rattle.attempt.specs.Codec.{encodeFirst, DecodedIs, RefusedIs, RoomIs};
+ghost use Rattle.attempt.specs.Codec.{encodeFront, encodeFirst, encodeFirst2, DecodedIs, RefusedIs, RoomIs};
 use types::Pair;
 use types::limits::PAIRS;
 use types::numbers::shorter;
@@ -21,6 +24,8 @@ use types::numbers::shorter;
 pub const ATTEMPT_SNAPSHOT_MIN_LEN: usize = 9;
 
 const SNAPSHOT_VERSION: u8 = 1;
+
+const SNAPSHOT_VERSION_2: u8 = 2;
 
 // The length of a pair: its offset and its attempt count.
 const PAIR_LEN: usize = 12;
@@ -81,48 +86,84 @@ fn no_pairs() -> [Pair; PAIRS]
     }; PAIRS]
 }
 
-// Writes a pair at a position.
-fn put_pair(out: &mut [u8], pos: usize, offset: u64, attempt: u32)
-    requires { ⌜ pos + 12 ≤ length (now out) ⌝ }
-    ensures { λ _. ⌜ now (out .exit) ≡ overwrite pos (pairBytes (entry offset attempt)) (now (out .entry)) ⌝ }
+// Where the offset of pair i stands: in version 2 behind the other offsets.
+fn offset_at(version: u8, i: usize) -> usize
+    requires { ⌜ 5 + 12 * i ≤ MAX ⌝ }
+    ensures { λ r. ⌜ r ≡ offsetAt (apart version) i ⌝ }
 {
-    raw::write_u64(out, pos, offset);
-    raw::write_u32(out, pos + 8, attempt);
+    if version == SNAPSHOT_VERSION_2 {
+        return 5 + 8 * i;
+    }
+    5 + PAIR_LEN * i
 }
 
-// Writes the pairs of two columns from a position on, of which there are `count`.
-fn put_pairs<'a>(offsets: &'a [u64], attempts: &'a [u32], count: usize, out: &mut [u8], at: usize)
-    requires { ⌜ (count ≡ min (length (now offsets)) (length (now attempts))) × (at + 12 * count ≤ length (now out)) ⌝ }
-    ensures { λ _. ⌜ now (out .exit) ≡ overwrite at (pairsBytes (entries (now (offsets .entry)) (now (attempts .entry)))) (now (out .entry)) ⌝ }
+// Where the attempt count of pair i of `count` stands: in version 2 behind all offsets, else behind its own.
+fn attempt_at(version: u8, count: usize, i: usize) -> usize
+    requires { ⌜ (i < count) × (5 + 12 * count ≤ MAX) ⌝ }
+    ensures { λ r. ⌜ r ≡ attemptAt (apart version) count i ⌝ }
 {
-    let mut pos = at;
+    if version == SNAPSHOT_VERSION_2 {
+        return 5 + 8 * count + 4 * i;
+    }
+    13 + PAIR_LEN * i
+}
+
+// Writes the two numbers of a pair, each at its position.
+fn put_pair(out: &mut [u8], to_offset: usize, to_attempt: usize, offset: u64, attempt: u32)
+    requires { ⌜ («to_offset» + 8 ≤ length (now out)) × («to_attempt» + 4 ≤ length (now out)) ⌝ }
+    ensures { λ _. ⌜ now (out .exit) ≡ overwrite «to_attempt» (le 4 attempt) (overwrite «to_offset» (le 8 offset) (now (out .entry))) ⌝ }
+{
+    raw::write_u64(out, to_offset, offset);
+    raw::write_u32(out, to_attempt, attempt);
+}
+
+// Writes the pairs of two columns, of which there are `count`, into a snapshot that begins at a position.
+fn put_pairs<'a>(
+    version: u8,
+    offsets: &'a [u64],
+    attempts: &'a [u32],
+    count: usize,
+    out: &mut [u8],
+    at: usize,
+)
+    requires { ⌜ (count ≡ min (length (now offsets)) (length (now attempts))) × (at + (5 + 12 * count) ≤ length (now out)) ⌝ }
+    ensures { λ _. ⌜ now (out .exit) ≡ overwrite (at + 5) (pairsBytes (apart version) (entries (now (offsets .entry)) (now (attempts .entry)))) (now (out .entry)) ⌝ }
+{
     let mut i: usize = 0;
     while i < count {
-        put_pair(out, pos, offsets[i], attempts[i]);
-        pos += PAIR_LEN;
+        let to_offset = at + offset_at(version, i);
+        let to_attempt = at + attempt_at(version, count, i);
+        put_pair(out, to_offset, to_attempt, offsets[i], attempts[i]);
         i += 1;
     }
 }
 
 // Writes all but the check.
-fn put_body<'a>(offsets: &'a [u64], attempts: &'a [u32], count: usize, out: &mut [u8], at: usize)
+fn put_body<'a>(
+    version: u8,
+    offsets: &'a [u64],
+    attempts: &'a [u32],
+    count: usize,
+    out: &mut [u8],
+    at: usize,
+)
     requires { ⌜ (count ≡ min (length (now offsets)) (length (now attempts))) × (count ≤ 128) × (at + (5 + 12 * count) ≤ length (now out)) ⌝ }
-    ensures { λ _. ⌜ now (out .exit) ≡ overwrite at (bodyBytes (entries (now (offsets .entry)) (now (attempts .entry)))) (now (out .entry)) ⌝ }
+    ensures { λ _. ⌜ now (out .exit) ≡ overwrite at (bodyBytes version (entries (now (offsets .entry)) (now (attempts .entry)))) (now (out .entry)) ⌝ }
 {
-    out[at] = SNAPSHOT_VERSION;
+    out[at] = version;
     raw::write_u32(out, at + 1, count as u32);
-    put_pairs(offsets, attempts, count, out, at + 5);
+    put_pairs(version, offsets, attempts, count, out, at);
 }
 
-// Writes the snapshot of attempt counts, a pair for each place that both columns have, from a position on. Over 128 pairs are
-// refused (19), then a snapshot without room (20).
-pub fn encode_columns<'a>(
+// Writes a version of the snapshot of two columns.
+fn write_columns<'a>(
+    version: u8,
     offsets: &'a [u64],
     attempts: &'a [u32],
     out: &mut [u8],
     at: usize,
 ) -> Encode
-    ensures { λ r. ⌜ answer (encodeOf r) (now (out .exit)) ≡ encodeInto (entries (now (offsets .entry)) (now (attempts .entry))) at (now (out .entry)) ⌝ }
+    ensures { λ r. ⌜ answer (encodeOf r) (now (out .exit)) ≡ encodeVersion version (entries (now (offsets .entry)) (now (attempts .entry))) at (now (out .entry)) ⌝ }
 {
     let count = shorter(offsets.len(), attempts.len());
     if PAIRS < count {
@@ -135,17 +176,41 @@ pub fn encode_columns<'a>(
     if out.len() - len < at {
         return Encode::OutTooShort;
     }
-    put_body(offsets, attempts, count, out, at);
+    put_body(version, offsets, attempts, count, out, at);
     let end = at + (5 + PAIR_LEN * count);
     let check = crc::crc32c(&out[at..end]);
     raw::write_u32(out, end, check);
     Encode::Next(at + len)
 }
 
-// Writes the snapshot of the first `count` pairs from a position on, in their order. Over 128 pairs are refused (19), then a
-// snapshot without room (20).
-pub fn encode_pairs(pairs: [Pair; PAIRS], count: usize, out: &mut [u8], at: usize) -> Encode
-    ensures { λ r. ⌜ answer (encodeOf r) (now (out .exit)) ≡ encodeFirst count pairs at (now (out .entry)) ⌝ }
+// Writes the snapshot of attempt counts, a pair for each place that both columns have, from a position on. Over 128 pairs are
+// refused (19), then a snapshot without room (20).
+pub fn encode_columns<'a>(
+    offsets: &'a [u64],
+    attempts: &'a [u32],
+    out: &mut [u8],
+    at: usize,
+) -> Encode
+    ensures { λ r. ⌜ answer (encodeOf r) (now (out .exit)) ≡ encodeInto (entries (now (offsets .entry)) (now (attempts .entry))) at (now (out .entry)) ⌝ }
+{
+    write_columns(SNAPSHOT_VERSION, offsets, attempts, out, at)
+}
+
+// The same in version 2.
+pub fn encode_columns_v2<'a>(
+    offsets: &'a [u64],
+    attempts: &'a [u32],
+    out: &mut [u8],
+    at: usize,
+) -> Encode
+    ensures { λ r. ⌜ answer (encodeOf r) (now (out .exit)) ≡ encodeInto2 (entries (now (offsets .entry)) (now (attempts .entry))) at (now (out .entry)) ⌝ }
+{
+    write_columns(SNAPSHOT_VERSION_2, offsets, attempts, out, at)
+}
+
+// Writes a version of the snapshot of the first `count` pairs.
+fn write_pairs(version: u8, pairs: [Pair; PAIRS], count: usize, out: &mut [u8], at: usize) -> Encode
+    ensures { λ r. ⌜ answer (encodeOf r) (now (out .exit)) ≡ encodeFront version count pairs at (now (out .entry)) ⌝ }
 {
     if PAIRS < count {
         return Encode::TooManyPairs;
@@ -158,19 +223,33 @@ pub fn encode_pairs(pairs: [Pair; PAIRS], count: usize, out: &mut [u8], at: usiz
         attempts[i] = pairs[i].attempt;
         i += 1;
     }
-    encode_columns(&offsets[..count], &attempts[..count], out, at)
+    write_columns(version, &offsets[..count], &attempts[..count], out, at)
+}
+
+// Writes the snapshot of the first `count` pairs from a position on, in their order. Over 128 pairs are refused (19), then a
+// snapshot without room (20).
+pub fn encode_pairs(pairs: [Pair; PAIRS], count: usize, out: &mut [u8], at: usize) -> Encode
+    ensures { λ r. ⌜ answer (encodeOf r) (now (out .exit)) ≡ encodeFirst count pairs at (now (out .entry)) ⌝ }
+{
+    write_pairs(SNAPSHOT_VERSION, pairs, count, out, at)
+}
+
+// The same in version 2.
+pub fn encode_pairs_v2(pairs: [Pair; PAIRS], count: usize, out: &mut [u8], at: usize) -> Encode
+    ensures { λ r. ⌜ answer (encodeOf r) (now (out .exit)) ≡ encodeFirst2 count pairs at (now (out .entry)) ⌝ }
+{
+    write_pairs(SNAPSHOT_VERSION_2, pairs, count, out, at)
 }
 
 // Refusals 18 and 19, or the number of pairs.
-fn check_pairs(input: &[u8], count: usize) -> Decode
+fn check_pairs(input: &[u8], version: u8, count: usize) -> Decode
     requires { ⌜ 5 + 12 * count ≤ length (now input) ⌝ }
-    ensures { λ r. ⌜ decodeOf r ≡ checked (pairsTable (readPairs count 5 (now (input .entry)))) (done count) ⌝ }
+    ensures { λ r. ⌜ decodeOf r ≡ checked (pairsTable (pairsAs version count (now (input .entry)))) (done count) ⌝ }
 {
     let mut prev = raw::read_u64(input, 5);
-    let mut pos: usize = 17;
     let mut i: usize = 1;
     while i < count {
-        let offset = raw::read_u64(input, pos);
+        let offset = raw::read_u64(input, offset_at(version, i));
         if offset <= prev {
             return Decode::Refused(AttemptSnapshotError::NotSorted {
                 offset: offset,
@@ -178,13 +257,22 @@ fn check_pairs(input: &[u8], count: usize) -> Decode
             });
         }
         prev = offset;
-        pos += PAIR_LEN;
         i += 1;
     }
     if PAIRS < count {
         return Decode::Refused(AttemptSnapshotError::TooManyPairs);
     }
     Decode::Pairs(count)
+}
+
+// Whether there is such a version.
+fn is_known(version: u8) -> bool
+    ensures { λ r. ⌜ r ≡ known version ⌝ }
+{
+    if version == SNAPSHOT_VERSION {
+        return true;
+    }
+    version == SNAPSHOT_VERSION_2
 }
 
 // Refusals 13 to 19, or the number of pairs.
@@ -196,7 +284,7 @@ fn check(input: &[u8]) -> Decode
         return Decode::Refused(AttemptSnapshotError::Truncated);
     }
     let version = input[0];
-    if version != SNAPSHOT_VERSION {
+    if !is_known(version) {
         return Decode::Refused(AttemptSnapshotError::UnsupportedVersion(version));
     }
     let pairs_bytes = len - ATTEMPT_SNAPSHOT_MIN_LEN;
@@ -215,31 +303,30 @@ fn check(input: &[u8]) -> Decode
     if !crc::is_sealed(input) {
         return Decode::Refused(AttemptSnapshotError::BadCrc);
     }
-    check_pairs(input, actual)
+    check_pairs(input, version, actual)
 }
 
-// The pair at a position.
-fn get_pair(input: &[u8], pos: usize) -> Pair
-    requires { ⌜ pos ≤ length (now input) ⌝ }
-    ensures { λ r. ⌜ entryOf r ≡ readPair pos (now (input .entry)) ⌝ }
+// Pair i of `count`.
+fn get_pair(input: &[u8], count: usize, i: usize) -> Pair
+    requires { ⌜ (i < count) × (12 * count ≤ length (now input)) ⌝ }
+    ensures { λ r. ⌜ entryOf r ≡ readPair (apart (getD (now (input .entry)) 0 0)) count i (now (input .entry)) ⌝ }
 {
+    let version = input[0];
     Pair {
-        offset: raw::read_u64(input, pos),
-        attempt: raw::read_u32(input, pos + 8),
+        offset: raw::read_u64(input, offset_at(version, i)),
+        attempt: raw::read_u32(input, attempt_at(version, count, i)),
     }
 }
 
 // The pairs at the front of an array.
 fn get_pairs(input: &[u8], count: usize) -> [Pair; PAIRS]
     requires { ⌜ (count ≤ 128) × (5 + 12 * count ≤ length (now input)) ⌝ }
-    ensures { λ r. ⌜ entriesOf r ≡ readPairs count 5 (now (input .entry)) ++ drop count (entriesOf blank) ⌝ }
+    ensures { λ r. ⌜ entriesOf r ≡ pairsOf count (now (input .entry)) ++ drop count (entriesOf blank) ⌝ }
 {
     let mut pairs = no_pairs();
-    let mut pos: usize = 5;
     let mut i: usize = 0;
     while i < count {
-        pairs[i] = get_pair(input, pos);
-        pos += PAIR_LEN;
+        pairs[i] = get_pair(input, count, i);
         i += 1;
     }
     pairs
@@ -257,8 +344,8 @@ fn refused(error: AttemptSnapshotError) -> Decoded
     }
 }
 
-// The pairs of a snapshot. Refused in this order: too short (13), another version (14), no whole number of pairs (15), another
-// number than declared (16), a wrong check (17), an offset not above the one before (18), over 128 pairs (19).
+// The pairs of a snapshot of either version. Refused in this order: too short (13), another version (14), no whole number of pairs
+// (15), another number than declared (16), a wrong check (17), an offset not above the one before (18), over 128 pairs (19).
 pub fn decode_pairs(input: &[u8]) -> Decoded
     ensures { λ r. ⌜ DecodedIs (now (input .entry)) r ⌝ }
 {
@@ -314,13 +401,11 @@ fn gathered(pairs: &[Pair], n: usize) -> [Pair; PAIRS]
 // Fills the first n places of a lent list with the pairs of a snapshot.
 fn fill_pairs(input: &[u8], pairs: &mut [Pair], n: usize)
     requires { ⌜ (12 * n ≤ length (now input)) × (n ≤ length (now pairs)) ⌝ }
-    ensures { λ _. ⌜ entriesOf (now (pairs .exit)) ≡ readPairs n 5 (now (input .entry)) ++ drop n (entriesOf (now (pairs .entry))) ⌝ }
+    ensures { λ _. ⌜ entriesOf (now (pairs .exit)) ≡ pairsOf n (now (input .entry)) ++ drop n (entriesOf (now (pairs .entry))) ⌝ }
 {
-    let mut pos: usize = 5;
     let mut i: usize = 0;
     while i < n {
-        pairs[i] = get_pair(input, pos);
-        pos += PAIR_LEN;
+        pairs[i] = get_pair(input, n, i);
         i += 1;
     }
 }
@@ -332,7 +417,16 @@ pub fn encode_attempt_snapshot(pairs: &[Pair], out: &mut [u8], at: usize) -> Enc
 {
     let count = pairs.len();
     let first = gathered(pairs, shorter(count, PAIRS));
-    encode_pairs(first, count, out, at)
+    write_pairs(SNAPSHOT_VERSION, first, count, out, at)
+}
+
+// The same in version 2: all offsets, then all attempts.
+pub fn encode_attempt_snapshot_v2(pairs: &[Pair], out: &mut [u8], at: usize) -> Encode
+    ensures { λ r. ⌜ answer (encodeOf r) (now (out .exit)) ≡ encodeInto2 (entriesOf (now (pairs .entry))) at (now (out .entry)) ⌝ }
+{
+    let count = pairs.len();
+    let first = gathered(pairs, shorter(count, PAIRS));
+    write_pairs(SNAPSHOT_VERSION_2, first, count, out, at)
 }
 
 // Fills a lent list with the pairs of a snapshot, from its first place on; the other places stay. Refused as `decode_pairs`

@@ -12,7 +12,7 @@ use Rattle.crc.specs.Crc32c.{bits, unbits, polynomial, crc}
 use Rattle.crc.specs.Seal.{isSealed}
 use Rattle.cursor.specs.Cursor.{cursor}
 use Rattle.cursor.specs.Snapshot.{encodeCursor, decodeCursor}
-use Rattle.attempt.specs.Snapshot.{encodeAttempts1, decodeAttempts}
+use Rattle.attempt.specs.Snapshot.{encodeAttempts, decodeAttempts}
 use Rattle.delivery.specs.Policy.{policy}
 use Rattle.lease.specs.Counts.{allAttemptCounts}
 use Rattle.journal.specs.Area.{blockAt}
@@ -151,20 +151,20 @@ written block ranges =
 
 -- 31 where a block less is left than a header and its body need; with as many, a record
 pub begin-journal-full : begin (written 17 0) ≡ refused JournalFull
-unfolding begin encodeCursor encodeAttempts1 allAttemptCounts
+unfolding begin encodeCursor encodeAttempts allAttemptCounts
 begin-journal-full = refl
 
 pub begin-in-the-last-two-blocks : begin (written 16 0) ≡ done (writing (written 16 0) 0)
-unfolding begin encodeCursor encodeAttempts1 allAttemptCounts
+unfolding begin encodeCursor encodeAttempts allAttemptCounts
 begin-in-the-last-two-blocks = refl
 
 -- 29 ranges take 486 bytes with the counts and so one body; 30 take 502 and two
 pub begin-with-one-body : begin (written 16 29) ≡ done (writing (written 16 29) 0)
-unfolding begin encodeCursor encodeAttempts1 allAttemptCounts
+unfolding begin encodeCursor encodeAttempts allAttemptCounts
 begin-with-one-body = refl
 
 pub begin-with-two-bodies : begin (written 16 30) ≡ refused JournalFull
-unfolding begin encodeCursor encodeAttempts1 allAttemptCounts
+unfolding begin encodeCursor encodeAttempts allAttemptCounts
 begin-with-two-bodies = refl
 
 -- ## step
@@ -175,7 +175,7 @@ step-on-another-area = refl
 
 -- a body behind the header's place on its own area
 pub step-on-its-own-area : step (writing (fresh accepted 1024) 0) (replicate 1024 0) .outcome ≡ done (record { block = 1; last = false })
-unfolding step encodeCursor encodeAttempts1 allAttemptCounts
+unfolding step encodeCursor encodeAttempts allAttemptCounts
 step-on-its-own-area = refl
 
 -- ## blocks, as the journal itself has them

@@ -17,7 +17,7 @@ use Rattle.raw.specs.Bytes.{overwrite, write}
 use Rattle.raw.proofs.Bytes.{take-overwritten, wrote, wrote-behind}
 use Rattle.cursor.proofs.Search.{runs-is}
 use Rattle.cursor.proofs.Snapshot.{cursor-length}
-use Rattle.attempt.specs.Snapshot.{encodeInto}
+use Rattle.attempt.specs.Snapshot.{encodeInto2}
 use Rattle.attempt.proofs.Snapshot.{attempts-length}
 use Rattle.lease.specs.Counts.{allAttemptCounts}
 use Rattle.journal.proofs.Area.{whole-says}
@@ -52,7 +52,7 @@ module _ (c : Consumer) (l : Lent c) where
     few-counts = omega (arith, count, counts-few (view c) (l .sound .valid))
 
     pub attempt-size : 9 + 12 * r .len ≡ length (attemptBytes (view c))
-    attempt-size = omega (arith, attempts-length (allAttemptCounts (view c .table)), count)
+    attempt-size = omega (arith, attempts-length 2 (allAttemptCounts (view c .table)), count)
 
 -- ## The two snapshots
 module _ (s : State) (v : Valid s) (b₀ b₁ b₂ : List ℕ) (o₁ o₂ : Result ℕ) (lc la : ℕ)
@@ -60,7 +60,7 @@ module _ (s : State) (v : Valid s) (b₀ b₁ b₂ : List ℕ) (o₁ o₂ : Resu
     (first : lc ≡ length (cursorBytes s))
     (second : la ≡ length (attemptBytes s))
     (e₁ : answer o₁ b₁ ≡ write 0 (cursorBytes s) b₀)
-    (e₂ : answer o₂ b₂ ≡ encodeInto (allAttemptCounts (s .table)) lc b₁) where
+    (e₂ : answer o₂ b₂ ≡ encodeInto2 (allAttemptCounts (s .table)) lc b₁) where
   fits : length (cursorBytes s) + length (attemptBytes s) ≤ length b₀
   fits = let p = payload-fits s v in omega (arith, p .cursor-high, p .attempt-high)
 

@@ -32,7 +32,7 @@ pub record PayloadFits (s : State) : Type 0 where
 pub payload-fits : (s : State) → Valid s → PayloadFits s
 payload-fits s v =
     let lc = cursor-length (s .cursor) in
-    let la = attempts-length (allAttemptCounts (s .table)) in
+    let la = attempts-length 2 (allAttemptCounts (s .table)) in
     let total = length-append (cursorBytes s) (attemptBytes s) in
     let few = counts-few s v in
     record {

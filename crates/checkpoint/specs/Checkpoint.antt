@@ -9,7 +9,7 @@ use Rattle.types.specs.Limits.{sat64}
 use Rattle.types.specs.Refusal.{Result, done, BadArea, JournalFull}
 use Rattle.types.specs.Table.{Row, _⇒_, Answer, answer, checked, guarded}
 use Rattle.cursor.specs.Snapshot.{encodeCursor}
-use Rattle.attempt.specs.Snapshot.{encodeAttempts1}
+use Rattle.attempt.specs.Snapshot.{encodeAttempts2}
 use Rattle.lease.specs.Counts.{allAttemptCounts}
 use Rattle.lease.specs.Rest.{attemptsFlushed}
 use Rattle.journal.specs.Area.{writeAt}
@@ -17,12 +17,12 @@ use Rattle.journal.specs.Blocks.{bodiesFor, chunkOf, headerBlock, bodyBlock}
 use Rattle.consumer.specs.State.{State, stateOf, nextGroupAt, blocksOf}
 
 -- ## what is written
--- the cursor's snapshot and that of all attempt counts, and both as the payload
+-- the cursor's snapshot and that of all attempt counts, in version 2, and both as the payload
 abbrev pub cursorBytes : State → List ℕ
 cursorBytes s = encodeCursor (s .cursor)
 
 abbrev pub attemptBytes : State → List ℕ
-attemptBytes s = encodeAttempts1 (allAttemptCounts (s .table))
+attemptBytes s = encodeAttempts2 (allAttemptCounts (s .table))
 
 abbrev pub payloadOf : State → List ℕ
 payloadOf s = cursorBytes s ++ attemptBytes s

@@ -7,7 +7,7 @@ ghost use lib.ListN.{length, take};
 ghost use Rattle.types.specs.Limits.{sat64};
 ghost use Rattle.types.specs.Table.{answer};
 ghost use Rattle.types.specs.Keyed.{entries};
-ghost use Rattle.attempt.specs.Snapshot.{encodeInto};
+ghost use Rattle.attempt.specs.Snapshot.{encodeInto2};
 ghost use Rattle.attempt.specs.Codec.{encodeOf};
 ghost use Rattle.cursor.specs.View.{ackCursor};
 ghost use Rattle.lease.specs.Parts.{listingAll};
@@ -60,7 +60,7 @@ fn bodies_of(cursor_len: usize, attempt_len: usize) -> usize
     (cursor_len + attempt_len + 499) / 500
 }
 
-// Writes the snapshot of the first n counts of two columns from a position on.
+// Writes the snapshot, in version 2, of the first n counts of two columns from a position on.
 fn put_counts<'a>(
     offsets: &'a [u64],
     attempts: &'a [u32],
@@ -69,9 +69,9 @@ fn put_counts<'a>(
     at: usize,
 ) -> Encode
     requires { ⌜ (n ≤ length (now offsets)) × (n ≤ length (now attempts)) ⌝ }
-    ensures { λ r. ⌜ answer (encodeOf r) (now (out .exit)) ≡ encodeInto (entries (take n (now (offsets .entry))) (take n (now (attempts .entry)))) at (now (out .entry)) ⌝ }
+    ensures { λ r. ⌜ answer (encodeOf r) (now (out .exit)) ≡ encodeInto2 (entries (take n (now (offsets .entry))) (take n (now (attempts .entry)))) at (now (out .entry)) ⌝ }
 {
-    attempt::encode_columns(&offsets[..n], &attempts[..n], out, at)
+    attempt::encode_columns_v2(&offsets[..n], &attempts[..n], out, at)
 }
 
 // What `begin` does on the parts of a consumer, and of the record that is to hold its payload: with room for the group both

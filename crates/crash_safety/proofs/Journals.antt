@@ -104,7 +104,7 @@ module _ (s : State) (v : Valid s) where
           drop-at (cursorBytes s) (attemptBytes s) lc refl,
           take-all la (attemptBytes s) (omega arith),
           cursor-back (s .cursor) (v .cursor),
-          attempts-back (allAttemptCounts (s .table)) (counts-rising s v) (counts-fit s v) (counts-few s v),
+          attempts-back 2 refl (allAttemptCounts (s .table)) (counts-rising s v) (counts-fit s v) (counts-few s v),
           counts-carried s v,
         )
 

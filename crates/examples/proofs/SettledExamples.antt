@@ -17,7 +17,7 @@ code-11 rest =
 code-12 : (a b c d e f g h i : ℕ) → Twelve a b c d e f g h i
 code-12 a b c d e f g h i =
     let x = attempts.example-12 a b c d e f g h i in
-    record { is = x; version-2 = ap codeIn (x .version-2); version-1 = ap codeIn (x .version-1) }
+    record { is = x; version-3 = ap codeIn (x .version-3); version-1 = ap codeIn (x .version-1) }
 
 pub settled-examples : SettledExamples
 settled-examples =

@@ -8,7 +8,7 @@ use lib.ListN.{replicate}
 use Rattle.crc.specs.Crc32c.{bits, unbits, polynomial, crc}
 use Rattle.crc.specs.Seal.{isSealed}
 use Rattle.cursor.specs.Snapshot.{encodeCursor, decodeCursor}
-use Rattle.attempt.specs.Snapshot.{encodeAttempts1, decodeAttempts}
+use Rattle.attempt.specs.Snapshot.{encodeAttempts, decodeAttempts}
 use Rattle.lease.specs.Counts.{allAttemptCounts}
 use Rattle.journal.specs.Area.{blockAt, writeAt}
 use Rattle.journal.specs.Blocks.{headerBlock, bodyBlock}
@@ -39,5 +39,5 @@ items =
 
 pub bound-met : handOuts (delivers 0) (run configuration (freshWorld (fresh configuration 9216) 9216) items)
     ≡ configuration .settings .policy .maxDeliver + restartsIn items * (configuration .settings .policy .flushRedeliveries + 1)
-unfolding handOuts restartsIn run next transition consumer.claim checkpoint.begin checkpoint.step badArea restarts.restart fromWalk allAttemptCounts encodeCursor decodeCursor encodeAttempts1 decodeAttempts blockAt writeAt headerBlock bodyBlock isKind wellFormed soundHeader soundBody groupAt walkOver walkFrom headerBehind payload isSealed bits unbits polynomial crc xor
+unfolding handOuts restartsIn run next transition consumer.claim checkpoint.begin checkpoint.step badArea restarts.restart fromWalk allAttemptCounts encodeCursor decodeCursor encodeAttempts decodeAttempts blockAt writeAt headerBlock bodyBlock isKind wellFormed soundHeader soundBody groupAt walkOver walkFrom headerBehind payload isSealed bits unbits polynomial crc xor
 bound-met = refl

@@ -1,10 +1,11 @@
 -- The settled examples 13 and 14 of document 01, and a restart on a foreign journal, computed on the definitions that the
 -- contracts cite.
-use Prim.Native.Nat.{ℕ, zero, suc}
-use mathlib.Core.Path.{_≡_, refl}
+use Prim.Native.Nat.{ℕ, zero, suc, _+_, _*_, _≤_, _<_}
+use native.Mathlib.Omega.{arith}
+use mathlib.Core.Path.{_≡_, refl, sym, ap, _∙_}
 use mathlib.Core.Bool.{false, xor}
 use mathlib.Core.List.{List, [], _∷_, _++_}
-use lib.ListN.{length, replicate}
+use lib.ListN.{length, take, replicate, drop-of-length-le}
 use Rattle.types.specs.Limits.{MAX}
 use Rattle.types.specs.Keyed.{entry}
 use Rattle.types.specs.Refusal.{Result, refused, done, CheckpointDue}
@@ -12,17 +13,18 @@ use Rattle.crc.specs.Crc32c.{bits, unbits, polynomial, crc}
 use Rattle.crc.specs.Seal.{isSealed}
 use Rattle.cursor.specs.Cursor.{cursor}
 use Rattle.cursor.specs.Snapshot.{encodeCursor, decodeCursor}
-use Rattle.attempt.specs.Snapshot.{encodeAttempts1, decodeAttempts}
+use Rattle.attempt.specs.Snapshot.{encodeAttempts, encodeAttempts1, encodeAttempts2, decodeAttempts}
 use Rattle.delivery.specs.Policy.{policy, Destination, Deliver, DeadLetter}
 use Rattle.lease.specs.Counts.{allAttemptCounts}
 use Rattle.journal.specs.Area.{blockAt, writeAt}
-use Rattle.journal.specs.Blocks.{headerBlock, bodyBlock}
+use Rattle.journal.specs.Blocks.{headerBlock, bodyBlock, chunkOf}
 use Rattle.journal.specs.Sound.{isKind, wellFormed, soundHeader, soundBody}
 use Rattle.journal.specs.Walks.{groupAt, walkOver, walkFrom, headerBehind, payload}
 use Rattle.consumer.specs.State.{Configuration, State, nextGroupAt, badArea}
 use Rattle.consumer.specs.Calls.{HandOut, claim}
 use Rattle.checkpoint.specs.Checkpoint.{writes, begin, Left, going, finished, Lent, lent, step}
 use Rattle.starts.specs.Restart.{resumed, fresh, start, fromWalk, restart}
+use Rattle.starts.specs.Versions.{Source, Measured, attemptsIn, payloadIn, Stands, OtherVersion}
 
 -- M 2, N 1, visibility 10, cap 25
 abbrev pub configuration : Configuration
@@ -90,7 +92,7 @@ pub record Example14 : Type 0 where
   pub answered : fromStart acts14 ≡ handsOut 0 1 Deliver ∷ handsOut 1 2 Deliver ∷ refused CheckpointDue ∷ handsOut 4098 3 DeadLetter ∷ []
 
 pub example-14 : Example14
-unfolding start claim begin step badArea restart fromWalk allAttemptCounts encodeCursor decodeCursor encodeAttempts1 decodeAttempts blockAt writeAt headerBlock bodyBlock isKind wellFormed soundHeader soundBody groupAt walkOver walkFrom headerBehind payload isSealed bits unbits polynomial crc xor
+unfolding start claim begin step badArea restart fromWalk allAttemptCounts encodeCursor decodeCursor encodeAttempts decodeAttempts blockAt writeAt headerBlock bodyBlock isKind wellFormed soundHeader soundBody groupAt walkOver walkFrom headerBehind payload isSealed bits unbits polynomial crc xor
 example-14 = record { answered = refl }
 
 -- a foreign journal of one group, with a count of a settled offset, a zero and a count for MAX: a restart drops, drops and
@@ -100,5 +102,69 @@ foreign b d = headerBlock 1 7 (length b) (length d) ++ bodyBlock 1 1 (b ++ d)
 
 pub foreign-counts : restart configuration (foreign (encodeCursor (cursor 5 [])) (encodeAttempts1 (entry 3 2 ∷ entry 6 0 ∷ entry 9 1 ∷ entry MAX 4 ∷ [])))
     ≡ done (resumed configuration 1024 (cursor 5 []) (entry 9 1 ∷ entry MAX 4 ∷ []) 7 (nextGroupAt 2 2))
-unfolding badArea restart fromWalk encodeCursor decodeCursor encodeAttempts1 decodeAttempts blockAt headerBlock bodyBlock isKind wellFormed soundHeader soundBody groupAt walkOver walkFrom headerBehind payload isSealed bits unbits polynomial crc xor
+unfolding badArea restart fromWalk encodeCursor decodeCursor encodeAttempts decodeAttempts blockAt headerBlock bodyBlock isKind wellFormed soundHeader soundBody groupAt walkOver walkFrom headerBehind payload isSealed bits unbits polynomial crc xor
 foreign-counts = refl
+
+-- the same counts in version 2
+pub foreign-counts-2 : restart configuration (foreign (encodeCursor (cursor 5 [])) (encodeAttempts2 (entry 3 2 ∷ entry 6 0 ∷ entry 9 1 ∷ entry MAX 4 ∷ [])))
+    ≡ done (resumed configuration 1024 (cursor 5 []) (entry 9 1 ∷ entry MAX 4 ∷ []) 7 (nextGroupAt 2 2))
+unfolding badArea restart fromWalk encodeCursor decodeCursor encodeAttempts decodeAttempts blockAt headerBlock bodyBlock isKind wellFormed soundHeader soundBody groupAt walkOver walkFrom headerBehind payload isSealed bits unbits polynomial crc xor
+foreign-counts-2 = refl
+
+-- ## These two journals differ in the version alone: the premise of `version-free-restart` is met
+abbrev source : Source
+source =
+    record {
+      number = 1;
+      place = 0;
+      ceiling = 7;
+      cursor = encodeCursor (cursor 5 []);
+      counts = entry 3 2 ∷ entry 6 0 ∷ entry 9 1 ∷ entry MAX 4 ∷ [];
+    }
+
+abbrev inVersion : ℕ → List ℕ
+inVersion version = foreign (source .cursor) (attemptsIn version source)
+
+-- their one body, and no block behind it
+abbrev Body : ℕ → ℕ → Type 0
+Body version j =
+    blockAt (inVersion version) (source .place + suc j) ≡ bodyBlock (source .number) (suc j) (chunkOf (suc j) (payloadIn version source))
+
+one-body : (n : ℕ) → n ≡ 1 → (P : ℕ → Type 0) → P 0 → (j : ℕ) → j < n → P j
+one-body n e P p zero h = p
+one-body n e P p (suc j) h = absurd (omega (arith, e))
+
+no-block : (a : List ℕ) (j : ℕ) → length a ≡ 1024 → 2 ≤ j → blockAt a j ≡ []
+unfolding blockAt
+no-block a j e h = ap (take 512) (drop-of-length-le a {i = 512 * j} (omega (arith, e)))
+
+stands-1 : Stands (inVersion 1) 1 source
+unfolding encodeCursor encodeAttempts blockAt headerBlock bodyBlock bits unbits polynomial crc xor
+stands-1 = record { header = refl; bodies = one-body _ refl (Body 1) refl }
+
+stands-2 : Stands (inVersion 2) 2 source
+unfolding encodeCursor encodeAttempts blockAt headerBlock bodyBlock bits unbits polynomial crc xor
+stands-2 = record { header = refl; bodies = one-body _ refl (Body 2) refl }
+
+pub source-measured : Measured source
+unfolding encodeCursor
+source-measured =
+    record {
+      number-fits = omega arith;
+      cursor-low = omega arith;
+      cursor-high = omega arith;
+      counts-fit = ((omega arith, omega arith), ((omega arith, omega arith), ((omega arith, omega arith), ((omega arith, omega arith), tt))));
+      few = omega arith;
+    }
+
+pub version-free-met : OtherVersion (inVersion 1) (inVersion 2) 1 2 source
+unfolding encodeCursor encodeAttempts blockAt headerBlock bodyBlock isKind wellFormed soundHeader soundBody groupAt walkOver walkFrom isSealed bits unbits polynomial crc xor
+version-free-met =
+    record {
+      size = refl;
+      last = refl;
+      one = stands-1;
+      other = stands-2;
+      before = λ j l h. absurd (omega arith);
+      after = λ j h. no-block (inVersion 2) j refl h ∙ sym (no-block (inVersion 1) j refl h);
+    }

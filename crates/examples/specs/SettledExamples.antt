@@ -54,7 +54,7 @@ pub record Eleven (rest : List ℕ) : Type 0 where
 
 pub record Twelve (a b c d e f g h i : ℕ) : Type 0 where
   pub is : attempts.Example12 a b c d e f g h i
-  pub version-2 : codeIn (decodeAttempts (2 ∷ a ∷ b ∷ c ∷ d ∷ e ∷ f ∷ g ∷ h ∷ i ∷ [])) ≡ code 14 (2 ∷ [])
+  pub version-3 : codeIn (decodeAttempts (3 ∷ a ∷ b ∷ c ∷ d ∷ e ∷ f ∷ g ∷ h ∷ i ∷ [])) ≡ code 14 (3 ∷ [])
   pub version-1 : codeIn (decodeAttempts (1 ∷ a ∷ b ∷ c ∷ d ∷ e ∷ f ∷ g ∷ h ∷ i ∷ [])) ≡ code 15 (10 ∷ [])
 
 pub record Thirteen : Type 0 where

@@ -29,7 +29,7 @@ use Rattle.cursor.specs.declared.Decode as cursor-decode
 use Rattle.cursor.specs.declared.Decode.the-variants as decodes
 use Rattle.cursor.specs.declared.Decoded as cursor-decoded
 use Rattle.cursor.proofs.Search.{runs-is}
-use Rattle.attempt.specs.Snapshot.{encodeInto, decodeAttempts}
+use Rattle.attempt.specs.Snapshot.{encodeVersion, decodeAttempts}
 use Rattle.types.specs.Lists.{entriesOf, counted}
 use Rattle.attempt.specs.Codec.{encodeOf, decodeOf, DecodedIs}
 use Rattle.attempt.specs.declared.Encode.{Encode}
@@ -145,9 +145,9 @@ module _ (b : List ℕ) (r : cursor-decoded.Decoded) (is : cursors.DecodedIs b r
           rw (← said (decodes.Refused error) z) (rw (p, q, u, z, n))
 
 -- ## pairs
-pub pairs-written : (l : List (Entry ℕ)) (at : ℕ) (out : List ℕ) (w : Encode) (after : List ℕ) (t : Numbers)
-    → answer (encodeOf w) after ≡ encodeInto l at out → t ≡ numbersOf (answered oneValue (encodeOf w)) → crossed t after ≡ cross oneValue (encodeInto l at out)
-pairs-written l at out w after t e u = rw (← e, u)
+pub pairs-written : (v : ℕ) (l : List (Entry ℕ)) (at : ℕ) (out : List ℕ) (w : Encode) (after : List ℕ) (t : Numbers)
+    → answer (encodeOf w) after ≡ encodeVersion v l at out → t ≡ numbersOf (answered oneValue (encodeOf w)) → crossed t after ≡ cross oneValue (encodeVersion v l at out)
+pairs-written v l at out w after t e u = rw (← e, u)
 
 module _ (b : List ℕ) (r : Decoded) (is : DecodedIs b r) (offsets attempts : List ℕ) where
   abbrev listed : Crossed Columns

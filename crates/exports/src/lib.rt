@@ -8,7 +8,7 @@ ghost use Rattle.types.specs.Keyed.{entries};
 ghost use Rattle.types.specs.Zipped.{zipped};
 ghost use Rattle.crc.specs.Crc32c.{crc};
 ghost use Rattle.cursor.specs.Ranges.{range};
-ghost use Rattle.attempt.specs.Snapshot.{encodeInto};
+ghost use Rattle.attempt.specs.Snapshot.{encodeInto, encodeInto2};
 ghost use Rattle.types.specs.Lists.{entriesOf};
 ghost use Rattle.answers.specs.Numbers.{oneValue, values};
 ghost use Rattle.exports.specs.Answers.{crossed, cross};
@@ -126,8 +126,21 @@ pub extern "C" fn ninotskev_encode_attempts<'a>(
     answers::of_encode(attempt::encode_columns(offsets, attempts, out, at))
 }
 
-// Reads the snapshot of attempt counts, and puts its offsets and its counts at the front of two lent columns. Answers the
-// number of pairs, or 13 to 19, or 20 where a column is too short.
+// The same in version 2: all offsets, then all attempts.
+#[no_mangle]
+pub extern "C" fn ninotskev_encode_attempts_v2<'a>(
+    offsets: &'a [u64],
+    attempts: &'a [u32],
+    out: &mut [u8],
+    at: usize,
+) -> Numbers
+    ensures { λ r. ⌜ crossed r (now (out .exit)) ≡ cross oneValue (encodeInto2 (entries (now (offsets .entry)) (now (attempts .entry))) at (now (out .entry))) ⌝ }
+{
+    answers::of_encode(attempt::encode_columns_v2(offsets, attempts, out, at))
+}
+
+// Reads the snapshot of attempt counts, of either version, and puts its offsets and its counts at the front of two lent columns.
+// Answers the number of pairs, or 13 to 19, or 20 where a column is too short.
 #[no_mangle]
 pub extern "C" fn ninotskev_decode_attempts(
     input: &[u8],

@@ -11,6 +11,7 @@ use crate::places;
 use crate::places::Judged;
 use crate::places::Place;
 use crate::said::Said;
+use crate::said::byte;
 use crate::said::says;
 use text::templates::fill;
 
@@ -55,19 +56,6 @@ fn put_rest(out: &mut [u8], at: usize, rest: Said) -> usize {
         rest.template,
         numbers,
     )
-}
-
-// A byte as a u64.
-fn wide(x: u8) -> u64 {
-    x as u64
-}
-
-// A byte, or 0 where there is none.
-fn byte(block: &[u8], i: usize) -> u64 {
-    if i < block.len() {
-        return wide(block[i]);
-    }
-    0
 }
 
 // The test that block i fails, with what it has there.

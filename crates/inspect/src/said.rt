@@ -11,3 +11,16 @@ pub fn says(template: usize, first: u64, second: u64) -> Said {
         numbers: [first, second, 0, 0],
     }
 }
+
+// A byte as a u64.
+fn wide(x: u8) -> u64 {
+    x as u64
+}
+
+// A byte as a number, or 0 where there is none.
+pub fn byte(bytes: &[u8], i: usize) -> u64 {
+    if i < bytes.len() {
+        return wide(bytes[i]);
+    }
+    0
+}

@@ -1,6 +1,7 @@
 // The contents of a cursor snapshot and of an attempt snapshot, or the refusal, beside which no range and no pair stands.
 use crate::refusals::refused;
 use crate::said::Said;
+use crate::said::byte;
 use crate::said::says;
 use answers::Numbers;
 use attempt::Decoded;
@@ -9,8 +10,8 @@ use text::templates::fill;
 use types::numbers::shorter;
 use types::numbers::wide;
 
-// What a snapshot of `len` bytes begins with: two numbers of its contents, or the refusal's.
-fn heading_said(len: u64, read: Numbers) -> Said {
+// What a cursor snapshot of `len` bytes begins with: what it has, or the refusal's number.
+fn cursor_said(len: u64, read: Numbers) -> Said {
     if read.0 != 0 {
         return says(1, len, read.0);
     }
@@ -20,9 +21,28 @@ fn heading_said(len: u64, read: Numbers) -> Said {
     }
 }
 
-// Its first lines, by the first template, or by the second, behind which the refusal stands.
-fn heading(out: &mut [u8], at: usize, templates: &[u8], len: u64, read: Numbers) -> usize {
-    let said = heading_said(len, read);
+// What an attempt snapshot begins with. Its version is named but where there is none (13), or where the refusal names it (14).
+fn attempts_said(len: u64, version: u64, read: Numbers) -> Said {
+    if read.0 == 0 {
+        return Said {
+            template: 0,
+            numbers: [len, version, read.2, 0],
+        };
+    }
+    if read.0 == 13 {
+        return says(1, len, read.0);
+    }
+    if read.0 == 14 {
+        return says(1, len, read.0);
+    }
+    Said {
+        template: 2,
+        numbers: [len, version, read.0, 0],
+    }
+}
+
+// The first lines of a snapshot, and the rest of the refusal behind its number.
+fn heading(out: &mut [u8], at: usize, templates: &[u8], said: Said, read: Numbers) -> usize {
     let numbers = said.numbers;
     let next = fill(out, at, templates, said.template, numbers);
     refused(out, next, read)
@@ -45,13 +65,14 @@ fn ranges(out: &mut [u8], at: usize, cursor: AckCursor) -> usize {
 pub fn cursor(out: &mut [u8], at: usize, bytes: &[u8]) -> usize {
     let decoded = AckCursor::decode_snapshot(bytes);
     let outcome = decoded.outcome;
+    let read = answers::of_decode_cursor(outcome, decoded.cursor.committed, decoded.cursor.runs);
     let next = heading(
         out,
         at,
         b"cursor snapshot of # bytes\ncommitted #\nranges ahead #\n|\
         cursor snapshot of # bytes\nrefused: # ",
-        bytes.len() as u64,
-        answers::of_decode_cursor(outcome, decoded.cursor.committed, decoded.cursor.runs),
+        cursor_said(bytes.len() as u64, read),
+        read,
     );
     ranges(out, next, decoded.cursor)
 }
@@ -74,13 +95,15 @@ fn pairs(out: &mut [u8], at: usize, decoded: Decoded) -> usize {
 pub fn attempts(out: &mut [u8], at: usize, bytes: &[u8]) -> usize {
     let decoded = attempt::decode_pairs(bytes);
     let outcome = decoded.outcome;
+    let read = answers::of_decode_attempts(outcome);
     let next = heading(
         out,
         at,
-        b"attempt snapshot of # bytes\npairs #\n|\
-        attempt snapshot of # bytes\nrefused: # ",
-        bytes.len() as u64,
-        answers::of_decode_attempts(outcome),
+        b"attempt snapshot of # bytes, version #\npairs #\n|\
+        attempt snapshot of # bytes\nrefused: # |\
+        attempt snapshot of # bytes, version #\nrefused: # ",
+        attempts_said(bytes.len() as u64, byte(bytes, 0), read),
+        read,
     );
     pairs(out, next, decoded)
 }

@@ -364,6 +364,48 @@ module _ (a : List ℕ) where
     some-behind j l h t =
         split (headerBehind a hi i) (λ e. e) (λ e. absurd (differ t (behind-none e j l h)))
 
+-- it goes by the blocks behind alone
+module _ (a a′ : List ℕ) where
+  any-same : (m i : ℕ) → ((j : ℕ) → i ≤ j → blockAt a′ j ≡ blockAt a j) → anyHeader a′ m i ≡ anyHeader a m i
+  any-same zero i same = refl
+  any-same (suc m) i same = rw (same i (omega arith), any-same m (suc i) (λ j l. same j (omega arith)))
+
+  pub behind-same : (hi i : ℕ) → ((j : ℕ) → i < j → blockAt a′ j ≡ blockAt a j) → headerBehind a′ hi i ≡ headerBehind a hi i
+  unfolding headerBehind
+  behind-same hi i same = any-same (hi - suc i) (suc i) (λ j l. same j (omega arith))
+
+-- ## Another last group
+-- where a group of the same number and extent stands in the place of the last one, and nothing before it and no header behind it is
+-- changed, the walk ends where it did
+module _ (a a′ : List ℕ) (hi lo k₀ i k e : ℕ)
+    (same : Same a a′ lo i)
+    (whole : Group a′ hi k i e)
+    (ends-there : soundHeader hi (suc k) e (blockAt a′ e) ≡ false) where
+  replaced-from : (last : Option ℕ) (m j : ℕ) → lo ≤ j → walkFrom a hi last m j ≡ stop (some i) (suc k) e
+      → walkFrom a′ hi last m j ≡ stop (some i) (suc k) e
+  replaced-from =
+      walk-ind a hi (λ last m j w. lo ≤ j → w ≡ stop (some i) (suc k) e → walkFrom a′ hi last m j ≡ stop (some i) (suc k) e)
+      (λ last m j n l p.
+      let q : (some i ≡ last) × (suc k ≡ m) × (e ≡ j) = stop-inj p in
+      rw (← q .0, ← q .1, ← q .2) (walk-turn a′ hi (some i) (suc k) e ∙ rw (says-nothing a′ hi (suc k) e ends-there)))
+      (λ last m j x n u l p. stop-damaged p)
+      (λ last m j e₁ g ih l p.
+      let r = walk-ended a hi (some j) (suc m) e₁ (some i) (suc k) e p in
+      walk-turn a′ hi last m j
+      ∙ rw (says-group a′ hi m j e₁ (passed m j e₁ l g (r .last-is))) (ih (omega (arith, g .behind)) p))
+    where
+      passed : (m j e₁ : ℕ) → lo ≤ j → Group a hi m j e₁ → LastIs a hi (some j) (suc m) e₁ (some i) (suc k) e → Group a′ hi m j e₁
+      passed m j e₁ l g (at-once p q r) =
+          let place : i ≡ j = cc in
+          let number : k ≡ m = omega arith in
+          rw (← place, ← number, ← r) whole
+      passed m j e₁ l g (behind h n p q r s t) =
+          let place : i ≡ h = cc in
+          group-same a a′ hi lo m j e₁ l (λ x y z. same x y (omega arith)) g
+
+  pub walk-replaced : walk a hi k₀ lo ≡ stop (some i) (suc k) e → walk a′ hi k₀ lo ≡ stop (some i) (suc k) e
+  walk-replaced = replaced-from none k₀ lo (omega arith)
+
 -- ## A block written
 -- behind the groups, or in front of the first, it leaves the walk as it was, unless it is the sound header expected
 module _ (a : List ℕ) (hi lo k₀ : ℕ) (l : Option ℕ) (k e i : ℕ) (b : List ℕ)

@@ -118,7 +118,14 @@ fn encode_attempts(at: u64, list: List, bytes: &mut [u8]) -> Answer {
     answer::of_numbers(answers::of_encode(written))
 }
 
-// set I V, seal FROM TO, cursor encode AT, attempt encode AT, in the first n bytes
+// attempt encode2 AT, the same in version 2
+fn encode_attempts_v2(at: u64, list: List, bytes: &mut [u8]) -> Answer {
+    let pairs = pairs_of(list);
+    let written = attempt::encode_pairs_v2(pairs, list.n, bytes, at as usize);
+    answer::of_numbers(answers::of_encode(written))
+}
+
+// set I V, seal FROM TO, cursor encode AT, attempt encode AT, attempt encode2 AT, in the first n bytes
 fn write(op: Op, cursor: AckCursor, list: List, bytes: &mut [u8], n: usize) -> Answer
     requires { ⌜ Sound cursor × (n ≤ length (now bytes)) ⌝ }
 {
@@ -128,6 +135,7 @@ fn write(op: Op, cursor: AckCursor, list: List, bytes: &mut [u8], n: usize) -> A
         13 => seal(op.w, op.x, bytes, n),
         14 => encode_cursor(op.w, cursor, &mut bytes[0..n]),
         15 => encode_attempts(op.w, list, &mut bytes[0..n]),
+        16 => encode_attempts_v2(op.w, list, &mut bytes[0..n]),
         _ => answer::bad(),
     }
 }

@@ -7,3 +7,4 @@ pub mod Carrying
 pub mod Resuming
 pub mod Reading
 pub mod Restarting
+pub mod Versions

@@ -1,2 +1,3 @@
 pub mod Restart
 pub mod Starting
+pub mod Versions

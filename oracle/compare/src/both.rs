@@ -13,11 +13,33 @@ fn lent_numbers(len: usize) -> Vec<u64> {
     (0..len).map(|i| 0xfeed_0000_0000 + i as u64).collect()
 }
 
-/// Counts the inputs that were compared, and stops at the first on which the two sides differ.
+/// Counts the inputs that were compared, and stops at the first on which the two sides differ. Attempt snapshots of version 2 (02, j)
+/// are compared with what 02 says, by `codecs`, and the original has to turn them away.
 #[derive(Default)]
 pub struct Both {
     pub inputs: u64,
+    pub turned_away: u64,
 }
+
+/// An encoder of attempt counts, on each side.
+struct Encoder {
+    version: u8,
+    rattle: fn(&[u64], &[u32], &mut [u8], usize) -> Numbers,
+    expected: fn(&[(u64, u32)], &mut [u8], u64) -> codecs::Code,
+}
+
+const ENCODERS: [Encoder; 2] = [
+    Encoder {
+        version: 1,
+        rattle: rattle::encode_attempts,
+        expected: codecs::encode_attempts,
+    },
+    Encoder {
+        version: 2,
+        rattle: rattle::encode_attempts_v2,
+        expected: codecs::encode_attempts_v2,
+    },
+];
 
 /// An answer of either side: the number and the values, and lent memory.
 #[derive(Debug, PartialEq)]
@@ -57,11 +79,11 @@ fn listed(values: &[u64], left: &[u64], right: &[u64], lent: (Vec<u64>, Vec<u64>
 }
 
 impl Both {
-    fn same<M: PartialEq + std::fmt::Debug>(&mut self, original: Answer<M>, rattle: Answer<M>, input: impl FnOnce() -> String) {
+    fn same<M: PartialEq + std::fmt::Debug>(&mut self, expected: Answer<M>, rattle: Answer<M>, input: impl FnOnce() -> String) {
         self.inputs += 1;
-        if original != rattle {
+        if expected != rattle {
             println!(
-                "compare: the two sides differ on {}\n  the original: {original:?}\n  here: {rattle:?}",
+                "compare: the two sides differ on {}\n  expected: {expected:?}\n  here: {rattle:?}",
                 input()
             );
             std::process::exit(1);
@@ -142,6 +164,16 @@ impl Both {
         });
     }
 
+    /// The original answers 14 with 2 to bytes of version 2, but for those too short for any version.
+    fn turned_away(&mut self, bytes: &[u8]) {
+        let refusal = if bytes.len() < 9 { vec![13] } else { vec![14, 2] };
+        if codecs::original_decode_attempts(bytes) != Err(refusal) {
+            println!("compare: the original doesn't turn away {bytes:?}");
+            std::process::exit(1);
+        }
+        self.turned_away += 1;
+    }
+
     /// Decodes attempt bytes into columns with these numbers of places.
     pub fn decode_attempts(&mut self, bytes: &[u8], places: (usize, usize)) {
         let lent = (
@@ -154,7 +186,10 @@ impl Both {
         let mut offsets = lent.0.clone();
         let mut attempts: Vec<u32> = lent.1.iter().map(|&n| n as u32).collect();
         let answer = rattle::decode_attempts(bytes, &mut offsets, &mut attempts);
-        let original = match codecs::decode_attempts(bytes) {
+        if bytes.first() == Some(&2) {
+            self.turned_away(bytes);
+        }
+        let expected = match codecs::decode_attempts(bytes) {
             Err(refusal) => Answer {
                 code: code(&refusal),
                 lent,
@@ -167,7 +202,7 @@ impl Both {
         };
         let attempts = attempts.into_iter().map(u64::from).collect();
         self.same(
-            original,
+            expected,
             Answer {
                 code: answer,
                 lent: (offsets, attempts),
@@ -176,19 +211,24 @@ impl Both {
         );
     }
 
-    /// Encodes attempt counts into `len` lent bytes at a position.
+    /// Encodes attempt counts into `len` lent bytes at a position, in each version.
     pub fn encode_attempts(&mut self, pairs: &[(u64, u32)], len: usize, at: usize) {
         let (offsets, attempts): (Vec<u64>, Vec<u32>) = pairs.iter().copied().unzip();
-        let mut out = lent_bytes(len);
-        let answer = rattle::encode_attempts(&offsets, &attempts, &mut out, at);
-        let mut expected = lent_bytes(len);
-        let refusal = codecs::encode_attempts(pairs, &mut expected, at as u64);
-        let original = Answer {
-            code: code(&refusal),
-            lent: expected,
-        };
-        self.same(original, Answer { code: answer, lent: out }, || {
-            format!("pairs {pairs:?} into {len} bytes at {at}")
-        });
+        for encoder in ENCODERS {
+            let mut out = lent_bytes(len);
+            let answer = (encoder.rattle)(&offsets, &attempts, &mut out, at);
+            let mut lent = lent_bytes(len);
+            let refusal = (encoder.expected)(pairs, &mut lent, at as u64);
+            if encoder.version == 2 && answer.number == 0 {
+                self.turned_away(&out[at..answer.values[0] as usize]);
+            }
+            let expected = Answer {
+                code: code(&refusal),
+                lent,
+            };
+            self.same(expected, Answer { code: answer, lent: out }, || {
+                format!("version {} of pairs {pairs:?} into {len} bytes at {at}", encoder.version)
+            });
+        }
     }
 }

@@ -1,10 +1,12 @@
 //! The exported functions beside the original's on the same inputs: all short ones, random ones around each boundary, damaged
 //! copies of good ones, and every count, version, length and order at its limit. Compared are the answers with their values, and
-//! every byte and number of lent memory, written or not.
+//! every byte and number of lent memory, written or not. Attempt snapshots of version 2 (02, j) are made and read beside a second
+//! writing of 02, and the original has to turn away each of them.
 mod both;
 
 use both::Both;
 use ironbus::cursor::AckCursor;
+use lists::codecs::{attempt_snapshot, attempt_snapshot_v2};
 use lists::random::Random;
 
 /// Room for whatever is decoded.
@@ -31,19 +33,20 @@ fn cursor_bytes(committed: u64, ranges: &[(u64, u64)]) -> Vec<u8> {
     bytes
 }
 
-/// Attempt bytes of any pairs that declare any count, with a right check.
-fn attempt_bytes(declared: u32, pairs: &[(u64, u32)]) -> Vec<u8> {
-    let mut bytes = vec![1];
-    bytes.extend(declared.to_le_bytes());
-    bytes.extend(
-        pairs
-            .iter()
-            .flat_map(|&(offset, attempt)| [&offset.to_le_bytes()[..], &attempt.to_le_bytes()].concat()),
-    );
-    bytes.extend([0; 4]);
+/// Attempt bytes of either version, of any pairs, that declare any count, with a right check.
+fn attempt_bytes(version: u8, declared: u32, pairs: &[(u64, u32)]) -> Vec<u8> {
+    let mut bytes = if version == 2 {
+        attempt_snapshot_v2(pairs)
+    } else {
+        attempt_snapshot(pairs)
+    };
+    bytes[1..5].copy_from_slice(&declared.to_le_bytes());
     seal(&mut bytes);
     bytes
 }
+
+/// The versions that are read.
+const VERSIONS: [u8; 2] = [1, 2];
 
 fn good_ranges(random: &mut Random, committed: u64, n: usize) -> Vec<(u64, u64)> {
     let mut end = committed;
@@ -110,13 +113,16 @@ fn small(both: &mut Both) {
     let pairs: Vec<(u64, u32)> = (0..4).flat_map(|offset| [0, 1].map(|attempt| (offset, attempt))).collect();
     all_lists(&pairs, 4, &mut |pairs| {
         for declared in 0..6 {
-            both.decode_attempts(&attempt_bytes(declared, pairs), ROOM);
+            for version in VERSIONS {
+                both.decode_attempts(&attempt_bytes(version, declared, pairs), ROOM);
+            }
         }
         both.encode_attempts(pairs, 60, 2);
     });
 }
 
-/// Random bytes of every length around each boundary, half of them of version 1, half of them with a right check.
+/// Random bytes of every length around each boundary, half of them of version 1, a quarter of version 2, half of them with a right
+/// check.
 fn lengths(both: &mut Both, random: &mut Random) {
     let around = |n: usize| n - 40..n + 40;
     for len in (0..200)
@@ -127,13 +133,13 @@ fn lengths(both: &mut Both, random: &mut Random) {
     {
         for kind in 0..16 {
             let mut bytes: Vec<u8> = (0..len).map(|_| random.number() as u8).collect();
-            if kind % 2 == 0 && len > 0 {
-                bytes[0] = 1;
+            if kind % 4 < 3 && len > 0 {
+                bytes[0] = [1, 2, 1][kind % 4];
             }
-            if kind % 4 < 2 && len >= 9 {
+            if kind % 8 < 4 && len >= 9 {
                 bytes[1..5].copy_from_slice(&(((len - 9) / 12) as u32).to_le_bytes());
             }
-            if kind % 8 < 4 {
+            if kind < 8 {
                 seal(&mut bytes);
             }
             decode(both, &bytes);
@@ -178,10 +184,14 @@ fn sound(both: &mut Both, committed: u64, ranges: &[(u64, u64)], pairs: &[(u64, 
         (0, 0),
     ] {
         both.decode_cursor(&cursor_bytes(committed, ranges), places);
-        both.decode_attempts(&attempt_bytes(n as u32, pairs), places);
+        for version in VERSIONS {
+            both.decode_attempts(&attempt_bytes(version, n as u32, pairs), places);
+        }
     }
     for declared in [0, n as u32 + 1, 128, 129, u32::MAX] {
-        both.decode_attempts(&attempt_bytes(declared, pairs), ROOM);
+        for version in VERSIONS {
+            both.decode_attempts(&attempt_bytes(version, declared, pairs), ROOM);
+        }
     }
 }
 
@@ -212,7 +222,9 @@ fn faulty_pairs(both: &mut Both, mut pairs: Vec<(u64, u32)>) {
     };
     for fault in [0, offset.saturating_sub(1), u64::MAX] {
         pairs.push((fault, attempt));
-        both.decode_attempts(&attempt_bytes(pairs.len() as u32, &pairs), ROOM);
+        for version in VERSIONS {
+            both.decode_attempts(&attempt_bytes(version, pairs.len() as u32, &pairs), ROOM);
+        }
         both.encode_attempts(&pairs, 1600, 0);
         pairs.pop();
     }
@@ -299,7 +311,9 @@ fn seeded(both: &mut Both, random: &mut Random) {
         let ranges = good_ranges(random, 77, n);
         damage(both, random, &cursor_bytes(77, &ranges));
         let pairs = good_pairs(random, n);
-        damage(both, random, &attempt_bytes(n as u32, &pairs));
+        for version in VERSIONS {
+            damage(both, random, &attempt_bytes(version, n as u32, &pairs));
+        }
     }
     counts(both, random);
     room(both, random);
@@ -315,5 +329,9 @@ fn main() {
     for seed in 1..=seeds {
         seeded(&mut both, &mut Random(seed));
     }
-    println!("compare: {} inputs, all answered as the original answers them", both.inputs);
+    println!(
+        "compare: {} inputs, all answered as the original answers them, and as 02 says where they are of version 2; the original turns \
+         away each of the {} attempt snapshots of this version",
+        both.inputs, both.turned_away
+    );
 }

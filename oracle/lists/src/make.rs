@@ -211,23 +211,24 @@ impl Maker {
     // Bytes.
 
     /// Puts a snapshot of `len` bytes into bytes of exactly its length, one less and some more, at positions around the limits.
-    fn encode(&mut self, what: &str, len: u64) {
+    fn encode(&mut self, encoder: &str, len: u64) {
         let spare = self.random.pick(&[0, 1, 5]);
         let fill = self.below(256);
         say!(self, "bytes new {} {fill}", len + spare - 1);
-        say!(self, "{what} encode {spare}");
+        say!(self, "{encoder} {spare}");
         say!(self, "bytes new {} {fill}", len + spare);
         for at in [spare + 1, len + spare, len + spare + 1, MAX, MAX - len + 1, spare] {
-            say!(self, "{what} encode {at}");
+            say!(self, "{encoder} {at}");
         }
-        say!(self, "bytes crc {spare} {}", len + spare);
+        // with the check behind it, this would be the same for every snapshot of its length, as the digest is
+        say!(self, "bytes crc {spare} {}", len + spare - 4);
     }
 
     /// Damages bytes[from..] in one place, sometimes with its check made right again.
     fn damage(&mut self, from: u64) {
         let len = self.state.bytes.len() as u64;
         let place = from + self.random.pick(&[0, 1, 2, 5, 9, 13, 17, 25]).min(len - from - 1);
-        let value = self.random.pick(&[0, 1, 2, 255]);
+        let value = self.random.pick(&[0, 1, 2, 3, 255]);
         say!(self, "bytes set {place} {value}");
         if self.below(3) != 0 {
             say!(self, "bytes seal {from} {len}");
@@ -246,7 +247,7 @@ impl Maker {
         let n = self.random.pick(&[0, 1, 2, 4]);
         self.good_ranges(committed, n);
         say!(self, "cursor with {committed}");
-        self.encode("cursor", 13 + 16 * n);
+        self.encode("cursor encode", 13 + 16 * n);
         let len = self.state.bytes.len() as u64;
         let from = len - (13 + 16 * n);
         say!(self, "cursor new");
@@ -294,9 +295,17 @@ impl Maker {
     }
 
     fn attempt_bytes(&mut self) {
+        self.attempts_by("attempt encode");
+        self.attempts_by("attempt encode2");
+        self.most_pairs();
+        self.other_versions();
+    }
+
+    /// Attempt bytes by an encoder: its outputs, damage, and pairs that fall.
+    fn attempts_by(&mut self, encoder: &str) {
         let n = self.random.pick(&[0, 1, 2, 5]);
         self.good_pairs(n);
-        self.encode("attempt", 9 + 12 * n);
+        self.encode(encoder, 9 + 12 * n);
         let len = self.state.bytes.len() as u64;
         let from = len - (9 + 12 * n);
         for room in [n.saturating_sub(1), n, n + 1] {
@@ -311,29 +320,54 @@ impl Maker {
             self.damage(from);
             say!(self, "attempt decode {from} {len} 256");
         }
-        self.unsorted_pairs();
+        self.unsorted_pairs(encoder);
+    }
+
+    /// As many pairs as there may be, one less or one more, in both versions.
+    fn most_pairs(&mut self) {
         let n = self.random.pick(&[127, 128, 129]);
         self.good_pairs(n);
         say!(self, "bytes new 1600 9");
-        say!(self, "attempt encode 2");
-        if n < 129 {
-            say!(self, "attempt decode 2 {} {n}", 11 + 12 * n);
+        for encoder in ["attempt encode", "attempt encode2"] {
+            say!(self, "{encoder} 2");
+            if n < 129 {
+                say!(self, "bytes crc 2 {}", 7 + 12 * n);
+                say!(self, "attempt decode 2 {} {n}", 11 + 12 * n);
+            }
         }
     }
 
     /// Pairs in the given order are encoded, and refused when they are read.
-    fn unsorted_pairs(&mut self) {
+    fn unsorted_pairs(&mut self, encoder: &str) {
         let (a, b) = (self.below(9), self.below(9));
         say!(self, "list new");
         say!(self, "list add {a} 1");
         say!(self, "list add {b} {}", u32::MAX);
-        self.say_all(&["bytes new 33 0", "attempt encode 0", "attempt decode 0 33 2"]);
+        say!(self, "bytes new 33 0");
+        say!(self, "{encoder} 0");
         self.say_all(&[
+            "attempt decode 0 33 2",
             "bytes set 1 1",
             "attempt decode 0 33 2",
             "bytes seal 0 33",
             "attempt decode 0 33 2",
         ]);
+    }
+
+    /// The bytes of either version read as the other, and as versions that there are none of; a length that is no snapshot's.
+    fn other_versions(&mut self) {
+        self.good_pairs(3);
+        for encoder in ["attempt encode", "attempt encode2"] {
+            say!(self, "bytes new 46 0");
+            say!(self, "{encoder} 0");
+            for version in [0, 1, 2, 3, 255] {
+                say!(self, "bytes set 0 {version}");
+                say!(self, "attempt decode 0 45 3");
+                say!(self, "bytes seal 0 45");
+                say!(self, "attempt decode 0 45 3");
+                say!(self, "attempt decode 0 46 3");
+            }
+        }
     }
 
     // Leases.

@@ -6,7 +6,7 @@ pub const OPERATION: usize = 5;
 pub const ANSWER: usize = 6;
 
 /// Tens go by what an operation changes: list, bytes, cursor, lease table (two tens), delivery config, nothing.
-pub const OPERATIONS: [(&str, u64); 54] = [
+pub const OPERATIONS: [(&str, u64); 55] = [
     ("list new", 1),
     ("list add", 2),
     ("cursor ranges", 3),
@@ -19,6 +19,7 @@ pub const OPERATIONS: [(&str, u64); 54] = [
     ("bytes seal", 13),
     ("cursor encode", 14),
     ("attempt encode", 15),
+    ("attempt encode2", 16),
     ("cursor new", 21),
     ("cursor resume", 22),
     ("cursor with", 23),

@@ -1,8 +1,9 @@
 //! Runs one operation on the original. Where 01 has a limit and the original none, the operation is tried on a copy; if that passes
 //! the limit, 01's refusal is answered and nothing changes: 2 (backoffs), 19 (carried counts), 27 (leases), and 29 for `ack`, which
-//! is `ack_bounded` at 128 ranges.
+//! is `ack_bounded` at 128 ranges. Attempt snapshots of version 2 are the codecs' own, not the original's.
 use crate::codecs::{
-    decode_attempts, decode_cursor, encode_attempts, encode_cursor, resume_with_ahead, Code, OUT_TOO_SHORT, RANGES, TOO_MANY_PAIRS,
+    decode_attempts, decode_cursor, encode_attempts, encode_attempts_v2, encode_cursor, resume_with_ahead, Code, OUT_TOO_SHORT,
+    RANGES, TOO_MANY_PAIRS,
 };
 use crate::operations::{answer, ANSWER};
 use crate::state::{read_table, starting_at, State, BYTES, ENTRIES};
@@ -166,6 +167,10 @@ impl State {
             ("encode", &[at]) => {
                 let pairs = self.pairs();
                 Some(encode_attempts(&pairs, &mut self.bytes, at))
+            }
+            ("encode2", &[at]) => {
+                let pairs = self.pairs();
+                Some(encode_attempts_v2(&pairs, &mut self.bytes, at))
             }
             ("decode", &[from, to, room]) => {
                 let part = self.part(from, to)?;

@@ -49,6 +49,15 @@ extern "C" {
         out_len: usize,
         at: usize,
     ) -> Numbers;
+    fn ninotskev_encode_attempts_v2(
+        offsets: *const u64,
+        offsets_len: usize,
+        attempts: *const u32,
+        attempts_len: usize,
+        out: *mut u8,
+        out_len: usize,
+        at: usize,
+    ) -> Numbers;
     fn ninotskev_decode_attempts(
         input: *const u8,
         input_len: usize,
@@ -77,13 +86,19 @@ pub fn decode_cursor(input: &[u8], starts: &mut [u64], ends: &mut [u64]) -> Numb
     unsafe { ninotskev_decode_cursor(input.as_ptr(), input.len(), s, starts.len(), e, ends.len()) }
 }
 
-/// Writes the snapshot of attempt counts from a position on, and answers the position behind it.
+/// Writes the snapshot of attempt counts, version 1, from a position on, and answers the position behind it.
 pub fn encode_attempts(offsets: &[u64], attempts: &[u32], out: &mut [u8], at: usize) -> Numbers {
     let (o, a) = (offsets.as_ptr(), attempts.as_ptr());
     unsafe { ninotskev_encode_attempts(o, offsets.len(), a, attempts.len(), out.as_mut_ptr(), out.len(), at) }
 }
 
-/// Puts the pairs of a snapshot at the front of two columns, and answers their number.
+/// Writes version 2 likewise.
+pub fn encode_attempts_v2(offsets: &[u64], attempts: &[u32], out: &mut [u8], at: usize) -> Numbers {
+    let (o, a) = (offsets.as_ptr(), attempts.as_ptr());
+    unsafe { ninotskev_encode_attempts_v2(o, offsets.len(), a, attempts.len(), out.as_mut_ptr(), out.len(), at) }
+}
+
+/// Puts the pairs of a snapshot of either version at the front of two columns, and answers their number.
 pub fn decode_attempts(input: &[u8], offsets: &mut [u64], attempts: &mut [u32]) -> Numbers {
     let (o, a) = (offsets.as_mut_ptr(), attempts.as_mut_ptr());
     unsafe { ninotskev_decode_attempts(input.as_ptr(), input.len(), o, offsets.len(), a, attempts.len()) }

@@ -122,7 +122,7 @@ mod tests {
     use super::*;
 
     /// The payload of a checkpoint that has nothing to store: each snapshot with its check.
-    const EMPTY: [u8; 22] = [1, 0, 0, 0, 0, 0, 0, 0, 0, 235, 190, 219, 79, 1, 0, 0, 0, 0, 153, 25, 99, 125];
+    const EMPTY: [u8; 22] = [1, 0, 0, 0, 0, 0, 0, 0, 0, 235, 190, 219, 79, 2, 0, 0, 0, 0, 109, 169, 80, 53];
 
     const HEADER: Header = Header {
         bodies: 1,

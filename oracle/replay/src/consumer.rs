@@ -5,7 +5,7 @@ use ironbus::cursor::{AckCursor, BoundedAck};
 use ironbus::delivery::{DeliveryConfig, Disposition};
 use ironbus::lease::{AckOutcome, Claim, ExtendOutcome, LeaseConfig, LeaseTable, LeaseToken, NackOutcome};
 use ironbus::types::Offset;
-use lists::codecs::{decode_attempts, decode_cursor, Code, RANGES};
+use lists::codecs::{attempt_snapshot_v2, decode_attempts, decode_cursor, Code, RANGES};
 use lists::state::{read_table, starting_at, Table};
 
 const LEASES: usize = 64;
@@ -195,15 +195,14 @@ impl Consumer {
         offsets
     }
 
-    /// Refusal 31.
+    /// Refusal 31. The counts are stored in version 2 (02, j).
     pub fn begin(&self) -> Result<Writing, Code> {
         let mut stored = Stored {
             ceiling: self.table().next_generation.saturating_add(GENERATIONS),
             cursor: Vec::new(),
-            attempts: Vec::new(),
+            attempts: attempt_snapshot_v2(&self.table.all_attempt_counts()),
         };
         self.cursor.encode_snapshot(&mut stored.cursor);
-        ironbus::attempt::encode_attempt_snapshot(&self.table.all_attempt_counts(), &mut stored.attempts);
         let writes = writes(&stored, self.group, self.block);
         if self.blocks - self.block < writes.len() {
             return Err(vec![31]);

@@ -31,7 +31,7 @@ pub fn headers(maker: &mut Maker) {
 }
 
 /// Two to six checkpoints; answers where their headers stand.
-fn groups(maker: &mut Maker) -> Vec<usize> {
+pub fn groups(maker: &mut Maker) -> Vec<usize> {
     let mut headers: Vec<usize> = checkpoint(maker).into_iter().collect();
     for i in 0..1 + maker.random.below(5) {
         for j in 0..maker.random.pick(&[0, 1, 2, 3, 40]) {

@@ -68,7 +68,7 @@ pub fn walk(area: &[u8]) -> Result<Found, Code> {
 }
 
 /// The content of the group whose sound header stands at the block; refusal 5 names the first body that is unsound.
-fn read_group(area: &[u8], at: usize, header: &Header) -> Result<Stored, Code> {
+pub fn read_group(area: &[u8], at: usize, header: &Header) -> Result<Stored, Code> {
     let total = header.cursor + header.attempts;
     let mut payload = Vec::new();
     for index in 1..=header.bodies {

@@ -8,6 +8,7 @@ pub mod line;
 pub mod make;
 pub mod program;
 pub mod scenes;
+pub mod versions;
 pub mod wear;
 
 #[cfg(test)]

@@ -1,7 +1,7 @@
 //! Makes scripts. The model runs along, so that tokens, times, offsets and blocks are those that matter.
 use crate::line::LINE;
 use crate::program::{Phase, Program};
-use crate::{headers, scenes, wear};
+use crate::{headers, scenes, versions, wear};
 use lists::random::Random;
 use lists::state::Table;
 
@@ -51,7 +51,7 @@ pub fn script(seed: u64, lines: usize) -> Vec<Vec<u8>> {
         scenes::spend(&mut maker);
     }
     while maker.lines.len() < lines {
-        match maker.random.below(21) {
+        match maker.random.below(23) {
             0..=5 => scenes::life(&mut maker),
             6..=7 => scenes::cuts(&mut maker),
             8 => scenes::full(&mut maker),
@@ -61,7 +61,8 @@ pub fn script(seed: u64, lines: usize) -> Vec<Vec<u8>> {
             12 => scenes::filled(&mut maker),
             13..=14 => wear::worn(&mut maker),
             15 => wear::bounds(&mut maker),
-            16..=17 => headers::headers(&mut maker),
+            16..=18 => headers::headers(&mut maker),
+            19 => versions::versions(&mut maker),
             _ => wear::forged(&mut maker),
         }
     }

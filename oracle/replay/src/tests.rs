@@ -1,9 +1,11 @@
 //! 01's examples and the phases of the program, as scripts with their answers; and that the made scripts meet everything.
-use crate::block::{seal, sound_header};
+use crate::block::{bodies_for, seal, sound_header};
 use crate::compare::{answers, difference};
 use crate::journal::{block_of, header_behind, walk};
 use crate::make::script;
 use crate::program::Program;
+use crate::versions::rewritten;
+use lists::codecs::as_version_1;
 use std::collections::{BTreeMap, BTreeSet};
 
 /// Runs lines written as `LINE => ANSWER`; several steps of a checkpoint are written `checkpoint => BLOCK,..`.
@@ -325,5 +327,60 @@ fn scripts_have_worn_headers() {
     }
     for kind in [Worn::First, Worn::Middle, Worn::LookAlike, Worn::Last, Worn::BodyFirst] {
         assert!(met.get(&kind) >= Some(&100), "{met:?}");
+    }
+}
+
+/// Version 1 in place of version 2, in the last group of an area; nothing where there is none such.
+fn older(area: &[u8]) -> Option<Vec<u8>> {
+    let found = walk(area).ok()?;
+    let last = found.last.filter(|last| last.attempts[0] == 2)?;
+    let header = found.block - 1 - bodies_for(last.cursor.len() + last.attempts.len());
+    let mut old = area.to_vec();
+    for (block, bytes) in rewritten(area, header, as_version_1) {
+        old[512 * block..512 * (block + 1)].copy_from_slice(&bytes);
+    }
+    Some(old)
+}
+
+/// 02, j: the restart's answer and state don't depend on the version found, whatever the made scripts left in the area.
+#[test]
+fn restarts_on_both_versions() {
+    let mut compared = 0;
+    for seed in 1..=10 {
+        let mut program = Program::default();
+        for line in script(seed, 2_000) {
+            let old = program.started.as_ref().and_then(|started| older(&started.area));
+            let answer = program.answer(&line);
+            let (b"restart", Some(old)) = (&line[..], old) else { continue };
+            let started = program.started.as_mut().unwrap();
+            let area = std::mem::replace(&mut started.area, old);
+            let found = program.answer(b"state");
+            assert_eq!(program.answer(&line), answer);
+            assert_eq!(program.answer(b"state"), found);
+            program.started.as_mut().unwrap().area = area;
+            compared += 1;
+        }
+    }
+    assert!(compared >= 500, "{compared}");
+}
+
+/// The scripts that `oracle/run compare` uses have restarts on both versions and on others, where the last group alone is read.
+#[test]
+fn scripts_have_versions() {
+    let mut met = BTreeMap::new();
+    for seed in 1..=40 {
+        let mut program = Program::default();
+        for line in script(seed, 2_000) {
+            if let (b"restart", Some(started)) = (&line[..], &program.started) {
+                let last = walk(&started.area).ok().and_then(|found| found.last);
+                if let Some(stored) = last {
+                    *met.entry(stored.attempts[0]).or_insert(0) += 1;
+                }
+            }
+            program.answer(&line);
+        }
+    }
+    for (version, least) in [(0, 20), (1, 100), (2, 1_000), (3, 20), (255, 20)] {
+        assert!(met.get(&version) >= Some(&least), "{met:?}");
     }
 }

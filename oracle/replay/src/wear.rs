@@ -4,6 +4,7 @@ use crate::journal::block_of;
 use crate::make::Maker;
 use crate::scenes::checkpoint;
 use ironbus::crc::crc32c;
+use lists::codecs::{attempt_snapshot, attempt_snapshot_v2};
 
 impl Maker {
     pub fn poke(&mut self, block: usize, byte: usize, values: &[u8]) {
@@ -100,10 +101,10 @@ enum Fault {
 
 const FAULTS: [Fault; 5] = [Fault::Version, Fault::Length, Fault::Count, Fault::Check, Fault::Order];
 
-/// The bytes with their check behind them, and the fault that isn't in them yet.
-fn checked(maker: &mut Maker, mut bytes: Vec<u8>, fault: Fault) -> Vec<u8> {
+/// The bytes with their check behind them, and the fault that isn't in them yet; `versions` are none of the snapshot's.
+fn checked(maker: &mut Maker, mut bytes: Vec<u8>, fault: Fault, versions: &[u8]) -> Vec<u8> {
     if fault == Fault::Version {
-        bytes[0] = maker.random.pick(&[0, 2, 255]);
+        bytes[0] = maker.random.pick(versions);
     }
     let check = crc32c(&bytes).to_le_bytes();
     bytes.extend(check);
@@ -128,7 +129,7 @@ fn cursor_bytes(maker: &mut Maker, fault: Fault) -> Vec<u8> {
         bytes.extend(end.to_le_bytes());
         at = end;
     }
-    checked(maker, bytes, fault)
+    checked(maker, bytes, fault, &[0, 2, 255])
 }
 
 fn attempt_bytes(maker: &mut Maker, fault: Fault) -> Vec<u8> {
@@ -138,16 +139,18 @@ fn attempt_bytes(maker: &mut Maker, fault: Fault) -> Vec<u8> {
     } else {
         count
     };
-    let mut bytes = vec![1];
-    bytes.extend((declared as u32).to_le_bytes());
     let mut offset = maker.random.pick(&[0, 0, 4, u64::MAX - 9]);
     let least = u64::from(fault != Fault::Order);
+    let mut pairs = Vec::new();
     for _ in 0..count {
-        bytes.extend(offset.to_le_bytes());
-        bytes.extend(maker.random.pick(&[0u32, 1, 2, 3, u32::MAX - 1, u32::MAX]).to_le_bytes());
+        pairs.push((offset, maker.random.pick(&[0u32, 1, 2, 3, u32::MAX - 1, u32::MAX])));
         offset = offset.saturating_add(least + maker.random.below(4));
     }
-    checked(maker, bytes, fault)
+    let snapshot = maker.random.pick(&[attempt_snapshot, attempt_snapshot_v2]);
+    let mut bytes = snapshot(&pairs);
+    bytes.truncate(bytes.len() - 4);
+    bytes[1..5].copy_from_slice(&(declared as u32).to_le_bytes());
+    checked(maker, bytes, fault, &[0, 3, 255])
 }
 
 /// Snapshots, at most one of them with a fault.

@@ -138,6 +138,11 @@ impl Book {
                 "the count of {offset}"
             );
         }
+        let counts = self.page.counts.iter();
+        let counts: Vec<(Offset, u32)> = counts
+            .map(|(offset, count)| (Offset::new(*offset), *count))
+            .collect();
+        assert_eq!(consumer.all_attempt_counts(), counts);
     }
 
     /// Demand 3's bound: at most M + C × (N + 1) deliveries of each offset.

@@ -1,27 +1,28 @@
 -- `check` meets its contract: each return is the row of its test. Assumes nothing.
 use Prim.Native.Nat.{ℕ, _-_, _%_, _≤_}
 use native.Mathlib.Omega.{arith}
+use mathlib.Core.Bool.{true}
 use mathlib.Core.Path.{_≡_, sym, _∙_}
 use mathlib.Core.List.{List}
 use lib.ListN.{length, getD}
 use borrow.Author.Needs.{needs}
 use borrow.Author.Tests.{not-true, not-false}
 use Rattle.raw.specs.Bytes.{numberAt}
-use Rattle.attempt.specs.Snapshot.{pairCount}
+use Rattle.attempt.specs.Snapshot.{pairCount, known}
 use Rattle.attempt.proofs.Reading.{truncated, other-version, bad-length, count-mismatch, bad-crc, framed}
 use Rattle.attempt.proofs.check.Statement.{statement}
 use Rattle.attempt.proofs.check.Tie as tie
 
 -- the bytes, and what the laws ask of them, after the third test
 abbrev bytes : tie.Else3 → List ℕ
-bytes c = c .before .before .before .before .before .args .input .now
+bytes c = c .before .before .before .before .before .before .args .input .now
 
 module _ (c : tie.Else3) where
   long : 9 ≤ length (bytes c)
-  long = c .before .before .before .if1 .left
+  long = c .before .before .before .before .if1 .left
 
-  version : getD (bytes c) 0 0 ≡ 1
-  version = c .before .if2 .left
+  version : known (getD (bytes c) 0 0) ≡ true
+  version = sym (c .before .before .is-known .ensures) ∙ not-false _ (c .before .if2 .left)
 
   whole : (length (bytes c) - 9) % 12 ≡ 0
   whole = c .if3 .left
@@ -35,15 +36,20 @@ returns c = sym (truncated (c .before .before .args .input .now) (c .if1 .taken)
 shared-slice-read-version : tie.Need-shared-slice-read-version
 shared-slice-read-version c = search needs
 
+is-known-requires : tie.Need-is-known-requires
+is-known-requires c κs = search needs
+
 returns-2 : tie.Need-returns-2
 returns-2 c =
-    let b = c .before .before .before .before .args .input .now in
-    sym (other-version b (c .before .before .if1 .left) (c .if2 .taken))
+    let k = c .before in
+    let b = k .before .before .before .before .args .input .now in
+    sym (other-version b (k .before .before .if1 .left) (sym (k .is-known .ensures) ∙ not-true _ (c .if2 .taken)))
 
 returns-3 : tie.Need-returns-3
 returns-3 c =
-    let b = c .before .before .before .before .before .args .input .now in
-    sym (bad-length b (c .before .before .before .if1 .left) (c .before .if2 .left) (c .if3 .taken))
+    let k = c .before .before in
+    let b = k .before .before .before .before .args .input .now in
+    sym (bad-length b (k .before .before .if1 .left) (sym (k .is-known .ensures) ∙ not-false _ (c .before .if2 .left)) (c .if3 .taken))
 
 read-u32-requires : tie.Need-read-u32-requires
 read-u32-requires c κs = search needs
@@ -84,6 +90,7 @@ check-spec =
     (tie.spec
     returns
     shared-slice-read-version
+    is-known-requires
     returns-2
     returns-3
     read-u32-requires

@@ -42,7 +42,7 @@ use Rattle.types.specs.Table.{answer}
 use Rattle.types.specs.declared.Pair.{Pair}
 use Rattle.types.specs.Lists.{entryOf, entriesOf, counted}
 use Rattle.attempt.specs.declared.Fill.{Fill as Outcome}
-use Rattle.attempt.specs.Snapshot.{readPairs, decodeInto}
+use Rattle.attempt.specs.Snapshot.{pairsOf, decodeInto}
 use Rattle.attempt.specs.Codec.{fillOf, RoomIs}
 use Rattle.types.proofs.Pair as T
 use Rattle.attempt.proofs.Fill as E
@@ -155,7 +155,7 @@ module _ {M : Type 1} (𝓤 : URA M) (H : Heap 𝓤) (A : Atoms 𝓤) (W : Given
       nothing ! $ owned ! usize (Is usize) (uint-makes 𝓤 H A W w64) m _ (refl, fits) $ fjoin ! $ move ! (2 ∷ 0 ∷ []) $ fjoin ! $ move ! (1 ∷ 0 ∷ []) $ fjoin ! $ done !
 
   abbrev Filled : ℕ → List Pair → Type 0
-  Filled m zs = entriesOf zs ≡ readPairs m 5 bs ++ drops m (entriesOf ps)
+  Filled m zs = entriesOf zs ≡ pairsOf m bs ++ drops m (entriesOf ps)
 
   -- what the three contracts say together
   decoded : (r : Outcome) (m : ℕ) (zs : List Pair) → RoomIs bs (length ps) r → m ≡ counted (fillOf r) → Filled m zs → answer (fillOf r) (entriesOf zs) ≡ decodeInto bs (entriesOf ps)

@@ -20,9 +20,6 @@ cast-write-u32 c = search needs
 write-u32-requires : tie.Need-write-u32-requires
 write-u32-requires c κs = search needs
 
-add-put-pairs : tie.Need-add-put-pairs
-add-put-pairs c = search needs
-
 -- the output keeps its length over the first two writes
 kept : (c : tie.After-write-u32) → length (c .write-u32 .last .0) ≡ length (c .before .before .before .before .before .args .out .now)
 kept c = c .write-u32 .kept .0 ∙ simp length-set
@@ -36,7 +33,7 @@ put-pairs-requires c κs =
 same-length : tie.Need-same-length
 same-length c =
     let p = c .before .before in
-    p .put-pairs .kept .1 .1 .1 .0 ∙ kept (p .before .before .before .before)
+    p .put-pairs .kept .1 .1 .1 .1 .0 ∙ kept (p .before .before .before .before)
 
 returns : tie.Need-returns
 returns c =
@@ -46,7 +43,7 @@ returns c =
     let a = s .args in
     let ks = a .offsets .now in
     let vs = a .attempts .now in
-    body-put (entries ks vs) (a .count) (a .at) (a .out .now) (w .write-u32 .last .0) _
+    body-put (a .version) (entries ks vs) (a .count) (a .at) (a .out .now) (w .write-u32 .last .0) _
     (length-both ks vs ∙ sym (s .pre .0))
     (s .pre .2)
     (w .write-u32 .ensures)
@@ -60,7 +57,6 @@ put-body-spec =
     add-write-u32
     cast-write-u32
     write-u32-requires
-    add-put-pairs
     put-pairs-requires
     same-length
     returns)

@@ -18,7 +18,7 @@ returns : tie.Need-returns
 returns c =
     let w = c .before .before .before in
     let a = w .before .before .before .before .before .args in
-    pairs-written (entries (a .offsets .now) (a .attempts .now)) (a .at) (a .out .now) (w .encode-columns .result) _ _ (w .encode-columns .ensures) (c .of-encode .ensures)
+    pairs-written 1 (entries (a .offsets .now) (a .attempts .now)) (a .at) (a .out .now) (w .encode-columns .result) _ _ (w .encode-columns .ensures) (c .of-encode .ensures)
 
 pub ninotskev-encode-attempts-spec : {M : Type 1} → statement M
 ninotskev-encode-attempts-spec = tie.close (tie.spec encode-columns-requires of-encode-requires same-length returns)

@@ -5,18 +5,18 @@ use borrow.Author.Needs.{needs}
 use Rattle.checkpoint.proofs.in_place.put_counts.Statement.{statement}
 use Rattle.checkpoint.proofs.in_place.put_counts.Tie as tie
 
-slice-aggregate-encode-columns : tie.Need-slice-aggregate-encode-columns
-slice-aggregate-encode-columns c =
+slice-aggregate-encode-columns-v2 : tie.Need-slice-aggregate-encode-columns-v2
+slice-aggregate-encode-columns-v2 c =
     let s = c .before .before .before .before in
     sym (length-take-le (s .args .n) (s .args .offsets .now) (s .pre .0))
 
-slice-aggregate-encode-columns-2 : tie.Need-slice-aggregate-encode-columns-2
-slice-aggregate-encode-columns-2 c =
+slice-aggregate-encode-columns-v2-2 : tie.Need-slice-aggregate-encode-columns-v2-2
+slice-aggregate-encode-columns-v2-2 c =
     let s = c .before .before .before .before .before in
     sym (length-take-le (s .args .n) (s .args .attempts .now) (s .pre .1))
 
-encode-columns-requires : tie.Need-encode-columns-requires
-encode-columns-requires c κs = search needs
+encode-columns-v2-requires : tie.Need-encode-columns-v2-requires
+encode-columns-v2-requires c κs = search needs
 
 same-length : tie.Need-same-length
 same-length c = search needs
@@ -28,8 +28,8 @@ pub put-counts-spec : {M : Type 1} → statement M
 put-counts-spec =
     tie.close
     (tie.spec
-    slice-aggregate-encode-columns
-    slice-aggregate-encode-columns-2
-    encode-columns-requires
+    slice-aggregate-encode-columns-v2
+    slice-aggregate-encode-columns-v2-2
+    encode-columns-v2-requires
     same-length
     returns)

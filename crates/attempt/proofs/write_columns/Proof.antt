@@ -1,4 +1,4 @@
--- `encode_columns` meets its contract: each return is a law of what the encoder writes. Assumes nothing.
+-- `write_columns` meets its contract: each return is a law of what the encoder writes. Assumes nothing.
 use Prim.Native.Nat.{ℕ, _+_, _-_, _*_}
 use native.Mathlib.Omega.{arith}
 use mathlib.Core.Path.{_≡_, sym, _∙_}
@@ -7,8 +7,8 @@ use lib.ListN.{length}
 use borrow.Author.Needs.{needs}
 use Rattle.types.specs.Keyed.{Entry, entries}
 use Rattle.attempt.proofs.Writing.{length-both, too-many, too-short, encoded}
-use Rattle.attempt.proofs.encode_columns.Statement.{statement}
-use Rattle.attempt.proofs.encode_columns.Tie as tie
+use Rattle.attempt.proofs.write_columns.Statement.{statement}
+use Rattle.attempt.proofs.write_columns.Tie as tie
 
 -- the pairs, and that they are as many as were counted
 abbrev pairs : tie.After-shorter → List (Entry ℕ)
@@ -26,7 +26,7 @@ returns : tie.Need-returns
 returns c =
     let n = c .before in
     let a = n .before .before .before .before .args in
-    too-many (pairs n) (n .shorter .result) (a .at) (a .out .now) (count n) (c .if1 .taken)
+    too-many (a .version) (pairs n) (n .shorter .result) (a .at) (a .out .now) (count n) (c .if1 .taken)
 
 snapshot-len-requires : tie.Need-snapshot-len-requires
 snapshot-len-requires c κs = search needs
@@ -35,7 +35,7 @@ returns-2 : tie.Need-returns-2
 returns-2 c =
     let n = c .before .before .before in
     let a = n .before .before .before .before .args in
-    too-short (pairs n) (n .shorter .result) (a .at) (a .out .now) (count n) (c .before .before .if1 .left) (omega arith)
+    too-short (a .version) (pairs n) (n .shorter .result) (a .at) (a .out .now) (count n) (c .before .before .if1 .left) (omega arith)
 
 sub-if3 : tie.Need-sub-if3
 sub-if3 c = search needs
@@ -44,7 +44,7 @@ returns-3 : tie.Need-returns-3
 returns-3 c =
     let n = c .before .before .before .before in
     let a = n .before .before .before .before .args in
-    too-short (pairs n) (n .shorter .result) (a .at) (a .out .now) (count n) (c .before .before .before .if1 .left) (omega arith)
+    too-short (a .version) (pairs n) (n .shorter .result) (a .at) (a .out .now) (count n) (c .before .before .before .if1 .left) (omega arith)
 
 put-body-requires : tie.Need-put-body-requires
 put-body-requires c κs = search needs
@@ -73,8 +73,8 @@ crc32c-requires c κs = search needs
 write-u32-requires : tie.Need-write-u32-requires
 write-u32-requires c κs = search needs
 
-add-t9 : tie.Need-add-t9
-add-t9 c = search needs
+add-t10 : tie.Need-add-t10
+add-t10 c = search needs
 
 same-length : tie.Need-same-length
 same-length c = search needs
@@ -90,15 +90,15 @@ returns-4 c =
     let a = n .before .before .before .before .args in
     let m = n .shorter .result in
     let part : a .at + (5 + 12 * m) - a .at ≡ 5 + 12 * m = omega arith in
-    rw (l .snapshot-len .ensures) (encoded (pairs n) m (a .at) (a .out .now) (count n) (e .if1 .left) (b .put-body .last .1 .1 .1 .0) _ (k .crc32c .result) _
+    rw (l .snapshot-len .ensures) (encoded (a .version) (pairs n) m (a .at) (a .out .now) (count n) (e .if1 .left) (b .put-body .last .1 .1 .1 .1 .0) _ (k .crc32c .result) _
     (omega (arith, b .before .before .before .if2 .left, b .before .before .if3 .left))
     part
     (b .put-body .ensures)
     (k .crc32c .ensures)
     (w .write-u32 .ensures))
 
-pub encode-columns-spec : {M : Type 1} → statement M
-encode-columns-spec =
+pub write-columns-spec : {M : Type 1} → statement M
+write-columns-spec =
     tie.close
     (tie.spec
     shorter-requires
@@ -116,6 +116,6 @@ encode-columns-spec =
     part-crc32c-end
     crc32c-requires
     write-u32-requires
-    add-t9
+    add-t10
     same-length
     returns-4)

@@ -1,4 +1,4 @@
--- `encode_pairs` meets its contract. The loop's invariant: the first i places of the columns are the first i pairs.
+-- `write_pairs` meets its contract. The loop's invariant: the first i places of the columns are the first i pairs.
 -- Assumes nothing.
 use Prim.Native.Nat.{ℕ, _-_, _≤_}
 use native.Mathlib.Omega.{arith}
@@ -10,25 +10,25 @@ use borrow.Author.Needs.{needs}
 use Rattle.types.specs.Keyed.{Entry, entries}
 use Rattle.types.specs.Lists.{entriesOf}
 use Rattle.types.proofs.Scan.{length-mapped}
-use Rattle.attempt.specs.Snapshot.{encodeInto}
+use Rattle.attempt.specs.Snapshot.{encodeVersion}
 use Rattle.attempt.proofs.Writing.{columns-more, first-many, first-few}
-use Rattle.attempt.proofs.encode_pairs.Statement.{statement}
-use Rattle.attempt.proofs.encode_pairs.Tie as tie
+use Rattle.attempt.proofs.write_pairs.Statement.{statement}
+use Rattle.attempt.proofs.write_pairs.Tie as tie
 
 abbrev Inv-loop : tie.InvT-loop
-Inv-loop count out at pairs offsets₀ attempts₀ i₀ offsets attempts i =
+Inv-loop version count out at pairs offsets₀ attempts₀ i₀ offsets attempts i =
     (i ≤ count)
     × (length offsets ≡ 128)
     × (length attempts ≡ 128)
     × (entries (take i offsets) (take i attempts) ≡ entriesOf (take i pairs))
 
 abbrev μ-loop : tie.MeasureT-loop
-μ-loop count out at pairs offsets₀ attempts₀ i₀ offsets attempts i = count - i
+μ-loop version count out at pairs offsets₀ attempts₀ i₀ offsets attempts i = count - i
 
 returns : tie.Need-returns Inv-loop μ-loop
 returns c =
     let a = c .before .before .args in
-    first-many (a .t1) (a .count) (a .at) (a .out .now) (c .if1 .taken)
+    first-many (a .version) (a .t2) (a .count) (a .at) (a .out .now) (c .if1 .taken)
 
 loop-holds : tie.Need-loop-holds Inv-loop μ-loop
 loop-holds c = (omega arith, refl, refl, refl)
@@ -67,27 +67,27 @@ loop-again : tie.Need-loop-again Inv-loop μ-loop
 loop-again c =
     let l = c .before .loop in
     let a = c .before .before .before .before .args in
-    let full : length (a .t1) ≡ 128 = search (needs, length-mapped) in (
+    let full : length (a .t2) ≡ 128 = search (needs, length-mapped) in (
       omega arith,
       simp length-set (l .inv .1),
       simp length-set (l .inv .2),
-      columns-more (a .t1) (l .offsets) (l .attempts) (l .i) _ _ (omega arith) (omega arith) (omega arith) refl (l .inv .3),
+      columns-more (a .t2) (l .offsets) (l .attempts) (l .i) _ _ (omega arith) (omega arith) (omega arith) refl (l .inv .3),
     )
 
 array-share-prefix-offsets : tie.Need-array-share-prefix-offsets Inv-loop μ-loop
 array-share-prefix-offsets c = omega arith
 
-slice-aggregate-encode-columns : tie.Need-slice-aggregate-encode-columns Inv-loop μ-loop
-slice-aggregate-encode-columns c = sym (length-take-le _ (c .before .before .loop .offsets) (omega arith))
+slice-aggregate-write-columns : tie.Need-slice-aggregate-write-columns Inv-loop μ-loop
+slice-aggregate-write-columns c = sym (length-take-le _ (c .before .before .loop .offsets) (omega arith))
 
 array-share-prefix-attempts : tie.Need-array-share-prefix-attempts Inv-loop μ-loop
 array-share-prefix-attempts c = omega arith
 
-slice-aggregate-encode-columns-2 : tie.Need-slice-aggregate-encode-columns-2 Inv-loop μ-loop
-slice-aggregate-encode-columns-2 c = sym (length-take-le _ (c .before .before .before .loop .attempts) (omega arith))
+slice-aggregate-write-columns-2 : tie.Need-slice-aggregate-write-columns-2 Inv-loop μ-loop
+slice-aggregate-write-columns-2 c = sym (length-take-le _ (c .before .before .before .loop .attempts) (omega arith))
 
-encode-columns-requires : tie.Need-encode-columns-requires Inv-loop μ-loop
-encode-columns-requires c κs = search needs
+write-columns-requires : tie.Need-write-columns-requires Inv-loop μ-loop
+write-columns-requires c κs = search needs
 
 same-length : tie.Need-same-length Inv-loop μ-loop
 same-length c = search needs
@@ -99,12 +99,12 @@ returns-2 c =
     let a = h .before .before .before .before .args in
     let end : l .i ≡ a .count = omega arith in
     let pairs = rw end at (l .inv .3) in
-    c .before .before .encode-columns .ensures
-    ∙ ap (λ (e : List (Entry ℕ)). encodeInto e (a .at) (a .out .now)) pairs
-    ∙ sym (first-few (a .t1) (a .count) (a .at) (a .out .now) (omega arith))
+    c .before .before .write-columns .ensures
+    ∙ ap (λ (e : List (Entry ℕ)). encodeVersion (a .version) e (a .at) (a .out .now)) pairs
+    ∙ sym (first-few (a .version) (a .t2) (a .count) (a .at) (a .out .now) (omega arith))
 
-pub encode-pairs-spec : {M : Type 1} → statement M
-encode-pairs-spec =
+pub write-pairs-spec : {M : Type 1} → statement M
+write-pairs-spec =
     tie.close
     (tie.spec
     Inv-loop
@@ -123,9 +123,9 @@ encode-pairs-spec =
     loop-less
     loop-again
     array-share-prefix-offsets
-    slice-aggregate-encode-columns
+    slice-aggregate-write-columns
     array-share-prefix-attempts
-    slice-aggregate-encode-columns-2
-    encode-columns-requires
+    slice-aggregate-write-columns-2
+    write-columns-requires
     same-length
     returns-2)
