@@ -9,8 +9,11 @@ use std::time::Instant;
 
 use ironbus_delivery_state::{
     CheckpointError, Configuration, Consumer, HandOut, Journal, LeaseToken, NewJournal, Offset,
-    Refusal,
+    Refusal, WorkerId,
 };
+
+/// Who makes the calls: by default worker 0 may do everything.
+const WORKER: WorkerId = WorkerId::new(0);
 
 /// The journal's consumer: restarted where there is a journal, else started on a new one.
 fn open(path: &Path, configuration: &Configuration) -> Result<Consumer, Box<dyn Error>> {
@@ -31,25 +34,31 @@ fn work(token: LeaseToken, deliveries: u32) -> bool {
 
 /// Hands one job out and settles it, or gives it back.
 fn serve(consumer: &mut Consumer, offset: Offset, now: u64) -> Result<(), Refusal> {
-    match consumer.claim(offset, now)? {
-        HandOut::Deliver { token, deliveries } if work(token, deliveries) => consumer.ack(token),
-        HandOut::Deliver { token, .. } => consumer.nack(token, now, Some(0)).map(drop),
+    match consumer.claim(WORKER, offset, now)? {
+        HandOut::Deliver { token, deliveries } if work(token, deliveries) => {
+            consumer.ack(WORKER, token)
+        }
+        HandOut::Deliver { token, .. } => consumer.nack(WORKER, token, now, Some(0)).map(drop),
         HandOut::DeadLetter { token, deliveries } => {
             println!("{offset} goes to the dead letters after {deliveries} hand-outs");
-            consumer.term(token)
+            consumer.term(WORKER, token)
         }
     }
 }
 
 /// The next job: one that waits, or else the first that isn't settled and not in flight.
-fn next(consumer: &mut Consumer, now: u64, end: u64) -> Option<Offset> {
+fn next(consumer: &mut Consumer, now: u64, end: u64) -> Result<Option<Offset>, Refusal> {
     let mut waiting = [Offset::ZERO; 128];
-    if consumer.waiting(now, &mut waiting).ok()? > 0 {
-        return Some(waiting[0]);
+    if consumer.waiting(WORKER, now, &mut waiting)? > 0 {
+        return Ok(Some(waiting[0]));
     }
-    (consumer.committed().get()..end)
-        .map(Offset::new)
-        .find(|offset| !consumer.is_settled(*offset) && consumer.lease_of(*offset).is_none())
+    for offset in (consumer.committed(WORKER)?.get()..end).map(Offset::new) {
+        let settled = consumer.is_settled(WORKER, offset)?;
+        if !settled && consumer.lease_of(WORKER, offset)?.is_none() {
+            return Ok(Some(offset));
+        }
+    }
+    Ok(None)
 }
 
 /// A checkpoint; after an error of the disk, the consumer that a restart finds.
@@ -57,7 +66,7 @@ fn checkpoint(
     consumer: Consumer,
     configuration: &Configuration,
 ) -> Result<Consumer, Box<dyn Error>> {
-    match consumer.checkpoint() {
+    match consumer.checkpoint(WORKER) {
         Ok(consumer) => Ok(consumer),
         Err(CheckpointError::Refused(refusal, _)) => Err(refusal.into()),
         Err(CheckpointError::Failed(failed)) => {
@@ -76,10 +85,10 @@ fn main() -> Result<(), Box<dyn Error>> {
     let configuration = Configuration::default();
     let mut consumer = open(path, &configuration)?;
     let clock = Instant::now();
-    let end = consumer.committed().get() + 20;
+    let end = consumer.committed(WORKER)?.get() + 20;
     loop {
         let now = u64::try_from(clock.elapsed().as_nanos())?;
-        let Some(offset) = next(&mut consumer, now, end) else {
+        let Some(offset) = next(&mut consumer, now, end)? else {
             break;
         };
         match serve(&mut consumer, offset, now) {
@@ -89,11 +98,11 @@ fn main() -> Result<(), Box<dyn Error>> {
             Err(refusal) => return Err(refusal.into()),
         }
     }
-    match consumer.checkpoint() {
+    match consumer.checkpoint(WORKER) {
         Ok(mut consumer) => println!(
             "settled below {}, {} blocks left",
-            consumer.committed(),
-            consumer.blocks_left()
+            consumer.committed(WORKER)?,
+            consumer.blocks_left(WORKER)?
         ),
         Err(error) => println!("{error}: the last jobs are done again after a restart"),
     }

@@ -1,5 +1,7 @@
 //! What a consumer is started with. The structs are laid out as the proved library has them.
 
+use crate::workers::{Rights, WORKERS};
+
 /// How long a message stays with the worker that claimed it. Times are nanoseconds of any clock.
 #[derive(Clone, Copy, Debug, PartialEq, Eq)]
 #[repr(C)]
@@ -106,11 +108,24 @@ impl Default for DeliveryConfig {
 }
 
 /// What a consumer keeps of its configuration, beside how long a message stays with a worker.
-#[derive(Clone, Debug, Default, PartialEq, Eq)]
+#[derive(Clone, Debug, PartialEq, Eq)]
 #[repr(C)]
 pub struct Settings {
     /// The limit, the delays and the flush threshold.
     pub delivery: DeliveryConfig,
+    /// What each worker may do, worker 0's first. By default worker 0 may do everything, and the others nothing.
+    pub rights: [Rights; WORKERS],
+}
+
+impl Default for Settings {
+    fn default() -> Settings {
+        let mut rights = [Rights::none(); WORKERS];
+        rights[0] = Rights::all();
+        Settings {
+            delivery: DeliveryConfig::default(),
+            rights,
+        }
+    }
 }
 
 /// What a consumer is started with, and each restart on the same journal: the bound on deliveries is for one configuration.

@@ -8,12 +8,16 @@ use crate::journal::{Failed, Journal, JournalFile, NewJournal, Storage};
 use crate::refusal::Refusal;
 use crate::snapshot::MAX_PAIRS;
 use crate::types::{Due, Generation, HandOut, Lease, LeaseToken, Offset};
+use crate::workers::WorkerId;
 
 /// The delivery state of one consumer: which messages are settled, who holds which until when, and how often each was handed out.
 ///
 /// It owns its journal. A call works on what the one before left, and there is no other copy: it can't be cloned, a
 /// [checkpoint](Consumer::begin) takes it away until the last block is written, and after an error of the disk only a restart is
 /// left. A refused call has changed nothing. Times are nanoseconds of any clock, which may stand still or run backwards.
+///
+/// Every call says which worker makes it. Before all else it is refused where there is no such worker (38), and where the worker's
+/// [rights](crate::Settings::rights) don't have it (39). A token works for the worker who claimed it alone (40).
 pub struct Consumer<S = JournalFile> {
     machine: Box<Machine>,
     journal: Journal<S>,
@@ -67,10 +71,10 @@ impl<S: Storage> Consumer<S> {
     /// Takes the consumer into the writing of a checkpoint. Nothing is written yet.
     ///
     /// # Errors
-    /// Refusal 31 where the journal has too few blocks left, with the consumer. It goes on, until its generations or its
-    /// redeliveries run out.
-    pub fn begin(mut self) -> Result<Writing<S>, (Refusal, Consumer<S>)> {
-        match self.machine.begin() {
+    /// Refusals 38 and 39, and 31 where the journal has too few blocks left, with the consumer. It goes on, until its generations
+    /// or its redeliveries run out.
+    pub fn begin(mut self, worker: WorkerId) -> Result<Writing<S>, (Refusal, Consumer<S>)> {
+        match self.machine.begin(worker) {
             Ok(writes) => Ok(Writing {
                 machine: self.machine,
                 journal: self.journal,
@@ -83,9 +87,9 @@ impl<S: Storage> Consumer<S> {
     /// A whole checkpoint: begin and every step.
     ///
     /// # Errors
-    /// Refusal 31 with the consumer, or an error of the disk, after which only a restart is left.
-    pub fn checkpoint(self) -> Result<Consumer<S>, CheckpointError<S>> {
-        match self.begin() {
+    /// Refusals 38, 39 and 31 with the consumer, or an error of the disk, after which only a restart is left.
+    pub fn checkpoint(self, worker: WorkerId) -> Result<Consumer<S>, CheckpointError<S>> {
+        match self.begin(worker) {
             Ok(writing) => writing.finish().map_err(CheckpointError::Failed),
             Err((refusal, consumer)) => Err(CheckpointError::Refused(refusal, consumer)),
         }
@@ -96,11 +100,16 @@ impl<S> Consumer<S> {
     /// Hands an offset out under the next generation, which fences off whoever held it before.
     ///
     /// # Errors
-    /// Refusals 21, 22, 23, 25, 26 and 27. After 26 comes a [checkpoint](Consumer::begin).
-    pub fn claim(&mut self, offset: Offset, now: u64) -> Result<HandOut, Refusal> {
+    /// Refusals 38, 39, 21, 22, 23, 25, 26 and 27. After 26 comes a [checkpoint](Consumer::begin).
+    pub fn claim(
+        &mut self,
+        worker: WorkerId,
+        offset: Offset,
+        now: u64,
+    ) -> Result<HandOut, Refusal> {
         let mut reply = Numbers::default();
         self.machine
-            .ask(Ask::Claim, [offset.get(), now, 0, 0], &mut reply)?;
+            .ask(worker, Ask::Claim, [offset.get(), now, 0, 0], &mut reply)?;
         let [generation, deliveries, dead, _] = reply.values;
         let token = LeaseToken {
             offset,
@@ -114,43 +123,51 @@ impl<S> Consumer<S> {
     }
 
     // A call under a token, with what comes after it.
-    fn under(&mut self, ask: Ask, token: LeaseToken, now: u64, delay: u64) -> Result<u64, Refusal> {
+    fn under(
+        &mut self,
+        worker: WorkerId,
+        ask: Ask,
+        token: LeaseToken,
+        now: u64,
+        delay: u64,
+    ) -> Result<u64, Refusal> {
         let given = [token.offset.get(), token.generation.get(), now, delay];
         let mut reply = Numbers::default();
-        self.machine.ask(ask, given, &mut reply)?;
+        self.machine.ask(worker, ask, given, &mut reply)?;
         Ok(reply.values[0])
     }
 
     /// Done: the lease goes and the offset is settled.
     ///
     /// # Errors
-    /// Refusals 24 and 29.
-    pub fn ack(&mut self, token: LeaseToken) -> Result<(), Refusal> {
-        self.under(Ask::Ack, token, 0, 0).map(drop)
+    /// Refusals 38, 39, 24, 40 and 29.
+    pub fn ack(&mut self, worker: WorkerId, token: LeaseToken) -> Result<(), Refusal> {
+        self.under(worker, Ask::Ack, token, 0, 0).map(drop)
     }
 
     /// Given up for good: settled as by an ack.
     ///
     /// # Errors
-    /// Refusals 24 and 29.
-    pub fn term(&mut self, token: LeaseToken) -> Result<(), Refusal> {
-        self.under(Ask::Term, token, 0, 0).map(drop)
+    /// Refusals 38, 39, 24, 40 and 29.
+    pub fn term(&mut self, worker: WorkerId, token: LeaseToken) -> Result<(), Refusal> {
+        self.under(worker, Ask::Term, token, 0, 0).map(drop)
     }
 
     /// Failed: the offset can be claimed again after the delay, the one given or else the schedule's for so many hand-outs. It
     /// answers from when on.
     ///
     /// # Errors
-    /// Refusals 24, 25 and 26.
+    /// Refusals 38, 39, 24, 40, 25 and 26.
     pub fn nack(
         &mut self,
+        worker: WorkerId,
         token: LeaseToken,
         now: u64,
         delay_nanos: Option<u64>,
     ) -> Result<u64, Refusal> {
         match delay_nanos {
-            None => self.under(Ask::Nack, token, now, 0),
-            Some(delay) => self.under(Ask::NackAfter, token, now, delay),
+            None => self.under(worker, Ask::Nack, token, now, 0),
+            Some(delay) => self.under(worker, Ask::NackAfter, token, now, delay),
         }
     }
 
@@ -158,20 +175,25 @@ impl<S> Consumer<S> {
     /// answers the new deadline.
     ///
     /// # Errors
-    /// Refusals 24 and 28.
-    pub fn progress(&mut self, token: LeaseToken, now: u64) -> Result<u64, Refusal> {
+    /// Refusals 38, 39, 24, 40 and 28.
+    pub fn progress(
+        &mut self,
+        worker: WorkerId,
+        token: LeaseToken,
+        now: u64,
+    ) -> Result<u64, Refusal> {
         self.machine
-            .progress(token.offset.get(), token.generation.get(), now)
+            .progress(worker, token.offset.get(), token.generation.get(), now)
     }
 
     /// Settles every offset below a bound and drops their counts; `false` where that was so before.
     ///
     /// # Errors
-    /// Refusal 30.
-    pub fn commit(&mut self, up_to: Offset) -> Result<bool, Refusal> {
+    /// Refusals 38, 39 and 30.
+    pub fn commit(&mut self, worker: WorkerId, up_to: Offset) -> Result<bool, Refusal> {
         let mut reply = Numbers::default();
         self.machine
-            .ask(Ask::Commit, [up_to.get(), 0, 0, 0], &mut reply)?;
+            .ask(worker, Ask::Commit, [up_to.get(), 0, 0, 0], &mut reply)?;
         Ok(reply.values[0] != 0)
     }
 
@@ -179,88 +201,110 @@ impl<S> Consumer<S> {
     /// out. They fill the list from its first place on, and their number is answered. 128 places are always enough.
     ///
     /// # Errors
-    /// Refusal 20 where they don't fit, and then the list is as it was.
-    pub fn waiting(&mut self, now: u64, out: &mut [Offset]) -> Result<usize, Refusal> {
-        Ok(size(self.machine.waiting(now, out)?))
+    /// Refusals 38 and 39, and 20 where they don't fit; then the list is as it was.
+    pub fn waiting(
+        &mut self,
+        worker: WorkerId,
+        now: u64,
+        out: &mut [Offset],
+    ) -> Result<usize, Refusal> {
+        Ok(size(self.machine.waiting(worker, now, out)?))
     }
 
-    // A question about an offset, or about none. None of them is ever refused.
-    fn look(&mut self, ask: Ask, offset: u64, reply: &mut Numbers) {
-        self.machine
-            .ask(ask, [offset, 0, 0, 0], reply)
-            .expect("a question is not refused");
-    }
-
-    // The same, where one number is answered.
-    fn look_up(&mut self, ask: Ask, offset: u64) -> u64 {
+    // A question about an offset, or about none, which one number answers.
+    fn look_up(&mut self, worker: WorkerId, ask: Ask, offset: u64) -> Result<u64, Refusal> {
         let mut reply = Numbers::default();
-        self.look(ask, offset, &mut reply);
-        reply.values[0]
+        self.machine
+            .ask(worker, ask, [offset, 0, 0, 0], &mut reply)?;
+        Ok(reply.values[0])
     }
 
     /// The offset below which all are settled.
-    pub fn committed(&mut self) -> Offset {
-        Offset::new(self.look_up(Ask::Committed, 0))
+    ///
+    /// # Errors
+    /// Refusals 38 and 39.
+    pub fn committed(&mut self, worker: WorkerId) -> Result<Offset, Refusal> {
+        self.look_up(worker, Ask::Committed, 0).map(Offset::new)
     }
 
     /// Whether an offset is settled.
-    pub fn is_settled(&mut self, offset: Offset) -> bool {
-        self.look_up(Ask::IsSettled, offset.get()) != 0
+    ///
+    /// # Errors
+    /// Refusals 38 and 39.
+    pub fn is_settled(&mut self, worker: WorkerId, offset: Offset) -> Result<bool, Refusal> {
+        Ok(self.look_up(worker, Ask::IsSettled, offset.get())? != 0)
     }
 
     /// The lease of an offset, run out or not.
-    pub fn lease_of(&mut self, offset: Offset) -> Option<Lease> {
+    ///
+    /// # Errors
+    /// Refusals 38 and 39.
+    pub fn lease_of(&mut self, worker: WorkerId, offset: Offset) -> Result<Option<Lease>, Refusal> {
         let mut reply = Numbers::default();
-        self.look(Ask::LeaseOf, offset.get(), &mut reply);
+        self.machine
+            .ask(worker, Ask::LeaseOf, [offset.get(), 0, 0, 0], &mut reply)?;
         if reply.count == 0 {
-            return None;
+            return Ok(None);
         }
         let [generation, attempt_start, deadline, deliveries] = reply.values;
-        Some(Lease {
+        Ok(Some(Lease {
             generation: Generation::new(generation),
             attempt_start,
             deadline,
             deliveries: count(deliveries),
-        })
+        }))
     }
 
     /// How often an offset was handed out, as the next checkpoint stores it.
-    pub fn count_of(&mut self, offset: Offset) -> u32 {
-        count(self.look_up(Ask::CountOf, offset.get()))
+    ///
+    /// # Errors
+    /// Refusals 38 and 39.
+    pub fn count_of(&mut self, worker: WorkerId, offset: Offset) -> Result<u32, Refusal> {
+        self.look_up(worker, Ask::CountOf, offset.get()).map(count)
     }
 
     /// How often each offset was handed out, rising by offset, as the next checkpoint stores it.
-    pub fn all_attempt_counts(&mut self) -> Vec<(Offset, u32)> {
-        // At the last clock every deadline has come, so that the waiting list has every lease and every carried count.
+    ///
+    /// # Errors
+    /// Refusals 38 and 39.
+    pub fn all_attempt_counts(&mut self, worker: WorkerId) -> Result<Vec<(Offset, u32)>, Refusal> {
+        // At the last clock every deadline has come, so that the waiting list has every lease and every carried count: at most 128.
         let mut list = [Offset::ZERO; MAX_PAIRS];
-        let n = self
-            .waiting(u64::MAX, &mut list)
-            .expect("there are at most 128 counts");
+        let n = self.waiting(worker, u64::MAX, &mut list)?;
         let offsets = &mut list[..n];
         offsets.sort_unstable();
-        let counted = |offset: &Offset| (*offset, self.count_of(*offset));
+        let counted = |offset: &Offset| Ok((*offset, self.count_of(worker, *offset)?));
         offsets.iter().map(counted).collect()
     }
 
     /// How many offsets are in flight, their leases run out or not.
-    pub fn in_flight(&mut self) -> usize {
-        size(self.look_up(Ask::InFlight, 0))
+    ///
+    /// # Errors
+    /// Refusals 38 and 39.
+    pub fn in_flight(&mut self, worker: WorkerId) -> Result<usize, Refusal> {
+        self.look_up(worker, Ask::InFlight, 0).map(size)
     }
 
     /// Whether a checkpoint is due, and why.
-    pub fn is_due(&mut self) -> Due {
+    ///
+    /// # Errors
+    /// Refusals 38 and 39.
+    pub fn is_due(&mut self, worker: WorkerId) -> Result<Due, Refusal> {
         let mut reply = Numbers::default();
-        self.look(Ask::IsDue, 0, &mut reply);
+        self.machine.ask(worker, Ask::IsDue, [0; 4], &mut reply)?;
         let [ceiling, threshold, ..] = reply.values;
-        Due {
+        Ok(Due {
             ceiling: ceiling != 0,
             threshold: threshold != 0,
-        }
+        })
     }
 
     /// How many blocks of the journal are left.
-    pub fn blocks_left(&mut self) -> usize {
-        size(self.look_up(Ask::BlocksLeft, 0))
+    ///
+    /// # Errors
+    /// Refusals 38 and 39.
+    pub fn blocks_left(&mut self, worker: WorkerId) -> Result<usize, Refusal> {
+        self.look_up(worker, Ask::BlocksLeft, 0).map(size)
     }
 
     /// Gives the state up. What was not checkpointed is lost, as in a power failure, and only a restart is left.
@@ -278,7 +322,7 @@ impl<S> fmt::Debug for Consumer<S> {
 
 /// Why a [checkpoint](Consumer::checkpoint) was not made.
 pub enum CheckpointError<S = JournalFile> {
-    /// The journal is full (31). Nothing has changed, and here is the consumer.
+    /// The worker may not begin one (38, 39), or the journal is full (31). Nothing has changed, and here is the consumer.
     Refused(Refusal, Consumer<S>),
     /// The disk failed: only a restart is left.
     Failed(Failed<S>),

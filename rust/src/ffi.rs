@@ -9,6 +9,7 @@
 use crate::configuration::{Configuration, LeaseConfig, Settings};
 use crate::refusal::Refusal;
 use crate::types::Offset;
+use crate::workers::WorkerId;
 
 // cursor: AckCursor
 #[repr(C)]
@@ -28,6 +29,7 @@ struct LeaseTable {
     attempt_starts: [u64; 64],
     deadlines: [u64; 64],
     deliveries: [u32; 64],
+    workers: [u32; 64],
     len: usize,
     carried_offsets: [u64; 128],
     carried_counts: [u32; 128],
@@ -118,6 +120,7 @@ extern "C" {
     fn ninotskev_ask(
         machine: *mut Machine,
         numbers: *mut Numbers,
+        worker: u64,
         kind: u64,
         a: u64,
         b: u64,
@@ -129,11 +132,12 @@ extern "C" {
     fn ninotskev_progress(
         machine: *mut Machine,
         numbers: *mut Numbers,
+        worker: u64,
         offset: u64,
         generation: u64,
         now: u64,
     );
-    fn ninotskev_begin(machine: *mut Machine, numbers: *mut Numbers);
+    fn ninotskev_begin(machine: *mut Machine, numbers: *mut Numbers, worker: u64);
     fn ninotskev_step(machine: *mut Machine, numbers: *mut Numbers, area: *mut u8, area_len: usize);
     fn ninotskev_encode_attempts(
         offsets: *const u64,
@@ -249,7 +253,7 @@ impl Numbers {
     #[cold]
     fn refusal(&self) -> Refusal {
         Refusal::of_number(self.number, self.values[0], self.values[1])
-            .expect("the library answers document 01's numbers")
+            .expect("the library answers the documents' numbers")
     }
 }
 
@@ -294,6 +298,7 @@ impl Machine {
     #[inline]
     fn on_consumer(
         &mut self,
+        worker: WorkerId,
         ask: Ask,
         [a, b, c, d]: [u64; 4],
         out: &mut [u64],
@@ -305,6 +310,7 @@ impl Machine {
             ninotskev_ask(
                 self,
                 numbers,
+                worker.get(),
                 ask as u64,
                 a,
                 b,
@@ -320,47 +326,54 @@ impl Machine {
     #[inline]
     pub(crate) fn ask(
         &mut self,
+        worker: WorkerId,
         ask: Ask,
         given: [u64; 4],
         numbers: &mut Numbers,
     ) -> Result<(), Refusal> {
-        self.on_consumer(ask, given, &mut [], numbers);
+        self.on_consumer(worker, ask, given, &mut [], numbers);
         numbers.check()
     }
 
-    /// Extends a lease: its new deadline, or 24 or 28.
+    /// Extends a lease: its new deadline, or 38, 39, 24, 40 or 28.
     #[inline]
     pub(crate) fn progress(
         &mut self,
+        worker: WorkerId,
         offset: u64,
         generation: u64,
         now: u64,
     ) -> Result<u64, Refusal> {
         let mut numbers = Numbers::default();
         // SAFETY: as for `on_consumer`.
-        unsafe { ninotskev_progress(self, &mut numbers, offset, generation, now) };
+        unsafe { ninotskev_progress(self, &mut numbers, worker.get(), offset, generation, now) };
         numbers.check()?;
         Ok(numbers.values[0])
     }
 
-    /// The waiting list at a clock, into a list: how many there are, or 20.
+    /// The waiting list at a clock, into a list: how many there are, or 38, 39 or 20.
     #[inline]
-    pub(crate) fn waiting(&mut self, now: u64, out: &mut [Offset]) -> Result<u64, Refusal> {
+    pub(crate) fn waiting(
+        &mut self,
+        worker: WorkerId,
+        now: u64,
+        out: &mut [Offset],
+    ) -> Result<u64, Refusal> {
         // SAFETY: an offset is laid out as its number.
         let places =
             unsafe { core::slice::from_raw_parts_mut(out.as_mut_ptr().cast::<u64>(), out.len()) };
         let mut numbers = Numbers::default();
-        self.on_consumer(Ask::Waiting, [now, 0, 0, 0], places, &mut numbers);
+        self.on_consumer(worker, Ask::Waiting, [now, 0, 0, 0], places, &mut numbers);
         numbers.check()?;
         Ok(numbers.count)
     }
 
-    /// Takes the consumer into a record: how many blocks are to be written, or 31.
+    /// Takes the consumer into a record: how many blocks are to be written, or 38, 39 or 31.
     #[inline]
-    pub(crate) fn begin(&mut self) -> Result<u64, Refusal> {
+    pub(crate) fn begin(&mut self, worker: WorkerId) -> Result<u64, Refusal> {
         let mut numbers = Numbers::default();
         // SAFETY: as for `on_consumer`.
-        unsafe { ninotskev_begin(self, &mut numbers) };
+        unsafe { ninotskev_begin(self, &mut numbers, worker.get()) };
         numbers.check()?;
         Ok(numbers.values[0])
     }
@@ -385,6 +398,7 @@ impl Machine {
 mod tests {
     use super::*;
     use crate::configuration::DeliveryConfig;
+    use crate::workers::Rights;
     use std::mem::{offset_of, size_of};
 
     // A machine with bytes behind it that nobody may touch.
@@ -436,12 +450,18 @@ mod tests {
             assert_eq!(self.numbers_end, [0xa5; 64]);
         }
 
-        fn ask(&mut self, kind: u64, [a, b, c, d]: [u64; 4], out: &mut [u64]) {
+        // By worker 0.
+        fn ask(&mut self, kind: u64, given: [u64; 4], out: &mut [u64]) {
+            self.ask_by(0, kind, given, out);
+        }
+
+        fn ask_by(&mut self, worker: u64, kind: u64, [a, b, c, d]: [u64; 4], out: &mut [u64]) {
             // SAFETY: as for `Machine::on_consumer`; the machine was started.
             unsafe {
                 ninotskev_ask(
                     &mut self.machine,
                     &mut self.numbers,
+                    worker,
                     kind,
                     a,
                     b,
@@ -460,6 +480,7 @@ mod tests {
                 ninotskev_progress(
                     &mut self.machine,
                     &mut self.numbers,
+                    0,
                     offset,
                     generation,
                     now,
@@ -470,7 +491,7 @@ mod tests {
 
         fn begin(&mut self) {
             // SAFETY: as for `Machine::begin`; the machine was started.
-            unsafe { ninotskev_begin(&mut self.machine, &mut self.numbers) };
+            unsafe { ninotskev_begin(&mut self.machine, &mut self.numbers, 0) };
             self.untouched();
         }
 
@@ -498,13 +519,13 @@ mod tests {
 
     #[test]
     fn sizes_are_those_of_the_fields() {
-        assert_eq!(size_of::<Configuration>(), 152 + 16);
+        assert_eq!(size_of::<Configuration>(), 152 + 8 + 16);
         assert_eq!(size_of::<AckCursor>(), 8 + 1024 + 1024 + 8);
         assert_eq!(
             size_of::<LeaseTable>(),
-            16 + 4 * 512 + 256 + 8 + 1024 + 512 + 8 + 8 + 8
+            16 + 4 * 512 + 2 * 256 + 8 + 1024 + 512 + 8 + 8 + 8
         );
-        assert_eq!(offset_of!(Machine, writing), 168 + 8);
+        assert_eq!(offset_of!(Machine, writing), 176 + 8);
         assert_eq!(size_of::<Numbers>(), 48);
     }
 
@@ -525,6 +546,7 @@ mod tests {
             settings: Settings {
                 delivery: DeliveryConfig::new(3, true, &[11, 12])
                     .with_attempts_flush_redeliveries(7),
+                rights: [127, 1, 2, 3, 4, 5, 6, 255].map(Rights::from_bits),
             },
             lease: LeaseConfig {
                 visibility_nanos: 100,
@@ -561,8 +583,8 @@ mod tests {
     }
 
     fn claims_and_acks(guarded: &mut Guarded) {
-        for offset in [5, 9] {
-            guarded.ask(Ask::Claim as u64, [offset, 50, 0, 0], &mut []);
+        for (worker, offset) in [(0, 5), (7, 9)] {
+            guarded.ask_by(worker, Ask::Claim as u64, [offset, 50, 0, 0], &mut []);
         }
         assert_eq!(guarded.numbers, code(0, 3, [1, 1, 0, 0]));
         let table = &guarded.machine.writing.consumer.table;
@@ -570,7 +592,11 @@ mod tests {
         assert_eq!(table.offsets[..2], [5, 9]);
         assert_eq!((table.generations[1], table.attempt_starts[1]), (1, 50));
         assert_eq!((table.deadlines[1], table.deliveries[1]), (150, 1));
+        assert_eq!(table.workers[..2], [0, 7]);
+        // Another's token, and one's own.
         guarded.ask(Ask::Ack as u64, [9, 1, 0, 0], &mut []);
+        assert_eq!(guarded.numbers, code(40, 0, [0; 4]));
+        guarded.ask_by(7, Ask::Ack as u64, [9, 1, 0, 0], &mut []);
         let cursor = &guarded.machine.writing.consumer.cursor;
         assert_eq!((cursor.committed, cursor.runs), (0, 1));
         assert_eq!((cursor.starts[0], cursor.ends[0]), (9, 10));
@@ -618,7 +644,7 @@ mod tests {
             let Guarded {
                 machine, numbers, ..
             } = &mut *guarded;
-            machine.on_consumer(ask, [5, 0, 0, 0], &mut list, numbers);
+            machine.on_consumer(WorkerId::new(0), ask, [5, 0, 0, 0], &mut list, numbers);
             guarded.untouched();
             assert_eq!(guarded.numbers, code(255, 0, [0; 4]));
         }

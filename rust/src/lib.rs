@@ -12,16 +12,18 @@
 //! and that nobody writes, copies or removes the file by its name.
 //!
 //! ```
-//! use ironbus_delivery_state::{Configuration, Consumer, HandOut, NewJournal, Offset, Refusal};
+//! use ironbus_delivery_state::{Configuration, Consumer, HandOut, NewJournal, Offset, Refusal, WorkerId};
 //! # let path = std::env::temp_dir().join(format!("ironbus-doc-{}", std::process::id()));
 //! # let _ = std::fs::remove_file(&path);
 //!
+//! // Every call says who makes it. Unless the settings say otherwise, worker 0 may do everything and the others nothing.
+//! let worker = WorkerId::new(0);
 //! let journal = NewJournal::create(&path, 128)?;
 //! let consumer = Consumer::start(&Configuration::default(), journal).map_err(|(refusal, _)| refusal)?;
-//! let mut consumer = consumer.checkpoint()?;
-//! let HandOut::Deliver { token, .. } = consumer.claim(Offset::new(0), 0)? else { unreachable!() };
-//! consumer.ack(token)?;
-//! assert_eq!(consumer.ack(token), Err(Refusal::Fenced));
+//! let mut consumer = consumer.checkpoint(worker)?;
+//! let HandOut::Deliver { token, .. } = consumer.claim(worker, Offset::new(0), 0)? else { unreachable!() };
+//! consumer.ack(worker, token)?;
+//! assert_eq!(consumer.ack(worker, token), Err(Refusal::Fenced));
 //! # drop(consumer);
 //! # std::fs::remove_file(&path)?;
 //! # Ok::<(), Box<dyn std::error::Error>>(())
@@ -39,10 +41,10 @@
 //! It can't be called while a checkpoint is being written:
 //!
 //! ```compile_fail,E0382
-//! # use ironbus_delivery_state::{Consumer, Offset};
-//! fn claim_in_between(mut consumer: Consumer) {
-//!     let writing = consumer.begin();
-//!     let _ = consumer.claim(Offset::new(0), 0);
+//! # use ironbus_delivery_state::{Consumer, Offset, WorkerId};
+//! fn claim_in_between(mut consumer: Consumer, worker: WorkerId) {
+//!     let writing = consumer.begin(worker);
+//!     let _ = consumer.claim(worker, Offset::new(0), 0);
 //! }
 //! ```
 //!
@@ -91,10 +93,10 @@
 //! And a consumer that was given up is gone:
 //!
 //! ```compile_fail,E0382
-//! # use ironbus_delivery_state::{Consumer, Offset};
-//! fn after_the_end(mut consumer: Consumer) {
+//! # use ironbus_delivery_state::{Consumer, Offset, WorkerId};
+//! fn after_the_end(mut consumer: Consumer, worker: WorkerId) {
 //!     let journal = consumer.into_journal();
-//!     let _ = consumer.claim(Offset::new(0), 0);
+//!     let _ = consumer.claim(worker, Offset::new(0), 0);
 //! }
 //! ```
 
@@ -109,6 +111,7 @@ mod journal;
 mod refusal;
 mod snapshot;
 mod types;
+mod workers;
 
 pub use configuration::{Configuration, DeliveryConfig, LeaseConfig, Settings};
 pub use consumer::{CheckpointError, Consumer, Step, Writing};
@@ -120,3 +123,4 @@ pub use snapshot::{
     decode_attempt_snapshot, encode_attempt_snapshot, encode_attempt_snapshot_v2, MAX_PAIRS,
 };
 pub use types::{Due, Generation, HandOut, Lease, LeaseToken, Offset};
+pub use workers::{Rights, WorkerId, WORKERS};

@@ -2,7 +2,7 @@
 
 use core::fmt;
 
-/// The refusals of document 01, in its order, with their values. A refused call has changed nothing.
+/// The refusals of documents 01 and 02, by their numbers, with their values. A refused call has changed nothing.
 #[derive(Clone, Copy, Debug, PartialEq, Eq, Hash)]
 #[non_exhaustive]
 pub enum Refusal {
@@ -106,10 +106,16 @@ pub enum Refusal {
     Held,
     /// 31: fewer blocks are left than the checkpoint needs.
     JournalFull,
+    /// 38: there is no worker of that number: it is 8 or more.
+    UnknownWorker,
+    /// 39: the worker may not do that.
+    NotPermitted,
+    /// 40: the token is another worker's.
+    ForeignToken,
 }
 
 impl Refusal {
-    /// Document 01's number.
+    /// Its number in the documents.
     #[must_use]
     pub const fn number(self) -> u64 {
         match self {
@@ -144,10 +150,13 @@ impl Refusal {
             Refusal::Shed => 29,
             Refusal::Held => 30,
             Refusal::JournalFull => 31,
+            Refusal::UnknownWorker => 38,
+            Refusal::NotPermitted => 39,
+            Refusal::ForeignToken => 40,
         }
     }
 
-    /// The refusal of a number and its values, or `None` where document 01 has no such number.
+    /// The refusal of a number and its values, or `None` where the documents have no such number.
     #[must_use]
     pub const fn of_number(number: u64, first: u64, second: u64) -> Option<Refusal> {
         Some(match number {
@@ -201,8 +210,20 @@ impl Refusal {
             29 => Refusal::Shed,
             30 => Refusal::Held,
             31 => Refusal::JournalFull,
+            38 => Refusal::UnknownWorker,
+            39 => Refusal::NotPermitted,
+            40 => Refusal::ForeignToken,
             _ => return None,
         })
+    }
+
+    // What is said of it, with a # in place of each value.
+    fn words(self) -> &'static str {
+        let number = self.number() as usize;
+        if number < 38 {
+            return WORDS[number - 1];
+        }
+        MORE_WORDS[number - 38]
     }
 
     // Its values, 0 where it has fewer.
@@ -224,7 +245,7 @@ impl Refusal {
     }
 }
 
-// What is said of each, by its number, with a # in place of each value.
+// What is said of each, by its number, from 1 to 31.
 const WORDS: [&str; 31] = [
     "a delivery limit of 0 or 4294967295 needs the opt-in",
     "more than 16 backoffs",
@@ -259,11 +280,18 @@ const WORDS: [&str; 31] = [
     "fewer blocks are left than the checkpoint needs",
 ];
 
+// The same from 38 on.
+const MORE_WORDS: [&str; 3] = [
+    "there is no worker of that number",
+    "the worker may not do that",
+    "the token is another worker's",
+];
+
 impl fmt::Display for Refusal {
     fn fmt(&self, f: &mut fmt::Formatter<'_>) -> fmt::Result {
         let number = self.number();
         write!(f, "refused ({number}): ")?;
-        let mut parts = WORDS[number as usize - 1].split('#');
+        let mut parts = self.words().split('#');
         f.write_str(parts.next().unwrap_or_default())?;
         for (value, part) in self.values().into_iter().zip(parts) {
             write!(f, "{value}{part}")?;
@@ -280,7 +308,7 @@ mod tests {
 
     #[test]
     fn numbers_and_values_go_both_ways() {
-        for number in 1..=31 {
+        for number in (1..=31).chain(38..=40) {
             let refusal = Refusal::of_number(number, 7, 9).unwrap();
             assert_eq!(refusal.number(), number);
             assert!(refusal
@@ -288,7 +316,9 @@ mod tests {
                 .starts_with(&format!("refused ({number}): ")));
         }
         assert_eq!(Refusal::of_number(0, 0, 0), None);
-        assert_eq!(Refusal::of_number(255, 0, 0), None);
+        for number in [32, 37, 41, 255] {
+            assert_eq!(Refusal::of_number(number, 0, 0), None);
+        }
         assert_eq!(
             Refusal::of_number(16, 7, 9),
             Some(Refusal::CountMismatch {

@@ -7,7 +7,7 @@ use std::io::{BufRead, BufReader};
 use std::path::Path;
 use std::process::{Child, Command, Stdio};
 
-use common::{configuration, fresh_path};
+use common::{configuration, fresh_path, WORKER};
 use ironbus_delivery_state::{
     Configuration, Consumer, HandOut, Journal, JournalError, NewJournal, Offset, Refusal, Step,
     BLOCK,
@@ -26,34 +26,40 @@ fn a_worker_that_slept_through_a_restart_is_refused() {
     let recipe = Offset::new(0);
     let journal = NewJournal::create(&path, 64).unwrap();
     let consumer = Consumer::start(&configuration, journal).unwrap();
-    let mut server = consumer.checkpoint().unwrap();
+    let mut server = consumer.checkpoint(WORKER).unwrap();
     let HandOut::Deliver {
         token: sleeper,
         deliveries: 1,
-    } = server.claim(recipe, 0).unwrap()
+    } = server.claim(WORKER, recipe, 0).unwrap()
     else {
         panic!("a first delivery");
     };
     // The server goes down while the worker sleeps, and the recipe goes to another.
     drop(server);
-    let mut server = restart(&path, &configuration).checkpoint().unwrap();
-    let other = server.claim(recipe, SECOND).unwrap().token();
+    let mut server = restart(&path, &configuration).checkpoint(WORKER).unwrap();
+    let other = server.claim(WORKER, recipe, SECOND).unwrap().token();
     assert_ne!(sleeper.generation, other.generation);
     // The sleeper wakes: its token is refused in every way, and the recipe isn't done.
-    assert_eq!(server.ack(sleeper), Err(Refusal::Fenced));
-    assert_eq!(server.ack(sleeper).unwrap_err().number(), 24);
-    assert_eq!(server.term(sleeper), Err(Refusal::Fenced));
-    assert_eq!(server.nack(sleeper, SECOND, None), Err(Refusal::Fenced));
-    assert_eq!(server.progress(sleeper, SECOND), Err(Refusal::Fenced));
-    assert!(!server.is_settled(recipe));
+    assert_eq!(server.ack(WORKER, sleeper), Err(Refusal::Fenced));
+    assert_eq!(server.ack(WORKER, sleeper).unwrap_err().number(), 24);
+    assert_eq!(server.term(WORKER, sleeper), Err(Refusal::Fenced));
+    assert_eq!(
+        server.nack(WORKER, sleeper, SECOND, None),
+        Err(Refusal::Fenced)
+    );
+    assert_eq!(
+        server.progress(WORKER, sleeper, SECOND),
+        Err(Refusal::Fenced)
+    );
+    assert!(!server.is_settled(WORKER, recipe).unwrap());
     // The other worker fails, so the recipe is worked out again, by a third.
-    let again = server.nack(other, SECOND, Some(0)).unwrap();
-    let third = server.claim(recipe, again).unwrap().token();
-    server.ack(third).unwrap();
-    drop(server.checkpoint().unwrap());
+    let again = server.nack(WORKER, other, SECOND, Some(0)).unwrap();
+    let third = server.claim(WORKER, recipe, again).unwrap().token();
+    server.ack(WORKER, third).unwrap();
+    drop(server.checkpoint(WORKER).unwrap());
     let mut server = restart(&path, &configuration);
-    assert!(server.is_settled(recipe));
-    assert_eq!(server.ack(sleeper), Err(Refusal::Fenced));
+    assert!(server.is_settled(WORKER, recipe).unwrap());
+    assert_eq!(server.ack(WORKER, sleeper), Err(Refusal::Fenced));
 }
 
 #[test]
@@ -62,35 +68,43 @@ fn the_fourteenth_example() {
     let configuration = configuration(2, 1, 10, 25);
     let job = Offset::new(0);
     let consumer = Consumer::start(&configuration, NewJournal::create(&path, 18).unwrap()).unwrap();
-    let mut consumer = consumer.checkpoint().unwrap();
-    let first = consumer.claim(job, 0).unwrap();
+    let mut consumer = consumer.checkpoint(WORKER).unwrap();
+    let first = consumer.claim(WORKER, job, 0).unwrap();
     assert!(matches!(first, HandOut::Deliver { deliveries: 1, .. }));
-    assert_eq!(consumer.claim(job, 9), Err(Refusal::InFlight));
-    let second = consumer.claim(job, 10).unwrap();
+    assert_eq!(consumer.claim(WORKER, job, 9), Err(Refusal::InFlight));
+    let second = consumer.claim(WORKER, job, 10).unwrap();
     assert!(matches!(second, HandOut::Deliver { deliveries: 2, .. }));
-    assert_eq!(consumer.claim(job, 20), Err(Refusal::CheckpointDue));
-    assert!(consumer.is_due().threshold && !consumer.is_due().ceiling);
-    drop(consumer.checkpoint().unwrap());
-    let mut consumer = restart(&path, &configuration).checkpoint().unwrap();
+    assert_eq!(consumer.claim(WORKER, job, 20), Err(Refusal::CheckpointDue));
+    assert!(
+        consumer.is_due(WORKER).unwrap().threshold && !consumer.is_due(WORKER).unwrap().ceiling
+    );
+    drop(consumer.checkpoint(WORKER).unwrap());
+    let mut consumer = restart(&path, &configuration).checkpoint(WORKER).unwrap();
     let HandOut::DeadLetter {
         token,
         deliveries: 3,
-    } = consumer.claim(job, 30).unwrap()
+    } = consumer.claim(WORKER, job, 30).unwrap()
     else {
         panic!("over the limit");
     };
     assert_eq!(token.generation.get(), 4098);
-    let lease = consumer.lease_of(job).unwrap();
+    let lease = consumer.lease_of(WORKER, job).unwrap().unwrap();
     assert_eq!((lease.attempt_start, lease.deadline), (30, 40));
     assert_eq!(lease.generation, token.generation);
-    assert_eq!(consumer.lease_of(Offset::new(1)), None);
+    assert_eq!(consumer.lease_of(WORKER, Offset::new(1)).unwrap(), None);
     assert_eq!(
-        (consumer.in_flight(), consumer.committed()),
+        (
+            consumer.in_flight(WORKER).unwrap(),
+            consumer.committed(WORKER).unwrap()
+        ),
         (1, Offset::ZERO)
     );
-    consumer.term(token).unwrap();
+    consumer.term(WORKER, token).unwrap();
     assert_eq!(
-        (consumer.in_flight(), consumer.committed()),
+        (
+            consumer.in_flight(WORKER).unwrap(),
+            consumer.committed(WORKER).unwrap()
+        ),
         (0, Offset::new(1))
     );
 }
@@ -100,34 +114,49 @@ fn calls_give_01s_answers() {
     let path = fresh_path("answers");
     let configuration = configuration(3, 9, 10, 25);
     let consumer = Consumer::start(&configuration, NewJournal::create(&path, 18).unwrap()).unwrap();
-    let mut consumer = consumer.checkpoint().unwrap();
+    let mut consumer = consumer.checkpoint(WORKER).unwrap();
     assert_eq!(
-        consumer.claim(Offset::new(u64::MAX), 0),
+        consumer.claim(WORKER, Offset::new(u64::MAX), 0),
         Err(Refusal::LastOffset)
     );
-    let token = consumer.claim(Offset::new(3), 100).unwrap().token();
-    assert_eq!(consumer.progress(token, 109), Ok(119));
-    assert_eq!(consumer.progress(token, 120), Ok(125));
-    assert_eq!(consumer.progress(token, 125), Err(Refusal::CapReached));
-    assert_eq!(consumer.commit(Offset::new(4)), Err(Refusal::Held));
-    assert_eq!(consumer.commit(Offset::new(3)), Ok(true));
-    assert_eq!(consumer.commit(Offset::new(3)), Ok(false));
-    assert_eq!(consumer.claim(Offset::new(2), 0), Err(Refusal::Settled));
+    let token = consumer.claim(WORKER, Offset::new(3), 100).unwrap().token();
+    assert_eq!(consumer.progress(WORKER, token, 109), Ok(119));
+    assert_eq!(consumer.progress(WORKER, token, 120), Ok(125));
+    assert_eq!(
+        consumer.progress(WORKER, token, 125),
+        Err(Refusal::CapReached)
+    );
+    assert_eq!(consumer.commit(WORKER, Offset::new(4)), Err(Refusal::Held));
+    assert_eq!(consumer.commit(WORKER, Offset::new(3)), Ok(true));
+    assert_eq!(consumer.commit(WORKER, Offset::new(3)), Ok(false));
+    assert_eq!(
+        consumer.claim(WORKER, Offset::new(2), 0),
+        Err(Refusal::Settled)
+    );
     // the first delay of the schedule is 3
-    assert_eq!(consumer.nack(token, 200, None), Ok(203));
-    assert_eq!(consumer.nack(token, 200, None), Err(Refusal::Fenced));
+    assert_eq!(consumer.nack(WORKER, token, 200, None), Ok(203));
+    assert_eq!(
+        consumer.nack(WORKER, token, 200, None),
+        Err(Refusal::Fenced)
+    );
     let mut list = [Offset::new(77); 3];
-    assert_eq!(consumer.waiting(202, &mut list), Ok(0));
-    assert_eq!(consumer.waiting(203, &mut []), Err(Refusal::OutTooShort));
-    assert_eq!(consumer.waiting(203, &mut list), Ok(1));
+    assert_eq!(consumer.waiting(WORKER, 202, &mut list), Ok(0));
+    assert_eq!(
+        consumer.waiting(WORKER, 203, &mut []),
+        Err(Refusal::OutTooShort)
+    );
+    assert_eq!(consumer.waiting(WORKER, 203, &mut list), Ok(1));
     assert_eq!(list, [Offset::new(3), Offset::new(77), Offset::new(77)]);
     for offset in 4..67 {
-        consumer.claim(Offset::new(offset), 0).unwrap();
+        consumer.claim(WORKER, Offset::new(offset), 0).unwrap();
     }
-    assert_eq!(consumer.claim(Offset::new(67), 0), Err(Refusal::Full));
-    assert_eq!(consumer.in_flight(), 64);
+    assert_eq!(
+        consumer.claim(WORKER, Offset::new(67), 0),
+        Err(Refusal::Full)
+    );
+    assert_eq!(consumer.in_flight(WORKER).unwrap(), 64);
     let mut list = [Offset::ZERO; 128];
-    assert_eq!(consumer.waiting(203, &mut list), Ok(64));
+    assert_eq!(consumer.waiting(WORKER, 203, &mut list), Ok(64));
 }
 
 #[test]
@@ -135,7 +164,7 @@ fn a_checkpoint_goes_block_by_block() {
     let path = fresh_path("steps");
     let configuration = configuration(3, 9, 10, 25);
     let consumer = Consumer::start(&configuration, NewJournal::create(&path, 4).unwrap()).unwrap();
-    let writing = consumer.begin().unwrap();
+    let writing = consumer.begin(WORKER).unwrap();
     assert_eq!(writing.writes_left(), 2);
     let Step::Wrote { block: 1, writing } = writing.step().unwrap() else {
         panic!("the body comes first");
@@ -148,12 +177,12 @@ fn a_checkpoint_goes_block_by_block() {
         panic!("the header comes last");
     };
     assert_eq!(fs::read(&path).unwrap()[0], 1);
-    let mut consumer = consumer.checkpoint().unwrap();
-    assert_eq!(consumer.blocks_left(), 0);
-    let (refusal, mut consumer) = consumer.begin().unwrap_err();
+    let mut consumer = consumer.checkpoint(WORKER).unwrap();
+    assert_eq!(consumer.blocks_left(WORKER).unwrap(), 0);
+    let (refusal, mut consumer) = consumer.begin(WORKER).unwrap_err();
     assert_eq!(refusal, Refusal::JournalFull);
     // A full journal is no reason to stop before the generations run out.
-    consumer.claim(Offset::ZERO, 0).unwrap();
+    consumer.claim(WORKER, Offset::ZERO, 0).unwrap();
 }
 
 #[test]
@@ -196,7 +225,7 @@ fn a_journal_that_is_there_can_only_be_opened() {
     assert!(matches!(Journal::open(&path), Err(JournalError::Io(_))));
     let configuration = configuration(3, 1, 10, 25);
     let consumer = Consumer::start(&configuration, NewJournal::create(&path, 18).unwrap()).unwrap();
-    let journal = consumer.checkpoint().unwrap().into_journal();
+    let journal = consumer.checkpoint(WORKER).unwrap().into_journal();
     assert_eq!(journal.bytes(), fs::read(&path).unwrap());
     let before = fs::read(&path).unwrap();
     assert!(matches!(
@@ -216,7 +245,7 @@ fn a_damaged_journal_is_refused() {
     let path = fresh_path("damaged");
     let configuration = configuration(3, 1, 10, 25);
     let consumer = Consumer::start(&configuration, NewJournal::create(&path, 18).unwrap()).unwrap();
-    drop(consumer.checkpoint().unwrap());
+    drop(consumer.checkpoint(WORKER).unwrap());
     let mut bytes = fs::read(&path).unwrap();
     bytes[BLOCK + 20] ^= 1;
     fs::write(&path, &bytes).unwrap();
@@ -235,12 +264,15 @@ fn three_groups(path: &Path, configuration: &Configuration) -> Vec<u8> {
     let journal = NewJournal::create(path, 18).unwrap();
     let mut consumer = Consumer::start(configuration, journal)
         .unwrap()
-        .checkpoint()
+        .checkpoint(WORKER)
         .unwrap();
     for offset in [0, 1] {
-        let token = consumer.claim(Offset::new(offset), 0).unwrap().token();
-        consumer.ack(token).unwrap();
-        consumer = consumer.checkpoint().unwrap();
+        let token = consumer
+            .claim(WORKER, Offset::new(offset), 0)
+            .unwrap()
+            .token();
+        consumer.ack(WORKER, token).unwrap();
+        consumer = consumer.checkpoint(WORKER).unwrap();
     }
     drop(consumer);
     let bytes = fs::read(path).unwrap();
@@ -287,7 +319,10 @@ fn a_worn_header_is_refused_while_a_later_one_stands() {
     );
     // The block put back, all is there.
     let mut consumer = restart_worn(&path, &configuration, &bytes, &[]).unwrap();
-    assert!(consumer.is_settled(Offset::new(0)) && consumer.is_settled(Offset::new(1)));
+    assert!(
+        consumer.is_settled(WORKER, Offset::new(0)).unwrap()
+            && consumer.is_settled(WORKER, Offset::new(1)).unwrap()
+    );
 }
 
 #[test]
@@ -306,12 +341,15 @@ fn without_a_later_header_the_group_before_counts() {
     let bytes = three_groups(&path, &configuration);
     // The last group's header is worn, and then the second group's too.
     let mut consumer = restart_worn(&path, &configuration, &bytes, &[4]).unwrap();
-    assert!(consumer.is_settled(Offset::new(0)) && !consumer.is_settled(Offset::new(1)));
+    assert!(
+        consumer.is_settled(WORKER, Offset::new(0)).unwrap()
+            && !consumer.is_settled(WORKER, Offset::new(1)).unwrap()
+    );
     drop(consumer);
     let mut consumer = restart_worn(&path, &configuration, &bytes, &[2, 4]).unwrap();
-    assert!(!consumer.is_settled(Offset::new(0)));
+    assert!(!consumer.is_settled(WORKER, Offset::new(0)).unwrap());
     // The next checkpoint is written over the lost ones.
-    drop(consumer.checkpoint().unwrap());
+    drop(consumer.checkpoint(WORKER).unwrap());
     let bytes = fs::read(&path).unwrap();
     assert_eq!((bytes[2 * BLOCK], bytes[2 * BLOCK + 4]), (1, 2));
     restart(&path, &configuration);
@@ -371,7 +409,7 @@ fn a_second_process_is_refused() {
     second.wait().unwrap();
     // Neither can this process have it twice.
     assert!(matches!(Journal::open(&path), Err(JournalError::Locked)));
-    let consumer = consumer.checkpoint().unwrap();
+    let consumer = consumer.checkpoint(WORKER).unwrap();
     drop(consumer);
     let mut third = other("look", &path);
     assert_eq!(says(&mut third), "open");
@@ -388,5 +426,5 @@ fn a_process_that_was_killed_leaves_the_journal() {
     assert!(matches!(Journal::open(&path), Err(JournalError::Locked)));
     holder.kill().unwrap();
     holder.wait().unwrap();
-    restart(&path, &configuration).checkpoint().unwrap();
+    restart(&path, &configuration).checkpoint(WORKER).unwrap();
 }

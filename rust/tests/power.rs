@@ -3,7 +3,7 @@
 
 mod common;
 
-use common::{configuration, fresh_path, Book, Cut, Cuttable, Power, Random};
+use common::{configuration, fresh_path, Book, Cut, Cuttable, Power, Random, WORKER};
 use ironbus_delivery_state::{
     CheckpointError, Configuration, Consumer, HandOut, Journal, LeaseToken, NewJournal, Offset,
     Refusal, Writing,
@@ -60,7 +60,7 @@ impl Run {
 
     /// A checkpoint, whose power may fail at some write.
     fn checkpoint(&mut self, consumer: Consumer<Cuttable>) -> Consumer<Cuttable> {
-        match consumer.begin() {
+        match consumer.begin(WORKER) {
             Err((refusal, consumer)) => {
                 assert_eq!(refusal, Refusal::JournalFull);
                 self.refused += 1;
@@ -90,7 +90,7 @@ impl Run {
 
     fn claim(&mut self, consumer: &mut Consumer<Cuttable>) -> bool {
         let offset = self.random.pick(&self.offsets);
-        match consumer.claim(Offset::new(offset), self.now) {
+        match consumer.claim(WORKER, Offset::new(offset), self.now) {
             Ok(hand_out) => {
                 let token = hand_out.token();
                 assert_eq!(token.offset.get(), offset);
@@ -117,13 +117,17 @@ impl Run {
         let token = self.random.pick(list);
         let offset = token.offset.get();
         let result = match self.random.below(4) {
-            0 => consumer.ack(token).map(|()| self.book.settled(offset)),
-            1 => consumer.term(token).map(|()| self.book.settled(offset)),
+            0 => consumer
+                .ack(WORKER, token)
+                .map(|()| self.book.settled(offset)),
+            1 => consumer
+                .term(WORKER, token)
+                .map(|()| self.book.settled(offset)),
             2 => {
                 let delay = (self.random.below(2) == 0).then_some(5);
-                consumer.nack(token, self.now, delay).map(drop)
+                consumer.nack(WORKER, token, self.now, delay).map(drop)
             }
-            _ => consumer.progress(token, self.now).map(drop),
+            _ => consumer.progress(WORKER, token, self.now).map(drop),
         };
         if old {
             assert_eq!(
@@ -137,7 +141,7 @@ impl Run {
 
     fn commit(&mut self, consumer: &mut Consumer<Cuttable>) {
         let bound = self.random.below(6);
-        match consumer.commit(Offset::new(bound)) {
+        match consumer.commit(WORKER, Offset::new(bound)) {
             Ok(_) => self.book.committed(bound),
             Err(refusal) => assert_eq!(refusal, Refusal::Held),
         }
@@ -254,14 +258,14 @@ fn after_an_error_only_a_restart_is_left() {
     }));
     let journal = NewJournal::on(Cuttable::new(&path, 128, &power)).unwrap();
     let consumer = Consumer::start(&configuration(2, 1, 10, 25), journal).unwrap();
-    let mut consumer = consumer.checkpoint().unwrap();
-    let token = consumer.claim(Offset::new(0), 0).unwrap().token();
-    let Err(CheckpointError::Failed(failed)) = consumer.checkpoint() else {
+    let mut consumer = consumer.checkpoint(WORKER).unwrap();
+    let token = consumer.claim(WORKER, Offset::new(0), 0).unwrap().token();
+    let Err(CheckpointError::Failed(failed)) = consumer.checkpoint(WORKER) else {
         panic!("the disk failed");
     };
     assert_eq!(failed.error().to_string(), "the power failed");
     let journal = failed.reopen().unwrap();
     let mut consumer = Consumer::restart(&configuration(2, 1, 10, 25), journal).unwrap();
-    assert_eq!(consumer.ack(token), Err(Refusal::Fenced));
-    assert_eq!(consumer.count_of(Offset::new(0)), 0);
+    assert_eq!(consumer.ack(WORKER, token), Err(Refusal::Fenced));
+    assert_eq!(consumer.count_of(WORKER, Offset::new(0)).unwrap(), 0);
 }

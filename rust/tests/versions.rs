@@ -5,7 +5,7 @@ mod common;
 use std::fs;
 use std::path::Path;
 
-use common::{configuration, crc32c, fresh_path};
+use common::{configuration, crc32c, fresh_path, WORKER};
 use ironbus_delivery_state::{
     decode_attempt_snapshot, encode_attempt_snapshot, encode_attempt_snapshot_v2, Configuration,
     Consumer, Journal, NewJournal, Offset, Refusal, BLOCK, MAX_PAIRS,
@@ -135,7 +135,10 @@ fn put_snapshot(bytes: &mut [u8], body: usize, snapshot: &[u8]) {
 fn found(consumer: &mut Consumer, offsets: u64) -> Vec<(bool, u32)> {
     let look = |offset| {
         let offset = Offset::new(offset);
-        (consumer.is_settled(offset), consumer.count_of(offset))
+        (
+            consumer.is_settled(WORKER, offset).unwrap(),
+            consumer.count_of(WORKER, offset).unwrap(),
+        )
     };
     (0..offsets).map(look).collect()
 }
@@ -155,16 +158,16 @@ fn a_journal_from_before_version_2_restarts() {
     assert_eq!(found(&mut consumer, 5), right);
     // A restart writes nothing; the next checkpoint has version 2, behind the old groups.
     assert_eq!(fs::read(&path).unwrap(), BEFORE);
-    drop(consumer.checkpoint().unwrap());
+    drop(consumer.checkpoint(WORKER).unwrap());
     let bytes = fs::read(&path).unwrap();
     assert_eq!(bytes[..4 * BLOCK], BEFORE[..4 * BLOCK]);
     assert_eq!(snapshot_in(&bytes, 5, 1, 2), version_2(&[(0, 1), (3, 1)]));
     let mut consumer = restart(&path, &configuration);
     assert_eq!(found(&mut consumer, 5), right);
     // The counts go on: the second hand-out of offset 3.
-    let mut consumer = consumer.checkpoint().unwrap();
-    consumer.claim(Offset::new(3), 0).unwrap();
-    assert_eq!(consumer.count_of(Offset::new(3)), 2);
+    let mut consumer = consumer.checkpoint(WORKER).unwrap();
+    consumer.claim(WORKER, Offset::new(3), 0).unwrap();
+    assert_eq!(consumer.count_of(WORKER, Offset::new(3)).unwrap(), 2);
 }
 
 #[test]
@@ -174,15 +177,15 @@ fn what_a_restart_finds_is_the_same_in_either_version() {
     let journal = NewJournal::create(&path, 18).unwrap();
     let mut consumer = Consumer::start(&configuration, journal)
         .unwrap()
-        .checkpoint()
+        .checkpoint(WORKER)
         .unwrap();
     let bytes = fs::read(&path).unwrap();
     assert_eq!(snapshot_in(&bytes, 1, 0, 0), version_2(&[]));
     for (offset, now) in [(1, 0), (4, 0), (6, 0), (4, 30)] {
-        consumer.claim(Offset::new(offset), now).unwrap();
+        consumer.claim(WORKER, Offset::new(offset), now).unwrap();
     }
-    let counts = consumer.all_attempt_counts();
-    drop(consumer.checkpoint().unwrap());
+    let counts = consumer.all_attempt_counts(WORKER).unwrap();
+    drop(consumer.checkpoint(WORKER).unwrap());
     let mut bytes = fs::read(&path).unwrap();
     let numbers = [(1, 1), (4, 2), (6, 1)];
     assert_eq!(snapshot_in(&bytes, 3, 0, 3), version_2(&numbers));
@@ -190,7 +193,7 @@ fn what_a_restart_finds_is_the_same_in_either_version() {
     assert_eq!(counts, pairs(&numbers));
     assert_eq!(encode_attempt_snapshot(&counts), Ok(version_1(&numbers)));
     let mut consumer = restart(&path, &configuration);
-    assert_eq!(consumer.all_attempt_counts(), counts);
+    assert_eq!(consumer.all_attempt_counts(WORKER).unwrap(), counts);
     let right = found(&mut consumer, 8);
     assert_eq!(right[4], (false, 2));
     drop(consumer);
@@ -217,14 +220,17 @@ fn a_claim_near_the_end_of_the_clock_is_counted() {
     let journal = NewJournal::create(&path, 18).unwrap();
     let mut consumer = Consumer::start(&configuration(5, 100, 30, 300), journal)
         .unwrap()
-        .checkpoint()
+        .checkpoint(WORKER)
         .unwrap();
     let now = u64::MAX - 1;
-    consumer.claim(Offset::new(4), now).unwrap();
+    consumer.claim(WORKER, Offset::new(4), now).unwrap();
     // The lease runs out at the last clock, and not before.
-    let lease = consumer.lease_of(Offset::new(4)).unwrap();
+    let lease = consumer.lease_of(WORKER, Offset::new(4)).unwrap().unwrap();
     assert_eq!(lease.deadline, u64::MAX);
     let mut list = [Offset::ZERO; MAX_PAIRS];
-    assert_eq!(consumer.waiting(now, &mut list), Ok(0));
-    assert_eq!(consumer.all_attempt_counts(), pairs(&[(4, 1)]));
+    assert_eq!(consumer.waiting(WORKER, now, &mut list), Ok(0));
+    assert_eq!(
+        consumer.all_attempt_counts(WORKER).unwrap(),
+        pairs(&[(4, 1)])
+    );
 }

@@ -13,8 +13,7 @@ ghost use Rattle.consumer.specs.Questions.{bit};
 ghost use Rattle.consumer.specs.View.{claimOf, settleOf, nackOf, progressOf, commitOf};
 ghost use Rattle.checkpoint.specs.Writing.{stepOf};
 ghost use Rattle.starts.specs.Starting.{startFault};
-ghost use Rattle.lease.specs.Lookup.{leaseAt};
-ghost use Rattle.machine.specs.Answers.{begunOf, firstPlaces, listOf, replyOf, Arguments, seenOf};
+ghost use Rattle.machine.specs.Answers.{begunOf, firstPlaces, listOf, leaseTold, replyOf, Arguments, seenOf};
 ghost use Rattle.machine.specs.Calls.{Call};
 ghost use Rattle.machine.specs.View.{afterOf};
 ghost use Rattle.machine.specs.declared.Machine.{Machine};
@@ -30,9 +29,9 @@ use consumer::calls::ProgressAnswer;
 use consumer::calls::SettleAnswer;
 use cursor::AckCursorError;
 use cursor::SnapshotError;
-use lease::lookup::LeaseAt;
 use machine::calls::AskAnswer;
 use machine::calls::CallAnswer;
+use machine::calls::LeaseReply;
 use machine::calls::Reply;
 use raw::Write;
 use starts::StartAnswer;
@@ -53,6 +52,8 @@ pub fn of_claim(answer: ClaimAnswer) -> Numbers
         ClaimAnswer::DeadLetter { token, deliveries } => {
             Numbers(0, 3, token.generation.0, deliveries as u64, 1, 0)
         }
+        ClaimAnswer::UnknownWorker => Numbers(38, 0, 0, 0, 0, 0),
+        ClaimAnswer::NotPermitted => Numbers(39, 0, 0, 0, 0, 0),
         ClaimAnswer::LastOffset => Numbers(21, 0, 0, 0, 0, 0),
         ClaimAnswer::Settled => Numbers(22, 0, 0, 0, 0, 0),
         ClaimAnswer::InFlight => Numbers(23, 0, 0, 0, 0, 0),
@@ -68,7 +69,10 @@ pub fn of_settle(answer: SettleAnswer) -> Numbers
 {
     match answer {
         SettleAnswer::Settled => Numbers(0, 0, 0, 0, 0, 0),
+        SettleAnswer::UnknownWorker => Numbers(38, 0, 0, 0, 0, 0),
+        SettleAnswer::NotPermitted => Numbers(39, 0, 0, 0, 0, 0),
         SettleAnswer::Fenced => Numbers(24, 0, 0, 0, 0, 0),
+        SettleAnswer::ForeignToken => Numbers(40, 0, 0, 0, 0, 0),
         SettleAnswer::Shed => Numbers(29, 0, 0, 0, 0, 0),
     }
 }
@@ -79,7 +83,10 @@ pub fn of_nack(answer: NackAnswer) -> Numbers
 {
     match answer {
         NackAnswer::Requeued { deadline } => Numbers(0, 1, deadline, 0, 0, 0),
+        NackAnswer::UnknownWorker => Numbers(38, 0, 0, 0, 0, 0),
+        NackAnswer::NotPermitted => Numbers(39, 0, 0, 0, 0, 0),
         NackAnswer::Fenced => Numbers(24, 0, 0, 0, 0, 0),
+        NackAnswer::ForeignToken => Numbers(40, 0, 0, 0, 0, 0),
         NackAnswer::Exhausted => Numbers(25, 0, 0, 0, 0, 0),
         NackAnswer::CheckpointDue => Numbers(26, 0, 0, 0, 0, 0),
     }
@@ -91,7 +98,10 @@ pub fn of_progress(answer: ProgressAnswer) -> Numbers
 {
     match answer {
         ProgressAnswer::Extended { deadline } => Numbers(0, 1, deadline, 0, 0, 0),
+        ProgressAnswer::UnknownWorker => Numbers(38, 0, 0, 0, 0, 0),
+        ProgressAnswer::NotPermitted => Numbers(39, 0, 0, 0, 0, 0),
         ProgressAnswer::Fenced => Numbers(24, 0, 0, 0, 0, 0),
+        ProgressAnswer::ForeignToken => Numbers(40, 0, 0, 0, 0, 0),
         ProgressAnswer::CapReached => Numbers(28, 0, 0, 0, 0, 0),
     }
 }
@@ -103,6 +113,8 @@ pub fn of_commit(answer: CommitAnswer) -> Numbers
     match answer {
         CommitAnswer::Committed => Numbers(0, 1, 1, 0, 0, 0),
         CommitAnswer::Unchanged => Numbers(0, 1, 0, 0, 0, 0),
+        CommitAnswer::UnknownWorker => Numbers(38, 0, 0, 0, 0, 0),
+        CommitAnswer::NotPermitted => Numbers(39, 0, 0, 0, 0, 0),
         CommitAnswer::Held => Numbers(30, 0, 0, 0, 0, 0),
     }
 }
@@ -113,6 +125,8 @@ pub fn of_begin(answer: BeginAnswer) -> Numbers
 {
     match answer {
         BeginAnswer::Begun { writes } => Numbers(0, 1, writes as u64, 0, 0, 0),
+        BeginAnswer::UnknownWorker => Numbers(38, 0, 0, 0, 0, 0),
+        BeginAnswer::NotPermitted => Numbers(39, 0, 0, 0, 0, 0),
         BeginAnswer::JournalFull => Numbers(31, 0, 0, 0, 0, 0),
     }
 }
@@ -273,11 +287,11 @@ fn of_list(listed: Listed, out: &[u64]) -> Numbers
 }
 
 // A lease: its generation, the start of its attempt, its deadline and its hand-outs; or nothing.
-fn of_lease(lease: LeaseAt) -> Numbers
-    ensures { λ r. ⌜ r ≡ numbersOf (answered values (leaseAt lease)) ⌝ }
+fn of_lease(lease: LeaseReply) -> Numbers
+    ensures { λ r. ⌜ r ≡ numbersOf (answered values (done (leaseTold lease))) ⌝ }
 {
     match lease {
-        LeaseAt::Some(lease) => Numbers(
+        LeaseReply::Some(lease) => Numbers(
             0,
             4,
             lease.generation.0,
@@ -285,7 +299,7 @@ fn of_lease(lease: LeaseAt) -> Numbers
             lease.deadline,
             lease.deliveries as u64,
         ),
-        LeaseAt::None => Numbers(0, 0, 0, 0, 0, 0),
+        LeaseReply::None => Numbers(0, 0, 0, 0, 0, 0),
     }
 }
 
@@ -312,6 +326,8 @@ pub fn of_reply(reply: Reply, out: &[u64]) -> Numbers
         Reply::InFlight(count) => Numbers(0, 1, count as u64, 0, 0, 0),
         Reply::IsDue(due) => Numbers(0, 2, bit_of(due.ceiling), bit_of(due.threshold), 0, 0),
         Reply::BlocksLeft(count) => Numbers(0, 1, count as u64, 0, 0, 0),
+        Reply::UnknownWorker => Numbers(38, 0, 0, 0, 0, 0),
+        Reply::NotPermitted => Numbers(39, 0, 0, 0, 0, 0),
     }
 }
 

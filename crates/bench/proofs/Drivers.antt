@@ -47,7 +47,7 @@ batches-next c i n h = rw (less i n h, add-one)
 pub batches-over : (c : Cursor) (i n : ℕ) → n ≤ i → batches c i (n - i) ≡ c
 batches-over c i n h = rw (over i n h)
 
-pub claims-next : (t : Table) (i n : ℕ) → i < n → claims t (rising i (n - i)) ≡ claims (claim t i 0 .state) (rising (i + 1) (n - (i + 1)))
+pub claims-next : (t : Table) (i n : ℕ) → i < n → claims t (rising i (n - i)) ≡ claims (claim t 0 i 0 .state) (rising (i + 1) (n - (i + 1)))
 claims-next t i n h = rw (less i n h, add-one)
 
 pub claims-over : (t : Table) (i n : ℕ) → n ≤ i → claims t (rising i (n - i)) ≡ t

@@ -29,10 +29,10 @@ abbrev pub batches : Cursor → ℕ → ℕ → Cursor
 batches c i zero = c
 batches c i (suc n) = batches (acks c (falling (64 * i) 64)) (suc i) n
 
--- offsets claimed at time 0
+-- offsets claimed at time 0 by worker 0
 abbrev pub claims : Table → List ℕ → Table
 claims t [] = t
-claims t (o ∷ os) = claims (claim t o 0 .state) os
+claims t (o ∷ os) = claims (claim t 0 o 0 .state) os
 
 -- a lease table and a cursor
 pub record Group : Type 0 where
@@ -44,7 +44,7 @@ group t c = record { leases = t; cursor = c }
 
 -- an offset is claimed; the one that was claimed `window` offsets before it, under the generation of the same number, is acked
 abbrev pub handled : ℕ → Group → ℕ → Group
-handled window g i = group (ack (claim (g .leases) (i + window) 0 .state) i i .state) (ackBounded (g .cursor) i 128 .state)
+handled window g i = group (ack (claim (g .leases) 0 (i + window) 0 .state) i i .state) (ackBounded (g .cursor) i 128 .state)
 
 -- n of them, from offset i on
 abbrev pub works : ℕ → Group → ℕ → ℕ → Group

@@ -49,7 +49,7 @@ fn claim_below(n: u32) -> LeaseTable
     let mut table = LeaseTable::new(LeaseConfig::default());
     let mut i: u64 = 0;
     while i < end {
-        let claimed = table.claim(Offset(i), 0);
+        let claimed = table.claim(0, Offset(i), 0);
         table = claimed.table;
         i += 1;
     }
@@ -97,7 +97,7 @@ pub extern "C" fn ninotskev_bench_claims_and_acks(window: u32, n: u32) -> Stand
     let mut cursor = AckCursor::new();
     let mut i: u64 = 0;
     while i < end {
-        let claimed = table.claim(Offset(i + ahead), 0);
+        let claimed = table.claim(0, Offset(i + ahead), 0);
         let token = LeaseToken {
             offset: Offset(i),
             generation: Generation(i),

@@ -23,13 +23,13 @@ use Rattle.journal.specs.Answers.{fill, writeBlock, walkIn, readPayload}
 use Rattle.consumer.specs.State.{Configuration, State, stateOf, nextGroupAt, badArea}
 use Rattle.checkpoint.specs.Checkpoint.{begin, step, writing}
 use Rattle.starts.specs.Restart.{start, fresh, readGroup, fromWalk, restart}
-use Rattle.cases.specs.States.{rangesFrom, leaseConfig, tableOf}
+use Rattle.cases.specs.States.{rangesFrom, leaseConfig, rights, tableOf}
 
 -- ## start
 -- a limit, without the opt-in; n backoffs; a flush threshold
 abbrev configuration : ℕ → ℕ → ℕ → Configuration
 configuration m n threshold =
-    record { settings = record { policy = policy m false (replicate n 5) threshold }; lease = leaseConfig }
+    record { settings = record { policy = policy m false (replicate n 5) threshold; rights = rights }; lease = leaseConfig }
 
 abbrev accepted : Configuration
 accepted = configuration 2 0 1
@@ -145,25 +145,25 @@ restart-attempts-after-cursor = refl
 
 -- ## begin
 -- 18 blocks of which so many are written, and so many ranges in the cursor
-abbrev written : ℕ → ℕ → State
+abbrev pub written : ℕ → ℕ → State
 written block ranges =
     stateOf (cursor 0 (rangesFrom ranges 1)) (tableOf [] [] 1 0) 4096 (nextGroupAt 2 block) 9216 (accepted .settings)
 
 -- 31 where a block less is left than a header and its body need; with as many, a record
-pub begin-journal-full : begin (written 17 0) ≡ refused JournalFull
+pub begin-journal-full : begin (written 17 0) 0 ≡ refused JournalFull
 unfolding begin encodeCursor encodeAttempts allAttemptCounts
 begin-journal-full = refl
 
-pub begin-in-the-last-two-blocks : begin (written 16 0) ≡ done (writing (written 16 0) 0)
+pub begin-in-the-last-two-blocks : begin (written 16 0) 0 ≡ done (writing (written 16 0) 0)
 unfolding begin encodeCursor encodeAttempts allAttemptCounts
 begin-in-the-last-two-blocks = refl
 
 -- 29 ranges take 486 bytes with the counts and so one body; 30 take 502 and two
-pub begin-with-one-body : begin (written 16 29) ≡ done (writing (written 16 29) 0)
+pub begin-with-one-body : begin (written 16 29) 0 ≡ done (writing (written 16 29) 0)
 unfolding begin encodeCursor encodeAttempts allAttemptCounts
 begin-with-one-body = refl
 
-pub begin-with-two-bodies : begin (written 16 30) ≡ refused JournalFull
+pub begin-with-two-bodies : begin (written 16 30) 0 ≡ refused JournalFull
 unfolding begin encodeCursor encodeAttempts allAttemptCounts
 begin-with-two-bodies = refl
 

@@ -22,43 +22,43 @@ crowd n next = tableOf (leasesFrom n 0) [] next 0
 
 -- ## claim
 -- 23 up to the last nanosecond before the deadline; at the deadline itself a grant, with a count of 2
-pub lease-in-flight : claim (held 1) 5 109 .outcome ≡ refused InFlight
+pub lease-in-flight : claim (held 1) 0 5 109 .outcome ≡ refused InFlight
 unfolding claim
 lease-in-flight = refl
 
-pub lease-expired-at-the-deadline : claim (held 1) 5 110 .outcome ≡ done (grantOf 5 1 2)
+pub lease-expired-at-the-deadline : claim (held 1) 0 5 110 .outcome ≡ done (grantOf 5 1 2)
 unfolding claim
 lease-expired-at-the-deadline = refl
 
 -- 23 before 25
-pub lease-in-flight-before-exhausted : claim (held MAX) 5 109 .outcome ≡ refused InFlight
+pub lease-in-flight-before-exhausted : claim (held MAX) 0 5 109 .outcome ≡ refused InFlight
 unfolding claim
 lease-in-flight-before-exhausted = refl
 
 -- 25 where the next generation is MAX; the one below is still given
-pub lease-exhausted : claim (held MAX) 5 110 .outcome ≡ refused Exhausted
+pub lease-exhausted : claim (held MAX) 0 5 110 .outcome ≡ refused Exhausted
 unfolding claim
 lease-exhausted = refl
 
-pub lease-last-generation : claim (held (MAX - 1)) 5 110 .outcome ≡ done (grantOf 5 (MAX - 1) 2)
+pub lease-last-generation : claim (held (MAX - 1)) 0 5 110 .outcome ≡ done (grantOf 5 (MAX - 1) 2)
 unfolding claim
 lease-last-generation = refl
 
 -- 25 before 27
-pub lease-exhausted-before-full : claim (crowd 64 MAX) 64 110 .outcome ≡ refused Exhausted
+pub lease-exhausted-before-full : claim (crowd 64 MAX) 0 64 110 .outcome ≡ refused Exhausted
 unfolding claim
 lease-exhausted-before-full = refl
 
 -- 27 where there are 64 leases and the offset has none, expired ones or not; not with 63, and not where it has one
-pub lease-full : claim (crowd 64 1) 64 110 .outcome ≡ refused Full
+pub lease-full : claim (crowd 64 1) 0 64 110 .outcome ≡ refused Full
 unfolding claim
 lease-full = refl
 
-pub lease-room-for-the-64th : claim (crowd 63 1) 63 110 .outcome ≡ done (grantOf 63 1 1)
+pub lease-room-for-the-64th : claim (crowd 63 1) 0 63 110 .outcome ≡ done (grantOf 63 1 1)
 unfolding claim
 lease-room-for-the-64th = refl
 
-pub lease-of-its-own-is-room : claim (crowd 64 1) 63 110 .outcome ≡ done (grantOf 63 1 2)
+pub lease-of-its-own-is-room : claim (crowd 64 1) 0 63 110 .outcome ≡ done (grantOf 63 1 2)
 unfolding claim
 lease-of-its-own-is-room = refl
 

@@ -5,3 +5,4 @@ pub mod Attempts
 pub mod Delivery
 pub mod Consumer
 pub mod Journal
+pub mod Workers

@@ -14,10 +14,10 @@ abbrev pub countsFrom : ℕ → ℕ → List (Entry ℕ)
 countsFrom zero o = []
 countsFrom (suc n) o = entry o 1 ∷ countsFrom n (suc o)
 
--- n leases under generation 0, handed out at 100 for the first time, until 110
+-- n leases under generation 0, handed out to worker 0 at 100 for the first time, until 110
 abbrev pub leasesFrom : ℕ → ℕ → List (Entry Lease)
 leasesFrom zero o = []
-leasesFrom (suc n) o = entry o (lease 0 100 110 1) ∷ leasesFrom n (suc o)
+leasesFrom (suc n) o = entry o (lease 0 100 110 1 0) ∷ leasesFrom n (suc o)
 
 -- n ranges of one offset each, with an offset between two of them
 abbrev pub rangesFrom : ℕ → ℕ → List Range
@@ -26,6 +26,10 @@ rangesFrom (suc n) start = range start (start + 1) ∷ rangesFrom n (start + 2)
 
 abbrev pub leaseConfig : LeaseConfig
 leaseConfig = record { «visibility_nanos» = 10; «hard_cap_nanos» = 25 }
+
+-- workers 0, 1 and 7 may do everything, the others nothing
+abbrev pub rights : List ℕ
+rights = 127 ∷ 127 ∷ 0 ∷ 0 ∷ 0 ∷ 0 ∷ 0 ∷ 127 ∷ []
 
 -- leases, carried counts, the next generation and the redelivery counter
 abbrev pub tableOf : List (Entry Lease) → List (Entry ℕ) → ℕ → ℕ → Table

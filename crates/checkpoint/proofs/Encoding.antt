@@ -5,11 +5,14 @@ use native.Mathlib.Omega.{arith}
 use native.Mathlib.Numerals.{add-one}
 use mathlib.Core.Path.{_≡_, refl, sym, ap, _∙_}
 use mathlib.Core.List.{List}
+use mathlib.Core.Option.{some}
 use lib.ListN.{length, take, length-append}
 use borrow.Author.Tests.{lt-ltb, le-ltb}
 use Rattle.types.specs.Limits.{PAIRS}
-use Rattle.types.specs.Refusal.{Result}
-use Rattle.types.specs.Table.{answer}
+use Rattle.types.specs.Refusal.{Refusal, Result, refused, UnknownWorker, NotPermitted}
+use Rattle.types.specs.Table.{Passed, answer}
+use Rattle.types.specs.Table as table
+use Rattle.types.proofs.Table.{passed-none, first-met-before, first-none-before}
 use Rattle.types.specs.Lists.{countsIn, ListsCounts}
 use Rattle.types.specs.declared.lent.AttemptCounts.{AttemptCounts}
 use Rattle.types.proofs.Columns.{length-used}
@@ -23,14 +26,17 @@ use Rattle.lease.specs.Counts.{allAttemptCounts}
 use Rattle.journal.proofs.Area.{whole-says}
 use Rattle.consumer.specs.State.{State, blocksOf}
 use Rattle.consumer.specs.Valid.{Valid}
+use Rattle.consumer.specs.Rights.{checkpointing}
+use Rattle.consumer.specs.Calls.{callRows}
 use Rattle.consumer.specs.View.{view, Sound}
 use Rattle.consumer.specs.declared.Consumer.{Consumer}
 use Rattle.consumer.proofs.Area.{area-taken}
 use Rattle.consumer.proofs.Counts.{counts-few}
-use Rattle.checkpoint.specs.Checkpoint.{cursorBytes, attemptBytes, payloadOf, bodies, begin}
+use Rattle.checkpoint.specs.Checkpoint.{cursorBytes, attemptBytes, payloadOf, bodies, beginRows, beginTable, begin}
 use Rattle.checkpoint.specs.Checkpoint as checkpoint
 use Rattle.checkpoint.specs.Writing.{SoundWriting}
 use Rattle.checkpoint.specs.Parts.{recording, Lent, BegunAs}
+use Rattle.checkpoint.specs.declared.BeginAnswer.the-variants as begins
 use Rattle.checkpoint.specs.declared.BeginAnswer.the-variants.{Begun, JournalFull}
 use Rattle.checkpoint.proofs.Payload.{payload-fits}
 
@@ -100,17 +106,20 @@ module _ (c : Consumer) (s : Sound c) (lc la : ℕ) (first : lc ≡ length (curs
         count = rw (add-one, p .total, first, second);
       }
 
-  -- whatever record the consumer stands in
-  module _ (w lc′ la′ : ℕ) (bytes : List ℕ) where
+  -- whatever record the consumer stands in, for a worker that may
+  module _ (w lc′ la′ : ℕ) (bytes : List ℕ) (worker : ℕ) (p : Passed (callRows (view c) worker checkpointing)) where
+    its-own : table.first (beginTable (view c) worker) ≡ table.first (beginRows (view c))
+    its-own = first-none-before (callRows (view c) worker checkpointing) (beginRows (view c)) (passed-none (callRows (view c) worker checkpointing) p)
+
     pub begin-refused : blocksOf (view c) < c .next .block + writes
-        → BegunAs JournalFull (recording w lc′ la′ bytes c) (recording w lc′ la′ bytes c)
+        → BegunAs JournalFull worker (recording w lc′ la′ bytes c) (recording w lc′ la′ bytes c)
     unfolding begin
     begin-refused h =
         let full = lt-ltb (blocksOf (view c)) (c .next .block + suc (bodies (view c))) (rw (lengths .count) at h) in
-        record { begun = record { is = rw full; sound = tt; kept = refl }; kept = refl }
+        record { begun = record { is = rw (its-own, full); sound = tt; kept = refl }; kept = refl }
 
     pub begin-done : c .next .block + writes ≤ blocksOf (view c) → (after : List ℕ) → take (lc + la) after ≡ payloadOf (view c)
-        → BegunAs (Begun writes) (recording w lc′ la′ bytes c) (recording 0 lc la after c)
+        → BegunAs (Begun writes) worker (recording w lc′ la′ bytes c) (recording 0 lc la after c)
     unfolding begin
     begin-done h after payload =
         let room : c .next .block + suc (bodies (view c)) ≤ blocksOf (view c) = rw (lengths .count) at h in
@@ -123,9 +132,23 @@ module _ (c : Consumer) (s : Sound c) (lc la : ℕ) (first : lc ≡ length (curs
         record {
           begun =
               record {
-                is = rw (le-ltb (blocksOf (view c)) (c .next .block + suc (bodies (view c))) room);
+                is = rw (its-own, le-ltb (blocksOf (view c)) (c .next .block + suc (bodies (view c))) room);
                 sound = (sound, lengths .count);
                 kept = refl;
               };
           kept = tt;
         }
+
+-- ## A worker that may not
+module _ (c : Consumer) (worker w lc la : ℕ) (bytes : List ℕ) where
+  refused-as : (r : Refusal) → some r ≡ table.first (callRows (view c) worker checkpointing) → refused r ≡ begin (view c) worker
+  unfolding begin
+  refused-as r e = rw (first-met-before (callRows (view c) worker checkpointing) (beginRows (view c)) r (sym e))
+
+  pub begin-unknown : some UnknownWorker ≡ table.first (callRows (view c) worker checkpointing)
+      → BegunAs begins.UnknownWorker worker (recording w lc la bytes c) (recording w lc la bytes c)
+  begin-unknown e = record { begun = record { is = refused-as UnknownWorker e; sound = tt; kept = refl }; kept = refl }
+
+  pub begin-not-permitted : some NotPermitted ≡ table.first (callRows (view c) worker checkpointing)
+      → BegunAs begins.NotPermitted worker (recording w lc la bytes c) (recording w lc la bytes c)
+  begin-not-permitted e = record { begun = record { is = refused-as NotPermitted e; sound = tt; kept = refl }; kept = refl }

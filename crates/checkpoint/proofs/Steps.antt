@@ -123,7 +123,7 @@ module _ (p : Parts) (within : Writing) (s : SoundWriting (withParts p within)) 
             cursor = s .consumer .cursor;
             table = record { len = t .len; carried-len = t .carried-len; valid = rw cleared (valid-flushed (lease.view (w .consumer .table)) (t .valid)) };
             settings = s .consumer .settings;
-            valid = rw flushed-is (flushed-valid st (record { room = s .valid .room }) (s .consumer .valid));
+            valid = rw flushed-is (flushed-valid st (s .valid .room) (s .consumer .valid));
           }
 
       pub step-last : (after : List ℕ) → bodies st ≤ p .written

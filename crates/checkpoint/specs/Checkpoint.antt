@@ -15,6 +15,8 @@ use Rattle.lease.specs.Rest.{attemptsFlushed}
 use Rattle.journal.specs.Area.{writeAt}
 use Rattle.journal.specs.Blocks.{bodiesFor, chunkOf, headerBlock, bodyBlock}
 use Rattle.consumer.specs.State.{State, stateOf, nextGroupAt, blocksOf}
+use Rattle.consumer.specs.Rights.{checkpointing}
+use Rattle.consumer.specs.Calls.{callRows}
 
 -- ## what is written
 -- the cursor's snapshot and that of all attempt counts, in version 2, and both as the payload
@@ -62,12 +64,15 @@ abbrev pub writing : State → ℕ → Writing
 writing s n = record { state = s; written = n }
 
 -- 31: fewer blocks are left than the group needs
-abbrev pub beginTable : State → List Row
-beginTable s = ltb (blocksOf s) (s .next .block + suc (bodies s)) ⇒ JournalFull ∷ []
+abbrev pub beginRows : State → List Row
+beginRows s = ltb (blocksOf s) (s .next .block + suc (bodies s)) ⇒ JournalFull ∷ []
 
--- nothing is written yet; a refusal leaves the caller the state
-unfoldable pub begin : State → Result Writing
-begin s = checked (beginTable s) (done (writing s 0))
+abbrev pub beginTable : State → ℕ → List Row
+beginTable s w = callRows s w checkpointing ++ beginRows s
+
+-- worker w begins: nothing is written yet; a refusal leaves the caller the state
+unfoldable pub begin : State → ℕ → Result Writing
+begin s w = checked (beginTable s w) (done (writing s 0))
 
 -- ## step
 -- all bodies are written, so the header is next

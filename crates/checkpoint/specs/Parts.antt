@@ -4,14 +4,17 @@ use Prim.Native.Nat.{ℕ}
 use mathlib.Core.Path.{_≡_}
 use mathlib.Core.List.{List}
 use lib.ListN.{length}
-use Rattle.types.specs.Table.{Kept}
+use Rattle.types.specs.Table.{Passed, Kept}
 use Rattle.cursor.specs.View as cursor
 use Rattle.cursor.specs.declared.AckCursor.{AckCursor}
 use Rattle.lease.specs.Parts.{gathered, Full}
 use Rattle.lease.specs.declared.LeaseTable.{LeaseTable}
 use Rattle.journal.specs.declared.Block.{Block}
 use Rattle.journal.specs.declared.Block.the-variants as block
-use Rattle.consumer.specs.View.{Sound}
+use Rattle.consumer.specs.Rights.{checkpointing}
+use Rattle.consumer.specs.Calls.{callRows}
+use Rattle.consumer.specs.View.{view, Sound}
+use Rattle.consumer.specs.Parts.{permitted}
 use Rattle.consumer.specs.declared.Consumer.{Consumer}
 use Rattle.checkpoint.specs.Writing.{SoundWriting, beginOf, BegunIs, SteppedIs}
 use Rattle.checkpoint.specs.declared.Writing.{Writing}
@@ -20,8 +23,8 @@ use Rattle.checkpoint.specs.declared.in_place.SteppedAt.{SteppedAt}
 
 -- ## begin
 -- a consumer with these parts: its cursor, what its table counts, the block of its next group and the length of its area
-abbrev pub beginning : AckCursor → (LeaseTable → LeaseTable) → (block areaLen : ℕ) → Consumer → Consumer
-beginning cursor table b size c =
+abbrev pub fitting : AckCursor → (LeaseTable → LeaseTable) → (block areaLen : ℕ) → Consumer → Consumer
+fitting cursor table b size c =
     record {
       cursor = cursor;
       table = table (c .table);
@@ -30,6 +33,10 @@ beginning cursor table b size c =
       «area_len» = size;
       settings = c .settings;
     }
+
+-- and with these rights
+abbrev pub beginning : List ℕ → AckCursor → (LeaseTable → LeaseTable) → (block areaLen : ℕ) → Consumer → Consumer
+beginning rights cursor table b size = permitted rights (fitting cursor table b size)
 
 -- a record of a consumer
 abbrev pub recording : (written cursorLen attemptLen : ℕ) → List ℕ → Consumer → Writing
@@ -48,12 +55,18 @@ pub record Beginnable (parts : Consumer → Consumer) (bytes : List ℕ) : Type 
   pub payload : length bytes ≡ 3606
 
 -- begin on a record: as by value, and a refusal keeps the very record, its payload included
-pub record BegunAs (answer : BeginAnswer) (before after : Writing) : Type 0 where
-  pub begun : BegunIs (before .consumer) (record { answer = answer; writing = after })
+pub record BegunAs (answer : BeginAnswer) (worker : ℕ) (before after : Writing) : Type 0 where
+  pub begun : BegunIs (before .consumer) worker (record { answer = answer; writing = after })
   pub kept : Kept (beginOf answer after) before after
 
-abbrev pub BegunIn : BeginAnswer → (Consumer → Consumer) → (before after : Consumer → Writing) → Type 0
-BegunIn answer parts before after = (c : Consumer) → Lent (parts c) → BegunAs answer (before (parts c)) (after (parts c))
+abbrev pub BegunIn : BeginAnswer → ℕ → (Consumer → Consumer) → (before after : Consumer → Writing) → Type 0
+BegunIn answer w parts before after = (c : Consumer) → Lent (parts c) → BegunAs answer w (before (parts c)) (after (parts c))
+
+-- the same for every worker that may
+abbrev pub FitsIn : BeginAnswer → (Consumer → Consumer) → (before after : Consumer → Writing) → Type 0
+FitsIn answer parts before after =
+    (c : Consumer) → Lent (parts c) → (w : ℕ) → Passed (callRows (view (parts c)) w checkpointing)
+    → BegunAs answer w (before (parts c)) (after (parts c))
 
 -- ## step
 -- the numbers that a step reads or changes, and the payload
@@ -87,7 +100,7 @@ parts w lc la size g c r n b bytes =
 -- a table with another next generation and another counter
 abbrev pub tabled : (generation redeliveries : ℕ) → LeaseTable → LeaseTable
 tabled g r t =
-    gathered (t .config) (t .len) (t .«carried_len») g r (t .offsets) (t .generations) (t .«attempt_starts») (t .deadlines) (t .deliveries) (t .«carried_offsets») (t .«carried_counts»)
+    gathered (t .config) (t .len) (t .«carried_len») g r (t .offsets) (t .generations) (t .«attempt_starts») (t .deadlines) (t .deliveries) (t .workers) (t .«carried_offsets») (t .«carried_counts»)
 
 -- the record with these parts in their places
 abbrev pub withParts : Parts → Writing → Writing

@@ -40,15 +40,19 @@ pub record SoundWriting (w : Writing) : Type 0 where
 abbrev pub beginOf : BeginAnswer → Writing → Result checkpoint.Writing
 beginOf (begins.Begun n) w = done (viewWriting w)
 beginOf begins.JournalFull w = refused refusal.JournalFull
+beginOf begins.UnknownWorker w = refused refusal.UnknownWorker
+beginOf begins.NotPermitted w = refused refusal.NotPermitted
 
 -- a record that is begun is sound, and has as many block writes before it as its answer says
 abbrev pub SoundBegun : BeginAnswer → Writing → Type 0
 SoundBegun (begins.Begun n) w = SoundWriting w × (n ≡ writes (view (w .consumer)))
 SoundBegun begins.JournalFull w = Unit {0}
+SoundBegun begins.UnknownWorker w = Unit {0}
+SoundBegun begins.NotPermitted w = Unit {0}
 
--- begin: answer and record are the definition's, and the record has the very consumer, begun or refused
-pub record BegunIs (before : Consumer) (r : Begun) : Type 0 where
-  pub is : beginOf (r .answer) (r .writing) ≡ begin (view before)
+-- begin by a worker: answer and record are the definition's, and the record has the very consumer, begun or refused
+pub record BegunIs (before : Consumer) (worker : ℕ) (r : Begun) : Type 0 where
+  pub is : beginOf (r .answer) (r .writing) ≡ begin (view before) worker
   pub sound : SoundBegun (r .answer) (r .writing)
   pub kept : r .writing .consumer ≡ before
 

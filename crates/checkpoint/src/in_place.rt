@@ -15,16 +15,20 @@ ghost use Rattle.journal.specs.Area.{outside, writeAt};
 ghost use Rattle.journal.specs.Answers.{blockOf};
 ghost use Rattle.journal.specs.Blocks.{bodiesFor};
 ghost use Rattle.journal.specs.declared.Block.the-variants.{Body};
-ghost use Rattle.checkpoint.specs.Parts.{beginning, recording, Beginnable, BegunIn, parts, Steppable, SteppedIn, headerBy};
+ghost use Rattle.checkpoint.specs.Parts.{beginning, fitting, recording, Beginnable, BegunIn, FitsIn, parts, Steppable, SteppedIn, headerBy};
 use crate::BeginAnswer;
 use crate::StepAnswer;
 use attempt::Encode;
+use consumer::rights;
+use consumer::rights::CHECKPOINT;
+use consumer::rights::Permission;
 use cursor::AckCursor;
 use journal::Block;
 use journal::Header;
 use types::limits::CARRIED;
 use types::limits::LEASES;
 use types::limits::RANGES;
+use types::limits::WORKERS;
 use types::numbers;
 
 // What a begin answers, and the numbers of the record that it begins.
@@ -74,9 +78,69 @@ fn put_counts<'a>(
     attempt::encode_columns_v2(&offsets[..n], &attempts[..n], out, at)
 }
 
-// What `begin` does on the parts of a consumer, and of the record that is to hold its payload: with room for the group both
-// snapshots are encoded there, without it nothing changes (31).
+// What `begin` does on the parts of a consumer, and of the record that is to hold its payload, for a worker that may: 38 and 39
+// come first.
 pub fn begin_in_place<'a>(
+    written: usize,
+    cursor_len: usize,
+    attempt_len: usize,
+    committed: u64,
+    runs: usize,
+    len: usize,
+    carried_len: usize,
+    block: usize,
+    area_len: usize,
+    worker: u64,
+    rights: &'a [u8; WORKERS],
+    starts: &'a [u64; RANGES],
+    ends: &'a [u64; RANGES],
+    offsets: &'a [u64; LEASES],
+    deliveries: &'a [u32; LEASES],
+    carried_offsets: &'a [u64; CARRIED],
+    carried_counts: &'a [u32; CARRIED],
+    payload: &mut [u8; 3606],
+) -> BegunAt
+    requires { ⌜ Beginnable (beginning (now rights) (ackCursor committed (now starts) (now ends) runs) (listingAll len «carried_len» (now offsets) (now deliveries) (now «carried_offsets») (now «carried_counts»)) block «area_len») (now payload) ⌝ }
+    ensures { λ r. ⌜ BegunIn (r .answer) worker (beginning (now (rights .entry)) (ackCursor committed (now (starts .entry)) (now (ends .entry)) runs) (listingAll len «carried_len» (now (offsets .entry)) (now (deliveries .entry)) (now («carried_offsets» .entry)) (now («carried_counts» .entry))) block «area_len»)
+        (recording written «cursor_len» «attempt_len» (now (payload .entry))) (recording (r .written) (r .«cursor_len») (r .«attempt_len») (now (payload .exit))) ⌝ }
+{
+    let permission = rights::permission_of(rights, worker, CHECKPOINT);
+    match permission {
+        Permission::UnknownWorker => BegunAt {
+            answer: BeginAnswer::UnknownWorker,
+            written,
+            cursor_len,
+            attempt_len,
+        },
+        Permission::NotPermitted => BegunAt {
+            answer: BeginAnswer::NotPermitted,
+            written,
+            cursor_len,
+            attempt_len,
+        },
+        Permission::Granted => begin_permitted(
+            written,
+            cursor_len,
+            attempt_len,
+            committed,
+            runs,
+            len,
+            carried_len,
+            block,
+            area_len,
+            starts,
+            ends,
+            offsets,
+            deliveries,
+            carried_offsets,
+            carried_counts,
+            payload,
+        ),
+    }
+}
+
+// The same where the worker may: with room for the group both snapshots are encoded there, without it nothing changes (31).
+fn begin_permitted<'a>(
     written: usize,
     cursor_len: usize,
     attempt_len: usize,
@@ -94,8 +158,8 @@ pub fn begin_in_place<'a>(
     carried_counts: &'a [u32; CARRIED],
     payload: &mut [u8; 3606],
 ) -> BegunAt
-    requires { ⌜ Beginnable (beginning (ackCursor committed (now starts) (now ends) runs) (listingAll len «carried_len» (now offsets) (now deliveries) (now «carried_offsets») (now «carried_counts»)) block «area_len») (now payload) ⌝ }
-    ensures { λ r. ⌜ BegunIn (r .answer) (beginning (ackCursor committed (now (starts .entry)) (now (ends .entry)) runs) (listingAll len «carried_len» (now (offsets .entry)) (now (deliveries .entry)) (now («carried_offsets» .entry)) (now («carried_counts» .entry))) block «area_len»)
+    requires { ⌜ Beginnable (fitting (ackCursor committed (now starts) (now ends) runs) (listingAll len «carried_len» (now offsets) (now deliveries) (now «carried_offsets») (now «carried_counts»)) block «area_len») (now payload) ⌝ }
+    ensures { λ r. ⌜ FitsIn (r .answer) (fitting (ackCursor committed (now (starts .entry)) (now (ends .entry)) runs) (listingAll len «carried_len» (now (offsets .entry)) (now (deliveries .entry)) (now («carried_offsets» .entry)) (now («carried_counts» .entry))) block «area_len»)
         (recording written «cursor_len» «attempt_len» (now (payload .entry))) (recording (r .written) (r .«cursor_len») (r .«attempt_len») (now (payload .exit))) ⌝ }
 {
     let counts = lease::in_place::all_counts_in_place(

@@ -18,10 +18,12 @@ pub struct Writing {
     pub attempt_len: usize,
 }
 
-// What begin answers: the number of block writes, or refusal 31.
+// What begin answers: the number of block writes, or refusal 38, 39 or 31.
 pub enum BeginAnswer {
     Begun { writes: usize },
     JournalFull,
+    UnknownWorker,
+    NotPermitted,
 }
 
 // What a step answers: the block that it wrote, the last one or not, or refusal 4.
@@ -43,11 +45,11 @@ pub struct Stepped {
     pub writing: Writing,
 }
 
-// Takes a consumer into a record of the group to be written; nothing is written yet. Refused where fewer blocks are left than
-// the group needs (31).
-pub fn begin(consumer: Consumer) -> Begun
+// Takes a consumer into a record of the group to be written; nothing is written yet. Refused where the worker may not do that
+// (38, 39), or where fewer blocks are left than the group needs (31).
+pub fn begin(consumer: Consumer, worker: u64) -> Begun
     requires { ⌜ Sound consumer ⌝ }
-    ensures { λ r. ⌜ BegunIs consumer r ⌝ }
+    ensures { λ r. ⌜ BegunIs consumer worker r ⌝ }
 {
     let mut payload = [0u8; 3606];
     let begun = in_place::begin_in_place(
@@ -60,6 +62,8 @@ pub fn begin(consumer: Consumer) -> Begun
         consumer.table.carried_len,
         consumer.next.block,
         consumer.area_len,
+        worker,
+        &consumer.settings.rights,
         &consumer.cursor.starts,
         &consumer.cursor.ends,
         &consumer.table.offsets,

@@ -13,7 +13,7 @@ use Rattle.types.specs.Limits.{MAX, LEASES, CARRIED}
 use Rattle.types.specs.Refusal.{Refusal, Result, refused, done, LastOffset, Settled, InFlight, Exhausted, CheckpointDue, Full}
 use Rattle.types.specs.Table.{Row, first, Passed, Answer, answer}
 use Rattle.types.specs.Keyed.{lookup}
-use Rattle.types.proofs.Table.{first-none, passed-none, guarded-passed, first-none-before, passed-append}
+use Rattle.types.proofs.Table.{first-none, guarded-passed, first-met-before, first-none-before, passed-append}
 use Rattle.cursor.specs.Cursor.{settled}
 use Rattle.delivery.specs.Policy.{Destination, destination}
 use Rattle.lease.specs.declared.Lease.{Lease}
@@ -26,12 +26,13 @@ use Rattle.lease.specs.Operations as leases
 use Rattle.lease.specs.Rest.{deliveriesOf}
 use Rattle.lease.specs.Answers as answers
 use Rattle.consumer.specs.State.{State, withTable}
+use Rattle.consumer.specs.Rights.{claiming}
 use Rattle.consumer.specs.Calls.{callRows, HandOut, handOut, isFull, claimRows, claimTable, claim, claimed}
 use Rattle.consumer.specs.Parts.{handedOut}
 use Rattle.consumer.specs.View.{view, Sound, Answers, holding, handOutOf, claimOf, asResult}
 use Rattle.consumer.specs.declared.Consumer.{Consumer}
 use Rattle.consumer.specs.declared.calls.ClaimAnswer.{ClaimAnswer}
-use Rattle.consumer.proofs.Open.{call-passed, claim-open}
+use Rattle.consumer.proofs.Open.{claim-open}
 use Rattle.consumer.proofs.Valid.{claimed-valid}
 use Rattle.consumer.proofs.CallsReturns.{sound-with, refuses, takes-effect}
 
@@ -68,14 +69,10 @@ unblocked b true e h = absurd (true≢false (sym (ap not e) ∙ h))
 module _ (s : State) (o now : ℕ) where
   -- the claim is refused so
   abbrev pub Refuses : Refusal → Type 0
-  Refuses r = _≡_ {A = Option (Result HandOut)} (some (refused r)) (asResult (first (claimTable s o now)))
-
-  -- the rows in front are passed
-  its-own : first (claimTable s o now) ≡ first (claimRows s o now)
-  its-own = first-none-before (callRows s) (claimRows s o now) (passed-none (callRows s) (call-passed s))
+  Refuses r = _≡_ {A = Option (Result HandOut)} (some (refused r)) (asResult (first (claimRows s o now)))
 
   refuses-with : (r : Refusal) → first (claimRows s o now) ≡ some r → Refuses r
-  refuses-with r e = sym (ap asResult (its-own ∙ e))
+  refuses-with r e = sym (ap asResult e)
 
   pub is-last : o ≡ MAX → Refuses LastOffset
   is-last h = refuses-with LastOffset (rw (eq-eqb o MAX h))
@@ -111,11 +108,19 @@ module _ (s : State) (o now : ℕ) where
                   refuses-with Full
                   (rw (ne-eqb o MAX last, unsettled, not-running, ne-eqb (s .table .nextGeneration) MAX left, lt-leb (s .ceiling) (s .table .nextGeneration) below, lt-leb (s .settings .policy .flushRedeliveries) (s .table .redeliveries) few) (rw h))
 
-              pub is-open : isFull (s .table) o ≡ false → _≡_ {A = Option (Result HandOut)} none (asResult (first (claimTable s o now)))
+              pub is-open : isFull (s .table) o ≡ false → _≡_ {A = Option (Result HandOut)} none (asResult (first (claimRows s o now)))
               is-open h =
-                  rw (its-own, ne-eqb o MAX last, unsettled, not-running, ne-eqb (s .table .nextGeneration) MAX left, lt-leb (s .ceiling) (s .table .nextGeneration) below, lt-leb (s .settings .policy .flushRedeliveries) (s .table .redeliveries) few) (rw h)
+                  rw (ne-eqb o MAX last, unsettled, not-running, ne-eqb (s .table .nextGeneration) MAX left, lt-leb (s .ceiling) (s .table .nextGeneration) below, lt-leb (s .settings .policy .flushRedeliveries) (s .table .redeliveries) few) (rw h)
 
 -- ## what the whole test says
+-- the worker's rows, then the claim's own
+module _ (s : State) (w o now : ℕ) where
+  pub claim-unpermitted : (r : Refusal) → some r ≡ first (callRows s w claiming) → some (refused r) ≡ asResult (first (claimTable s w o now))
+  claim-unpermitted r e = sym (ap asResult (first-met-before (callRows s w claiming) (claimRows s o now) r (sym e)))
+
+  pub claim-permitted : none ≡ first (callRows s w claiming) → first (claimRows s o now) ≡ first (claimTable s w o now)
+  claim-permitted e = sym (first-none-before (callRows s w claiming) (claimRows s o now) (sym e))
+
 pub open-passed : (ws : List Row) → none ≡ asResult (first ws) → Passed ws
 open-passed ws e = go (first ws) refl
   where
@@ -123,17 +128,17 @@ open-passed ws e = go (first ws) refl
     go none q = first-none ws q
     go (some r) q = absurd (Option·none-ne-some (refused r) (e ∙ ap asResult q))
 
-pub claim-refused : (c : Consumer) → Sound c → (o now : ℕ) (a : ClaimAnswer) → some (claimOf a) ≡ asResult (first (claimTable (view c) o now))
-    → Answers (claimOf a) c c (claim (view c) o now)
+pub claim-refused : (c : Consumer) → Sound c → (w o now : ℕ) (a : ClaimAnswer) → some (claimOf a) ≡ asResult (first (claimTable (view c) w o now))
+    → Answers (claimOf a) c c (claim (view c) w o now)
 unfolding claim
-claim-refused c ok o now a e = go (first (claimTable (view c) o now)) refl
+claim-refused c ok w o now a e = go (first (claimTable (view c) w o now)) refl
   where
-    go : (x : Option Refusal) → first (claimTable (view c) o now) ≡ x → Answers (claimOf a) c c (claim (view c) o now)
+    go : (x : Option Refusal) → first (claimTable (view c) w o now) ≡ x → Answers (claimOf a) c c (claim (view c) w o now)
     go none q = absurd (Option·none-ne-some (claimOf a) (sym (e ∙ ap asResult q)))
     go (some r) q =
-        let w : some (claimOf a) ≡ some (refused r) = e ∙ ap asResult q in
+        let both : some (claimOf a) ≡ some (refused r) = e ∙ ap asResult q in
         let same : claimOf a ≡ refused r = cc in
-        rw same (refuses c ok (claimTable (view c) o now) r _ q)
+        rw same (refuses c ok (claimTable (view c) w o now) r _ q)
 
 -- ## the grant
 -- the answer has the disposition's destination
@@ -141,7 +146,7 @@ pub handed : (limit : ℕ) (token : LeaseToken) (n : ℕ) {d : Destination} → 
     → done (handOutOf token n d) ≡ handedOut limit (done (grantOf (token .offset .0) (token .generation .0) n))
 handed limit token n {d} q = let same : d ≡ destination limit n = cc in rw same
 
-module _ (c : Consumer) (ok : Sound c) (o now : ℕ) (fits : o ≤ MAX) (p : Passed (claimTable (view c) o now)) where
+module _ (c : Consumer) (ok : Sound c) (w o now : ℕ) (fits : o ≤ MAX) (p : Passed (claimTable (view c) w o now)) where
   abbrev t : Table
   t = view c .table
 
@@ -150,24 +155,24 @@ module _ (c : Consumer) (ok : Sound c) (o now : ℕ) (fits : o ≤ MAX) (p : Pas
   table-passed = (own .1 .1 .0, (own .1 .1 .1 .0, (room (leaseOf t o) refl, tt)))
     where
       own : Passed (claimRows (view c) o now)
-      own = passed-append (callRows (view c)) (claimRows (view c) o now) p .1
+      own = passed-append (callRows (view c) w claiming) (claimRows (view c) o now) p .1
 
       room : (x : Option Lease) → leaseOf t o ≡ x → (isNone x && leb LEASES (length (t .leases))) ≡ false
-      room none e = lt-leb LEASES (length (t .leases)) (claim-open (view c) o now p .lease-room e)
+      room none e = lt-leb LEASES (length (t .leases)) (claim-open (view c) w o now p .lease-room e)
       room (some l) e = refl
 
-  table-granted : leases.claim t o now ≡ answer (done (granted t o)) (grant t o now)
+  table-granted : leases.claim t w o now ≡ answer (done (granted t o)) (grant t w o now)
   unfolding leases.claim
   table-granted = guarded-passed (leases.claimRows t o now) t _ table-passed
 
   -- what the table did is what the claim does
-  pub claim-granted : (outcome : Result Grant) (after : LeaseTable) → answers.Answers outcome (c .table) after (leases.claim t o now)
+  pub claim-granted : (outcome : Result Grant) (after : LeaseTable) → answers.Answers outcome (c .table) after (leases.claim t w o now)
       → (a : ClaimAnswer) → claimOf a ≡ handedOut (view c .settings .policy .maxDeliver) outcome
-      → Answers (claimOf a) c (holding c after) (claim (view c) o now)
+      → Answers (claimOf a) c (holding c after) (claim (view c) w o now)
   unfolding claim
   claim-granted outcome after e a f =
-      let made : answer outcome (state.view after) ≡ answer (done (granted t o)) (grant t o now) = e .is ∙ table-granted in
-      let shows : view (holding c after) ≡ claimed (view c) o now = ap (λ (x : Answer Grant Table). withTable (view c) (x .state)) made in
+      let made : answer outcome (state.view after) ≡ answer (done (granted t o)) (grant t w o now) = e .is ∙ table-granted in
+      let shows : view (holding c after) ≡ claimed (view c) w o now = ap (λ (x : Answer Grant Table). withTable (view c) (x .state)) made in
       rw (f ∙ ap (λ (x : Answer Grant Table). handedOut (view c .settings .policy .maxDeliver) (x .outcome)) made)
-      (takes-effect c ok (claimTable (view c) o now) (handOut (view c) o) p shows
-      (sound-with c ok (ok .cursor) (e .sound) shows (claimed-valid (view c) o now (ok .valid) (claim-open (view c) o now p) fits)))
+      (takes-effect c ok (claimTable (view c) w o now) (handOut (view c) o) p shows
+      (sound-with c ok (ok .cursor) (e .sound) shows (claimed-valid (view c) w o now (ok .valid) (claim-open (view c) w o now p) fits)))

@@ -1,13 +1,14 @@
--- What a commit owes its contract: Unchanged before 30, then what the cursor and the table do.
+-- What a commit owes its contract: 38, 39, Unchanged, then 30, and after these what the cursor and the table do.
 -- Assumes nothing.
 use Prim.Native.Nat.{ℕ, _≤_, _<_}
-use mathlib.Core.Path.{_≡_, refl, ap, _∙_}
+use mathlib.Core.Path.{_≡_, refl, sym, ap, _∙_}
 use mathlib.Core.Bool.{Bool, true, false}
+use mathlib.Core.Option.{none, some}
 use borrow.Author.Tests.{le-leb, lt-leb}
 use Rattle.types.specs.Limits.{MAX}
 use Rattle.types.specs.Refusal.{Refusal, Result, refused, done, Held}
-use Rattle.types.specs.Table.{Answer, guarded}
-use Rattle.types.proofs.Table.{guarded-passed}
+use Rattle.types.specs.Table.{first, Answer, answer, guarded}
+use Rattle.types.proofs.Table.{guarded-passed, guarded-refused, first-none}
 use Rattle.types.specs.Keyed.{anyBelow}
 use Rattle.cursor.specs.Cursor.{Cursor, commitUpTo}
 use Rattle.cursor.specs.Answers as cursor
@@ -17,47 +18,60 @@ use Rattle.lease.specs.State as state
 use Rattle.lease.specs.Rest.{releaseBelow}
 use Rattle.lease.specs.Answers as answers
 use Rattle.consumer.specs.State.{State, withBoth}
-use Rattle.consumer.specs.Calls.{callRows, commitTable, withCommitted, commit}
-use Rattle.consumer.specs.View.{view, Sound, Answers, Commits, holdingBoth}
+use Rattle.consumer.specs.Rights.{committing}
+use Rattle.consumer.specs.Calls.{callRows, withCommitted, commit}
+use Rattle.consumer.specs.View.{view, Sound, Unmoved, Commits, holdingBoth}
 use Rattle.consumer.specs.declared.Consumer.{Consumer}
-use Rattle.consumer.proofs.Open.{call-passed}
 use Rattle.consumer.proofs.Valid.{committed-valid}
-use Rattle.consumer.proofs.CallsReturns.{sound-with, refuses, takes-effect}
+use Rattle.consumer.proofs.CallsReturns.{sound-with}
 
--- a refusal, and a commit that moves something
-module _ {before after : Consumer} {right : Answer Bool State} where
-  refuses-commit : {r : Refusal} → Answers (refused r) before after right → Commits (refused r) before after right
-  refuses-commit a = record { is = a .is; sound = a .sound; kept = a .kept }
-
-  moves : Answers (done true) before after right → Commits (done true) before after right
-  moves a = record { is = a .is; sound = a .sound; kept = tt }
-
-module _ (c : Consumer) (ok : Sound c) (bound : ℕ) where
-  -- the rows in front are passed
-  in-front : (a : Answer Bool State) → guarded (callRows (view c)) (view c) a ≡ a
-  in-front a = guarded-passed (callRows (view c)) (view c) a (call-passed (view c))
-
-  pub commit-unchanged : bound ≤ view c .cursor .committed → Commits (done false) c c (commit (view c) bound)
+-- ## the tests, each after those before it that failed
+module _ (s : State) (w bound : ℕ) where
+  pub is-unpermitted : (r : Refusal) → some r ≡ first (callRows s w committing) → answer (refused r) s ≡ commit s w bound
   unfolding commit
-  commit-unchanged h =
-      rw (in-front _, le-leb bound (view c .cursor .committed) h) (record { is = refl; sound = ok; kept = refl })
+  is-unpermitted r e = sym (guarded-refused (callRows s w committing) s _ r (sym e))
 
-  module _ (above : view c .cursor .committed < bound) where
-    pub commit-held : anyBelow bound (view c .table .leases) ≡ true → Commits (refused Held) c c (commit (view c) bound)
+  module _ (e : none ≡ first (callRows s w committing)) where
+    -- the rows in front are passed
+    in-front : (a : Answer Bool State) → guarded (callRows s w committing) s a ≡ a
+    in-front a = guarded-passed (callRows s w committing) s a (first-none (callRows s w committing) (sym e))
+
+    pub is-unchanged : bound ≤ s .cursor .committed → answer (done false) s ≡ commit s w bound
     unfolding commit
-    commit-held h =
-        rw (in-front _, lt-leb bound (view c .cursor .committed) above) (refuses-commit (refuses c ok (commitTable (view c) bound) Held _ (rw h)))
+    is-unchanged h = rw (in-front _, le-leb bound (s .cursor .committed) h)
 
-    module _ (free : anyBelow bound (view c .table .leases) ≡ false) (fits : bound ≤ MAX) (moved : Result Bool) (k : AckCursor)
-        (u : cursor.Updated (c .cursor) moved k (commitUpTo (view c .cursor) bound)) (t : LeaseTable)
-        (e : answers.Becomes t (releaseBelow (view c .table) bound)) where
-      pub commit-done : Commits (done true) c (holdingBoth c k t) (commit (view c) bound)
+    module _ (above : s .cursor .committed < bound) where
+      pub is-held : anyBelow bound (s .table .leases) ≡ true → answer (refused Held) s ≡ commit s w bound
       unfolding commit
-      commit-done =
-          let shows : view (holdingBoth c k t) ≡ withCommitted (view c) bound =
-          ap (λ (a : Answer Bool Cursor). withBoth (view c) (a .state) (state.view t)) (u .is)
-          ∙ ap (withBoth (view c) (commitUpTo (view c .cursor) bound .state)) (e .is) in
-          rw (in-front _, lt-leb bound (view c .cursor .committed) above)
-          (moves
-          (takes-effect c ok (commitTable (view c) bound) true (free, tt) shows
-          (sound-with c ok (u .sound) (e .sound) shows (committed-valid (view c) bound (ok .valid) fits))))
+      is-held h = rw (in-front _, lt-leb bound (s .cursor .committed) above, h)
+
+      pub is-open : anyBelow bound (s .table .leases) ≡ false → answer (done true) (withCommitted s bound) ≡ commit s w bound
+      unfolding commit
+      is-open h = rw (in-front _, lt-leb bound (s .cursor .committed) above, h)
+
+-- ## the answer
+-- whatever is answered, the very struct may be given back
+unmoved : (x : Result Bool) (c : Consumer) → Unmoved x c c
+unmoved (refused r) c = refl
+unmoved (done true) c = tt
+unmoved (done false) c = refl
+
+module _ (c : Consumer) (ok : Sound c) (right : Answer Bool State) where
+  pub commit-answered : (outcome : Result Bool) → answer outcome (view c) ≡ right → Commits outcome c c right
+  commit-answered outcome e = record { is = e; sound = ok; kept = unmoved outcome c }
+
+  module _ (bound : ℕ) (effect : answer (done true) (withCommitted (view c) bound) ≡ right) (fits : bound ≤ MAX) (moved : Result Bool) (k : AckCursor)
+      (u : cursor.Updated (c .cursor) moved k (commitUpTo (view c .cursor) bound)) (t : LeaseTable)
+      (e : answers.Becomes t (releaseBelow (view c .table) bound)) where
+    shows : view (holdingBoth c k t) ≡ withCommitted (view c) bound
+    shows =
+        ap (λ (a : Answer Bool Cursor). withBoth (view c) (a .state) (state.view t)) (u .is)
+        ∙ ap (withBoth (view c) (commitUpTo (view c .cursor) bound .state)) (e .is)
+
+    pub commit-done : Commits (done true) c (holdingBoth c k t) right
+    commit-done =
+        record {
+          is = ap (answer (done true)) shows ∙ effect;
+          sound = sound-with c ok (u .sound) (e .sound) shows (committed-valid (view c) bound (ok .valid) fits);
+          kept = tt;
+        }

@@ -23,20 +23,20 @@ use Rattle.consumer.proofs.Valid.{consumed-other, newLease, claimed-val
 use Rattle.consumer.proofs.Counts.{count-is, settled-count}
 
 -- ## claim: the count of its offset rises by 1
-pub claimed-count : (s : State) (o now : ℕ) → Valid s → ClaimOpen s o now → o ≤ MAX → (x : ℕ)
-    → countOf (claimed s o now) x ≡ cond (eqb x o) (sat32 (countOf s x) 1) (countOf s x)
-claimed-count s o now v p fits x =
-    count-is (claimed s o now) (claimed-valid s o now v p fits) x
+pub claimed-count : (s : State) (w o now : ℕ) → Valid s → ClaimOpen s w o now → o ≤ MAX → (x : ℕ)
+    → countOf (claimed s w o now) x ≡ cond (eqb x o) (sat32 (countOf s x) 1) (countOf s x)
+claimed-count s w o now v p fits x =
+    count-is (claimed s w o now) (claimed-valid s w o now v p fits) x
     ∙ split (eqb x o)
-    (λ e. rw (e, eqb-true x o e, lookup-put-same o (newLease (s .table) o now) (s .table .leases), count-is s v o))
-    (λ e. rw (e, lookup-put-other x o (newLease (s .table) o now) (s .table .leases) e, consumed-other x o (s .table .carried) (leaseOf (s .table) o) e) (sym (count-is s v x)))
+    (λ e. rw (e, eqb-true x o e, lookup-put-same o (newLease (s .table) w o now) (s .table .leases), count-is s v o))
+    (λ e. rw (e, lookup-put-other x o (newLease (s .table) w o now) (s .table .leases) e, consumed-other x o (s .table .carried) (leaseOf (s .table) o) e) (sym (count-is s v x)))
 
 -- ## Ack and Term: the offset is settled, and its count is gone
-pub acked-count : (s : State) (o g : ℕ) → Valid s → AckOpen s o g → (x : ℕ) → countOf (acked s o) x ≡ cond (eqb x o) 0 (countOf s x)
-acked-count s o g v p x =
-    count-is (acked s o) (acked-valid s o g v p) x
+pub acked-count : (s : State) (w o g : ℕ) → Valid s → AckOpen s w o g → (x : ℕ) → countOf (acked s o) x ≡ cond (eqb x o) 0 (countOf s x)
+acked-count s w o g v p x =
+    count-is (acked s o) (acked-valid s w o g v p) x
     ∙ split (eqb x o)
-    (λ e. rw (e, eqb-true x o e, lookup-delete-same o (s .table .leases), acked-leased s o g v p .alone))
+    (λ e. rw (e, eqb-true x o e, lookup-delete-same o (s .table .leases), acked-leased s w o g v p .alone))
     (λ e. rw (e, lookup-delete-other x o (s .table .leases) e) (sym (count-is s v x)))
 
 -- ## Nack and Progress: nothing of both
@@ -48,16 +48,16 @@ module _ (s : State) (o : ℕ) (l : Lease) (held : leaseOf (s .table) o ≡ some
       (λ e. rw (e, eqb-true x o e, held) same)
       (λ e. rw e))
 
-pub nacked-count : (s : State) (o g deadline : ℕ) → Valid s → NackOpen s o g → (x : ℕ) → countOf (nacked s o deadline) x ≡ countOf s x
-nacked-count s o g deadline v p x =
-    count-is (nacked s o deadline) (nacked-valid s o g deadline v p) x
+pub nacked-count : (s : State) (w o g deadline : ℕ) → Valid s → NackOpen s w o g → (x : ℕ) → countOf (nacked s o deadline) x ≡ countOf s x
+nacked-count s w o g deadline v p x =
+    count-is (nacked s o deadline) (nacked-valid s w o g deadline v p) x
     ∙ updated-count s o (p .token .lease) (p .token .held) (requeuedAs (s .table .nextGeneration) deadline) refl x (lookup x (s .table .carried))
     ∙ sym (count-is s v x)
 
-pub progressed-count : (s : State) (o g now deadline : ℕ) → Valid s → ProgressOpen s o g now → (x : ℕ)
+pub progressed-count : (s : State) (w o g now deadline : ℕ) → Valid s → ProgressOpen s w o g now → (x : ℕ)
     → countOf (progressed s o deadline) x ≡ countOf s x
-progressed-count s o g now deadline v p x =
-    count-is (progressed s o deadline) (progressed-valid s o g now deadline v p) x
+progressed-count s w o g now deadline v p x =
+    count-is (progressed s o deadline) (progressed-valid s w o g now deadline v p) x
     ∙ updated-count s o (p .token .lease) (p .token .held) (withDeadline deadline) refl x (lookup x (s .table .carried))
     ∙ sym (count-is s v x)
 

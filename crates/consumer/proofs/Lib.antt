@@ -4,6 +4,7 @@ pub mod Open
 pub mod Valid
 pub mod Counts
 pub mod Effects
+pub mod Permission
 pub mod Arrays
 pub mod CallsReturns
 pub mod CallsClaim
@@ -11,3 +12,4 @@ pub mod CallsToken
 pub mod CallsCommit
 pub mod Questions
 pub mod Asked
+pub mod WaitingHanded

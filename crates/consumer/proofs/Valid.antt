@@ -72,15 +72,15 @@ consumed-other j o c none n = lookup-delete-other j o c n
 consumed-other j o c (some l) n = refl
 
 -- the lease that a claim makes
-abbrev pub newLease : Table → ℕ → ℕ → Lease
-newLease t o now = lease (t .nextGeneration) now (deadlineFrom (t .config) now now) (nextCount t o)
+abbrev pub newLease : Table → ℕ → ℕ → ℕ → Lease
+newLease t w o now = lease (t .nextGeneration) now (deadlineFrom (t .config) now now) (nextCount t o) w
 
-module _ (s : State) (o now : ℕ) (v : Valid s) (p : ClaimOpen s o now) where
+module _ (s : State) (w o now : ℕ) (v : Valid s) (p : ClaimOpen s w o now) where
   abbrev t : Table
   t = s .table
 
   abbrev new : Lease
-  new = newLease t o now
+  new = newLease t w o now
 
   -- room for the lease, and for all counts together, by what the offset had before
   lease-fits : (x : Option Lease) → leaseOf t o ≡ x → (isNone x && leb LEASES (length (t .leases))) ≡ false
@@ -101,11 +101,11 @@ module _ (s : State) (o now : ℕ) (v : Valid s) (p : ClaimOpen s o now) where
       (λ q. rw q (omega (arith, p .below-threshold)))
       (λ q. rw q (omega (arith, p .below-threshold)))
 
-  pub claimed-valid : o ≤ MAX → Valid (claimed s o now)
+  pub claimed-valid : o ≤ MAX → Valid (claimed s w o now)
   claimed-valid fits =
-      changed s (s .cursor) (grant t o now) v (record {
+      changed s (s .cursor) (grant t w o now) v (record {
         cursor = v .cursor;
-        table = valid-grant t o now fits (ne-eqb (t .nextGeneration) MAX (p .generation-left)) (lease-fits (leaseOf t o) refl) (v .table);
+        table = valid-grant t w o now fits (ne-eqb (t .nextGeneration) MAX (p .generation-left)) (lease-fits (leaseOf t o) refl) (v .table);
         together = counts-together (leaseOf t o) (lookup o (t .carried)) refl refl;
         leased = λ x l q.
             split (eqb x o)
@@ -136,12 +136,12 @@ module _ (s : State) (o now : ℕ) (v : Valid s) (p : ClaimOpen s o now) where
             alone = consumed-other x o (t .carried) (leaseOf t o) e ∙ h .alone;
           }
 
-pub claim-valid : (s : State) (o now : ℕ) → o ≤ MAX → Valid s → Valid (claim s o now .state)
-claim-valid s o now fits v =
-    claim-cases s o now (λ (a : Answer HandOut State). Valid (a .state)) (λ r. v) (λ p. claimed-valid s o now v p fits)
+pub claim-valid : (s : State) (w o now : ℕ) → o ≤ MAX → Valid s → Valid (claim s w o now .state)
+claim-valid s w o now fits v =
+    claim-cases s w o now (λ (a : Answer HandOut State). Valid (a .state)) (λ r. v) (λ p. claimed-valid s w o now v p fits)
 
 -- ## Ack and Term
-module _ (s : State) (o g : ℕ) (v : Valid s) (p : AckOpen s o g) where
+module _ (s : State) (w o g : ℕ) (v : Valid s) (p : AckOpen s w o g) where
   pub acked-leased : Leased (s .cursor) (s .table .carried) o
   acked-leased = v .leased o (p .token .lease) (p .token .held)
 
@@ -181,9 +181,9 @@ module _ (s : State) (o g : ℕ) (v : Valid s) (p : AckOpen s o g) where
         counter = v .counter;
       })
 
-pub ack-valid : (s : State) (o g : ℕ) → Valid s → Valid (ack s o g .state)
-ack-valid s o g v =
-    ack-cases s o g (λ (a : Answer (Unit {0}) State). Valid (a .state)) (λ r. v) (λ p. acked-valid s o g v p)
+pub ack-valid : (s : State) (w o g : ℕ) → Valid s → Valid (ack s w o g .state)
+ack-valid s w o g v =
+    ack-cases s w o g (λ (a : Answer (Unit {0}) State). Valid (a .state)) (λ r. v) (λ p. acked-valid s w o g v p)
 
 -- ## Nack and Progress: a lease is changed in its place
 module _ (s : State) (o : ℕ) (v : Valid s) (l : Lease) (held : leaseOf (s .table) o ≡ some l) (f : Lease → Lease) where
@@ -196,8 +196,8 @@ module _ (s : State) (o : ℕ) (v : Valid s) (l : Lease) (held : leaseOf (s .tab
   updated-together : length (update o f (s .table .leases)) + length (s .table .carried) ≤ CARRIED
   updated-together = rw (length-update o f (s .table .leases)) (v .together)
 
-pub nacked-valid : (s : State) (o g deadline : ℕ) → Valid s → NackOpen s o g → Valid (nacked s o deadline)
-nacked-valid s o g deadline v p =
+pub nacked-valid : (s : State) (w o g deadline : ℕ) → Valid s → NackOpen s w o g → Valid (nacked s o deadline)
+nacked-valid s w o g deadline v p =
     let f = requeuedAs (s .table .nextGeneration) deadline in
     changed s (s .cursor) (nacked s o deadline .table) v (record {
       cursor = v .cursor;
@@ -209,13 +209,13 @@ nacked-valid s o g deadline v p =
       counter = v .counter;
     })
 
-pub nack-valid : (s : State) (o g now : ℕ) (d : Option ℕ) → Valid s → Valid (nack s o g now d .state)
-nack-valid s o g now d v =
-    nack-cases s o g now d (λ (a : Answer ℕ State). Valid (a .state)) (λ r. v)
-    (λ p. nacked-valid s o g (nackDeadline s o now d) v p)
+pub nack-valid : (s : State) (w o g now : ℕ) (d : Option ℕ) → Valid s → Valid (nack s w o g now d .state)
+nack-valid s w o g now d v =
+    nack-cases s w o g now d (λ (a : Answer ℕ State). Valid (a .state)) (λ r. v)
+    (λ p. nacked-valid s w o g (nackDeadline s o now d) v p)
 
-pub progressed-valid : (s : State) (o g now deadline : ℕ) → Valid s → ProgressOpen s o g now → Valid (progressed s o deadline)
-progressed-valid s o g now deadline v p =
+pub progressed-valid : (s : State) (w o g now deadline : ℕ) → Valid s → ProgressOpen s w o g now → Valid (progressed s o deadline)
+progressed-valid s w o g now deadline v p =
     changed s (s .cursor) (progressed s o deadline .table) v (record {
       cursor = v .cursor;
       table = valid-update (s .table) o (withDeadline deadline) (λ l. refl) (v .table);
@@ -226,10 +226,10 @@ progressed-valid s o g now deadline v p =
       counter = v .counter;
     })
 
-pub progress-valid : (s : State) (o g now : ℕ) → Valid s → Valid (progress s o g now .state)
-progress-valid s o g now v =
-    progress-cases s o g now (λ (a : Answer ℕ State). Valid (a .state)) (λ r. v)
-    (λ p. progressed-valid s o g now (extended (s .table) o now) v p)
+pub progress-valid : (s : State) (w o g now : ℕ) → Valid s → Valid (progress s w o g now .state)
+progress-valid s w o g now v =
+    progress-cases s w o g now (λ (a : Answer ℕ State). Valid (a .state)) (λ r. v)
+    (λ p. progressed-valid s w o g now (extended (s .table) o now) v p)
 
 -- ## Commit
 module _ (s : State) (bound : ℕ) (v : Valid s) where
@@ -260,6 +260,6 @@ module _ (s : State) (bound : ℕ) (v : Valid s) where
         counter = v .counter;
       })
 
-pub commit-valid : (s : State) (bound : ℕ) → bound ≤ MAX → Valid s → Valid (commit s bound .state)
-commit-valid s bound fits v =
-    commit-cases s bound (λ (a : Answer Bool State). Valid (a .state)) (λ r. v) (λ h. v) (λ p. committed-valid s bound v fits)
+pub commit-valid : (s : State) (w bound : ℕ) → bound ≤ MAX → Valid s → Valid (commit s w bound .state)
+commit-valid s w bound fits v =
+    commit-cases s w bound (λ (a : Answer Bool State). Valid (a .state)) (λ r. v) (λ a h. v) (λ p. committed-valid s bound v fits)

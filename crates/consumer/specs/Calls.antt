@@ -1,30 +1,38 @@
--- The calls that change a consumer's state without writing: claim, Ack, Term, Nack, Progress and Commit (01, "consumer"). Each
--- is a refusal table in 01's order and an effect.
+-- The calls that change a consumer's state without writing: claim, Ack, Term, Nack, Progress and Commit (01, "consumer"), each
+-- made by a worker (02, g): a refusal table in the documents' order and an effect.
 use Prim.Native.Nat.{ℕ, _+_}
-use mathlib.Core.Bool.{Bool, true, false, cond, _&&_, _||_}
+use mathlib.Core.Bool.{Bool, true, false, not, cond, _&&_, _||_}
 use mathlib.Core.List.{List, [], _∷_, _++_}
-use mathlib.Core.Option.{Option}
+use mathlib.Core.Option.{Option, none, some}
 use lib.Dec.{leb, eqb}
 use lib.ListN.{length}
 use Rattle.types.specs.Limits.{MAX, LEASES, CARRIED, RANGES, sat64}
-use Rattle.types.specs.Refusal.{Result, refused, done, LastOffset, Settled, InFlight, Exhausted, CheckpointDue, Full, CapReached, Shed, Held}
+use Rattle.types.specs.Refusal.{Result, refused, done, LastOffset, Settled, InFlight, Exhausted, CheckpointDue, Full, CapReached, Shed, Held, ForeignToken}
 use Rattle.types.specs.Table.{Row, _⇒_, Answer, answer, guarded}
 use Rattle.types.specs.Keyed.{lookup, update, delete, anyBelow}
 use Rattle.cursor.specs.Cursor.{settled, ackBounded, commitUpTo}
 use Rattle.delivery.specs.Policy.{Destination, disposition, effectiveNackDelay}
 use Rattle.lease.specs.State.{Table, withLeases}
+use Rattle.lease.specs.declared.Lease.{Lease}
 use Rattle.lease.specs.Operations.{leaseOf, isNone, running, capFrom, nextCount, grant, tokenRow, startOf, withDeadline, extended, requeue}
 use Rattle.lease.specs.Rest.{releaseBelow, deliveriesOf}
 use Rattle.consumer.specs.State.{State, withTable, withBoth, countOr0}
+use Rattle.consumer.specs.Rights.{Operation, claiming, settling, nacking, extending, committing, bitOf, workerRows}
 
 -- ## rows that several tables begin with
--- in front of all that a call could answer or refuse: nothing
-abbrev pub callRows : State → List Row
-callRows s = []
+-- in front of all that a call of worker w could answer or refuse: 38, 39
+abbrev pub callRows : State → ℕ → Operation → List Row
+callRows s w op = workerRows (s .settings .rights) w (bitOf op)
 
--- in front of what a call with a token could answer or refuse, of offset o and generation g: 24
-abbrev pub tokenRows : State → ℕ → ℕ → List Row
-tokenRows s o g = callRows s ++ (tokenRow (s .table) o g ∷ [])
+-- a worker claimed the lease
+abbrev pub heldBy : ℕ → Option Lease → Bool
+heldBy w none = false
+heldBy w (some l) = eqb (l .worker) w
+
+-- in front of what a call with a token could answer or refuse, of offset o and generation g: 38, 39, 24, 40
+abbrev pub tokenRows : State → ℕ → Operation → ℕ → ℕ → List Row
+tokenRows s w op o g =
+    callRows s w op ++ (tokenRow (s .table) o g ∷ not (heldBy w (leaseOf (s .table) o)) ⇒ ForeignToken ∷ [])
 
 -- ## claim
 -- a hand-out: the token, the count with this hand-out in it, and whether it is for delivery or for the dead letters
@@ -70,15 +78,15 @@ claimRows s o now =
     ∷ isFull (s .table) o ⇒ Full
     ∷ []
 
-abbrev pub claimTable : State → ℕ → ℕ → List Row
-claimTable s o now = callRows s ++ claimRows s o now
+abbrev pub claimTable : State → ℕ → ℕ → ℕ → List Row
+claimTable s w o now = callRows s w claiming ++ claimRows s o now
 
--- the offset is leased under the next generation, with its carried count if it had one
-abbrev pub claimed : State → ℕ → ℕ → State
-claimed s o now = withTable s (grant (s .table) o now)
+-- the offset is leased to the worker under the next generation, with its carried count if it had one
+abbrev pub claimed : State → ℕ → ℕ → ℕ → State
+claimed s w o now = withTable s (grant (s .table) w o now)
 
-unfoldable pub claim : State → ℕ → ℕ → Answer HandOut State
-claim s o now = guarded (claimTable s o now) s (answer (done (handOut s o)) (claimed s o now))
+unfoldable pub claim : State → ℕ → ℕ → ℕ → Answer HandOut State
+claim s w o now = guarded (claimTable s w o now) s (answer (done (handOut s o)) (claimed s w o now))
 
 -- ## calls with a token, of offset o and generation g
 -- the cursor has no room for the ack
@@ -90,16 +98,16 @@ isShed (done b) = false
 abbrev pub ackRows : State → ℕ → List Row
 ackRows s o = isShed (ackBounded (s .cursor) o RANGES .outcome) ⇒ Shed ∷ []
 
-abbrev pub ackTable : State → ℕ → ℕ → List Row
-ackTable s o g = tokenRows s o g ++ ackRows s o
+abbrev pub ackTable : State → ℕ → ℕ → ℕ → List Row
+ackTable s w o g = tokenRows s w settling o g ++ ackRows s o
 
 -- Ack and Term: the lease goes and the offset is settled
 abbrev pub acked : State → ℕ → State
 acked s o =
     withBoth s (ackBounded (s .cursor) o RANGES .state) (withLeases (s .table) (delete o (s .table .leases)))
 
-unfoldable pub ack : State → ℕ → ℕ → Answer (Unit {0}) State
-ack s o g = guarded (ackTable s o g) s (answer (done tt) (acked s o))
+unfoldable pub ack : State → ℕ → ℕ → ℕ → Answer (Unit {0}) State
+ack s w o g = guarded (ackTable s w o g) s (answer (done tt) (acked s o))
 
 -- how often the leased offset was handed out, which a nack takes as its attempt
 abbrev pub attemptOf : State → ℕ → ℕ
@@ -113,16 +121,16 @@ nackDeadline s o now explicit = sat64 now (effectiveNackDelay (s .settings .poli
 abbrev pub nackRows : State → List Row
 nackRows s = eqb (s .table .nextGeneration) MAX ⇒ Exhausted ∷ atCeiling s ⇒ CheckpointDue ∷ []
 
-abbrev pub nackTable : State → ℕ → ℕ → List Row
-nackTable s o g = tokenRows s o g ++ nackRows s
+abbrev pub nackTable : State → ℕ → ℕ → ℕ → List Row
+nackTable s w o g = tokenRows s w nacking o g ++ nackRows s
 
--- Nack: the lease goes on under the next generation until a deadline, which is the answer
+-- Nack: the lease goes on under the next generation until a deadline, which is the answer; it stays its worker's
 abbrev pub nacked : State → ℕ → ℕ → State
 nacked s o deadline = withTable s (requeue (s .table) o deadline)
 
-unfoldable pub nack : State → ℕ → ℕ → ℕ → Option ℕ → Answer ℕ State
-nack s o g now explicit =
-    guarded (nackTable s o g) s
+unfoldable pub nack : State → ℕ → ℕ → ℕ → ℕ → Option ℕ → Answer ℕ State
+nack s w o g now explicit =
+    guarded (nackTable s w o g) s
     (answer (done (nackDeadline s o now explicit)) (nacked s o (nackDeadline s o now explicit)))
 
 -- the end of the attempt has come, beyond which no lease is extended
@@ -133,16 +141,16 @@ atCap s o now = leb (capFrom (s .table .config) (startOf (leaseOf (s .table) o))
 abbrev pub progressRows : State → ℕ → ℕ → List Row
 progressRows s o now = atCap s o now ⇒ CapReached ∷ []
 
-abbrev pub progressTable : State → ℕ → ℕ → ℕ → List Row
-progressTable s o g now = tokenRows s o g ++ progressRows s o now
+abbrev pub progressTable : State → ℕ → ℕ → ℕ → ℕ → List Row
+progressTable s w o g now = tokenRows s w extending o g ++ progressRows s o now
 
 -- Progress: the lease has a new deadline, which is the answer
 abbrev pub progressed : State → ℕ → ℕ → State
 progressed s o deadline = withTable s (withLeases (s .table) (update o (withDeadline deadline) (s .table .leases)))
 
-unfoldable pub progress : State → ℕ → ℕ → ℕ → Answer ℕ State
-progress s o g now =
-    guarded (progressTable s o g now) s
+unfoldable pub progress : State → ℕ → ℕ → ℕ → ℕ → Answer ℕ State
+progress s w o g now =
+    guarded (progressTable s w o g now) s
     (answer (done (extended (s .table) o now)) (progressed s o (extended (s .table) o now)))
 
 -- ## commit
@@ -155,8 +163,8 @@ abbrev pub withCommitted : State → ℕ → State
 withCommitted s bound = withBoth s (commitUpTo (s .cursor) bound .state) (releaseBelow (s .table) bound)
 
 -- after the rows of every call: false, which is Unchanged, where the bound is not above committed; then 30
-unfoldable pub commit : State → ℕ → Answer Bool State
-commit s bound =
-    guarded (callRows s) s
+unfoldable pub commit : State → ℕ → ℕ → Answer Bool State
+commit s w bound =
+    guarded (callRows s w committing) s
     (cond (leb bound (s .cursor .committed)) (answer (done false) s)
     (guarded (commitTable s bound) s (answer (done true) (withCommitted s bound))))

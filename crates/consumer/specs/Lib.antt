@@ -1,4 +1,5 @@
 pub mod State
+pub mod Rights
 pub mod Calls
 pub mod Questions
 pub mod Valid

@@ -1,25 +1,37 @@
 -- The parts of a consumer, as the calls in place are lent them: numbers and columns, and the consumers that have them.
-use Prim.Native.Nat.{ℕ}
+use Prim.Native.Nat.{ℕ, _<_}
 use mathlib.Core.Path.{_≡_}
-use mathlib.Core.Bool.{Bool}
-use mathlib.Core.List.{List}
-use Rattle.types.specs.Refusal.{Result, refused, done}
-use Rattle.types.specs.Table.{first, Answer, answer}
+use mathlib.Core.Bool.{Bool, true}
+use mathlib.Core.List.{List, []}
+use mathlib.Core.Option.{Option, none, some}
+use Rattle.types.specs.Limits.{WORKERS}
+use Rattle.types.specs.Refusal.{Refusal, Result, refused, done}
+use Rattle.types.specs.Refusal as refusal
+use Rattle.types.specs.Table.{Row, first, checked, Answer, answer}
 use Rattle.types.specs.Lists.{listed, offsetsIn}
 use Rattle.types.specs.declared.lent.OffsetList.{OffsetList}
+use Rattle.cursor.specs.View.{ackCursor}
 use Rattle.cursor.specs.declared.AckCursor.{AckCursor}
 use Rattle.delivery.specs.Policy.{destination}
 use Rattle.delivery.specs.declared.DeliveryConfig.{DeliveryConfig}
 use Rattle.lease.specs.declared.LeaseConfig.{LeaseConfig}
 use Rattle.lease.specs.declared.LeaseTable.{LeaseTable}
 use Rattle.lease.specs.Operations.{Grant}
-use Rattle.lease.specs.Parts.{Full, gathered, leasing, extending, requeuing, releasing, listingAll, timing, carrying}
+use Rattle.lease.specs.Parts.{Full, gathered, leasing, extending, requeuing, releasing, keeping, listingAll, timing, carrying}
+use Rattle.lease.specs.Parts as lease
 use Rattle.consumer.specs.State.{State}
-use Rattle.consumer.specs.Calls.{HandOut, claimTable}
+use Rattle.consumer.specs.Rights.{Operation, bitOf}
+use Rattle.consumer.specs.Calls.{HandOut, claimRows, claimTable, tokenRows, attemptOf, withCommitted, commit}
 use Rattle.consumer.specs.Questions.{Question, reply, waitingAt}
-use Rattle.consumer.specs.View.{view, Sound, Answers, Commits, holding, holdingBoth, testOf, asResult}
+use Rattle.consumer.specs.View.{view, Sound, Answers, Commits, holding, holdingBoth, commitOf, testOf, asResult}
 use Rattle.consumer.specs.declared.Consumer.{Consumer}
 use Rattle.consumer.specs.declared.steps.ClaimTest.{ClaimTest}
+use Rattle.consumer.specs.declared.steps.TokenRefusal.{TokenRefusal}
+use Rattle.consumer.specs.declared.steps.TokenRefusal.the-variants as token
+use Rattle.consumer.specs.declared.steps.TokenTest.{TokenTest}
+use Rattle.consumer.specs.declared.steps.TokenTest.the-variants as test
+use Rattle.consumer.specs.declared.steps.CommitTest.{CommitTest}
+use Rattle.consumer.specs.declared.steps.CommitTest.the-variants as commits
 
 -- ## a consumer with other values in the parts that a call looks at
 -- with another ceiling, another policy, another cursor and another table
@@ -31,8 +43,24 @@ made ceiling policy cursor table c =
       ceiling = record { 0 = ceiling };
       next = c .next;
       «area_len» = c .«area_len»;
-      settings = record { delivery = policy };
+      settings = record { delivery = policy; rights = c .settings .rights };
     }
+
+-- with other rights
+abbrev pub permitting : List ℕ → Consumer → Consumer
+permitting rights c =
+    record {
+      cursor = c .cursor;
+      table = c .table;
+      ceiling = c .ceiling;
+      next = c .next;
+      «area_len» = c .«area_len»;
+      settings = record { delivery = c .settings .delivery; rights = rights };
+    }
+
+-- and with other parts beside them
+abbrev pub permitted : List ℕ → (Consumer → Consumer) → Consumer → Consumer
+permitted rights with c = with (permitting rights c)
 
 -- a policy with another limit and another threshold, and one with another schedule
 abbrev pub limiting : ℕ → ℕ → DeliveryConfig → DeliveryConfig
@@ -55,34 +83,48 @@ delaying backoffs n d =
       «attempts_flush_redeliveries» = d .«attempts_flush_redeliveries»;
     }
 
--- claim: the ceiling, the limit, the threshold, the cursor and the table
-abbrev pub claiming : ℕ → ℕ → ℕ → AckCursor → LeaseTable → Consumer → Consumer
-claiming ceiling limit threshold cursor table c =
-    made ceiling (limiting limit threshold (c .settings .delivery)) cursor table c
+-- claim: the rights, the ceiling, the limit, the threshold, the cursor and the table
+abbrev pub claiming : List ℕ → ℕ → ℕ → ℕ → AckCursor → LeaseTable → Consumer → Consumer
+claiming rights ceiling limit threshold cursor table =
+    permitted rights (λ c. made ceiling (limiting limit threshold (c .settings .delivery)) cursor table c)
 
--- its test: the same without the limit, the configuration of the leases and two of their columns
+-- its test: the same without the rights, the limit, the configuration of the leases and three of their columns
 abbrev pub testing : ℕ → ℕ → AckCursor → ℕ → ℕ → ℕ → ℕ → List ℕ → List ℕ → List ℕ → List ℕ → List ℕ → Consumer → Consumer
 testing ceiling threshold cursor n m g r ks ds ns cks cvs c =
-    claiming ceiling (c .settings .delivery .«max_deliver») threshold cursor
-    (gathered (c .table .config) n m g r ks (c .table .generations) (c .table .«attempt_starts») ds ns cks cvs) c
+    claiming (c .settings .rights) ceiling (c .settings .delivery .«max_deliver») threshold cursor
+    (gathered (c .table .config) n m g r ks (c .table .generations) (c .table .«attempt_starts») ds ns (c .table .workers) cks cvs) c
 
--- Ack and Term: the cursor, and the number and the columns of the leases
-abbrev pub settling : AckCursor → ℕ → List ℕ → List ℕ → List ℕ → List ℕ → List ℕ → Consumer → Consumer
-settling cursor n ks gs ss ds ns c = holdingBoth c cursor (leasing n ks gs ss ds ns (c .table))
+-- the test of a token: the rights, and the number and four columns of the leases
+abbrev pub owning : List ℕ → ℕ → List ℕ → List ℕ → List ℕ → List ℕ → Consumer → Consumer
+owning rights n ks gs ns ws = permitted rights (λ c. holding c (lease.counting n ks gs ns ws (c .table)))
 
--- Nack: the ceiling, the schedule, the next generation, and the number and four columns of the leases
-abbrev pub nacking : ℕ → List ℕ → ℕ → ℕ → ℕ → List ℕ → List ℕ → List ℕ → List ℕ → Consumer → Consumer
-nacking ceiling backoffs m n g ks gs ds ns c =
+-- Ack and Term: the rights, the cursor, and the number and the columns of the leases
+abbrev pub settling : List ℕ → AckCursor → ℕ → List ℕ → List ℕ → List ℕ → List ℕ → List ℕ → List ℕ → Consumer → Consumer
+settling rights cursor n ks gs ss ds ns ws = permitted rights (λ c. holdingBoth c cursor (leasing n ks gs ss ds ns ws (c .table)))
+
+-- Nack: the rights, the ceiling, the schedule, the next generation, and the number and five columns of the leases
+abbrev pub nacking : List ℕ → ℕ → List ℕ → ℕ → ℕ → ℕ → List ℕ → List ℕ → List ℕ → List ℕ → List ℕ → Consumer → Consumer
+nacking rights ceiling backoffs m n g ks gs ds ns ws =
+    permitted rights
+    (λ c.
     made ceiling (delaying backoffs m (c .settings .delivery)) (c .cursor)
-    (requeuing n g ks gs ds (leasing n ks gs (c .table .«attempt_starts») ds ns (c .table))) c
+    (requeuing n g ks gs ds (leasing n ks gs (c .table .«attempt_starts») ds ns ws (c .table))) c)
 
--- Progress: the configuration of the leases, their number and four of their columns
-abbrev pub progressing : LeaseConfig → ℕ → List ℕ → List ℕ → List ℕ → List ℕ → Consumer → Consumer
-progressing config n ks gs ss ds c = holding c (extending config n ks gs ss ds (c .table))
+-- Progress: the rights, the configuration of the leases, their number and their columns
+abbrev pub progressing : List ℕ → LeaseConfig → ℕ → List ℕ → List ℕ → List ℕ → List ℕ → List ℕ → List ℕ → Consumer → Consumer
+progressing rights config n ks gs ss ds ns ws =
+    permitted rights (λ c. holding c (extending config n ks gs ss ds (leasing n ks gs ss ds ns ws (c .table))))
 
--- Commit: the cursor, and the numbers and the columns of the leases and of the carried counts
-abbrev pub committing : AckCursor → ℕ → ℕ → List ℕ → List ℕ → List ℕ → List ℕ → List ℕ → List ℕ → List ℕ → Consumer → Consumer
-committing cursor n m ks gs ss ds ns cks cvs c = holdingBoth c cursor (releasing n m ks gs ss ds ns cks cvs (c .table))
+-- the test of a commit: the rights, committed, and the number and the offsets of the leases
+abbrev pub deciding : List ℕ → ℕ → ℕ → List ℕ → Consumer → Consumer
+deciding rights committed n ks =
+    permitted rights
+    (λ c. holdingBoth c (ackCursor committed (c .cursor .starts) (c .cursor .ends) (c .cursor .runs)) (keeping n ks (c .table)))
+
+-- Commit: the rights, the cursor, and the numbers and the columns of the leases and of the carried counts
+abbrev pub committing : List ℕ → AckCursor → ℕ → ℕ → List ℕ → List ℕ → List ℕ → List ℕ → List ℕ → List ℕ → List ℕ → List ℕ → Consumer → Consumer
+committing rights cursor n m ks gs ss ds ns ws cks cvs =
+    permitted rights (λ c. holdingBoth c cursor (releasing n m ks gs ss ds ns ws cks cvs (c .table)))
 
 -- the count of an offset: the offsets and the counts of the leases, and the carried counts
 abbrev pub counting : ℕ → ℕ → List ℕ → List ℕ → List ℕ → List ℕ → Consumer → Consumer
@@ -119,9 +161,46 @@ abbrev pub WaitsIn : OffsetList → (Consumer → Consumer) → ℕ → Type 0
 WaitsIn r with now = (c : Consumer) → Whole (with c) → offsetsIn r ≡ waitingAt (view (with c)) now
 
 -- ## the private functions
--- the test of a claim
-abbrev pub TestsIn : ClaimTest → (Consumer → Consumer) → ℕ → ℕ → Type 0
-TestsIn r with o now = (c : Consumer) → Whole (with c) → testOf r ≡ asResult (first (claimTable (view (with c)) o now))
+-- the test of a claim that the worker may make
+abbrev pub OpensIn : ClaimTest → (Consumer → Consumer) → ℕ → ℕ → Type 0
+OpensIn r with o now = (c : Consumer) → Whole (with c) → testOf r ≡ asResult (first (claimRows (view (with c)) o now))
+
+-- the test of a claim; where it is open there is a worker of that number
+pub record TestsIn (r : ClaimTest) (with : Consumer → Consumer) (w o now : ℕ) : Type 0 where
+  pub known : testOf r ≡ none → w < WORKERS
+  pub is : (c : Consumer) → Whole (with c) → testOf r ≡ asResult (first (claimTable (view (with c)) w o now))
+
+-- the test of a token: how often its lease was handed out, where the worker holds it
+abbrev pub tokenRefusalOf : TokenRefusal → Refusal
+tokenRefusalOf token.UnknownWorker = refusal.UnknownWorker
+tokenRefusalOf token.NotPermitted = refusal.NotPermitted
+tokenRefusalOf token.Fenced = refusal.Fenced
+tokenRefusalOf token.ForeignToken = refusal.ForeignToken
+
+abbrev pub tokenOf : TokenTest → Result ℕ
+tokenOf (test.Held n) = done n
+tokenOf (test.Refused r) = refused (tokenRefusalOf r)
+
+abbrev pub TokenIn : TokenTest → (Consumer → Consumer) → ℕ → ℕ → ℕ → ℕ → Type 0
+TokenIn r with w bit o g =
+    (c : Consumer) → Whole (with c) → (op : Operation) → bitOf op ≡ bit
+    → tokenOf r ≡ checked (tokenRows (view (with c)) w op o g) (done (attemptOf (view (with c)) o))
+
+-- the test of a commit: what it answers at once, or its effect
+abbrev pub decided : CommitTest → State → ℕ → Answer Bool State
+decided commits.Open s bound = answer (done true) (withCommitted s bound)
+decided (commits.Answered a) s bound = answer (commitOf a) s
+
+abbrev pub DecidesIn : CommitTest → (Consumer → Consumer) → ℕ → ℕ → Type 0
+DecidesIn r with w bound = (c : Consumer) → Whole (with c) → decided r (view (with c)) bound ≡ commit (view (with c)) w bound
+
+-- a list, where no row refuses
+abbrev pub unlessRefused : Option Refusal → List ℕ → List ℕ
+unlessRefused none l = l
+unlessRefused (some r) l = []
+
+abbrev pub permittedList : List Row → List ℕ → List ℕ
+permittedList ws l = unlessRefused (first ws) l
 
 -- what a claim answers for the table's answer, a count above the limit being for the dead letters
 abbrev pub handedOut : ℕ → Result Grant → Result HandOut

@@ -13,7 +13,8 @@ use Rattle.lease.specs.Lookup.{leaseValues}
 use Rattle.lease.specs.Rest.{expiredOffsets, inFlight}
 use Rattle.lease.specs.Counts.{allAttemptCounts}
 use Rattle.consumer.specs.State.{State, blocksOf, countOr0}
-use Rattle.consumer.specs.Calls.{atCeiling, atThreshold}
+use Rattle.consumer.specs.Calls.{atCeiling, atThreshold, callRows}
+use Rattle.consumer.specs.Rights.{looking}
 
 -- the keys of entries, in their order
 abbrev pub keysOf : List (Entry ℕ) → List ℕ
@@ -49,7 +50,7 @@ pub data Question : Type 0 where
   IsDue : Question
   BlocksLeft : Question
 
--- what each question is answered
+-- what each question is answered, once it may be asked
 abbrev pub reply : State → Question → Result (List ℕ)
 reply s (Waiting now room) = waiting s now room
 reply s Committed = done (s .cursor .committed ∷ [])
@@ -59,3 +60,7 @@ reply s (CountOf o) = done (countOf s o ∷ [])
 reply s InFlight = done (inFlight (s .table) ∷ [])
 reply s IsDue = done (bit (atCeiling s) ∷ bit (atThreshold s) ∷ [])
 reply s BlocksLeft = done ((blocksOf s - s .next .block) ∷ [])
+
+-- a question of worker w: 38, 39 first
+abbrev pub look : State → ℕ → Question → Result (List ℕ)
+look s w q = checked (callRows s w looking) (reply s q)

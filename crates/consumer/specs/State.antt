@@ -1,6 +1,7 @@
 -- The consumer's state, as document 01 lists it under "consumer", and the configuration that it is started with.
 use Prim.Native.Nat.{ℕ, _/_}
 use mathlib.Core.Bool.{Bool}
+use mathlib.Core.List.{List}
 use mathlib.Core.Option.{Option, Option·getD}
 use Rattle.cursor.specs.Cursor.{Cursor}
 use Rattle.lease.specs.declared.LeaseConfig.{LeaseConfig}
@@ -15,6 +16,8 @@ countOr0 n = Option·getD n 0
 -- what a consumer keeps of its configuration, beside what its lease table keeps
 pub record Settings : Type 0 where
   pub policy : Policy
+  -- a byte for each worker (Rights.antt)
+  pub rights : List ℕ
 
 -- the configuration: what a consumer is started with
 pub record Configuration : Type 0 where

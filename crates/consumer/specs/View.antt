@@ -31,9 +31,13 @@ use Rattle.consumer.specs.declared.calls.ProgressAnswer.{ProgressAnswer}
 use Rattle.consumer.specs.declared.calls.ProgressAnswer.the-variants as progress
 use Rattle.consumer.specs.declared.calls.CommitAnswer.{CommitAnswer}
 use Rattle.consumer.specs.declared.calls.CommitAnswer.the-variants as commit
+use Rattle.consumer.specs.declared.queries.WaitingAnswer.{WaitingAnswer}
+use Rattle.consumer.specs.declared.queries.WaitingAnswer.the-variants as waiting
+use Rattle.consumer.specs.declared.rights.Permission.{Permission}
+use Rattle.consumer.specs.declared.rights.Permission.the-variants as permission
 
 abbrev pub settingsOf : Settings → state.Settings
-settingsOf s = record { policy = delivery.view (s .delivery) }
+settingsOf s = record { policy = delivery.view (s .delivery); rights = s .rights }
 
 abbrev pub view : Consumer → State
 view c =
@@ -82,7 +86,13 @@ holdingBoth c cursor table =
 abbrev pub holding : Consumer → LeaseTable → Consumer
 holding c table = holdingBoth c (c .cursor) table
 
--- ## 01's answers for the cases of each enum
+-- ## the documents' answers for the cases of each enum
+-- a permission: nothing, or what the call is refused with
+abbrev pub permissionOf : Permission → Option Refusal
+permissionOf permission.Granted = none
+permissionOf permission.UnknownWorker = some refusal.UnknownWorker
+permissionOf permission.NotPermitted = some refusal.NotPermitted
+
 abbrev pub handOutOf : LeaseToken → ℕ → Destination → HandOut
 handOutOf token n d =
     record { offset = token .offset .0; generation = token .generation .0; deliveries = n; destination = d }
@@ -96,6 +106,8 @@ claimOf claim.InFlight = refused refusal.InFlight
 claimOf claim.Exhausted = refused refusal.Exhausted
 claimOf claim.CheckpointDue = refused refusal.CheckpointDue
 claimOf claim.Full = refused refusal.Full
+claimOf claim.UnknownWorker = refused refusal.UnknownWorker
+claimOf claim.NotPermitted = refused refusal.NotPermitted
 
 -- the test of a claim: nothing, or what it is refused with
 abbrev pub testOf : ClaimTest → Option (Result HandOut)
@@ -110,19 +122,37 @@ abbrev pub settleOf : SettleAnswer → Result (Unit {0})
 settleOf settle.Settled = done tt
 settleOf settle.Fenced = refused refusal.Fenced
 settleOf settle.Shed = refused refusal.Shed
+settleOf settle.UnknownWorker = refused refusal.UnknownWorker
+settleOf settle.NotPermitted = refused refusal.NotPermitted
+settleOf settle.ForeignToken = refused refusal.ForeignToken
 
 abbrev pub nackOf : NackAnswer → Result ℕ
 nackOf (nack.Requeued deadline) = done deadline
 nackOf nack.Fenced = refused refusal.Fenced
 nackOf nack.Exhausted = refused refusal.Exhausted
 nackOf nack.CheckpointDue = refused refusal.CheckpointDue
+nackOf nack.UnknownWorker = refused refusal.UnknownWorker
+nackOf nack.NotPermitted = refused refusal.NotPermitted
+nackOf nack.ForeignToken = refused refusal.ForeignToken
 
 abbrev pub progressOf : ProgressAnswer → Result ℕ
 progressOf (progress.Extended deadline) = done deadline
 progressOf progress.Fenced = refused refusal.Fenced
 progressOf progress.CapReached = refused refusal.CapReached
+progressOf progress.UnknownWorker = refused refusal.UnknownWorker
+progressOf progress.NotPermitted = refused refusal.NotPermitted
+progressOf progress.ForeignToken = refused refusal.ForeignToken
 
 abbrev pub commitOf : CommitAnswer → Result Bool
 commitOf commit.Committed = done true
 commitOf commit.Unchanged = done false
 commitOf commit.Held = refused refusal.Held
+commitOf commit.UnknownWorker = refused refusal.UnknownWorker
+commitOf commit.NotPermitted = refused refusal.NotPermitted
+
+-- the waiting list: how many places were filled
+abbrev pub waitingOf : WaitingAnswer → Result ℕ
+waitingOf (waiting.Filled n) = done n
+waitingOf waiting.OutTooShort = refused refusal.OutTooShort
+waitingOf waiting.UnknownWorker = refused refusal.UnknownWorker
+waitingOf waiting.NotPermitted = refused refusal.NotPermitted

@@ -1,4 +1,5 @@
-// The calls that change the state and write nothing: claim, Ack, Term, Nack, Progress and Commit.
+// The calls that change the state and write nothing: claim, Ack, Term, Nack, Progress and Commit. Each is a worker's, and is refused
+// with 38 where there is no worker of that number, or with 39 where that worker may not make it, before all else.
 ghost use mathlib.Core.Path.{_≡_};
 ghost use Rattle.delivery.specs.Config.{delayOf};
 ghost use Rattle.consumer.specs.Calls.{claim, ack, nack, progress, commit};
@@ -13,7 +14,7 @@ use types::Generation;
 use types::Offset;
 
 // What a claim answers: a hand-out for delivery or for the dead letters, with its token and the number of hand-outs so far,
-// this one counted; or refusal 21, 22, 23, 25, 26 or 27.
+// this one counted; or refusal 38, 39, 21, 22, 23, 25, 26 or 27.
 pub enum ClaimAnswer {
     Deliver { token: LeaseToken, deliveries: u32 },
     DeadLetter { token: LeaseToken, deliveries: u32 },
@@ -23,35 +24,48 @@ pub enum ClaimAnswer {
     Exhausted,
     CheckpointDue,
     Full,
+    UnknownWorker,
+    NotPermitted,
 }
 
-// What Ack and Term answer: the offset is settled, or refusal 24 or 29.
+// What Ack and Term answer: the offset is settled, or refusal 38, 39, 24, 40 or 29.
 pub enum SettleAnswer {
     Settled,
     Fenced,
     Shed,
+    UnknownWorker,
+    NotPermitted,
+    ForeignToken,
 }
 
-// What Nack answers: when the offset can be claimed again, or refusal 24, 25 or 26.
+// What Nack answers: when the offset can be claimed again, or refusal 38, 39, 24, 40, 25 or 26.
 pub enum NackAnswer {
     Requeued { deadline: u64 },
     Fenced,
     Exhausted,
     CheckpointDue,
+    UnknownWorker,
+    NotPermitted,
+    ForeignToken,
 }
 
-// What Progress answers: the new deadline, or refusal 24 or 28.
+// What Progress answers: the new deadline, or refusal 38, 39, 24, 40 or 28.
 pub enum ProgressAnswer {
     Extended { deadline: u64 },
     Fenced,
     CapReached,
+    UnknownWorker,
+    NotPermitted,
+    ForeignToken,
 }
 
-// What Commit answers: everything below the bound is settled, it was before, or refusal 30.
+// What Commit answers: everything below the bound is settled, it was before, or refusal 38, 39 or 30.
 pub enum CommitAnswer {
     Committed,
     Unchanged,
     Held,
+    UnknownWorker,
+    NotPermitted,
 }
 
 pub struct Claimed {
@@ -115,10 +129,10 @@ impl Consumer {
         }
     }
 
-    // Claims an offset: it is handed out under the next generation, which fences off whoever held it before.
-    pub fn claim(self, offset: Offset, now: u64) -> Claimed
+    // Claims an offset: it is handed out to the worker under the next generation, which fences off whoever held it before.
+    pub fn claim(self, worker: u64, offset: Offset, now: u64) -> Claimed
         requires { ⌜ Sound self ⌝ }
-        ensures { λ r. ⌜ Answers (claimOf (r .answer)) self (r .consumer) (claim (view self) (offset .0) now) ⌝ }
+        ensures { λ r. ⌜ Answers (claimOf (r .answer)) self (r .consumer) (claim (view self) worker (offset .0) now) ⌝ }
     {
         let config = self.table.config;
         let mut offsets = self.table.offsets;
@@ -126,6 +140,7 @@ impl Consumer {
         let mut attempt_starts = self.table.attempt_starts;
         let mut deadlines = self.table.deadlines;
         let mut deliveries = self.table.deliveries;
+        let mut workers = self.table.workers;
         let mut carried_offsets = self.table.carried_offsets;
         let mut carried_counts = self.table.carried_counts;
         let done = in_place::claim_in_place(
@@ -139,8 +154,10 @@ impl Consumer {
             self.table.carried_len,
             self.table.next_generation.0,
             self.table.redeliveries_since_flush,
+            worker,
             offset.0,
             now,
+            &self.settings.rights,
             &self.cursor.starts,
             &self.cursor.ends,
             &mut offsets,
@@ -148,6 +165,7 @@ impl Consumer {
             &mut attempt_starts,
             &mut deadlines,
             &mut deliveries,
+            &mut workers,
             &mut carried_offsets,
             &mut carried_counts,
         );
@@ -159,6 +177,7 @@ impl Consumer {
             attempt_starts,
             deadlines,
             deliveries,
+            workers,
             len: done.len,
             carried_offsets,
             carried_counts,
@@ -173,9 +192,9 @@ impl Consumer {
     }
 
     // Done: the lease goes and the offset is settled.
-    pub fn ack(self, token: LeaseToken) -> Settled
+    pub fn ack(self, worker: u64, token: LeaseToken) -> Settled
         requires { ⌜ Sound self ⌝ }
-        ensures { λ r. ⌜ Answers (settleOf (r .answer)) self (r .consumer) (ack (view self) (token .offset .0) (token .generation .0)) ⌝ }
+        ensures { λ r. ⌜ Answers (settleOf (r .answer)) self (r .consumer) (ack (view self) worker (token .offset .0) (token .generation .0)) ⌝ }
     {
         let mut starts = self.cursor.starts;
         let mut ends = self.cursor.ends;
@@ -185,12 +204,15 @@ impl Consumer {
         let mut attempt_starts = table.attempt_starts;
         let mut deadlines = table.deadlines;
         let mut deliveries = table.deliveries;
+        let mut workers = table.workers;
         let done = in_place::settle_in_place(
             self.cursor.committed,
             self.cursor.runs,
             table.len,
+            worker,
             token.offset.0,
             token.generation.0,
+            &self.settings.rights,
             &mut starts,
             &mut ends,
             &mut offsets,
@@ -198,6 +220,7 @@ impl Consumer {
             &mut attempt_starts,
             &mut deadlines,
             &mut deliveries,
+            &mut workers,
         );
         let answer = done.answer;
         let cursor = AckCursor {
@@ -211,6 +234,7 @@ impl Consumer {
         table.attempt_starts = attempt_starts;
         table.deadlines = deadlines;
         table.deliveries = deliveries;
+        table.workers = workers;
         table.len = done.len;
         Settled {
             answer,
@@ -219,17 +243,17 @@ impl Consumer {
     }
 
     // Given up for good: settled as by an ack.
-    pub fn term(self, token: LeaseToken) -> Settled
+    pub fn term(self, worker: u64, token: LeaseToken) -> Settled
         requires { ⌜ Sound self ⌝ }
-        ensures { λ r. ⌜ Answers (settleOf (r .answer)) self (r .consumer) (ack (view self) (token .offset .0) (token .generation .0)) ⌝ }
+        ensures { λ r. ⌜ Answers (settleOf (r .answer)) self (r .consumer) (ack (view self) worker (token .offset .0) (token .generation .0)) ⌝ }
     {
-        self.ack(token)
+        self.ack(worker, token)
     }
 
     // Failed: the offset can be claimed again after the delay, its own or that of the schedule for so many hand-outs.
-    pub fn nack(self, token: LeaseToken, now: u64, delay: Delay) -> Nacked
+    pub fn nack(self, worker: u64, token: LeaseToken, now: u64, delay: Delay) -> Nacked
         requires { ⌜ Sound self ⌝ }
-        ensures { λ r. ⌜ Answers (nackOf (r .answer)) self (r .consumer) (nack (view self) (token .offset .0) (token .generation .0) now (delayOf delay)) ⌝ }
+        ensures { λ r. ⌜ Answers (nackOf (r .answer)) self (r .consumer) (nack (view self) worker (token .offset .0) (token .generation .0) now (delayOf delay)) ⌝ }
     {
         let mut table = self.table;
         let mut generations = table.generations;
@@ -239,15 +263,18 @@ impl Consumer {
             self.settings.delivery.backoff_len,
             table.len,
             table.next_generation.0,
+            worker,
             token.offset.0,
             token.generation.0,
             now,
             delay,
+            &self.settings.rights,
             &self.settings.delivery.backoff_nanos,
             &self.table.offsets,
             &mut generations,
             &mut deadlines,
             &self.table.deliveries,
+            &self.table.workers,
         );
         let answer = done.answer;
         table.generations = generations;
@@ -260,9 +287,9 @@ impl Consumer {
     }
 
     // Still being worked on: the lease is extended by one visibility window from now, within the hard cap of its attempt.
-    pub fn progress(self, token: LeaseToken, now: u64) -> Progressed
+    pub fn progress(self, worker: u64, token: LeaseToken, now: u64) -> Progressed
         requires { ⌜ Sound self ⌝ }
-        ensures { λ r. ⌜ Answers (progressOf (r .answer)) self (r .consumer) (progress (view self) (token .offset .0) (token .generation .0) now) ⌝ }
+        ensures { λ r. ⌜ Answers (progressOf (r .answer)) self (r .consumer) (progress (view self) worker (token .offset .0) (token .generation .0) now) ⌝ }
     {
         let mut table = self.table;
         let config = table.config;
@@ -270,13 +297,17 @@ impl Consumer {
         let answer = in_place::progress_in_place(
             config,
             table.len,
+            worker,
             token.offset.0,
             token.generation.0,
             now,
+            &self.settings.rights,
             &self.table.offsets,
             &self.table.generations,
             &self.table.attempt_starts,
             &mut deadlines,
+            &self.table.deliveries,
+            &self.table.workers,
         );
         table.deadlines = deadlines;
         Progressed {
@@ -287,9 +318,9 @@ impl Consumer {
 
     // Settles every offset below the bound and drops their counts. Nothing changes where that was so before, or where an
     // offset below the bound is in flight.
-    pub fn commit(self, bound: Offset) -> Committed
+    pub fn commit(self, worker: u64, bound: Offset) -> Committed
         requires { ⌜ Sound self ⌝ }
-        ensures { λ r. ⌜ Commits (commitOf (r .answer)) self (r .consumer) (commit (view self) (bound .0)) ⌝ }
+        ensures { λ r. ⌜ Commits (commitOf (r .answer)) self (r .consumer) (commit (view self) worker (bound .0)) ⌝ }
     {
         let mut starts = self.cursor.starts;
         let mut ends = self.cursor.ends;
@@ -298,6 +329,7 @@ impl Consumer {
         let mut attempt_starts = self.table.attempt_starts;
         let mut deadlines = self.table.deadlines;
         let mut deliveries = self.table.deliveries;
+        let mut workers = self.table.workers;
         let mut carried_offsets = self.table.carried_offsets;
         let mut carried_counts = self.table.carried_counts;
         let done = in_place::commit_in_place(
@@ -305,7 +337,9 @@ impl Consumer {
             self.cursor.runs,
             self.table.len,
             self.table.carried_len,
+            worker,
             bound.0,
+            &self.settings.rights,
             &mut starts,
             &mut ends,
             &mut offsets,
@@ -313,6 +347,7 @@ impl Consumer {
             &mut attempt_starts,
             &mut deadlines,
             &mut deliveries,
+            &mut workers,
             &mut carried_offsets,
             &mut carried_counts,
         );
@@ -332,6 +367,7 @@ impl Consumer {
             attempt_starts,
             deadlines,
             deliveries,
+            workers,
             len: done.len,
             carried_offsets,
             carried_counts,

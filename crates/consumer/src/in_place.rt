@@ -1,5 +1,6 @@
 // The calls on a consumer whose parts lie elsewhere: its numbers come by value and go back beside the answer, its columns are lent and
 // changed where they are, so that nothing is copied. The calls on a `Consumer` are these on its own parts. A refusal changes nothing.
+// A call is made by a worker, whose rights are tested first.
 ghost use mathlib.Core.Path.{_≡_};
 ghost use Prim.Native.Nat.{_≤_};
 ghost use mathlib.Core.List.{[], _∷_};
@@ -20,8 +21,13 @@ use crate::calls::CommitAnswer;
 use crate::calls::NackAnswer;
 use crate::calls::ProgressAnswer;
 use crate::calls::SettleAnswer;
+use crate::rights::EXTEND;
+use crate::rights::NACK;
+use crate::rights::SETTLE;
 use crate::steps;
 use crate::steps::ClaimTest;
+use crate::steps::CommitTest;
+use crate::steps::TokenTest;
 use delivery::Delay;
 use lease::Attempts;
 use lease::LeaseConfig;
@@ -31,6 +37,7 @@ use types::limits::CARRIED;
 use types::limits::LEASES;
 use types::limits::MAX;
 use types::limits::RANGES;
+use types::limits::WORKERS;
 
 // What a claim answers, and the numbers of the table after it.
 pub struct ClaimedAt {
@@ -53,8 +60,10 @@ pub fn claim_in_place<'a>(
     carried_len: usize,
     next_generation: u64,
     redeliveries: u32,
+    worker: u64,
     offset: u64,
     now: u64,
+    rights: &'a [u8; WORKERS],
     starts: &'a [u64; RANGES],
     ends: &'a [u64; RANGES],
     offsets: &mut [u64; LEASES],
@@ -62,14 +71,15 @@ pub fn claim_in_place<'a>(
     attempt_starts: &mut [u64; LEASES],
     deadlines: &mut [u64; LEASES],
     deliveries: &mut [u32; LEASES],
+    workers: &mut [u32; LEASES],
     carried_offsets: &mut [u64; CARRIED],
     carried_counts: &mut [u32; CARRIED],
 ) -> ClaimedAt
-    requires { ⌜ cursor.Whole (ackCursor committed (starts .now) (ends .now) runs) × lease.Whole (gathered config len «carried_len» «next_generation» redeliveries (offsets .now) (generations .now) («attempt_starts» .now) (deadlines .now) (deliveries .now) («carried_offsets» .now) («carried_counts» .now)) ⌝ }
+    requires { ⌜ cursor.Whole (ackCursor committed (starts .now) (ends .now) runs) × lease.Whole (gathered config len «carried_len» «next_generation» redeliveries (offsets .now) (generations .now) («attempt_starts» .now) (deadlines .now) (deliveries .now) (workers .now) («carried_offsets» .now) («carried_counts» .now)) ⌝ }
     ensures { λ r. ⌜ AnswersIn (claimOf (r .answer))
-        (claiming ceiling «max_deliver» threshold (ackCursor committed (starts .entry .now) (ends .entry .now) runs) (gathered config len «carried_len» «next_generation» redeliveries (offsets .entry .now) (generations .entry .now) («attempt_starts» .entry .now) (deadlines .entry .now) (deliveries .entry .now) («carried_offsets» .entry .now) («carried_counts» .entry .now)))
-        (claiming ceiling «max_deliver» threshold (ackCursor committed (starts .entry .now) (ends .entry .now) runs) (gathered config (r .len) (r .«carried_len») (r .«next_generation») (r .redeliveries) (offsets .exit .now) (generations .exit .now) («attempt_starts» .exit .now) (deadlines .exit .now) (deliveries .exit .now) («carried_offsets» .exit .now) («carried_counts» .exit .now)))
-        (λ s. claim s offset now) ⌝ }
+        (claiming (rights .entry .now) ceiling «max_deliver» threshold (ackCursor committed (starts .entry .now) (ends .entry .now) runs) (gathered config len «carried_len» «next_generation» redeliveries (offsets .entry .now) (generations .entry .now) («attempt_starts» .entry .now) (deadlines .entry .now) (deliveries .entry .now) (workers .entry .now) («carried_offsets» .entry .now) («carried_counts» .entry .now)))
+        (claiming (rights .entry .now) ceiling «max_deliver» threshold (ackCursor committed (starts .entry .now) (ends .entry .now) runs) (gathered config (r .len) (r .«carried_len») (r .«next_generation») (r .redeliveries) (offsets .exit .now) (generations .exit .now) («attempt_starts» .exit .now) (deadlines .exit .now) (deliveries .exit .now) (workers .exit .now) («carried_offsets» .exit .now) («carried_counts» .exit .now)))
+        (λ s. claim s worker offset now) ⌝ }
 {
     let test = steps::claim_test(
         ceiling,
@@ -80,8 +90,10 @@ pub fn claim_in_place<'a>(
         carried_len,
         next_generation,
         redeliveries,
+        worker,
         offset,
         now,
+        rights,
         starts,
         ends,
         offsets,
@@ -105,6 +117,7 @@ pub fn claim_in_place<'a>(
         carried_len,
         next_generation,
         redeliveries,
+        worker as u32,
         offset,
         now,
         offsets,
@@ -112,6 +125,7 @@ pub fn claim_in_place<'a>(
         attempt_starts,
         deadlines,
         deliveries,
+        workers,
         carried_offsets,
         carried_counts,
     );
@@ -133,14 +147,16 @@ pub struct SettledAt {
     pub len: usize,
 }
 
-// `Consumer::ack` and `Consumer::term` on the parts that they look at. The token is tested first, and the cursor, which has to have
-// room, before the lease goes.
-pub fn settle_in_place(
+// `Consumer::ack` and `Consumer::term` on the parts that they look at. The worker and the token are tested first, and the cursor,
+// which has to have room, before the lease goes.
+pub fn settle_in_place<'a>(
     committed: u64,
     runs: usize,
     len: usize,
+    worker: u64,
     offset: u64,
     generation: u64,
+    rights: &'a [u8; WORKERS],
     starts: &mut [u64; RANGES],
     ends: &mut [u64; RANGES],
     offsets: &mut [u64; LEASES],
@@ -148,29 +164,34 @@ pub fn settle_in_place(
     attempt_starts: &mut [u64; LEASES],
     deadlines: &mut [u64; LEASES],
     deliveries: &mut [u32; LEASES],
+    workers: &mut [u32; LEASES],
 ) -> SettledAt
     requires { ⌜ cursor.Whole (ackCursor committed (starts .now) (ends .now) runs) × (len ≤ LEASES) ⌝ }
     ensures { λ r. ⌜ AnswersIn (settleOf (r .answer))
-        (settling (ackCursor committed (starts .entry .now) (ends .entry .now) runs) len (offsets .entry .now) (generations .entry .now) («attempt_starts» .entry .now) (deadlines .entry .now) (deliveries .entry .now))
-        (settling (ackCursor (r .committed) (starts .exit .now) (ends .exit .now) (r .runs)) (r .len) (offsets .exit .now) (generations .exit .now) («attempt_starts» .exit .now) (deadlines .exit .now) (deliveries .exit .now))
-        (λ s. ack s offset generation) ⌝ }
+        (settling (rights .entry .now) (ackCursor committed (starts .entry .now) (ends .entry .now) runs) len (offsets .entry .now) (generations .entry .now) («attempt_starts» .entry .now) (deadlines .entry .now) (deliveries .entry .now) (workers .entry .now))
+        (settling (rights .entry .now) (ackCursor (r .committed) (starts .exit .now) (ends .exit .now) (r .runs)) (r .len) (offsets .exit .now) (generations .exit .now) («attempt_starts» .exit .now) (deadlines .exit .now) (deliveries .exit .now) (workers .exit .now))
+        (λ s. ack s worker offset generation) ⌝ }
 {
-    let held = lease::in_place::deliveries_in_place(
+    let test = steps::token_test(
         len,
+        worker,
+        SETTLE,
         offset,
         generation,
+        rights,
         offsets,
         generations,
         deliveries,
+        workers,
     );
-    let Attempts::Some(_count) = held else {
+    if let TokenTest::Refused(refusal) = test {
         return SettledAt {
-            answer: SettleAnswer::Fenced,
+            answer: steps::not_settled(refusal),
             committed,
             runs,
             len,
         };
-    };
+    }
     let noted = cursor::in_place::ack_in_place(committed, starts, ends, runs, offset, RANGES);
     let outcome = noted.outcome;
     if steps::is_shed(outcome) {
@@ -190,6 +211,7 @@ pub fn settle_in_place(
         attempt_starts,
         deadlines,
         deliveries,
+        workers,
     );
     SettledAt {
         answer: SettleAnswer::Settled,
@@ -211,35 +233,45 @@ pub fn nack_in_place<'a>(
     backoff_len: usize,
     len: usize,
     next_generation: u64,
+    worker: u64,
     offset: u64,
     generation: u64,
     now: u64,
     delay: Delay,
+    rights: &'a [u8; WORKERS],
     backoff_nanos: &'a [u64; 16],
     offsets: &'a [u64; LEASES],
     generations: &mut [u64; LEASES],
     deadlines: &mut [u64; LEASES],
     deliveries: &'a [u32; LEASES],
+    workers: &'a [u32; LEASES],
 ) -> NackedAt
     requires { ⌜ LentBackoffs («backoff_nanos» .now) «backoff_len» × (len ≤ LEASES) ⌝ }
     ensures { λ r. ⌜ AnswersIn (nackOf (r .answer))
-        (nacking ceiling («backoff_nanos» .entry .now) «backoff_len» len «next_generation» (offsets .entry .now) (generations .entry .now) (deadlines .entry .now) (deliveries .entry .now))
-        (nacking ceiling («backoff_nanos» .entry .now) «backoff_len» len (r .«next_generation») (offsets .entry .now) (generations .exit .now) (deadlines .exit .now) (deliveries .entry .now))
-        (λ s. nack s offset generation now (delayOf delay)) ⌝ }
+        (nacking (rights .entry .now) ceiling («backoff_nanos» .entry .now) «backoff_len» len «next_generation» (offsets .entry .now) (generations .entry .now) (deadlines .entry .now) (deliveries .entry .now) (workers .entry .now))
+        (nacking (rights .entry .now) ceiling («backoff_nanos» .entry .now) «backoff_len» len (r .«next_generation») (offsets .entry .now) (generations .exit .now) (deadlines .exit .now) (deliveries .entry .now) (workers .entry .now))
+        (λ s. nack s worker offset generation now (delayOf delay)) ⌝ }
 {
-    let held = lease::in_place::deliveries_in_place(
+    let test = steps::token_test(
         len,
+        worker,
+        NACK,
         offset,
         generation,
+        rights,
         offsets,
         generations,
         deliveries,
+        workers,
     );
-    let Attempts::Some(attempt) = held else {
-        return NackedAt {
-            answer: NackAnswer::Fenced,
-            next_generation,
-        };
+    let attempt = match test {
+        TokenTest::Held(count) => count,
+        TokenTest::Refused(refusal) => {
+            return NackedAt {
+                answer: steps::not_nacked(refusal),
+                next_generation,
+            };
+        }
     };
     if next_generation == MAX {
         return NackedAt {
@@ -276,20 +308,39 @@ pub fn nack_in_place<'a>(
 pub fn progress_in_place<'a>(
     config: LeaseConfig,
     len: usize,
+    worker: u64,
     offset: u64,
     generation: u64,
     now: u64,
+    rights: &'a [u8; WORKERS],
     offsets: &'a [u64; LEASES],
     generations: &'a [u64; LEASES],
     attempt_starts: &'a [u64; LEASES],
     deadlines: &mut [u64; LEASES],
+    deliveries: &'a [u32; LEASES],
+    workers: &'a [u32; LEASES],
 ) -> ProgressAnswer
     requires { ⌜ len ≤ LEASES ⌝ }
     ensures { λ r. ⌜ AnswersIn (progressOf r)
-        (progressing config len (offsets .entry .now) (generations .entry .now) («attempt_starts» .entry .now) (deadlines .entry .now))
-        (progressing config len (offsets .entry .now) (generations .entry .now) («attempt_starts» .entry .now) (deadlines .exit .now))
-        (λ s. progress s offset generation now) ⌝ }
+        (progressing (rights .entry .now) config len (offsets .entry .now) (generations .entry .now) («attempt_starts» .entry .now) (deadlines .entry .now) (deliveries .entry .now) (workers .entry .now))
+        (progressing (rights .entry .now) config len (offsets .entry .now) (generations .entry .now) («attempt_starts» .entry .now) (deadlines .exit .now) (deliveries .entry .now) (workers .entry .now))
+        (λ s. progress s worker offset generation now) ⌝ }
 {
+    let test = steps::token_test(
+        len,
+        worker,
+        EXTEND,
+        offset,
+        generation,
+        rights,
+        offsets,
+        generations,
+        deliveries,
+        workers,
+    );
+    if let TokenTest::Refused(refusal) = test {
+        return steps::not_extended(refusal);
+    }
     let outcome = lease::in_place::extend_in_place(
         config,
         len,
@@ -314,12 +365,14 @@ pub struct CommittedAt {
 }
 
 // `Consumer::commit` on the parts that it looks at.
-pub fn commit_in_place(
+pub fn commit_in_place<'a>(
     committed: u64,
     runs: usize,
     len: usize,
     carried_len: usize,
+    worker: u64,
     bound: u64,
+    rights: &'a [u8; WORKERS],
     starts: &mut [u64; RANGES],
     ends: &mut [u64; RANGES],
     offsets: &mut [u64; LEASES],
@@ -327,27 +380,20 @@ pub fn commit_in_place(
     attempt_starts: &mut [u64; LEASES],
     deadlines: &mut [u64; LEASES],
     deliveries: &mut [u32; LEASES],
+    workers: &mut [u32; LEASES],
     carried_offsets: &mut [u64; CARRIED],
     carried_counts: &mut [u32; CARRIED],
 ) -> CommittedAt
     requires { ⌜ cursor.Whole (ackCursor committed (starts .now) (ends .now) runs) × (len ≤ LEASES) × («carried_len» ≤ CARRIED) ⌝ }
     ensures { λ r. ⌜ CommitsIn (commitOf (r .answer))
-        (committing (ackCursor committed (starts .entry .now) (ends .entry .now) runs) len «carried_len» (offsets .entry .now) (generations .entry .now) («attempt_starts» .entry .now) (deadlines .entry .now) (deliveries .entry .now) («carried_offsets» .entry .now) («carried_counts» .entry .now))
-        (committing (ackCursor (r .committed) (starts .exit .now) (ends .exit .now) (r .runs)) (r .len) (r .«carried_len») (offsets .exit .now) (generations .exit .now) («attempt_starts» .exit .now) (deadlines .exit .now) (deliveries .exit .now) («carried_offsets» .exit .now) («carried_counts» .exit .now))
-        (λ s. commit s bound) ⌝ }
+        (committing (rights .entry .now) (ackCursor committed (starts .entry .now) (ends .entry .now) runs) len «carried_len» (offsets .entry .now) (generations .entry .now) («attempt_starts» .entry .now) (deadlines .entry .now) (deliveries .entry .now) (workers .entry .now) («carried_offsets» .entry .now) («carried_counts» .entry .now))
+        (committing (rights .entry .now) (ackCursor (r .committed) (starts .exit .now) (ends .exit .now) (r .runs)) (r .len) (r .«carried_len») (offsets .exit .now) (generations .exit .now) («attempt_starts» .exit .now) (deadlines .exit .now) (deliveries .exit .now) (workers .exit .now) («carried_offsets» .exit .now) («carried_counts» .exit .now))
+        (λ s. commit s worker bound) ⌝ }
 {
-    if bound <= committed {
+    let test = steps::commit_test(committed, len, worker, bound, rights, offsets);
+    if let CommitTest::Answered(answer) = test {
         return CommittedAt {
-            answer: CommitAnswer::Unchanged,
-            committed,
-            runs,
-            len,
-            carried_len,
-        };
-    }
-    if lease::in_place::holds_below_in_place(len, bound, offsets) {
-        return CommittedAt {
-            answer: CommitAnswer::Held,
+            answer,
             committed,
             runs,
             len,
@@ -364,6 +410,7 @@ pub fn commit_in_place(
         attempt_starts,
         deadlines,
         deliveries,
+        workers,
         carried_offsets,
         carried_counts,
     );
@@ -376,7 +423,7 @@ pub fn commit_in_place(
     }
 }
 
-// `Consumer::count_of` on the parts that it looks at.
+// How often an offset was handed out, as the next checkpoint stores it: as its lease says, or else its carried count.
 pub fn count_in_place<'a>(
     len: usize,
     carried_len: usize,
@@ -405,7 +452,8 @@ pub fn count_in_place<'a>(
     count
 }
 
-// `Consumer::waiting_numbers` on the parts that it looks at.
+// The waiting list at a clock, into a lent list from its first place on: the carried offsets, then those whose lease's deadline has
+// come. 20 where they don't fit, and then nothing is changed.
 pub fn waiting_in_place<'a>(
     len: usize,
     carried_len: usize,

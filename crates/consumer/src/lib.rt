@@ -1,15 +1,18 @@
 // The delivery state of one consumer: which offsets are settled, who holds which until when, how often each was handed out,
-// and where the next checkpoint goes. Every call takes the state by value and gives it back beside its answer; a refusal gives
-// back the very state that it was handed. Times are nanoseconds of any clock: it may stand still or run backwards.
+// and where the next checkpoint goes. Every call says which worker makes it, takes the state by value and gives it back beside its
+// answer; a refusal gives back the very state that it was handed. Times are nanoseconds of any clock: it may stand still or run
+// backwards.
 use cursor::AckCursor;
 use delivery::DeliveryConfig;
 use lease::LeaseConfig;
 use lease::LeaseTable;
 use types::Generation;
+use types::limits::WORKERS;
 
 pub mod calls;
 pub mod in_place;
 pub mod queries;
+pub mod rights;
 // The steps of the calls in place.
 mod steps;
 
@@ -17,6 +20,8 @@ mod steps;
 #[repr(C)]
 pub struct Settings {
     pub delivery: DeliveryConfig,
+    // A byte for each worker, worker 0's first.
+    pub rights: [u8; WORKERS],
 }
 
 // The configuration: what a consumer is started with.

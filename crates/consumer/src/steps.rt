@@ -1,29 +1,41 @@
-// The steps of the calls in place: the test of a claim, what an answer of the cursor or of the table becomes, and the waiting list.
+// The steps of the calls in place: the tests of a claim, of a token and of a commit, what an answer of the cursor or of the table
+// becomes, and the waiting list.
 ghost use mathlib.Core.Path.{_≡_};
 ghost use Prim.Native.Nat.{_≤_};
+ghost use mathlib.Core.List.{[]};
 ghost use Rattle.types.specs.Limits.{LEASES, CARRIED};
+ghost use Rattle.types.specs.Refusal.{refused};
+ghost use Rattle.types.specs.Lists.{offsetsIn};
 ghost use Rattle.cursor.specs.View.{ackCursor};
 ghost use Rattle.cursor.specs.View as cursor;
 ghost use Rattle.cursor.specs.Answers.{ackOf};
 ghost use Rattle.lease.specs.Answers as answers;
 ghost use Rattle.lease.specs.Parts as lease;
 ghost use Rattle.consumer.specs.Calls.{isFull, isShed};
-ghost use Rattle.consumer.specs.View.{claimOf, nackOf, progressOf};
-ghost use Rattle.consumer.specs.Parts.{testing, awaiting, TestsIn, WaitsIn, handedOut};
+ghost use Rattle.consumer.specs.View.{claimOf, settleOf, nackOf, progressOf};
+ghost use Rattle.consumer.specs.Parts.{testing, permitted, owning, deciding, awaiting, OpensIn, TestsIn, TokenIn, DecidesIn, WaitsIn, handedOut, tokenRefusalOf};
 use crate::calls::ClaimAnswer;
+use crate::calls::CommitAnswer;
 use crate::calls::NackAnswer;
 use crate::calls::ProgressAnswer;
+use crate::calls::SettleAnswer;
+use crate::rights;
+use crate::rights::CLAIM;
+use crate::rights::COMMIT;
+use crate::rights::Permission;
 use cursor::BoundedAck;
 use delivery::Disposition;
 use lease::Attempts;
 use lease::Claim;
 use lease::ExtendOutcome;
 use lease::NackOutcome;
+use lease::in_place::Hold;
 use types::lent::OffsetList;
 use types::limits::CARRIED;
 use types::limits::LEASES;
 use types::limits::MAX;
 use types::limits::RANGES;
+use types::limits::WORKERS;
 use types::numbers::shorter;
 
 // Whether a claim is open, or what it is refused with.
@@ -32,8 +44,59 @@ pub enum ClaimTest {
     Refused(ClaimAnswer),
 }
 
-// What stands against a claim: the first of 21, 22, 23, 25, 26 and 27 that is met.
+// What stands against a claim: the first of 38, 39, 21, 22, 23, 25, 26 and 27 that is met.
 pub fn claim_test<'a, 'b>(
+    ceiling: u64,
+    threshold: u32,
+    committed: u64,
+    runs: usize,
+    len: usize,
+    carried_len: usize,
+    next_generation: u64,
+    redeliveries: u32,
+    worker: u64,
+    offset: u64,
+    now: u64,
+    rights: &'a [u8; WORKERS],
+    starts: &'a [u64; RANGES],
+    ends: &'a [u64; RANGES],
+    offsets: &'b [u64; LEASES],
+    deadlines: &'b [u64; LEASES],
+    deliveries: &'b [u32; LEASES],
+    carried_offsets: &'b [u64; CARRIED],
+    carried_counts: &'b [u32; CARRIED],
+) -> ClaimTest
+    requires { ⌜ cursor.Whole (ackCursor committed (starts .now) (ends .now) runs) × (len ≤ LEASES) × («carried_len» ≤ CARRIED) ⌝ }
+    ensures { λ r. ⌜ TestsIn r (permitted (rights .entry .now) (testing ceiling threshold (ackCursor committed (starts .entry .now) (ends .entry .now) runs) len «carried_len» «next_generation» redeliveries (offsets .entry .now) (deadlines .entry .now) (deliveries .entry .now) («carried_offsets» .entry .now) («carried_counts» .entry .now))) worker offset now ⌝ }
+{
+    let permission = rights::permission_of(rights, worker, CLAIM);
+    match permission {
+        Permission::UnknownWorker => ClaimTest::Refused(ClaimAnswer::UnknownWorker),
+        Permission::NotPermitted => ClaimTest::Refused(ClaimAnswer::NotPermitted),
+        Permission::Granted => offset_test(
+            ceiling,
+            threshold,
+            committed,
+            runs,
+            len,
+            carried_len,
+            next_generation,
+            redeliveries,
+            offset,
+            now,
+            starts,
+            ends,
+            offsets,
+            deadlines,
+            deliveries,
+            carried_offsets,
+            carried_counts,
+        ),
+    }
+}
+
+// What stands against a claim that a worker may make: the first of 21, 22, 23, 25, 26 and 27 that is met.
+fn offset_test<'a, 'b>(
     ceiling: u64,
     threshold: u32,
     committed: u64,
@@ -53,7 +116,7 @@ pub fn claim_test<'a, 'b>(
     carried_counts: &'b [u32; CARRIED],
 ) -> ClaimTest
     requires { ⌜ cursor.Whole (ackCursor committed (starts .now) (ends .now) runs) × (len ≤ LEASES) × («carried_len» ≤ CARRIED) ⌝ }
-    ensures { λ r. ⌜ TestsIn r (testing ceiling threshold (ackCursor committed (starts .entry .now) (ends .entry .now) runs) len «carried_len» «next_generation» redeliveries (offsets .entry .now) (deadlines .entry .now) (deliveries .entry .now) («carried_offsets» .entry .now) («carried_counts» .entry .now)) offset now ⌝ }
+    ensures { λ r. ⌜ OpensIn r (testing ceiling threshold (ackCursor committed (starts .entry .now) (ends .entry .now) runs) len «carried_len» «next_generation» redeliveries (offsets .entry .now) (deadlines .entry .now) (deliveries .entry .now) («carried_offsets» .entry .now) («carried_counts» .entry .now)) offset now ⌝ }
 {
     if offset == MAX {
         return ClaimTest::Refused(ClaimAnswer::LastOffset);
@@ -137,6 +200,99 @@ pub fn handed_out(max_deliver: u32, outcome: Claim) -> ClaimAnswer
     }
 }
 
+// What a call with a token is refused with before its own tests: 38, 39, 24 or 40.
+pub enum TokenRefusal {
+    UnknownWorker,
+    NotPermitted,
+    Fenced,
+    ForeignToken,
+}
+
+// How often the lease of a token was handed out, or what the call is refused with.
+pub enum TokenTest {
+    Held(u32),
+    Refused(TokenRefusal),
+}
+
+// What stands in front of a call with a token that needs a bit of the rights: a token works for the worker who claimed its lease.
+pub fn token_test<'a, 'b>(
+    len: usize,
+    worker: u64,
+    bit: u8,
+    offset: u64,
+    generation: u64,
+    rights: &'a [u8; WORKERS],
+    offsets: &'b [u64; LEASES],
+    generations: &'b [u64; LEASES],
+    deliveries: &'b [u32; LEASES],
+    workers: &'b [u32; LEASES],
+) -> TokenTest
+    requires { ⌜ len ≤ LEASES ⌝ }
+    ensures { λ r. ⌜ TokenIn r (owning (rights .entry .now) len (offsets .entry .now) (generations .entry .now) (deliveries .entry .now) (workers .entry .now)) worker bit offset generation ⌝ }
+{
+    let permission = rights::permission_of(rights, worker, bit);
+    match permission {
+        Permission::UnknownWorker => TokenTest::Refused(TokenRefusal::UnknownWorker),
+        Permission::NotPermitted => TokenTest::Refused(TokenRefusal::NotPermitted),
+        Permission::Granted => {
+            let hold = lease::in_place::hold_in_place(
+                len,
+                offset,
+                generation,
+                offsets,
+                generations,
+                deliveries,
+                workers,
+            );
+            let Hold::Held {
+                deliveries: count,
+                worker: holder,
+            } = hold
+            else {
+                return TokenTest::Refused(TokenRefusal::Fenced);
+            };
+            if holder as u64 != worker {
+                return TokenTest::Refused(TokenRefusal::ForeignToken);
+            }
+            TokenTest::Held(count)
+        }
+    }
+}
+
+// What each call with a token answers for such a refusal.
+pub fn not_settled(refusal: TokenRefusal) -> SettleAnswer
+    ensures { λ r. ⌜ settleOf r ≡ refused (tokenRefusalOf refusal) ⌝ }
+{
+    match refusal {
+        TokenRefusal::UnknownWorker => SettleAnswer::UnknownWorker,
+        TokenRefusal::NotPermitted => SettleAnswer::NotPermitted,
+        TokenRefusal::Fenced => SettleAnswer::Fenced,
+        TokenRefusal::ForeignToken => SettleAnswer::ForeignToken,
+    }
+}
+
+pub fn not_nacked(refusal: TokenRefusal) -> NackAnswer
+    ensures { λ r. ⌜ nackOf r ≡ refused (tokenRefusalOf refusal) ⌝ }
+{
+    match refusal {
+        TokenRefusal::UnknownWorker => NackAnswer::UnknownWorker,
+        TokenRefusal::NotPermitted => NackAnswer::NotPermitted,
+        TokenRefusal::Fenced => NackAnswer::Fenced,
+        TokenRefusal::ForeignToken => NackAnswer::ForeignToken,
+    }
+}
+
+pub fn not_extended(refusal: TokenRefusal) -> ProgressAnswer
+    ensures { λ r. ⌜ progressOf r ≡ refused (tokenRefusalOf refusal) ⌝ }
+{
+    match refusal {
+        TokenRefusal::UnknownWorker => ProgressAnswer::UnknownWorker,
+        TokenRefusal::NotPermitted => ProgressAnswer::NotPermitted,
+        TokenRefusal::Fenced => ProgressAnswer::Fenced,
+        TokenRefusal::ForeignToken => ProgressAnswer::ForeignToken,
+    }
+}
+
 // Whether the cursor had no room for an ack.
 pub fn is_shed(outcome: BoundedAck) -> bool
     ensures { λ r. ⌜ r ≡ isShed (ackOf outcome) ⌝ }
@@ -170,6 +326,40 @@ pub fn extended(outcome: ExtendOutcome) -> ProgressAnswer
     }
 }
 
+// Whether a commit goes on, or what it answers at once.
+pub enum CommitTest {
+    Open,
+    Answered(CommitAnswer),
+}
+
+// What a commit answers before it takes effect: 38, 39, Unchanged where the bound is not above committed, then 30.
+pub fn commit_test<'a, 'b>(
+    committed: u64,
+    len: usize,
+    worker: u64,
+    bound: u64,
+    rights: &'a [u8; WORKERS],
+    offsets: &'b [u64; LEASES],
+) -> CommitTest
+    requires { ⌜ len ≤ LEASES ⌝ }
+    ensures { λ r. ⌜ DecidesIn r (deciding (rights .entry .now) committed len (offsets .entry .now)) worker bound ⌝ }
+{
+    let permission = rights::permission_of(rights, worker, COMMIT);
+    match permission {
+        Permission::UnknownWorker => CommitTest::Answered(CommitAnswer::UnknownWorker),
+        Permission::NotPermitted => CommitTest::Answered(CommitAnswer::NotPermitted),
+        Permission::Granted => {
+            if bound <= committed {
+                return CommitTest::Answered(CommitAnswer::Unchanged);
+            }
+            if lease::in_place::holds_below_in_place(len, bound, offsets) {
+                return CommitTest::Answered(CommitAnswer::Held);
+            }
+            CommitTest::Open
+        }
+    }
+}
+
 // The waiting list in an array. The expired offsets behind the carried ones have room there, since each is of a lease.
 pub fn waiting_list<'a>(
     len: usize,
@@ -194,5 +384,15 @@ pub fn waiting_list<'a>(
     OffsetList {
         offsets: listed,
         len: carried_len + count,
+    }
+}
+
+// An empty list in an array.
+pub fn no_offsets() -> OffsetList
+    ensures { λ r. ⌜ offsetsIn r ≡ [] ⌝ }
+{
+    OffsetList {
+        offsets: [0; CARRIED],
+        len: 0,
     }
 }

@@ -66,7 +66,7 @@ module _ (c : Configuration) (n : ℕ) (l : Ledger) (s : State) (a : List ℕ) (
       }
 
   -- ## claim
-  module _ (o clock : ℕ) (m : o ≤ MAX) (p : ClaimOpen s o clock) where
+  module _ (w o clock : ℕ) (m : o ≤ MAX) (p : ClaimOpen s w o clock) where
     lawful : Lawful (c .settings .policy) l o (handOut s o)
     lawful =
         record {
@@ -77,8 +77,8 @@ module _ (c : Configuration) (n : ℕ) (l : Ledger) (s : State) (a : List ℕ) (
           under = omega (arith, p .below-threshold, now .redeliveries, ap (λ q. q .policy .flushRedeliveries) (now .settings));
         }
 
-    counts-after : (x : ℕ) → countOf (consumer.claimed s o clock) x ≡ withHandOut (l .book .page) o .count x
-    counts-after x = claimed-count s o clock (now .valid) p m x ∙ rw (now .agrees .counts x)
+    counts-after : (x : ℕ) → countOf (consumer.claimed s w o clock) x ≡ withHandOut (l .book .page) o .count x
+    counts-after x = claimed-count s w o clock (now .valid) p m x ∙ rw (now .agrees .counts x)
 
     raised : afterGrant (s .table .redeliveries) (nextCount (s .table) o)
         ≡ cond (leb 2 (nextCount (s .table) o)) (l .redeliveries + 1) (l .redeliveries)
@@ -87,73 +87,73 @@ module _ (c : Configuration) (n : ℕ) (l : Ledger) (s : State) (a : List ℕ) (
         (λ t. rw t (omega (arith, p .below-threshold, now .valid .fits .threshold-fits, now .redeliveries)))
         (λ t. rw t (now .redeliveries))
 
-    handed-out : Inv c n (noted l (claimed o clock (done (handOut s o)))) (world (idle (consumer.claimed s o clock)) a)
+    handed-out : Inv c n (noted l (claimed o clock (done (handOut s o)))) (world (idle (consumer.claimed s w o clock)) a)
     handed-out =
-        with-ledger (noted l (claimed o clock (done (handOut s o)))) (s .cursor) (lease.grant (s .table) o clock) refl
-        (claimed-valid s o clock (now .valid) p m)
+        with-ledger (noted l (claimed o clock (done (handOut s o)))) (s .cursor) (lease.grant (s .table) w o clock) refl
+        (claimed-valid s w o clock (now .valid) p m)
         (record { settles = now .agrees .settles; counts = counts-after })
         raised
         (omega arith)
 
-  claim-kept : (o clock : ℕ) → o ≤ MAX → Kept (claimed o clock) (consumer.claim s o clock)
-  claim-kept o clock m =
-      claim-cases s o clock (Kept (claimed o clock)) (λ r. record { says = (tt, tt, tt); keeps = inv })
-      (λ p. record { says = (tt, now .floor, lawful o clock m p); keeps = handed-out o clock m p })
+  claim-kept : (w o clock : ℕ) → o ≤ MAX → Kept (claimed o clock) (consumer.claim s w o clock)
+  claim-kept w o clock m =
+      claim-cases s w o clock (Kept (claimed o clock)) (λ r. record { says = (tt, tt, tt); keeps = inv })
+      (λ p. record { says = (tt, now .floor, lawful w o clock m p); keeps = handed-out w o clock m p })
 
   -- the ledger with more offsets settled
   abbrev settledMore : (ℕ → Bool) → Ledger
   settledMore named = ledger (withPage (l .book) (settle (l .book .page) named)) (l .redeliveries) (l .floor)
 
   -- ## Ack and Term
-  settles-one : (o g : ℕ) → AckOpen s o g → Inv c n (settledMore (only o)) (world (idle (consumer.acked s o)) a)
-  settles-one o g p =
+  settles-one : (w o g : ℕ) → AckOpen s w o g → Inv c n (settledMore (only o)) (world (idle (consumer.acked s o)) a)
+  settles-one w o g p =
       with-ledger (settledMore (only o)) (consumer.acked s o .cursor) (consumer.acked s o .table) refl
-      (acked-valid s o g (now .valid) p)
+      (acked-valid s w o g (now .valid) p)
       (record {
-        settles = λ x. acked-settled s o g (now .valid) p x ∙ ap (λ t. eqb x o || t) (now .agrees .settles x);
-        counts = λ x. acked-count s o g (now .valid) p x ∙ ap (cond (eqb x o) 0) (now .agrees .counts x);
+        settles = λ x. acked-settled s w o g (now .valid) p x ∙ ap (λ t. eqb x o || t) (now .agrees .settles x);
+        counts = λ x. acked-count s w o g (now .valid) p x ∙ ap (cond (eqb x o) 0) (now .agrees .counts x);
       })
       (now .redeliveries)
       (now .floor)
 
-  ack-kept : (o g : ℕ) → Kept (acked o g) (consumer.ack s o g)
-  ack-kept o g =
-      ack-cases s o g (Kept (acked o g)) (λ r. record { says = (tt, tt, tt); keeps = inv })
-      (λ p. record { says = (tt, tt, tt); keeps = settles-one o g p })
+  ack-kept : (w o g : ℕ) → Kept (acked o g) (consumer.ack s w o g)
+  ack-kept w o g =
+      ack-cases s w o g (Kept (acked o g)) (λ r. record { says = (tt, tt, tt); keeps = inv })
+      (λ p. record { says = (tt, tt, tt); keeps = settles-one w o g p })
 
-  term-kept : (o g : ℕ) → Kept (termed o g) (consumer.ack s o g)
-  term-kept o g =
-      ack-cases s o g (Kept (termed o g)) (λ r. record { says = (tt, tt, tt); keeps = inv })
-      (λ p. record { says = (tt, tt, tt); keeps = settles-one o g p })
+  term-kept : (w o g : ℕ) → Kept (termed o g) (consumer.ack s w o g)
+  term-kept w o g =
+      ack-cases s w o g (Kept (termed o g)) (λ r. record { says = (tt, tt, tt); keeps = inv })
+      (λ p. record { says = (tt, tt, tt); keeps = settles-one w o g p })
 
   -- ## Nack and Progress
-  nack-kept : (o g clock : ℕ) (d : Option ℕ) → Kept (nacked o g clock d) (consumer.nack s o g clock d)
-  nack-kept o g clock d =
-      nack-cases s o g clock d (Kept (nacked o g clock d)) (λ r. record { says = (tt, tt, tt); keeps = inv })
+  nack-kept : (w o g clock : ℕ) (d : Option ℕ) → Kept (nacked o g clock d) (consumer.nack s w o g clock d)
+  nack-kept w o g clock d =
+      nack-cases s w o g clock d (Kept (nacked o g clock d)) (λ r. record { says = (tt, tt, tt); keeps = inv })
       (λ p. let deadline : ℕ = nackDeadline s o clock d in
       record {
         says = (tt, tt, tt);
         keeps = with-ledger l (s .cursor) (lease.requeue (s .table) o deadline) refl
-            (nacked-valid s o g deadline (now .valid) p)
+            (nacked-valid s w o g deadline (now .valid) p)
             (record {
               settles = now .agrees .settles;
-              counts = λ x. nacked-count s o g deadline (now .valid) p x ∙ now .agrees .counts x;
+              counts = λ x. nacked-count s w o g deadline (now .valid) p x ∙ now .agrees .counts x;
             })
             (now .redeliveries)
             (omega (arith, now .floor));
       })
 
-  progress-kept : (o g clock : ℕ) → Kept (progressed o g clock) (consumer.progress s o g clock)
-  progress-kept o g clock =
-      progress-cases s o g clock (Kept (progressed o g clock)) (λ r. record { says = (tt, tt, tt); keeps = inv })
+  progress-kept : (w o g clock : ℕ) → Kept (progressed o g clock) (consumer.progress s w o g clock)
+  progress-kept w o g clock =
+      progress-cases s w o g clock (Kept (progressed o g clock)) (λ r. record { says = (tt, tt, tt); keeps = inv })
       (λ p. let deadline : ℕ = lease.extended (s .table) o clock in
       record {
         says = (tt, tt, tt);
         keeps = with-ledger l (s .cursor) (consumer.progressed s o deadline .table) refl
-            (progressed-valid s o g clock deadline (now .valid) p)
+            (progressed-valid s w o g clock deadline (now .valid) p)
             (record {
               settles = now .agrees .settles;
-              counts = λ x. progressed-count s o g clock deadline (now .valid) p x ∙ now .agrees .counts x;
+              counts = λ x. progressed-count s w o g clock deadline (now .valid) p x ∙ now .agrees .counts x;
             })
             (now .redeliveries)
             (now .floor);
@@ -183,18 +183,18 @@ module _ (c : Configuration) (n : ℕ) (l : Ledger) (s : State) (a : List ℕ) (
         (now .redeliveries)
         (now .floor)
 
-    commit-kept : bound ≤ MAX → Kept (committed bound) (consumer.commit s bound)
-    commit-kept m =
-        commit-cases s bound (Kept (committed bound)) (λ r. record { says = (tt, tt, tt); keeps = inv })
-        (λ h. record { says = (tt, tt, tt); keeps = unchanged h })
+    commit-kept : (w : ℕ) → bound ≤ MAX → Kept (committed bound) (consumer.commit s w bound)
+    commit-kept w m =
+        commit-cases s w bound (Kept (committed bound)) (λ r. record { says = (tt, tt, tt); keeps = inv })
+        (λ f h. record { says = (tt, tt, tt); keeps = unchanged h })
         (λ p. record { says = (tt, tt, tt); keeps = moved m })
 
   -- ## all of them; a question changes nothing
-  pub ask-kept : (q : Ask) → fits q ≡ true → Answered noted (Law (c .settings .policy)) (Inv c n) l (asked s a q)
-  ask-kept (claim o clock) f = claim-kept o clock (leb-true o MAX (both (u64 o) (u64 clock) f .0))
-  ask-kept (ack o g) f = ack-kept o g
-  ask-kept (term o g) f = term-kept o g
-  ask-kept (nack o g clock d) f = nack-kept o g clock d
-  ask-kept (progress o g clock) f = progress-kept o g clock
-  ask-kept (commit bound) f = commit-kept bound (leb-true bound MAX f)
-  ask-kept (look q) f = record { says = (tt, tt, tt); keeps = inv }
+  pub ask-kept : (w : ℕ) (q : Ask) → fits q ≡ true → Answered noted (Law (c .settings .policy)) (Inv c n) l (asked s a w q)
+  ask-kept w (claim o clock) f = claim-kept w o clock (leb-true o MAX (both (u64 o) (u64 clock) f .0))
+  ask-kept w (ack o g) f = ack-kept w o g
+  ask-kept w (term o g) f = term-kept w o g
+  ask-kept w (nack o g clock d) f = nack-kept w o g clock d
+  ask-kept w (progress o g clock) f = progress-kept w o g clock
+  ask-kept w (commit bound) f = commit-kept bound w (leb-true bound MAX f)
+  ask-kept w (look q) f = record { says = (tt, tt, tt); keeps = inv }

@@ -7,15 +7,21 @@ use mathlib.Core.Bool.{true, false}
 use mathlib.Core.List.{List, [], _∷_, _++_}
 use mathlib.Core.Option.{some}
 use lib.ListN.{length, replicate}
-use borrow.Author.Tests.{eq-eqb, le-ltb, lt-leb, le-leb}
+use borrow.Author.Tests.{eq-eqb, le-ltb, leb-false, lt-leb, le-leb}
+use Rattle.types.specs.Limits.{MAX, WORKERS}
 use Rattle.types.specs.Refusal.{done}
+use Rattle.types.specs.Table.{Passed}
+use Rattle.types.proofs.Table.{checked-passed, append-passed}
 use Rattle.journal.specs.Area.{writeAt}
 use Rattle.consumer.specs.State.{Configuration, State, blocksOf}
+use Rattle.consumer.specs.Rights.{checkpointing}
+use Rattle.consumer.specs.Calls.{callRows}
 use Rattle.checkpoint.specs.Checkpoint as checkpoint
 use Rattle.checkpoint.specs.Checkpoint.{bodies, writes, bodyOf, headerOf, flushed}
-use Rattle.machine.specs.Calls.{begin, step, begun, stepped}
+use Rattle.machine.specs.Calls.{u64, begin, step, begun, stepped}
 use Rattle.machine.specs.Transitions.{idle, writing, After, transition}
 use Rattle.crash_safety.specs.Runs.{Item, call, World, world, next, after, run, ends}
+use Rattle.crash_safety.specs.Workers.{May}
 use Rattle.crash_safety.specs.Recovery as recovery
 use Rattle.crash_safety.specs.Recovery.{HasRoom}
 use Rattle.crash_safety.specs.Useful.{Accepted, began, steps, AllAccepted}
@@ -44,8 +50,8 @@ leads-one c w i items v t e h l =
     }
 
 -- one step more
-pub begun-more : (k : ℕ) (is : List Item) → recovery.begun (suc k) ++ is ≡ recovery.begun k ++ call step ∷ is
-begun-more k is = ap (λ (l : List Item). call begin ∷ l) (go k)
+pub begun-more : (b k : ℕ) (is : List Item) → recovery.begun b (suc k) ++ is ≡ recovery.begun b k ++ call step ∷ is
+begun-more b k is = ap (λ (l : List Item). call (begin b) ∷ l) (go k)
   where
     go : (m : ℕ) → replicate (suc m) (call step) ++ is ≡ replicate m (call step) ++ call step ∷ is
     go zero = refl
@@ -120,15 +126,23 @@ module _ (c : Configuration) (n : ℕ) (v : Saved) (l : Ledger) (s : State) (now
         leads = leads-one c (at k a) (call step) (replicate m (call step)) (at e (rest .area)) _ (body-step k a mid more) (steps _) (rest .leads);
       }
 
-  -- ## from begin on
-  module _ (room : HasRoom s) (a : List ℕ) (journal : Journal c n a v) where
-    begin-step : next c (world (idle s) a) (call begin) ≡ some (record {
+  -- ## from begin on, by a worker who may
+  module _ (b : ℕ) (may : May c b checkpointing) (room : HasRoom s) (a : List ℕ) (journal : Journal c n a v) where
+    -- that is a u64
+    fits : u64 b ≡ true
+    fits = le-leb b MAX (omega (arith, leb-false WORKERS b (may .0)))
+
+    may-begin : Passed (callRows s b checkpointing)
+    may-begin = rw (now .settings) may
+
+    begin-step : next c (world (idle s) a) (call (begin b)) ≡ some (record {
       event = begun (done (writes s));
       phase = writing (checkpoint.writing s 0);
       area = a;
     })
     unfolding next transition checkpoint.begin
-    begin-step = rw (le-ltb (blocksOf s) (s .next .block + suc (bodies s)) room)
+    begin-step =
+        rw (fits, checked-passed (checkpoint.beginTable s b) (done (checkpoint.writing s 0)) (append-passed (callRows s b checkpointing) (checkpoint.beginRows s) may-begin (le-ltb (blocksOf s) (s .next .block + suc (bodies s)) room, tt)))
 
     midway-none : Midway 0 a
     midway-none = record { journal = journal; written = none-written s a (now .valid) room }
@@ -137,7 +151,7 @@ module _ (c : Configuration) (n : ℕ) (v : Saved) (l : Ledger) (s : State) (now
     pub record Begun (k : ℕ) : Type 0 where
       pub area : List ℕ
       pub midway : Midway k area
-      pub leads : Leads c (world (idle s) a) (recovery.begun k) (at k area)
+      pub leads : Leads c (world (idle s) a) (recovery.begun b k) (at k area)
 
     pub has-begun : (k : ℕ) → k ≤ bodies s → Begun k
     has-begun k h =
@@ -145,5 +159,5 @@ module _ (c : Configuration) (n : ℕ) (v : Saved) (l : Ledger) (s : State) (now
         record {
           area = rest .area;
           midway = rest .midway;
-          leads = leads-one c (world (idle s) a) (call begin) (replicate k (call step)) (at k (rest .area)) _ begin-step (began _) (rest .leads);
+          leads = leads-one c (world (idle s) a) (call (begin b)) (replicate k (call step)) (at k (rest .area)) _ begin-step (began _) (rest .leads);
         }

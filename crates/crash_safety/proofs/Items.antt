@@ -1,16 +1,16 @@
 -- Which items can be made, by who can be called: a proof about every item from proofs about those. Assumes nothing.
 use Prim.Native.Nat.{ℕ}
 use mathlib.Core.Path.{_≡_, refl}
-use mathlib.Core.Bool.{true, false}
+use mathlib.Core.Bool.{true, false, _&&_}
 use mathlib.Core.List.{List}
 use mathlib.Core.Option.{Option, none}
 use lib.Dec.{eqb}
 use lib.ListN.{length}
-use Rattle.types.proofs.Cases.{split}
+use Rattle.types.proofs.Cases.{split, both}
 use Rattle.consumer.specs.State.{Configuration}
 use Rattle.checkpoint.specs.Checkpoint as checkpoint
 use Rattle.starts.specs.Restart as restarts
-use Rattle.machine.specs.Calls.{Ask, ask, begin, step, restart, fits}
+use Rattle.machine.specs.Calls.{Ask, ask, begin, step, restart, u64, fits}
 use Rattle.machine.specs.Transitions.{Phase, idle, writing, off, After, asked, beganAs, steppedAs, restartedAs, transition}
 use Rattle.power_cut.specs.Cut.{Cut, cutOn}
 use Rattle.crash_safety.specs.Runs.{Item, call, stepOn, cut, keepsJournal, world, next}
@@ -19,7 +19,8 @@ use Rattle.crash_safety.specs.Demand3.{restartIn}
 -- what has to be shown of the items that can be made beside a restart, which always can
 abbrev pub Shown : (Item → Option After → Type 0) → List ℕ → Phase → Type 0
 Shown N a (idle s) =
-    ((q : Ask) → fits q ≡ true → N (call (ask q)) (asked s a q)) × N (call begin) (beganAs s a (checkpoint.begin s))
+    ((w : ℕ) (q : Ask) → fits q ≡ true → N (call (ask w q)) (asked s a w q)) ×
+    ((w : ℕ) → N (call (begin w)) (beganAs s a (checkpoint.begin s w)))
 Shown N a (writing w) =
     N (call step) (steppedAs (checkpoint.step w a)) ×
     ((b : List ℕ) → eqb (length b) (length a) ≡ false → N (stepOn b) (keepsJournal a (steppedAs (checkpoint.step w b)))) ×
@@ -31,15 +32,18 @@ module _ (c : Configuration) (N : Item → Option After → Type 0) (skip : (i :
       → (i : Item) → N i (next c (world p a) i)
   unfolding next transition
   next-cases p a again shown (call restart) = again
-  next-cases (idle s) a again shown (call (ask q)) =
-      split (fits q) (λ t. rw t (shown .0 q t)) (λ t. rw t (skip (call (ask q)) refl))
-  next-cases (writing w) a again shown (call (ask q)) =
-      split (fits q) (λ t. rw t (skip (call (ask q)) refl)) (λ t. rw t (skip (call (ask q)) refl))
-  next-cases off a again shown (call (ask q)) =
-      split (fits q) (λ t. rw t (skip (call (ask q)) refl)) (λ t. rw t (skip (call (ask q)) refl))
-  next-cases (idle s) a again shown (call begin) = shown .1
-  next-cases (writing w) a again shown (call begin) = skip (call begin) refl
-  next-cases off a again shown (call begin) = skip (call begin) refl
+  next-cases (idle s) a again shown (call (ask w q)) =
+      split (u64 w && fits q) (λ t. rw t (shown .0 w q (both (u64 w) (fits q) t .1))) (λ t. rw t (skip (call (ask w q)) refl))
+  next-cases (writing r) a again shown (call (ask w q)) =
+      split (u64 w && fits q) (λ t. rw t (skip (call (ask w q)) refl)) (λ t. rw t (skip (call (ask w q)) refl))
+  next-cases off a again shown (call (ask w q)) =
+      split (u64 w && fits q) (λ t. rw t (skip (call (ask w q)) refl)) (λ t. rw t (skip (call (ask w q)) refl))
+  next-cases (idle s) a again shown (call (begin w)) =
+      split (u64 w) (λ t. rw t (shown .1 w)) (λ t. rw t (skip (call (begin w)) refl))
+  next-cases (writing r) a again shown (call (begin w)) =
+      split (u64 w) (λ t. rw t (skip (call (begin w)) refl)) (λ t. rw t (skip (call (begin w)) refl))
+  next-cases off a again shown (call (begin w)) =
+      split (u64 w) (λ t. rw t (skip (call (begin w)) refl)) (λ t. rw t (skip (call (begin w)) refl))
   next-cases (idle s) a again shown (call step) = skip (call step) refl
   next-cases (writing w) a again shown (call step) = shown .0
   next-cases off a again shown (call step) = skip (call step) refl

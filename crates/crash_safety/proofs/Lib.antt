@@ -14,7 +14,9 @@ pub mod Kept
 pub mod Start
 pub mod Demand3
 pub mod Reached
+pub mod Workers
 pub mod Tokens
+pub mod Holders
 pub mod Settled
 pub mod Checkpoints
 pub mod Recovery

@@ -13,6 +13,7 @@ use Rattle.types.specs.Refusal.{Result, refused, done}
 use Rattle.types.specs.Table.{Passed}
 use Rattle.journal.specs.Area.{writeAt}
 use Rattle.consumer.specs.State.{Configuration, State}
+use Rattle.consumer.specs.Rights.{checkpointing}
 use Rattle.checkpoint.specs.Checkpoint as checkpoint
 use Rattle.checkpoint.specs.Checkpoint.{bodies, headerOf, bodyOf, flushed, Writing, nextPlace}
 use Rattle.starts.specs.Restart as restarts
@@ -21,6 +22,7 @@ use Rattle.machine.specs.Calls.{step, restart, restarted, failed}
 use Rattle.machine.specs.Transitions.{Phase, idle, writing, off, After, restartedAs, transition}
 use Rattle.power_cut.specs.Cut.{Cut, old, new, torn, isTorn, cutAt}
 use Rattle.crash_safety.specs.Runs.{Item, call, cut, World, world, next, after, run, ends, freshWorld}
+use Rattle.crash_safety.specs.Workers.{May}
 use Rattle.crash_safety.specs.Recovery.{DeterministicRecovery, begun, thenCut, HasRoom, WritesCount, EveryWriteCounts, EveryCutMade}
 use Rattle.crash_safety.proofs.Law.{Ledger}
 use Rattle.crash_safety.proofs.Runs.{run-made, ends-made, run-none, ends-none}
@@ -81,6 +83,8 @@ restart-gives c n accepted w v j =
     ap (λ (u : World). u .phase) (restart-ends c w [] ∙ ends-none c _) ∙ rw (restart-finds c n (w .journal) v accepted j)
 
 module _ (c : Configuration) (n : ℕ) (accepted : Passed (startTable c n)) (v : Saved) (l : Ledger) (s : State) (now : Stands c n v l s)
+    (worker : ℕ)
+    (may : May c worker checkpointing)
     (room : HasRoom s)
     (a : List ℕ)
     (journal : Journal c n a v) where
@@ -89,8 +93,8 @@ module _ (c : Configuration) (n : ℕ) (accepted : Passed (startTable c n)) (v :
 
   -- k steps, a power failure that leaves this journal, and a restart
   module _ (k : ℕ) (h : k ≤ bodies s) (x : Cut) where
-    abbrev so-far : Begun c n v l s now room a journal k
-    so-far = has-begun c n v l s now room a journal k h
+    abbrev so-far : Begun c n v l s now worker may room a journal k
+    so-far = has-begun c n v l s now worker may room a journal k h
 
     abbrev mid : World
     mid = world (writing (checkpoint.writing s k)) (so-far .area)
@@ -99,7 +103,7 @@ module _ (c : Configuration) (n : ℕ) (accepted : Passed (startTable c n)) (v :
     same-length : eqb (length (so-far .area)) (s .size) ≡ true
     same-length = eq-eqb (length (so-far .area)) (s .size) (so-far .midway .journal .size ∙ sym (now .size))
 
-    after-cut : (t : After) → next c mid (cut x) ≡ some t → ends c start (begun k ++ thenCut x) ≡ ends c (after t) (call restart ∷ [])
+    after-cut : (t : After) → next c mid (cut x) ≡ some t → ends c start (begun worker k ++ thenCut x) ≡ ends c (after t) (call restart ∷ [])
     after-cut t e = so-far .leads .ends-there (thenCut x) ∙ ends-made c mid (cut x) (call restart ∷ []) t e
 
   in-place : ends c start (call restart ∷ []) .phase ≡ idle (restored c n v)
@@ -107,18 +111,18 @@ module _ (c : Configuration) (n : ℕ) (accepted : Passed (startTable c n)) (v :
 
   -- a cut that leaves the journal holding what it held
   cut-unfinished : (k : ℕ) (h : k ≤ bodies s) (x : Cut) (t : After) → next c (mid k h x) (cut x) ≡ some t → Journal c n (t .area) v
-      → ends c start (begun k ++ thenCut x) .phase ≡ ends c start (call restart ∷ []) .phase
+      → ends c start (begun worker k ++ thenCut x) .phase ≡ ends c start (call restart ∷ []) .phase
   cut-unfinished k h x t e j =
       ap (λ (u : World). u .phase) (after-cut k h x t e) ∙ restart-gives c n accepted (after t) v j ∙ sym in-place
 
-  cut-old : (k : ℕ) → k ≤ bodies s → ends c start (begun k ++ thenCut old) .phase ≡ ends c start (call restart ∷ []) .phase
+  cut-old : (k : ℕ) → k ≤ bodies s → ends c start (begun worker k ++ thenCut old) .phase ≡ ends c start (call restart ∷ []) .phase
   unfolding next
   cut-old k h =
       let b = so-far k h old in
       cut-unfinished k h old (record { event = failed false; phase = off; area = b .area }) (rw (same-length k h old)) (b .midway .journal)
 
   cut-torn : (k : ℕ) (y : List ℕ) → k ≤ bodies s → isTorn y ≡ true
-      → ends c start (begun k ++ thenCut (torn y)) .phase ≡ ends c start (call restart ∷ []) .phase
+      → ends c start (begun worker k ++ thenCut (torn y)) .phase ≡ ends c start (call restart ∷ []) .phase
   unfolding next
   cut-torn k y h t =
       let b = so-far k h (torn y) in
@@ -127,7 +131,7 @@ module _ (c : Configuration) (n : ℕ) (accepted : Passed (startTable c n)) (v :
       (torn-journal c n v l (b .area) w (b .midway .journal) now (b .midway .written) y t)
 
   -- a body wholly written
-  cut-body : (k : ℕ) → k < bodies s → ends c start (begun k ++ thenCut new) .phase ≡ ends c start (call restart ∷ []) .phase
+  cut-body : (k : ℕ) → k < bodies s → ends c start (begun worker k ++ thenCut new) .phase ≡ ends c start (call restart ∷ []) .phase
   unfolding next
   cut-body k more =
       let h : k ≤ bodies s = omega arith in
@@ -137,7 +141,7 @@ module _ (c : Configuration) (n : ℕ) (accepted : Passed (startTable c n)) (v :
       (body-journal c n v l (b .area) (checkpoint.writing s k) (b .midway .journal) now (b .midway .written) more)
 
   -- the header wholly written, by a cut or by the last step
-  cut-new : ends c start (begun (bodies s) ++ thenCut new) .phase ≡ ends c start (begun (suc (bodies s)) ++ call restart ∷ []) .phase
+  cut-new : ends c start (begun worker (bodies s) ++ thenCut new) .phase ≡ ends c start (begun worker (suc (bodies s)) ++ call restart ∷ []) .phase
   unfolding next
   cut-new =
       let k : ℕ = bodies s in
@@ -149,29 +153,29 @@ module _ (c : Configuration) (n : ℕ) (accepted : Passed (startTable c n)) (v :
       ap (λ (u : World). u .phase) (after-cut k h new _ made)
       ∙ restart-gives c n accepted (world off full) (stored s) j
       ∙ sym (ap (λ (u : World). u .phase) (
-      ap (ends c start) (begun-more k (call restart ∷ []))
+      ap (ends c start) (begun-more worker k (call restart ∷ []))
       ∙ b .leads .ends-there (call step ∷ call restart ∷ [])
       ∙ ends-made c (mid k h new) (call step) (call restart ∷ []) _ (last-step c n v l s now k (b .area) (b .midway) h))
       ∙ restart-gives c n accepted (world (idle (flushed s)) full) (stored s) j)
 
 writes-count : (c : Configuration) (n : ℕ) → Passed (startTable c n) → (l : Ledger) (p : Phase) (a : List ℕ) (left : State) → p ≡ idle left
-    → HasRoom left → Inv c n l (world p a) → WritesCount c (world p a) left
-writes-count c n accepted l p a left e room =
+    → HasRoom left → (v : ℕ) → May c v checkpointing → Inv c n l (world p a) → WritesCount c v (world p a) left
+writes-count c n accepted l p a left e room v may =
     rw e (λ inv. record {
-      left-old = λ k h. cut-old c n accepted (inv .saved) l left (inv .callable) room a (inv .journal) k (omega arith);
-      left-torn = λ k b h. cut-torn c n accepted (inv .saved) l left (inv .callable) room a (inv .journal) k b (omega arith);
-      body-new = λ k h. cut-body c n accepted (inv .saved) l left (inv .callable) room a (inv .journal) k (omega arith);
+      left-old = λ k h. cut-old c n accepted (inv .saved) l left (inv .callable) v may room a (inv .journal) k (omega arith);
+      left-torn = λ k b h. cut-torn c n accepted (inv .saved) l left (inv .callable) v may room a (inv .journal) k b (omega arith);
+      body-new = λ k h. cut-body c n accepted (inv .saved) l left (inv .callable) v may room a (inv .journal) k (omega arith);
       left-new = λ k h.
           let same : k ≡ bodies left = omega arith in
-          rw same (cut-new c n accepted (inv .saved) l left (inv .callable) room a (inv .journal));
+          rw same (cut-new c n accepted (inv .saved) l left (inv .callable) v may room a (inv .journal));
     })
 
 pub every-write-counts : EveryWriteCounts
 unfolding EveryWriteCounts
-every-write-counts c n s items f e left here room =
+every-write-counts c n s items f e left here room v may =
     let r = reached c n s items f e in
     let w = ends c (freshWorld s n) items in
-    writes-count c n (r .accepted) (r .ledger) (w .phase) (w .journal) left here room (r .inv)
+    writes-count c n (r .accepted) (r .ledger) (w .phase) (w .journal) left here room v may (r .inv)
 
 -- ## cuts
 cut-made : (c : Configuration) (n : ℕ) (l : Ledger) (p : Phase) (a : List ℕ) (w : Writing) → p ≡ writing w → Inv c n l (world p a)

@@ -12,7 +12,7 @@ use Rattle.types.proofs.Cases.{split}
 use Rattle.types.specs.Table.{Answer}
 use Rattle.consumer.specs.State.{Configuration, State}
 use Rattle.consumer.specs.Calls as consumer
-use Rattle.consumer.specs.Questions.{reply}
+use Rattle.consumer.specs.Questions as questions
 use Rattle.checkpoint.specs.Checkpoint as checkpoint
 use Rattle.checkpoint.specs.Checkpoint.{Writing, isLast, BlockWritten, Lent}
 use Rattle.starts.specs.Restart as restarts
@@ -44,14 +44,14 @@ module _ {A : Type 0} (event : Result A → Event) (when-refused : (r : Refusal)
   answered-made (refused r) = when-refused r
   answered-made (done x) = when-done x
 
-asked-made : (s : State) (a : List ℕ) (q : Ask) → made (asked s a q) ≡ 0
-asked-made s a (claim o now) = answered-made (claimed o now) (λ r. refl) (λ h. refl) (consumer.claim s o now .outcome)
-asked-made s a (ack o g) = answered-made (acked o g) (λ r. refl) (λ u. refl) (consumer.ack s o g .outcome)
-asked-made s a (term o g) = answered-made (termed o g) (λ r. refl) (λ u. refl) (consumer.ack s o g .outcome)
-asked-made s a (nack o g now d) = answered-made (nacked o g now d) (λ r. refl) (λ e. refl) (consumer.nack s o g now d .outcome)
-asked-made s a (progress o g now) = answered-made (progressed o g now) (λ r. refl) (λ e. refl) (consumer.progress s o g now .outcome)
-asked-made s a (commit bound) = answered-made (committed bound) (λ r. refl) (λ m. refl) (consumer.commit s bound .outcome)
-asked-made s a (look x) = answered-made (looked x) (λ r. refl) (λ l. refl) (reply s x)
+asked-made : (s : State) (a : List ℕ) (w : ℕ) (q : Ask) → made (asked s a w q) ≡ 0
+asked-made s a w (claim o now) = answered-made (claimed o now) (λ r. refl) (λ h. refl) (consumer.claim s w o now .outcome)
+asked-made s a w (ack o g) = answered-made (acked o g) (λ r. refl) (λ u. refl) (consumer.ack s w o g .outcome)
+asked-made s a w (term o g) = answered-made (termed o g) (λ r. refl) (λ u. refl) (consumer.ack s w o g .outcome)
+asked-made s a w (nack o g now d) = answered-made (nacked o g now d) (λ r. refl) (λ e. refl) (consumer.nack s w o g now d .outcome)
+asked-made s a w (progress o g now) = answered-made (progressed o g now) (λ r. refl) (λ e. refl) (consumer.progress s w o g now .outcome)
+asked-made s a w (commit bound) = answered-made (committed bound) (λ r. refl) (λ m. refl) (consumer.commit s w bound .outcome)
+asked-made s a w (look x) = answered-made (looked x) (λ r. refl) (λ l. refl) (questions.look s w x)
 
 began-made : (s : State) (a : List ℕ) (r : Result Writing) → made (beganAs s a r) ≡ 0
 began-made s a (refused r) = refl
@@ -77,7 +77,7 @@ cut-on-made : (w : Writing) (a : List ℕ) (k : Cut) → made (cutOn w a k) ≡ 
 cut-on-made w a k = split (eqb (length a) (w .state .size)) (λ t. rw t (cut-made w a k)) (λ t. rw t)
 
 counted : (p : Phase) (a : List ℕ) → Shown Counted a p
-counted (idle s) a = (λ q t. asked-made s a q, began-made s a (checkpoint.begin s))
+counted (idle s) a = (λ w q t. asked-made s a w q, λ w. began-made s a (checkpoint.begin s w))
 counted (writing w) a = (step-made (checkpoint.step w a), λ b t. step-made (checkpoint.step w b), cut-on-made w a)
 counted off a = tt
 

@@ -57,6 +57,16 @@ module _ (c : Configuration) (w : World) (i : Item) (is : List Item) (t : After)
   unfolding ends
   ends-made = rw (e, ends)
 
+-- an item that can't be made
+module _ (c : Configuration) (w : World) (i : Item) (is : List Item) (e : next c w i ≡ none) where
+  pub run-skipped : run c w (i ∷ is) ≡ run c w is
+  unfolding run
+  run-skipped = rw (e, run)
+
+  pub ends-skipped : ends c w (i ∷ is) ≡ ends c w is
+  unfolding ends
+  ends-skipped = rw (e, ends)
+
 pub run-none : (c : Configuration) (w : World) → run c w [] ≡ []
 unfolding run
 run-none c w = refl

@@ -79,10 +79,10 @@ module _ (c : Configuration) (n : ℕ) (l : Ledger) (a : List ℕ) where
         })
 
   -- ## begin
-  begun-kept : (s : State) → Inv c n l (world (idle s) a) → (r : Result Writing) → checkpoint.begin s ≡ r → Kept (beganAs s a r)
-  begun-kept s inv (refused r) e = record { says = (tt, tt, tt); keeps = inv }
-  begun-kept s inv (done w) e =
-      let d = begin-says s w e in
+  begun-kept : (s : State) (w : ℕ) → Inv c n l (world (idle s) a) → (r : Result Writing) → checkpoint.begin s w ≡ r → Kept (beganAs s a r)
+  begun-kept s w inv (refused r) e = record { says = (tt, tt, tt); keeps = inv }
+  begun-kept s w inv (done r) e =
+      let d = begin-says s w r e in
       record {
         says = (tt, tt, tt);
         keeps = record {
@@ -93,8 +93,8 @@ module _ (c : Configuration) (n : ℕ) (l : Ledger) (a : List ℕ) where
         };
       }
 
-  pub begin-kept : (s : State) → Inv c n l (world (idle s) a) → Kept (beganAs s a (checkpoint.begin s))
-  begin-kept s inv = begun-kept s inv (checkpoint.begin s) refl
+  pub begin-kept : (s : State) → Inv c n l (world (idle s) a) → (w : ℕ) → Kept (beganAs s a (checkpoint.begin s w))
+  begin-kept s inv w = begun-kept s w inv (checkpoint.begin s w) refl
 
   -- ## a step
   module _ (w : Writing) (inv : Inv c n l (world (writing w) a)) where
@@ -139,7 +139,7 @@ module _ (c : Configuration) (n : ℕ) (l : Ledger) (a : List ℕ) where
             journal = full-kept;
             finds = stored-found c n s (l .book .page) (now .agrees);
             callable = record {
-              valid = flushed-valid s (record { room = so-far .valid .room }) (now .valid);
+              valid = flushed-valid s (so-far .valid .room) (now .valid);
               size = now .size;
               settings = now .settings;
               ceiling = refl;

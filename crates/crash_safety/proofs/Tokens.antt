@@ -3,15 +3,15 @@
 -- nack's is so too and was given to nobody. Assumes nothing.
 use Prim.Native.Nat.{ℕ, suc, _≤_, _<_}
 use native.Mathlib.Omega.{arith}
-use mathlib.Core.Path.{_≡_, refl, sym, _∙_}
+use mathlib.Core.Path.{_≡_, refl, sym, ap, _∙_}
 use mathlib.Core.Bool.{Bool, true, false, _&&_, true≢false, or-true}
 use mathlib.Core.List.{List, [], _∷_}
 use mathlib.Core.Option.{Option, none, some, Option·none-ne-some}
 use lib.Dec.{ltb, eqb}
 use lib.ListN.{length}
 use borrow.Author.Tests.{ltb-true, eqb-true, ne-eqb, lt-ltb}
-use Rattle.types.specs.Refusal.{Result, refused, done, Fenced}
-use Rattle.types.specs.Table.{Answer, Passed}
+use Rattle.types.specs.Refusal.{Refusal, Result, refused, done, Fenced}
+use Rattle.types.specs.Table.{Row, Answer, Passed}
 use Rattle.types.specs.Keyed.{Entry, lookup, put, update, delete, dropBelow}
 use Rattle.types.proofs.Cases.{split, both, either}
 use Rattle.types.proofs.Keyed.{lookup-put-same, lookup-put-other, lookup-delete-same, lookup-delete-other, lookup-drop-below, lookup-keep-above}
@@ -19,8 +19,9 @@ use Rattle.consumer.proofs.Updates.{lookup-update-same, lookup-update-other}
 use Rattle.cursor.specs.Cursor.{settled}
 use Rattle.lease.specs.declared.Lease.{Lease}
 use Rattle.lease.specs.Operations as lease
-use Rattle.lease.specs.Operations.{leaseOf, owns, withDeadline, requeuedAs, extend}
-use Rattle.consumer.specs.State.{Configuration, State}
+use Rattle.lease.specs.Operations.{owns, withDeadline, requeuedAs}
+use Rattle.consumer.specs.State.{Settings, Configuration, State}
+use Rattle.consumer.specs.Rights.{bitOf, workerRows}
 use Rattle.consumer.specs.Calls as consumer
 use Rattle.consumer.specs.Calls.{HandOut, handOut, nackDeadline}
 use Rattle.consumer.proofs.Open.{claim-cases, ack-cases, Owned, nack-cases, progress-cases, commit-cases}
@@ -32,16 +33,18 @@ use Rattle.starts.specs.Restart.{startTable}
 use Rattle.machine.specs.Calls.{Ask, claim, ack, term, nack, progress, commit, look, Event, claimed, acked, termed, nacked, progressed, committed}
 use Rattle.machine.specs.Transitions.{Phase, idle, writing, off, After, asked, beganAs, steppedAs, restartedAs}
 use Rattle.power_cut.specs.Cut.{Cut, old, new, torn, isTorn, cutAt, cutOn}
-use Rattle.crash_safety.specs.Runs.{Item, keepsJournal, World, world, next, run, freshWorld}
+use Rattle.crash_safety.specs.Runs.{Item, keepsJournal, World, world, next, run, ends, freshWorld}
 use Rattle.crash_safety.specs.Effects.{only, below, effectOf}
-use Rattle.crash_safety.specs.Tokens.{Tokens, noTokens, givesOut, givesUp, losesAll, tokensAfter, StaleRefused, TokenRight, TokensRight, NoStaleToken}
-use Rattle.crash_safety.proofs.Law.{Ledger, emptyLedger, noted, Law, Along}
-use Rattle.crash_safety.proofs.Runs.{Answered, along, foldBoth, SaysBoth, KeepsBoth, Second, beside}
+use Rattle.crash_safety.specs.Workers.{operationOf, rowsFor, refusalOf, tokenIn, orElse}
+use Rattle.crash_safety.specs.Tokens.{Tokens, noTokens, givesOut, givesUp, losesAll, tokensAfter, tokensIn, StaleRefused, NoStaleToken}
+use Rattle.crash_safety.proofs.Law.{Ledger, emptyLedger, noted, Law, folded}
+use Rattle.crash_safety.proofs.Runs.{Answered, at-end, foldBoth, SaysBoth, KeepsBoth, Second, beside}
 use Rattle.crash_safety.proofs.Invariant.{Inv}
 use Rattle.crash_safety.proofs.Journals.{restart-finds}
 use Rattle.crash_safety.proofs.Items.{Shown, next-cases}
 use Rattle.crash_safety.proofs.Kept.{item-kept}
 use Rattle.crash_safety.proofs.Start.{begins-well}
+use Rattle.crash_safety.proofs.Workers.{some-inj, Asked, ask-made, ownRows, token-answer, fenced-first}
 
 -- ## what is known of tokens
 pub record Known (t : Tokens) (floor : ℕ) (leases : List (Entry Lease)) : Type 0 where
@@ -51,13 +54,10 @@ pub record Known (t : Tokens) (floor : ℕ) (leases : List (Entry Lease)) : Type
   pub held-lease : (o : ℕ) (l : Lease) → lookup o leases ≡ some l → t .given o (l .generation .0) ≡ true
       → t .held o ≡ some (l .generation .0)
 
-abbrev leasesOf : Phase → List (Entry Lease)
+abbrev pub leasesOf : Phase → List (Entry Lease)
 leasesOf (idle s) = s .table .leases
 leasesOf (writing w) = w .state .table .leases
 leasesOf off = []
-
-some-inj : {A : Type 0} {x y : A} → some x ≡ some y → x ≡ y
-some-inj e = cc
 
 module _ (t : Tokens) (floor : ℕ) (leases : List (Entry Lease)) (k : Known t floor leases) where
   -- a token that is stale or lost is not the lease's
@@ -69,8 +69,9 @@ module _ (t : Tokens) (floor : ℕ) (leases : List (Entry Lease)) (k : Known t f
         go none e = refl
         go (some l) e = ne-eqb (l .generation .0) g (λ q. h (rw (← q) (k .held-lease o l e (rw q d))))
 
-    stale-refused : {A : Type 0} (a : Result A) → (owns (lookup o leases) g ≡ false → a ≡ refused Fenced) → StaleRefused t o g a
-    stale-refused a fenced =
+    stale-refused : (rows : List Row) (r : Option Refusal) → (owns (lookup o leases) g ≡ false → r ≡ orElse rows Fenced)
+        → StaleRefused t o g rows r
+    stale-refused rows r fenced =
         record {
           stale = λ d h. fenced (stale-unowned d h);
           lost = λ l. fenced (stale-unowned (k .lost-given o g l) (λ q. k .held-new o g q l));
@@ -162,31 +163,21 @@ nothing-given floor leases =
 abbrev tokensSeen : Tokens → Event → Tokens
 tokensSeen t e = tokensAfter t (effectOf e)
 
+-- nothing is said of the events themselves
+abbrev Quiet : Tokens → Event → Type 0
+Quiet t e = Unit {0}
+
 -- ## each call
 abbrev Knows : Ledger → Tokens → World → Type 0
 Knows l t w = Known t (l .floor) (leasesOf (w .phase))
 
 module _ (c : Configuration) (n : ℕ) (l : Ledger) (t : Tokens) where
   abbrev Next : Option After → Type 0
-  Next = Second noted tokensSeen TokenRight Knows (l, t)
+  Next = Second noted tokensSeen Quiet Knows (l, t)
 
   module _ (s : State) (a : List ℕ) (inv : Inv c n l (world (idle s) a)) (k : Known t (l .floor) (s .table .leases)) where
     abbrev Kept : {A : Type 0} → (Result A → Event) → Answer A State → Type 0
     Kept event r = Next (some (record { event = event (r .outcome); phase = idle (r .state); area = a }))
-
-    -- a token that is not the lease's is refused first of all
-    module _ (o g : ℕ) (e : owns (leaseOf (s .table) o) g ≡ false) where
-      ack-fenced : consumer.ack s o g .outcome ≡ refused Fenced
-      unfolding consumer.ack
-      ack-fenced = rw e
-
-      nack-fenced : (clock : ℕ) (d : Option ℕ) → consumer.nack s o g clock d .outcome ≡ refused Fenced
-      unfolding consumer.nack
-      nack-fenced clock d = rw e
-
-      progress-fenced : (clock : ℕ) → consumer.progress s o g clock .outcome ≡ refused Fenced
-      unfolding consumer.progress extend
-      progress-fenced clock = rw e
 
     abbrev here : List (Entry Lease)
     here = s .table .leases
@@ -195,12 +186,9 @@ module _ (c : Configuration) (n : ℕ) (l : Ledger) (t : Tokens) where
     abbrev Afterwards : {A : Type 0} → (Result A → Event) → Answer A State → Type 0
     Afterwards event r = Knows (noted l (event (r .outcome))) (tokensSeen t (event (r .outcome))) (world (idle (r .state)) a)
 
-    stale : {A : Type 0} (o g : ℕ) (x : Result A) → (owns (leaseOf (s .table) o) g ≡ false → x ≡ refused Fenced) → StaleRefused t o g x
-    stale o g = stale-refused t (l .floor) here k o g
-
-    claim-knows : (o clock : ℕ) → Kept (claimed o clock) (consumer.claim s o clock)
-    claim-knows o clock =
-        claim-cases s o clock (Kept (claimed o clock)) (λ r. record { says = tt; keeps = k })
+    claim-knows : (w o clock : ℕ) → Kept (claimed o clock) (consumer.claim s w o clock)
+    claim-knows w o clock =
+        claim-cases s w o clock (Kept (claimed o clock)) (λ r. record { says = tt; keeps = k })
         (λ p. record { says = tt; keeps = gives-out t (l .floor) here k (handOut s o) _ (inv .callable .floor) refl })
 
     acked-up : (o : ℕ) → Known (givesUp t (only o)) (l .floor) (delete o here)
@@ -209,23 +197,15 @@ module _ (c : Configuration) (n : ℕ) (l : Ledger) (t : Tokens) where
         (λ x v e q d. Option·none-ne-some v (sym (lookup-delete-same o here) ∙ (rw (eqb-true x o e) at q)))
         (λ x e. lookup-delete-other x o here e)
 
-    ack-knows : (o g : ℕ) → Kept (acked o g) (consumer.ack s o g)
-    ack-knows o g =
-        record {
-          says = stale o g _ (ack-fenced o g);
-          keeps = ack-cases s o g (Afterwards (acked o g)) (λ r. k) (λ p. acked-up o);
-        }
+    ack-knows : (w o g : ℕ) → Kept (acked o g) (consumer.ack s w o g)
+    ack-knows w o g = record { says = tt; keeps = ack-cases s w o g (Afterwards (acked o g)) (λ r. k) (λ p. acked-up o) }
 
-    term-knows : (o g : ℕ) → Kept (termed o g) (consumer.ack s o g)
-    term-knows o g =
-        record {
-          says = stale o g _ (ack-fenced o g);
-          keeps = ack-cases s o g (Afterwards (termed o g)) (λ r. k) (λ p. acked-up o);
-        }
+    term-knows : (w o g : ℕ) → Kept (termed o g) (consumer.ack s w o g)
+    term-knows w o g = record { says = tt; keeps = ack-cases s w o g (Afterwards (termed o g)) (λ r. k) (λ p. acked-up o) }
 
     -- the generation that a nack takes is at least the floor, so that nobody was given it
-    nacked-up : (o g deadline : ℕ) → Owned (s .table) o g → Known (givesUp t (only o)) (l .floor) (consumer.nacked s o deadline .table .leases)
-    nacked-up o g deadline p =
+    nacked-up : (w o g deadline : ℕ) → Owned (s .table) w o g → Known (givesUp t (only o)) (l .floor) (consumer.nacked s o deadline .table .leases)
+    nacked-up w o g deadline p =
         let f : Lease → Lease = requeuedAs (s .table .nextGeneration) deadline in
         gives-up t (l .floor) here k (only o) (update o f here)
         (λ x v e q d.
@@ -233,19 +213,19 @@ module _ (c : Configuration) (n : ℕ) (l : Ledger) (t : Tokens) where
         omega (arith, k .given-below x (s .table .nextGeneration) (rw (← is) at d), inv .callable .floor))
         (λ x e. lookup-update-other x o f here e)
 
-    nack-knows : (o g clock : ℕ) (d : Option ℕ) → Kept (nacked o g clock d) (consumer.nack s o g clock d)
-    nack-knows o g clock d =
+    nack-knows : (w o g clock : ℕ) (d : Option ℕ) → Kept (nacked o g clock d) (consumer.nack s w o g clock d)
+    nack-knows w o g clock d =
         record {
-          says = stale o g _ (λ e. nack-fenced o g e clock d);
-          keeps = nack-cases s o g clock d (Afterwards (nacked o g clock d)) (λ r. k)
-              (λ p. nacked-up o g (nackDeadline s o clock d) (p .token));
+          says = tt;
+          keeps = nack-cases s w o g clock d (Afterwards (nacked o g clock d)) (λ r. k)
+              (λ p. nacked-up w o g (nackDeadline s o clock d) (p .token));
         }
 
-    progress-knows : (o g clock : ℕ) → Kept (progressed o g clock) (consumer.progress s o g clock)
-    progress-knows o g clock =
+    progress-knows : (w o g clock : ℕ) → Kept (progressed o g clock) (consumer.progress s w o g clock)
+    progress-knows w o g clock =
         record {
-          says = stale o g _ (λ e. progress-fenced o g e clock);
-          keeps = progress-cases s o g clock (Afterwards (progressed o g clock)) (λ r. k)
+          says = tt;
+          keeps = progress-cases s w o g clock (Afterwards (progressed o g clock)) (λ r. k)
               (λ p. keeps-generation t (l .floor) here k o (p .token .lease) (withDeadline (lease.extended (s .table) o clock)) (p .token .held) refl);
         }
 
@@ -259,12 +239,12 @@ module _ (c : Configuration) (n : ℕ) (l : Ledger) (t : Tokens) where
             let u : settled (s .cursor) x ≡ false = inv .callable .valid .leased x v q .unsettled in
             absurd (true≢false (sym (rw (lt-ltb x (s .cursor .committed) (omega (arith, ltb-true x bound e)))) ∙ u))
 
-    commit-knows : (bound : ℕ) → Kept (committed bound) (consumer.commit s bound)
-    commit-knows bound =
+    commit-knows : (w bound : ℕ) → Kept (committed bound) (consumer.commit s w bound)
+    commit-knows w bound =
         record {
           says = tt;
-          keeps = commit-cases s bound (Afterwards (committed bound)) (λ r. k)
-              (λ h. gives-up t (l .floor) here k (below bound) here
+          keeps = commit-cases s w bound (Afterwards (committed bound)) (λ r. k)
+              (λ f h. gives-up t (l .floor) here k (below bound) here
               (λ x v e q d. Option·none-ne-some v (sym (none-below bound x h e) ∙ q))
               (λ x e. refl))
               (λ p. gives-up t (l .floor) here k (below bound) (dropBelow bound here)
@@ -272,18 +252,18 @@ module _ (c : Configuration) (n : ℕ) (l : Ledger) (t : Tokens) where
               (λ x e. lookup-keep-above x bound here e));
         }
 
-    ask-knows : (q : Ask) → Next (asked s a q)
-    ask-knows (claim o clock) = claim-knows o clock
-    ask-knows (ack o g) = ack-knows o g
-    ask-knows (term o g) = term-knows o g
-    ask-knows (nack o g clock d) = nack-knows o g clock d
-    ask-knows (progress o g clock) = progress-knows o g clock
-    ask-knows (commit bound) = commit-knows bound
-    ask-knows (look q) = record { says = tt; keeps = k }
+    ask-knows : (w : ℕ) (q : Ask) → Next (asked s a w q)
+    ask-knows w (claim o clock) = claim-knows w o clock
+    ask-knows w (ack o g) = ack-knows w o g
+    ask-knows w (term o g) = term-knows w o g
+    ask-knows w (nack o g clock d) = nack-knows w o g clock d
+    ask-knows w (progress o g clock) = progress-knows w o g clock
+    ask-knows w (commit bound) = commit-knows w bound
+    ask-knows w (look q) = record { says = tt; keeps = k }
 
-    began-knows : (r : Result Writing) → checkpoint.begin s ≡ r → Next (beganAs s a r)
-    began-knows (refused r) e = record { says = tt; keeps = k }
-    began-knows (done w) e = record { says = tt; keeps = rw (← begin-says s w e .1) k }
+    began-knows : (w : ℕ) (r : Result Writing) → checkpoint.begin s w ≡ r → Next (beganAs s a r)
+    began-knows w (refused r) e = record { says = tt; keeps = k }
+    began-knows w (done x) e = record { says = tt; keeps = rw (← begin-says s w x e .1) k }
 
   -- ## steps, cuts and restarts
   module _ (w : Writing) (a : List ℕ) (k : Known t (l .floor) (w .state .table .leases)) where
@@ -320,7 +300,7 @@ module _ (c : Configuration) (n : ℕ) (l : Ledger) (t : Tokens) where
 
   -- ## each item
   knows : (p : Phase) (a : List ℕ) → Inv c n l (world p a) → Known t (l .floor) (leasesOf p) → Shown (λ i. Next) a p
-  knows (idle s) a inv k = (λ q e. ask-knows s a inv k q, began-knows s a inv k (checkpoint.begin s) refl)
+  knows (idle s) a inv k = (λ w q e. ask-knows s a inv k w q, λ w. began-knows s a inv k w (checkpoint.begin s w) refl)
   knows (writing w) a inv k =
       (step-knows w a k, λ b e. elsewhere-knows a (steppedAs (checkpoint.step w b)) (step-knows w b k), cut-knows w a k)
   knows off a inv k = tt
@@ -332,33 +312,51 @@ module _ (c : Configuration) (n : ℕ) (l : Ledger) (t : Tokens) where
       (knows (w .phase) (w .journal) inv k) i
 
 -- ## every list
+pub tokens-folded : (es : List Event) (l : Ledger) (t : Tokens) → folded (foldBoth noted tokensSeen) (l, t) es .1 ≡ tokensIn t es
+unfolding folded tokensIn
+tokens-folded [] l t = refl
+tokens-folded (e ∷ es) l t = tokens-folded es (noted l e) (tokensSeen t e)
+
 module _ (c : Configuration) (n : ℕ) (accepted : Passed (startTable c n)) where
   abbrev fold : Ledger × Tokens → Event → Ledger × Tokens
   fold = foldBoth noted tokensSeen
 
   abbrev Says : Ledger × Tokens → Event → Type 0
-  Says = SaysBoth (Law (c .settings .policy)) TokenRight
+  Says = SaysBoth (Law (c .settings .policy)) Quiet
 
   abbrev Keeps : Ledger × Tokens → World → Type 0
   Keeps = KeepsBoth (Inv c n) Knows
 
   each : (b : Ledger × Tokens) (w : World) (i : Item) → Keeps b w → Answered fold Says Keeps b (next c w i)
   each b w i h =
-      beside noted tokensSeen (Law (c .settings .policy)) TokenRight (Inv c n) Knows b (next c w i)
+      beside noted tokensSeen (Law (c .settings .policy)) Quiet (Inv c n) Knows b (next c w i)
       (item-kept c n accepted (b .0) w i (h .0))
       (item-knows c n (b .0) (b .1) accepted w i (h .0) (h .1))
 
-  all-along : (items : List Item) (w : World) → Keeps (emptyLedger, noTokens) w → Along fold Says (emptyLedger, noTokens) (run c w items)
-  all-along items w h = along fold Says Keeps c each items (emptyLedger, noTokens) w h
+  known-after : (items : List Item) (w : World) → Keeps (emptyLedger, noTokens) w
+      → Keeps (folded fold (emptyLedger, noTokens) (run c w items)) (ends c w items)
+  known-after items w h = at-end fold Says Keeps c each items (emptyLedger, noTokens) w h
 
-  tokens-right : (es : List Event) (l : Ledger) (t : Tokens) → Along fold Says (l, t) es → TokensRight t es
-  unfolding Along TokensRight
-  tokens-right [] l t h = tt
-  tokens-right (e ∷ es) l t h = (h .0 .1, tokens-right es (noted l e) (tokensSeen t e) (h .1))
+-- the next call, with the state that it finds and the rights of the configuration
+next-right : (c : Configuration) (n : ℕ) (b : Ledger × Tokens) (p : Phase) (a : List ℕ) (w : ℕ) (q : Ask) (o g : ℕ) → tokenIn q ≡ some (o, g)
+    → (t : After) → Asked p a w q t → Inv c n (b .0) (world p a) → Known (b .1) (b .0 .floor) (leasesOf p)
+    → StaleRefused (b .1) o g (rowsFor c w (operationOf q)) (refusalOf (t .event))
+next-right c n b p a w q o g e t x inv k =
+    let s : State = x .state in
+    let here : Inv c n (b .0) (world (idle s) a) = rw (x .there) at inv in
+    let known : Known (b .1) (b .0 .floor) (s .table .leases) = rw (x .there) at k in
+    stale-refused (b .1) (b .0 .floor) (s .table .leases) known o g _ _ (λ m.
+    token-answer s a w t q o g e (x .says)
+    ∙ fenced-first s w (operationOf q) o g (ownRows s q) m
+    ∙ ap (λ (u : Settings). orElse (workerRows (u .rights) w (bitOf (operationOf q))) Fenced) (here .callable .settings))
 
 pub no-stale-token : NoStaleToken
 unfolding NoStaleToken
-no-stale-token c n s items f e =
-    let b = begins-well c n s f e in
-    tokens-right c n (b .accepted) (run c (freshWorld s n) items) emptyLedger noTokens
-    (all-along c n (b .accepted) items (freshWorld s n) (b .inv, nothing-given 0 (s .table .leases)))
+no-stale-token c n s items f e w q o g d t m =
+    let start = begins-well c n s f e in
+    let es : List Event = run c (freshWorld s n) items in
+    let left : World = ends c (freshWorld s n) items in
+    let k = known-after c n (start .accepted) items (freshWorld s n) (start .inv, nothing-given 0 (s .table .leases)) in
+    rw (← tokens-folded es emptyLedger noTokens)
+    (next-right c n (folded (foldBoth noted tokensSeen) (emptyLedger, noTokens) es) (left .phase) (left .journal) w q o g d t
+    (ask-made c (left .phase) (left .journal) w t q m) (k .0) (k .1))

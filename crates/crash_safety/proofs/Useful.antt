@@ -6,10 +6,10 @@ use mathlib.Core.Path.{_≡_, refl, sym, ap, ap₂, _∙_}
 use mathlib.Core.Bool.{Bool, false, cond, not, _&&_, _||_, and-false}
 use mathlib.Core.List.{List, [], _∷_, _++_, append-nil}
 use mathlib.Core.Option.{Option, none, some}
-use lib.Dec.{eqb}
+use lib.Dec.{leb, eqb}
 use borrow.Author.Tests.{eqb-false, ne-eqb, lt-leb}
-use Rattle.types.specs.Limits.{MAX}
-use Rattle.types.specs.Refusal.{Refusal, Result, refused, done, LastOffset, Settled, InFlight, Exhausted, CheckpointDue, Full, numbered}
+use Rattle.types.specs.Limits.{MAX, WORKERS}
+use Rattle.types.specs.Refusal.{Refusal, Result, refused, done, LastOffset, Settled, InFlight, Exhausted, CheckpointDue, Full, UnknownWorker, NotPermitted, numbered}
 use Rattle.types.proofs.Cases.{split}
 use Rattle.types.specs.Keyed.{lookup}
 use Rattle.types.specs.Table.{Passed}
@@ -23,9 +23,9 @@ use Rattle.lease.specs.Operations.{leaseOf, isNone, running, timesHandedOut}
 use Rattle.lease.specs.Rest.{isExpired}
 use Rattle.consumer.specs.State.{Configuration, State}
 use Rattle.consumer.specs.Calls.{callRows, HandOut, handOut, isFull, claimRows, claimTable, claim, atCeiling, atThreshold}
+use Rattle.consumer.specs.Rights.{claiming, checkpointing, bitOf, permits}
 use Rattle.consumer.specs.Questions.{waitingAt, countOf}
 use Rattle.consumer.specs.Valid.{Valid}
-use Rattle.consumer.proofs.Open.{call-passed}
 use Rattle.consumer.proofs.Counts.{count-is, lease-count, carried-count}
 use Rattle.consumer.proofs.Questions.{waiting-once}
 use Rattle.checkpoint.specs.Checkpoint as checkpoints
@@ -34,6 +34,7 @@ use Rattle.machine.specs.Transitions.{Phase, idle, writing}
 use Rattle.machine.specs.Calls.{step}
 use Rattle.crash_safety.specs.Book.{Page}
 use Rattle.crash_safety.specs.Runs.{call, World, world, run, ends, freshWorld}
+use Rattle.crash_safety.specs.Workers.{May}
 use Rattle.crash_safety.specs.Recovery.{begun, HasRoom}
 use Rattle.crash_safety.specs.Useful.{steps, AllAccepted, checkpoint, Checkpointed, Claimable, waitsByBook, Useful, NotUseless}
 use Rattle.crash_safety.proofs.Law.{Ledger}
@@ -43,7 +44,7 @@ use Rattle.crash_safety.proofs.Checkpoints.{has-begun, begun-more, last
 use Rattle.crash_safety.proofs.Reached.{reached}
 
 -- ## claims after a checkpoint
-module _ (s : State) (v : Valid s) where
+module _ (c : Configuration) (s : State) (same : s .settings ≡ c .settings) (v : Valid s) where
   -- generations are left below the new ceiling, and no redelivery was counted since
   nothing-due : eqb (s .table .nextGeneration) MAX ≡ false → (atCeiling (flushed s) || atThreshold (flushed s)) ≡ false
   nothing-due g =
@@ -51,29 +52,33 @@ module _ (s : State) (v : Valid s) where
       rw (lt-leb (flushed s .ceiling) (s .table .nextGeneration) left)
       (lt-leb (s .settings .policy .flushRedeliveries) 0 (v .accepted .some-threshold))
 
-  claims-granted : (o now : ℕ) → Claimable s o now → claim (flushed s) o now .outcome ≡ done (handOut (flushed s) o)
+  claims-granted : (w o now : ℕ) → May c w claiming → Claimable s o now → claim (flushed s) w o now .outcome ≡ done (handOut (flushed s) o)
   unfolding claim
-  claims-granted o now p =
-      let passed : Passed (claimTable (flushed s) o now) =
-      append-passed (callRows (flushed s)) (claimRows (flushed s) o now) (call-passed (flushed s))
+  claims-granted w o now may p =
+      let passed : Passed (claimTable (flushed s) w o now) =
+      append-passed (callRows (flushed s) w claiming) (claimRows (flushed s) o now) (rw same may)
       (p .not-last, (p .unsettled, (p .not-held, (p .generations, (nothing-due (p .generations), (p .room, tt)))))) in
-      rw (guarded-passed (claimTable (flushed s) o now) (flushed s) _ passed)
+      rw (guarded-passed (claimTable (flushed s) w o now) (flushed s) _ passed)
 
   -- 25 stands in front of 26, so that after a checkpoint 26 is never answered
-  never-due : (o now : ℕ) → claim (flushed s) o now .outcome ≡ refused CheckpointDue → ⊥
+  never-due : (w o now : ℕ) → claim (flushed s) w o now .outcome ≡ refused CheckpointDue → ⊥
   unfolding claim
-  never-due o now e =
-      split (eqb o MAX)
-      (λ t. other LastOffset (λ z. omega arith) (rw t at e))
+  never-due w o now e =
+      split (leb WORKERS w)
+      (λ t. other UnknownWorker (λ z. omega arith) (rw t at e))
+      (λ u₁. split (permits (s .settings .rights) w (bitOf claiming))
+      (λ u₂. split (eqb o MAX)
+      (λ t. other LastOffset (λ z. omega arith) (rw (u₁, u₂, t) at e))
       (λ t₁. split (settled (s .cursor) o)
-      (λ t. other Settled (λ z. omega arith) (rw (t₁, t) at e))
+      (λ t. other Settled (λ z. omega arith) (rw (u₁, u₂, t₁, t) at e))
       (λ t₂. split (running (leaseOf (s .table) o) now)
-      (λ t. other InFlight (λ z. omega arith) (rw (t₁, t₂, t) at e))
+      (λ t. other InFlight (λ z. omega arith) (rw (u₁, u₂, t₁, t₂, t) at e))
       (λ t₃. split (eqb (s .table .nextGeneration) MAX)
-      (λ t. other Exhausted (λ z. omega arith) (rw (t₁, t₂, t₃, t) at e))
+      (λ t. other Exhausted (λ z. omega arith) (rw (u₁, u₂, t₁, t₂, t₃, t) at e))
       (λ t₄. split (isFull (s .table) o)
-      (λ t. other Full (λ z. omega arith) (rw (t₁, t₂, t₃, t₄, nothing-due t₄, t) at e))
-      (λ t₅. granted (rw (t₁, t₂, t₃, t₄, nothing-due t₄, t₅) at e))))))
+      (λ t. other Full (λ z. omega arith) (rw (u₁, u₂, t₁, t₂, t₃, t₄, nothing-due t₄, t) at e))
+      (λ t₅. granted (rw (u₁, u₂, t₁, t₂, t₃, t₄, nothing-due t₄, t₅) at e)))))))
+      (λ t. other NotPermitted (λ z. omega arith) (rw (u₁, t) at e)))
     where
       granted : done (handOut (flushed s) o) ≡ refused CheckpointDue → ⊥
       granted q = absurd (let z : _≡_ {A = ℕ} 0 1 = cc in omega arith)
@@ -111,16 +116,16 @@ unfolding run AllAccepted
 none-wrote c w = tt
 
 module _ (c : Configuration) (n : ℕ) (l : Ledger) (s : State) (a : List ℕ) (inv : Inv c n l (world (idle s) a)) where
-  checkpointed : HasRoom s → Checkpointed c (world (idle s) a) s
+  checkpointed : (worker : ℕ) → May c worker checkpointing → HasRoom s → Checkpointed c worker (world (idle s) a) s
   unfolding AllAccepted
-  checkpointed room =
+  checkpointed worker may room =
       let k : ℕ = bodies s in
       let h : k ≤ bodies s = omega arith in
-      let b = has-begun c n (inv .saved) l s (inv .callable) room a (inv .journal) k h in
+      let b = has-begun c n (inv .saved) l s (inv .callable) worker may room a (inv .journal) k h in
       let last = last-step c n (inv .saved) l s (inv .callable) k (b .area) (b .midway) h in
       let w : World = world (idle s) a in
       let mid : World = world (writing (checkpoints.writing s k)) (b .area) in
-      let items : checkpoint s ≡ begun k ++ call step ∷ [] = sym (append-nil (checkpoint s)) ∙ begun-more k [] in
+      let items : checkpoint worker s ≡ begun worker k ++ call step ∷ [] = sym (append-nil (checkpoint worker s)) ∙ begun-more worker k [] in
       record {
         wrote = rw items (b .leads .wrote (call step ∷ []) (rw (run-made c mid (call step) [] _ last) (steps _, none-wrote c _)));
         leaves = rw items (ap (λ (u : World). u .phase)
@@ -131,8 +136,8 @@ module _ (c : Configuration) (n : ℕ) (l : Ledger) (s : State) (a : List ℕ) (
   useful p e =
       record {
         checkpoints = checkpointed;
-        claims = claims-granted s (inv .callable .valid);
-        not-due = never-due s (inv .callable .valid);
+        claims = claims-granted c s (inv .callable .settings) (inv .callable .valid);
+        not-due = never-due c s (inv .callable .settings) (inv .callable .valid);
         waiting = λ now o. waiting-right s (inv .callable .valid) p (rw (← e) (inv .callable .agrees)) now o;
       }
 

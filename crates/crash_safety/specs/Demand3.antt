@@ -40,7 +40,7 @@ delivers o h = forDelivery (h .destination) && eqb o (h .offset)
 abbrev pub isUnder : ℕ → HandOut → Bool
 isUnder g h = eqb g (h .generation)
 
--- how many hand-outs a test names
+-- how many hand-outs a test names, whichever workers took them
 abbrev pub counted : (HandOut → Bool) → Option HandOut → ℕ
 counted named none = 0
 counted named (some h) = cond (named h) 1 0
@@ -72,8 +72,8 @@ RestartsRight b (e ∷ es) = Right (b .copy) (effectOf e) × RestartsRight (note
 
 -- the restarts in a list
 abbrev pub restartIn : Item → ℕ
-restartIn (call (ask q)) = 0
-restartIn (call begin) = 0
+restartIn (call (ask w q)) = 0
+restartIn (call (begin w)) = 0
 restartIn (call step) = 0
 restartIn (call restart) = 1
 restartIn (stepOn b) = 0
@@ -91,7 +91,7 @@ pub record Premises (c : Configuration) : Type 0 where
   pub fits : Fits (c .settings)
 
 pub record Holds (c : Configuration) (items : List Item) (es : List Event) : Type 0 where
-  -- each offset was handed out for delivery at most M + C × (N + 1) times
+  -- each offset was handed out for delivery at most M + C × (N + 1) times, by all workers' claims together
   pub bound : (o : ℕ) → handOuts (delivers o) es ≤ c .settings .policy .maxDeliver + restartsIn items * (c .settings .policy .flushRedeliveries + 1)
   -- no two hand-outs share a generation
   pub generations : (g : ℕ) → handOuts (isUnder g) es ≤ 1

@@ -2,6 +2,7 @@ pub mod Runs
 pub mod Effects
 pub mod Book
 pub mod Demand3
+pub mod Workers
 pub mod Tokens
 pub mod Settled
 pub mod Recovery

@@ -10,12 +10,14 @@ use lib.ListN.{replicate}
 use Rattle.types.specs.Refusal.{done}
 use Rattle.consumer.specs.State.{Configuration, State, blocksOf}
 use Rattle.consumer.specs.Valid.{Fits}
+use Rattle.consumer.specs.Rights.{checkpointing}
 use Rattle.checkpoint.specs.Checkpoint.{bodies, writes, Writing}
 use Rattle.starts.specs.Restart.{start}
 use Rattle.machine.specs.Calls.{begin, step, restart}
 use Rattle.machine.specs.Transitions.{idle, writing}
 use Rattle.power_cut.specs.Cut.{Cut, old, new, torn, isTorn, cutAt}
 use Rattle.crash_safety.specs.Runs.{Item, call, cut, World, next, run, ends, freshWorld}
+use Rattle.crash_safety.specs.Workers.{May}
 
 -- ## a restart
 pub record Deterministic (c : Configuration) (w : World) : Type 0 where
@@ -29,9 +31,9 @@ unfoldable pub DeterministicRecovery : Type 0
 DeterministicRecovery = (c : Configuration) (w : World) → Deterministic c w
 
 -- ## a checkpoint
--- begin, and so many steps
-abbrev pub begun : ℕ → List Item
-begun k = call begin ∷ replicate k (call step)
+-- worker v begins, and so many steps follow
+abbrev pub begun : ℕ → ℕ → List Item
+begun v k = call (begin v) ∷ replicate k (call step)
 
 -- the power fails in the next step, and a restart comes
 abbrev pub thenCut : Cut → List Item
@@ -41,20 +43,20 @@ thenCut k = cut k ∷ call restart ∷ []
 abbrev pub HasRoom : State → Type 0
 HasRoom s = s .next .block + suc (bodies s) ≤ blocksOf s
 
-pub record WritesCount (c : Configuration) (w : World) (s : State) : Type 0 where
-  pub left-old : (k : ℕ) → k < writes s → ends c w (begun k ++ thenCut old) .phase ≡ ends c w (call restart ∷ []) .phase
+pub record WritesCount (c : Configuration) (v : ℕ) (w : World) (s : State) : Type 0 where
+  pub left-old : (k : ℕ) → k < writes s → ends c w (begun v k ++ thenCut old) .phase ≡ ends c w (call restart ∷ []) .phase
   pub left-torn : (k : ℕ) (b : List ℕ) → k < writes s → isTorn b ≡ true
-      → ends c w (begun k ++ thenCut (torn b)) .phase ≡ ends c w (call restart ∷ []) .phase
-  pub body-new : (k : ℕ) → suc k < writes s → ends c w (begun k ++ thenCut new) .phase ≡ ends c w (call restart ∷ []) .phase
+      → ends c w (begun v k ++ thenCut (torn b)) .phase ≡ ends c w (call restart ∷ []) .phase
+  pub body-new : (k : ℕ) → suc k < writes s → ends c w (begun v k ++ thenCut new) .phase ≡ ends c w (call restart ∷ []) .phase
   pub left-new : (k : ℕ) → suc k ≡ writes s
-      → ends c w (begun k ++ thenCut new) .phase ≡ ends c w (begun (writes s) ++ call restart ∷ []) .phase
+      → ends c w (begun v k ++ thenCut new) .phase ≡ ends c w (begun v (writes s) ++ call restart ∷ []) .phase
 
--- after every list that leaves a state with room for one more group
+-- after every list that leaves a state with room for one more group, whichever worker begins that may
 unfoldable pub EveryWriteCounts : Type 0
 EveryWriteCounts =
     (c : Configuration) (size : ℕ) (s : State) (items : List Item) → Fits (c .settings) → start c size ≡ done s
     → (left : State) → ends c (freshWorld s size) items .phase ≡ idle left → HasRoom left
-    → WritesCount c (ends c (freshWorld s size) items) left
+    → (v : ℕ) → May c v checkpointing → WritesCount c v (ends c (freshWorld s size) items) left
 
 -- ## cuts
 -- the journal of a list always has the consumer's length, so that every step can be cut in each of its ways

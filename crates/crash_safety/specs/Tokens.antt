@@ -1,21 +1,24 @@
 -- No stale token: what went wrong in the clinics can't. A token that a hand-out gave is refused 24 once its offset was handed out
--- again, nacked, settled, or a restart came; and one from before a restart is refused 24 ever after. A nack gives its lease a
--- generation that nobody is handed: the statement is about tokens that were given, and a worker who guesses such a generation is
--- accepted, as in the Rust.
+-- again, nacked, settled, or a restart came; and one from before a restart is refused 24 ever after. (38 and 39 stand in front: a worker
+-- who may not make the call is told that.) A nack gives its lease a generation that nobody is handed: the statement is about tokens that
+-- were given, and the lease's worker, if he guesses such a generation, is accepted, as in the Rust.
 use Prim.Native.Nat.{ℕ}
 use mathlib.Core.Path.{_≡_}
 use mathlib.Core.Bool.{Bool, true, false, cond, _&&_, _||_}
 use mathlib.Core.List.{List, [], _∷_}
 use mathlib.Core.Option.{Option, none, some}
 use lib.Dec.{eqb}
-use Rattle.types.specs.Refusal.{Result, refused, done, Fenced}
+use Rattle.types.specs.Refusal.{Refusal, refused, done, Fenced}
+use Rattle.types.specs.Table.{Row}
 use Rattle.consumer.specs.State.{Configuration, State}
 use Rattle.consumer.specs.Calls.{HandOut}
 use Rattle.consumer.specs.Valid.{Fits}
 use Rattle.starts.specs.Restart.{start}
-use Rattle.machine.specs.Calls.{Event, claimed, acked, termed, nacked, progressed, committed, looked, begun, stepped, restarted, failed}
+use Rattle.machine.specs.Calls.{Ask, ask, Event}
+use Rattle.machine.specs.Transitions.{After}
 use Rattle.crash_safety.specs.Effects.{Effect, handing, settling, requeuing, renewing, restarting, nothing, only, effectOf}
-use Rattle.crash_safety.specs.Runs.{Item, run, freshWorld}
+use Rattle.crash_safety.specs.Runs.{Item, call, next, run, ends, freshWorld}
+use Rattle.crash_safety.specs.Workers.{operationOf, rowsFor, refusalOf, tokenIn, orElse}
 
 -- what the events tell of tokens, each an offset and a generation
 pub record Tokens : Type 0 where
@@ -55,31 +58,21 @@ tokensAfter t (restarting (refused r)) = t
 tokensAfter t (restarting (done s)) = losesAll t
 tokensAfter t nothing = t
 
--- the answer to a call with the token (o, g)
-pub record StaleRefused {A : Type 0} (t : Tokens) (o g : ℕ) (a : Result A) : Type 0 where
+-- what events tell
+unfoldable pub tokensIn : Tokens → List Event → Tokens
+tokensIn t [] = t
+tokensIn t (e ∷ es) = tokensIn (tokensAfter t (effectOf e)) es
+
+-- a call with the token (o, g): the refusal that it is answered, if any, where these rows stand in front of 24
+pub record StaleRefused (t : Tokens) (o g : ℕ) (rows : List Row) (r : Option Refusal) : Type 0 where
   -- a token that was given and is not the one that its offset is held under
-  pub stale : t .given o g ≡ true → (t .held o ≡ some g → ⊥) → a ≡ refused Fenced
-  pub lost : t .lost o g ≡ true → a ≡ refused Fenced
+  pub stale : t .given o g ≡ true → (t .held o ≡ some g → ⊥) → r ≡ orElse rows Fenced
+  pub lost : t .lost o g ≡ true → r ≡ orElse rows Fenced
 
-abbrev pub TokenRight : Tokens → Event → Type 0
-TokenRight t (claimed o now a) = Unit {0}
-TokenRight t (acked o g a) = StaleRefused t o g a
-TokenRight t (termed o g a) = StaleRefused t o g a
-TokenRight t (nacked o g now d a) = StaleRefused t o g a
-TokenRight t (progressed o g now a) = StaleRefused t o g a
-TokenRight t (committed bound a) = Unit {0}
-TokenRight t (looked q a) = Unit {0}
-TokenRight t (begun a) = Unit {0}
-TokenRight t (stepped a) = Unit {0}
-TokenRight t (restarted a) = Unit {0}
-TokenRight t (failed new) = Unit {0}
-
-unfoldable pub TokensRight : Tokens → List Event → Type 0
-TokensRight t [] = Unit {0}
-TokensRight t (e ∷ es) = TokenRight t e × TokensRight (tokensAfter t (effectOf e)) es
-
--- every list, from every fresh consumer on a zeroed journal
+-- every call after every list, from every fresh consumer on a zeroed journal
 unfoldable pub NoStaleToken : Type 0
 NoStaleToken =
     (c : Configuration) (size : ℕ) (s : State) (items : List Item) → Fits (c .settings) → start c size ≡ done s
-    → TokensRight noTokens (run c (freshWorld s size) items)
+    → (w : ℕ) (q : Ask) (o g : ℕ) → tokenIn q ≡ some (o, g)
+    → (t : After) → next c (ends c (freshWorld s size) items) (call (ask w q)) ≡ some t
+    → StaleRefused (tokensIn noTokens (run c (freshWorld s size) items)) o g (rowsFor c w (operationOf q)) (refusalOf (t .event))

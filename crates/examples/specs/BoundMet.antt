@@ -26,16 +26,16 @@ use Rattle.power_cut.specs.Cut.{torn}
 use Rattle.crash_safety.specs.Runs.{Item, call, cut, next, run, freshWorld}
 use Rattle.crash_safety.specs.Demand3.{delivers, handOuts, restartsIn}
 
--- a checkpoint; offset 0 is handed out twice; the power fails in the header of the next checkpoint; a restart, a checkpoint, and
+-- by worker 0: a checkpoint; offset 0 is handed out twice; the power fails in the header of the next checkpoint; a restart, a checkpoint, and
 -- offset 0 is handed out twice again, as the counts since the first checkpoint are lost
 abbrev pub items : List Item
 items =
-    call begin ∷ call step ∷ call step
-    ∷ call (ask (claim 0 0)) ∷ call (ask (claim 0 10))
-    ∷ call begin ∷ call step ∷ cut (torn (replicate 512 0))
+    call (begin 0) ∷ call step ∷ call step
+    ∷ call (ask 0 (claim 0 0)) ∷ call (ask 0 (claim 0 10))
+    ∷ call (begin 0) ∷ call step ∷ cut (torn (replicate 512 0))
     ∷ call restart
-    ∷ call begin ∷ call step ∷ call step
-    ∷ call (ask (claim 0 20)) ∷ call (ask (claim 0 30)) ∷ []
+    ∷ call (begin 0) ∷ call step ∷ call step
+    ∷ call (ask 0 (claim 0 20)) ∷ call (ask 0 (claim 0 30)) ∷ []
 
 pub bound-met : handOuts (delivers 0) (run configuration (freshWorld (fresh configuration 9216) 9216) items)
     ≡ configuration .settings .policy .maxDeliver + restartsIn items * (configuration .settings .policy .flushRedeliveries + 1)

@@ -9,6 +9,7 @@ use lib.ListN.{length, take, replicate, drop-of-length-le}
 use Rattle.types.specs.Limits.{MAX}
 use Rattle.types.specs.Keyed.{entry}
 use Rattle.types.specs.Refusal.{Result, refused, done, CheckpointDue}
+use Rattle.types.specs.Table.{Passed}
 use Rattle.crc.specs.Crc32c.{bits, unbits, polynomial, crc}
 use Rattle.crc.specs.Seal.{isSealed}
 use Rattle.cursor.specs.Cursor.{cursor}
@@ -21,16 +22,17 @@ use Rattle.journal.specs.Blocks.{headerBlock, bodyBlock, chunkOf}
 use Rattle.journal.specs.Sound.{isKind, wellFormed, soundHeader, soundBody}
 use Rattle.journal.specs.Walks.{groupAt, walkOver, walkFrom, headerBehind, payload}
 use Rattle.consumer.specs.State.{Configuration, State, nextGroupAt, badArea}
+use Rattle.consumer.specs.Rights.{claiming, bitOf, workerRows}
 use Rattle.consumer.specs.Calls.{HandOut, claim}
 use Rattle.checkpoint.specs.Checkpoint.{writes, begin, Left, going, finished, Lent, lent, step}
 use Rattle.starts.specs.Restart.{resumed, fresh, start, fromWalk, restart}
 use Rattle.starts.specs.Versions.{Source, Measured, attemptsIn, payloadIn, Stands, OtherVersion}
 
--- M 2, N 1, visibility 10, cap 25
+-- M 2, N 1, visibility 10, cap 25; worker 0 may do everything
 abbrev pub configuration : Configuration
 configuration =
     record {
-      settings = record { policy = policy 2 false [] 1 };
+      settings = record { policy = policy 2 false [] 1; rights = 127 ∷ replicate 7 0 };
       lease = record { «visibility_nanos» = 10; «hard_cap_nanos» = 25 };
     }
 
@@ -53,17 +55,17 @@ steps zero l a f = onState l a f
 steps (suc n) l a f = steps n (stepOn l a .left) (stepOn l a .area) f
 
 pub data Act : Type 0 where
-  -- begin, and a step for each block
+  -- begin by worker 0, and a step for each block
   checkpoints : Act
-  -- a claim of offset 0 at a clock
+  -- a claim of offset 0 by worker 0 at a clock
   claims : ℕ → Act
   restarts : Act
 
 -- what the claims answer
 abbrev pub answers : State → List ℕ → List Act → List (Result HandOut)
 answers s a [] = []
-answers s a (checkpoints ∷ l) = onDone (begin s) (λ w. steps (writes s) (going w) a (λ t b. answers t b l))
-answers s a (claims now ∷ l) = claim s 0 now .outcome ∷ answers (claim s 0 now .state) a l
+answers s a (checkpoints ∷ l) = onDone (begin s 0) (λ w. steps (writes s) (going w) a (λ t b. answers t b l))
+answers s a (claims now ∷ l) = claim s 0 0 now .outcome ∷ answers (claim s 0 0 now .state) a l
 answers s a (restarts ∷ l) = onDone (restart configuration a) (λ t. answers t a l)
 
 abbrev pub handsOut : ℕ → ℕ → Destination → Result HandOut
@@ -74,14 +76,15 @@ handsOut generation deliveries destination =
 abbrev pub fromStart : List Act → List (Result HandOut)
 fromStart l = onDone (start configuration 9216) (λ s. answers s (replicate 9216 0) l)
 
--- fresh consumer, claim 0: refusal 26; whatever its configuration, its area and the clock are
+-- fresh consumer, claim 0: refusal 26; whatever its configuration, its area and the clock are, to every worker who may claim
 pub record Example13 : Type 0 where
   pub started : fromStart (claims 0 ∷ []) ≡ refused CheckpointDue ∷ []
-  pub always : (c : Configuration) (size now : ℕ) → claim (fresh c size) 0 now .outcome ≡ refused CheckpointDue
+  pub always : (c : Configuration) (size w now : ℕ) → Passed (workerRows (c .settings .rights) w (bitOf claiming))
+      → claim (fresh c size) w 0 now .outcome ≡ refused CheckpointDue
 
 pub example-13 : Example13
 unfolding badArea start claim
-example-13 = record { started = refl; always = λ c size now. refl }
+example-13 = record { started = refl; always = λ c size w now p. rw (p .0, p .1 .0) }
 
 -- checkpoint; claims of 0 at 0, 10, 20 give Deliver 1, Deliver 2, refusal 26; checkpoint, restart, checkpoint; claim gives
 -- DeadLetter 3, generation 4098

@@ -1,4 +1,5 @@
 pub mod Journal
 pub mod Consumer
 pub mod BoundMet
+pub mod Workers
 pub mod SettledExamples

@@ -7,7 +7,7 @@ use mathlib.Core.List.{List, [], _∷_, map}
 use lib.ListN.{length}
 use Rattle.types.specs.Limits.{RANGES}
 use Rattle.types.specs.Refusal.{Code, code, Result, done, answered}
-use Rattle.types.specs.Table.{answer}
+use Rattle.types.specs.Table.{Passed, answer}
 use Rattle.cursor.specs.Ranges.{range}
 use Rattle.cursor.specs.Cursor.{cursor, resume, resumeWithAhead, ackBounded}
 use Rattle.cursor.specs.Snapshot.{decodeCursor}
@@ -19,6 +19,7 @@ use Rattle.lease.specs.Operations.{claim, extend}
 use Rattle.lease.specs.Examples.{leased}
 use Rattle.lease.specs.Examples as leases
 use Rattle.consumer.specs.State.{Configuration}
+use Rattle.consumer.specs.Rights.{claiming, bitOf, workerRows}
 use Rattle.consumer.specs.Calls as consumer
 use Rattle.starts.specs.Restart.{fresh}
 use Rattle.examples.specs.Consumer.{claims, fromStart, acts14}
@@ -40,7 +41,7 @@ pub record Five : Type 0 where
 
 pub record Seven : Type 0 where
   pub is : leases.Example7
-  pub at-109 : codeIn (claim leased 0 109 .outcome) ≡ code 23 []
+  pub at-109 : codeIn (claim leased 0 0 109 .outcome) ≡ code 23 []
 
 pub record Eight : Type 0 where
   pub is : leases.Example8
@@ -60,7 +61,8 @@ pub record Twelve (a b c d e f g h i : ℕ) : Type 0 where
 pub record Thirteen : Type 0 where
   pub is : consumers.Example13
   pub started : map codeIn (fromStart (claims 0 ∷ [])) ≡ code 26 [] ∷ []
-  pub always : (c : Configuration) (size now : ℕ) → codeIn (consumer.claim (fresh c size) 0 now .outcome) ≡ code 26 []
+  pub always : (c : Configuration) (size w now : ℕ) → Passed (workerRows (c .settings .rights) w (bitOf claiming))
+      → codeIn (consumer.claim (fresh c size) w 0 now .outcome) ≡ code 26 []
 
 pub record Fourteen : Type 0 where
   pub is : consumers.Example14

@@ -14,6 +14,7 @@ use lease::LeaseConfig;
 use starts::StartAnswer;
 use text::output::put;
 use text::templates::fill;
+use types::limits::WORKERS;
 
 // A configuration that every start accepts. What a restart finds doesn't depend on it.
 fn configuration() -> Configuration {
@@ -27,6 +28,7 @@ fn configuration() -> Configuration {
                 backoff_len: 0,
                 attempts_flush_redeliveries: 1,
             },
+            rights: [0; WORKERS],
         },
         lease: lease,
     }

@@ -32,19 +32,19 @@ released b n first ks vs ks′ vs′ h k r at p q =
     let rise = rising-ascending 0 (take n ks) (take n vs) even r in
     rw (z, p, q, boundary-below b first 0 (take n ks) rise at) (sym (drop-below-place b 0 (take n ks) (take n vs) even rise))
 
-module _ (t : LeaseTable) (full : Full t) (ok : Sound t) (b first carried : ℕ) (ks gs ss ds ns cks cvs : List ℕ) where
+module _ (t : LeaseTable) (full : Full t) (ok : Sound t) (b first carried : ℕ) (ks gs ss ds ns ws cks cvs : List ℕ) where
   pub releases : Boundary b (take (t .len) (t .offsets)) first → Boundary b (take (t .«carried_len») (t .«carried_offsets»)) carried
-      → take (t .len - (first - 0)) ks ≡ removed 0 first (take (t .len) (t .offsets)) → take (t .len - (first - 0)) (leaseColumn gs ss ds ns) ≡ removed 0 first (take (t .len) (leasesIn t))
+      → take (t .len - (first - 0)) ks ≡ removed 0 first (take (t .len) (t .offsets)) → take (t .len - (first - 0)) (leaseColumn gs ss ds ns ws) ≡ removed 0 first (take (t .len) (leasesIn t))
       → take (t .«carried_len» - (carried - 0)) cks ≡ removed 0 carried (take (t .«carried_len») (t .«carried_offsets»))
       → take (t .«carried_len» - (carried - 0)) cvs ≡ removed 0 carried (take (t .«carried_len») (t .«carried_counts»))
-      → Becomes (releasing (t .len - first) (t .«carried_len» - carried) ks gs ss ds ns cks cvs t) (releaseBelow (view t) b)
+      → Becomes (releasing (t .len - first) (t .«carried_len» - carried) ks gs ss ds ns ws cks cvs t) (releaseBelow (view t) b)
   releases e c p q v w =
       becomes (record {
         len = omega (arith, ok .len);
         carried-len = omega (arith, ok .carried-len);
         is =
             rw (
-              released b (t .len) first (t .offsets) (leasesIn t) ks (leaseColumn gs ss ds ns) (omega (arith, full .offsets, ok .len)) (omega (arith, column-length (full .leases), ok .len)) (ok .valid .rising) e p q,
+              released b (t .len) first (t .offsets) (leasesIn t) ks (leaseColumn gs ss ds ns ws) (omega (arith, full .offsets, ok .len)) (omega (arith, column-length (full .leases), ok .len)) (ok .valid .rising) e p q,
               released b (t .«carried_len») carried (t .«carried_offsets») (t .«carried_counts») cks cvs (omega (arith, full .carried-offsets, ok .carried-len)) (omega (arith, full .carried-counts, ok .carried-len)) (ok .valid .carried-rising) c v w,
             );
       }) (valid-release (view t) b (ok .valid))
@@ -52,9 +52,9 @@ module _ (t : LeaseTable) (full : Full t) (ok : Sound t) (b first carried : ℕ)
 -- ## clocks forward
 pub shifts : (t : LeaseTable) (ok : Sound t) (delta : ℕ) (ss ds : List ℕ)
     → take (t .len) ss ≡ map (laterBy delta) (take (t .len) (t .«attempt_starts»)) → take (t .len) ds ≡ map (laterBy delta) (take (t .len) (t .deadlines))
-    → Becomes (leasing (t .len) (t .offsets) (t .generations) ss ds (t .deliveries) t) (shiftDeadlines (view t) delta)
+    → Becomes (leasing (t .len) (t .offsets) (t .generations) ss ds (t .deliveries) (t .workers) t) (shiftDeadlines (view t) delta)
 shifts t ok delta ss ds p q =
-    let e = column-shifted delta (t .len) (t .generations) (t .«attempt_starts») (t .deadlines) (t .deliveries) ss ds p q in
+    let e = column-shifted delta (t .len) (t .generations) (t .«attempt_starts») (t .deadlines) (t .deliveries) (t .workers) ss ds p q in
     becomes (record {
       len = ok .len;
       carried-len = ok .carried-len;

@@ -25,8 +25,8 @@ abbrev pub NextAfter : {A : Type 0} → Result A → Table → Table → Type 0
 NextAfter (refused r) t after = after .nextGeneration ≡ t .nextGeneration
 NextAfter (done a) t after = after .nextGeneration ≡ t .nextGeneration + 1
 
-pub claim-next : (t : Table) (o now : ℕ) → NextAfter (claim t o now .outcome) t (claim t o now .state)
-claim-next t o now = claim-cases t o now (λ a. NextAfter (a .outcome) t (a .state)) (λ r e. refl) (λ p. refl)
+pub claim-next : (t : Table) (w o now : ℕ) → NextAfter (claim t w o now .outcome) t (claim t w o now .state)
+claim-next t w o now = claim-cases t w o now (λ a. NextAfter (a .outcome) t (a .state)) (λ r e. refl) (λ p. refl)
 
 pub nack-next : (t : Table) (o g now delay : ℕ) → NextAfter (nack t o g now delay .outcome) t (nack t o g now delay .state)
 nack-next t o g now delay = nack-cases t o g now (λ a. NextAfter (a .outcome) t (a .state)) delay (λ r e. refl) (λ p. refl)
@@ -36,8 +36,8 @@ abbrev pub Stamped : Table → Result Grant → Type 0
 Stamped t (refused r) = Unit {0}
 Stamped t (done a) = a .generation ≡ t .nextGeneration
 
-pub claim-stamped : (t : Table) (o now : ℕ) → Stamped t (claim t o now .outcome)
-claim-stamped t o now = claim-cases t o now (λ a. Stamped t (a .outcome)) (λ r e. tt) (λ p. refl)
+pub claim-stamped : (t : Table) (w o now : ℕ) → Stamped t (claim t w o now .outcome)
+claim-stamped t w o now = claim-cases t w o now (λ a. Stamped t (a .outcome)) (λ r e. tt) (λ p. refl)
 
 -- ## every lease's generation lies below the next one; only a reseal to a later one would break that
 abbrev pub Fresh : Table → Type 0
@@ -51,9 +51,9 @@ module _ (t : Table) (h : Fresh t) where
       raised [] a = tt
       raised (e ∷ l) a = (omega (arith, a .0), raised l (a .1))
 
-  pub fresh-grant : (o now : ℕ) → Fresh (grant t o now)
-  fresh-grant o now =
-      all-put (λ k l. l .generation .0 < t .nextGeneration + 1) o (lease (t .nextGeneration) now (deadlineFrom (t .config) now now) (nextCount t o)) (t .leases) (omega arith) later
+  pub fresh-grant : (w o now : ℕ) → Fresh (grant t w o now)
+  fresh-grant w o now =
+      all-put (λ k l. l .generation .0 < t .nextGeneration + 1) o (lease (t .nextGeneration) now (deadlineFrom (t .config) now now) (nextCount t o) w) (t .leases) (omega arith) later
 
   pub fresh-requeue : (o deadline : ℕ) → Fresh (requeue t o deadline)
   fresh-requeue o deadline =
@@ -78,8 +78,8 @@ pub owned-once : (t : Table) → Valid t → (i j o : ℕ) (d : Entry Lease) →
 owned-once t v i j o d h k p q = rising-once 0 i j d (t .leases) (v .rising) h k (p ∙ sym q)
 
 -- the token of an earlier hand-out is fenced off
-pub grant-fences : (t : Table) (o now g : ℕ) → (g ≡ t .nextGeneration → ⊥) → owns (leaseOf (grant t o now) o) g ≡ false
-grant-fences t o now g n = rw (lease-after-grant t o o now, eq-eqb o o refl, ne-eqb (t .nextGeneration) g (λ e. n (sym e)))
+pub grant-fences : (t : Table) (w o now g : ℕ) → (g ≡ t .nextGeneration → ⊥) → owns (leaseOf (grant t w o now) o) g ≡ false
+grant-fences t w o now g n = rw (lease-after-grant t o o w now, eq-eqb o o refl, ne-eqb (t .nextGeneration) g (λ e. n (sym e)))
 
 pub requeue-fences : (t : Table) (o deadline g : ℕ) → (g ≡ t .nextGeneration → ⊥) → owns (leaseOf (requeue t o deadline) o) g ≡ false
 requeue-fences t o deadline g n = rw (lease-after-requeue t o o deadline, eq-eqb o o refl) (fenced (leaseOf t o))

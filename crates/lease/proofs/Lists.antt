@@ -47,7 +47,7 @@ module _ (t : LeaseTable) (w : Whole t) where
   fits′ = omega (arith, column-length (w .full .leases), w .sound .len)
 
   head : (i : ℕ) → i < t .len
-      → drop i (leasesOf t) ≡ entry (getD (t .offsets) i 0) (lease (getD (t .generations) i 0) (getD (t .«attempt_starts») i 0) (getD (t .deadlines) i 0) (getD (t .deliveries) i 0)) ∷ drop (i + 1) (leasesOf t)
+      → drop i (leasesOf t) ≡ entry (getD (t .offsets) i 0) (lease (getD (t .generations) i 0) (getD (t .«attempt_starts») i 0) (getD (t .deadlines) i 0) (getD (t .deliveries) i 0) (getD (t .workers) i 0)) ∷ drop (i + 1) (leasesOf t)
   head i h = drop-used nil (t .len) (t .offsets) (leasesIn t) fits fits′ i h ∙ ap (λ (l : Lease). entry (getD (t .offsets) i 0) l ∷ drop (i + 1) (leasesOf t)) (column-at (w .full .leases) i)
 
   none-left : (i : ℕ) → t .len ≤ i → drop i (leasesOf t) ≡ []

@@ -37,18 +37,18 @@ LeaseAfter t j after a = leaseOf (a .state) j ≡ unlessRefused (a .outcome) (le
 
 module _ (t : Table) (j o : ℕ) where
   -- ## claim
-  pub lease-after-grant : (now : ℕ) → leaseOf (grant t o now) j ≡ cond (eqb j o) (some (lease (t .nextGeneration) now (deadlineFrom (t .config) now now) (nextCount t o))) (leaseOf t j)
-  lease-after-grant now = lookup-put j o (lease (t .nextGeneration) now (deadlineFrom (t .config) now now) (nextCount t o)) (t .leases)
+  pub lease-after-grant : (w now : ℕ) → leaseOf (grant t w o now) j ≡ cond (eqb j o) (some (lease (t .nextGeneration) now (deadlineFrom (t .config) now now) (nextCount t o) w)) (leaseOf t j)
+  lease-after-grant w now = lookup-put j o (lease (t .nextGeneration) now (deadlineFrom (t .config) now now) (nextCount t o) w) (t .leases)
 
-  pub lease-after-claim : (now : ℕ) → LeaseAfter t j (cond (eqb j o) (some (lease (t .nextGeneration) now (deadlineFrom (t .config) now now) (nextCount t o))) (leaseOf t j)) (claim t o now)
-  lease-after-claim now = claim-cases t o now (LeaseAfter t j _) (λ r e. refl) (λ p. lease-after-grant now)
+  pub lease-after-claim : (w now : ℕ) → LeaseAfter t j (cond (eqb j o) (some (lease (t .nextGeneration) now (deadlineFrom (t .config) now now) (nextCount t o) w)) (leaseOf t j)) (claim t w o now)
+  lease-after-claim w now = claim-cases t w o now (LeaseAfter t j _) (λ r e. refl) (λ p. lease-after-grant w now)
 
   -- a first lease takes the carried count over
-  pub carried-after-first-grant : (now : ℕ) → leaseOf t o ≡ none → carriedCount (grant t o now) j ≡ cond (eqb j o) none (carriedCount t j)
-  carried-after-first-grant now e = rw e (lookup-delete j o (t .carried))
+  pub carried-after-first-grant : (w now : ℕ) → leaseOf t o ≡ none → carriedCount (grant t w o now) j ≡ cond (eqb j o) none (carriedCount t j)
+  carried-after-first-grant w now e = rw e (lookup-delete j o (t .carried))
 
-  pub carried-after-regrant : (now : ℕ) (l : Lease) → leaseOf t o ≡ some l → carriedCount (grant t o now) j ≡ carriedCount t j
-  carried-after-regrant now l e = rw e
+  pub carried-after-regrant : (w now : ℕ) (l : Lease) → leaseOf t o ≡ some l → carriedCount (grant t w o now) j ≡ carriedCount t j
+  carried-after-regrant w now l e = rw e
 
   -- ## ack
   pub lease-after-ack : (g : ℕ) → LeaseAfter t j (cond (eqb j o) none (leaseOf t j)) (ack t o g)

@@ -61,10 +61,10 @@ pub nack-passed : (t : Table) (o g : ℕ) → Passed (nackRows t o g) → NackPa
 nack-passed t o g p = record { token = token-passed t o g (p .0); generation-left = eqb-false (t .nextGeneration) MAX (p .1 .0) }
 
 -- ## the calls: refused with the table as it was, or the effect
-module _ (t : Table) (o now : ℕ) (P : Answer Grant Table → Type 0) where
-  pub claim-cases : ((r : Refusal) → first (claimRows t o now) ≡ some r → P (answer (refused r) t)) → (ClaimPassed t o now → P (answer (done (granted t o)) (grant t o now))) → P (claim t o now)
+module _ (t : Table) (w o now : ℕ) (P : Answer Grant Table → Type 0) where
+  pub claim-cases : ((r : Refusal) → first (claimRows t o now) ≡ some r → P (answer (refused r) t)) → (ClaimPassed t o now → P (answer (done (granted t o)) (grant t w o now))) → P (claim t w o now)
   unfolding claim
-  claim-cases r p = guarded-cases (claimRows t o now) t (answer (done (granted t o)) (grant t o now)) P r (λ q. p (claim-passed t o now q))
+  claim-cases r p = guarded-cases (claimRows t o now) t (answer (done (granted t o)) (grant t w o now)) P r (λ q. p (claim-passed t o now q))
 
 module _ (t : Table) (o g : ℕ) (P : Answer (Unit {0}) Table → Type 0) where
   pub ack-cases : ((r : Refusal) → first (tokenRow t o g ∷ []) ≡ some r → P (answer (refused r) t)) → (TokenPassed t o g → P (answer (done tt) (withLeases t (delete o (t .leases))))) → P (ack t o g)

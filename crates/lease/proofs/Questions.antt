@@ -72,7 +72,7 @@ module _ (t : LeaseTable) (full : Full t) (ok : Sound t) (o : ℕ) where
     not-resealed h = record { is = rw h; sound = ok; kept = λ _. refl }
 
     pub resealed : {at : ℕ} {r : Place} → Owned o from (take (t .len) (t .offsets)) (t .generations) r → r ≡ Found at
-        → Tries true t (leasing (t .len) (t .offsets) (set (t .generations) at to) (t .«attempt_starts») (t .deadlines) (t .deliveries) t) (resealFromTo (view t) o from to)
+        → Tries true t (leasing (t .len) (t .offsets) (set (t .generations) at to) (t .«attempt_starts») (t .deadlines) (t .deliveries) (t .workers) t) (resealFromTo (view t) o from to)
     unfolding resealFromTo
     resealed {at} p e =
         changed (resealedAs to) (λ l. refl)

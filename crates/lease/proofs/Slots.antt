@@ -66,7 +66,7 @@ module _ (t : LeaseTable) (full : Full t) (ok : Sound t) where
 
   -- the lease that stands there
   pub lease-at : (x : ℕ) {at : ℕ} {r : Place} → Placed x (take (t .len) (t .offsets)) r → r ≡ Found at
-      → leaseOf (view t) x ≡ some (lease (getD (t .generations) at 0) (getD (t .«attempt_starts») at 0) (getD (t .deadlines) at 0) (getD (t .deliveries) at 0))
+      → leaseOf (view t) x ≡ some (lease (getD (t .generations) at 0) (getD (t .«attempt_starts») at 0) (getD (t .deadlines) at 0) (getD (t .deliveries) at 0) (getD (t .workers) at 0))
   lease-at x {at} p e = leased p e .is ∙ ap some (column-at (full .leases) at)
 
   -- a lease changed there

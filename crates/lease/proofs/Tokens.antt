@@ -68,18 +68,18 @@ module _ (t : LeaseTable) (full : Full t) (ok : Sound t) (o g : ℕ) where
     here : Leased t o at
     here = leased t full ok (there .0) refl
 
-    pub one : leaseOf (view t) o ≡ some (lease (getD (t .generations) at 0) (getD (t .«attempt_starts») at 0) (getD (t .deadlines) at 0) (getD (t .deliveries) at 0))
+    pub one : leaseOf (view t) o ≡ some (lease (getD (t .generations) at 0) (getD (t .«attempt_starts») at 0) (getD (t .deadlines) at 0) (getD (t .deliveries) at 0) (getD (t .workers) at 0))
     one = lease-at t full ok o (there .0) refl
 
     pub owned : owns (leaseOf (view t) o) g ≡ true
     owned = rw one (eq-eqb _ _ (there .1))
 
     -- ## ack
-    pub acked : (ks gs ss ds ns : List ℕ) → take (t .len - (at + 1 - at)) ks ≡ removed at (at + 1) (take (t .len) (t .offsets))
-        → take (t .len - (at + 1 - at)) (leaseColumn gs ss ds ns) ≡ removed at (at + 1) (take (t .len) (leasesIn t))
-        → Answers (done tt) t (leasing (t .len - 1) ks gs ss ds ns t) (ack (view t) o g)
+    pub acked : (ks gs ss ds ns ws : List ℕ) → take (t .len - (at + 1 - at)) ks ≡ removed at (at + 1) (take (t .len) (t .offsets))
+        → take (t .len - (at + 1 - at)) (leaseColumn gs ss ds ns ws) ≡ removed at (at + 1) (take (t .len) (leasesIn t))
+        → Answers (done tt) t (leasing (t .len - 1) ks gs ss ds ns ws t) (ack (view t) o g)
     unfolding ack
-    acked ks gs ss ds ns v w =
+    acked ks gs ss ds ns ws v w =
         let z : t .len - 1 ≡ t .len - (at + 1 - at) = omega arith in
         takes-effect t ok (tokenRow (view t) o g ∷ []) tt (rw owned, tt)
         (record {

@@ -122,10 +122,10 @@ rest o c none h =
       counted = all-delete Counted o c (h .counted);
     }
 
-pub valid-grant : (t : Table) (o now : ℕ) → o ≤ MAX → eqb (t .nextGeneration) MAX ≡ false → (isNone (leaseOf t o) && leb LEASES (length (t .leases))) ≡ false
-    → Valid t → Valid (grant t o now)
-valid-grant t o now h n f v =
-    let new = lease (t .nextGeneration) now (deadlineFrom (t .config) now now) (nextCount t o) in
+pub valid-grant : (t : Table) (w o now : ℕ) → o ≤ MAX → eqb (t .nextGeneration) MAX ≡ false → (isNone (leaseOf t o) && leb LEASES (length (t .leases))) ≡ false
+    → Valid t → Valid (grant t w o now)
+valid-grant t w o now h n f v =
+    let new = lease (t .nextGeneration) now (deadlineFrom (t .config) now now) (nextCount t o) w in
     let c = rest o (t .carried) (leaseOf t o) (record { rising = v .carried-rising; few = v .carried-few; counted = v .carried-counted }) in
     record {
       rising = rising-put 0 o new (t .leases) (omega arith) (v .rising);

@@ -4,14 +4,14 @@ use Rattle.types.specs.Refusal.{refused, done, InFlight, CapReached}
 use Rattle.lease.specs.State.{Table, startingAt}
 use Rattle.lease.specs.Operations.{claim, extend}
 
--- the table with that lease, of offset 0 under generation 0
+-- the table with that lease, of offset 0 under generation 0, by worker 0
 abbrev pub leased : Table
-leased = claim (startingAt (record { «visibility_nanos» = 10; «hard_cap_nanos» = 25 }) 0) 0 100 .state
+leased = claim (startingAt (record { «visibility_nanos» = 10; «hard_cap_nanos» = 25 }) 0) 0 0 100 .state
 
 -- at 109 InFlight, at 110 count 2
 pub record Example7 : Type 0 where
-  pub at-109 : claim leased 0 109 .outcome ≡ refused InFlight
-  pub at-110 : claim leased 0 110 .outcome ≡ done (record { offset = 0; generation = 1; deliveries = 2 })
+  pub at-109 : claim leased 0 0 109 .outcome ≡ refused InFlight
+  pub at-110 : claim leased 0 0 110 .outcome ≡ done (record { offset = 0; generation = 1; deliveries = 2 })
 
 pub example-7 : Example7
 unfolding claim

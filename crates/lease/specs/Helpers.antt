@@ -35,8 +35,8 @@ grantedAt o g d n m r =
     }
 
 -- a table with other values in the parts that a claim of an offset with a lease looks at
-abbrev pub regranting : LeaseConfig → ℕ → ℕ → ℕ → ℕ → List ℕ → List ℕ → List ℕ → List ℕ → LeaseTable → LeaseTable
-regranting c n m g r gs ss ds ns t = gathered c n m g r (t .offsets) gs ss ds ns (t .«carried_offsets») (t .«carried_counts»)
+abbrev pub regranting : LeaseConfig → ℕ → ℕ → ℕ → ℕ → List ℕ → List ℕ → List ℕ → List ℕ → List ℕ → LeaseTable → LeaseTable
+regranting c n m g r gs ss ds ns ws t = gathered c n m g r (t .offsets) gs ss ds ns ws (t .«carried_offsets») (t .«carried_counts»)
 
 -- what a call answers on every table that has these parts and the lease of offset o at a place
 abbrev pub AnswersAt : {A : Type 0} → ℕ → ℕ → Result A → (LeaseTable → LeaseTable) → (LeaseTable → LeaseTable) → (Table → Answer A Table) → Type 0

@@ -1,4 +1,4 @@
--- The answer of a look-up for one lease.
+-- The answers of the look-ups for one lease.
 use Prim.Native.Nat.{ℕ}
 use mathlib.Core.List.{List, [], _∷_}
 use mathlib.Core.Option.{Option, none, some}
@@ -6,6 +6,13 @@ use Rattle.types.specs.Refusal.{Result, done}
 use Rattle.lease.specs.declared.Lease.{Lease}
 use Rattle.lease.specs.declared.lookup.LeaseAt.{LeaseAt}
 use Rattle.lease.specs.declared.lookup.LeaseAt.the-variants.{Some, None}
+use Rattle.lease.specs.declared.in_place.Hold.{Hold}
+use Rattle.lease.specs.declared.in_place.Hold.the-variants as hold
+
+-- the lease that was found, or none
+abbrev pub leaseIn : LeaseAt → Option Lease
+leaseIn (Some l) = some l
+leaseIn None = none
 
 -- the generation, attempt start, deadline and deliveries of a lease, or nothing
 abbrev pub leaseValues : Option Lease → List ℕ
@@ -14,5 +21,9 @@ leaseValues (some l) = l .generation .0 ∷ l .«attempt_start» ∷ l .deadline
 
 -- 01's answers for the cases of the enum
 abbrev pub leaseAt : LeaseAt → Result (List ℕ)
-leaseAt (Some l) = done (leaseValues (some l))
-leaseAt None = done (leaseValues none)
+leaseAt r = done (leaseValues (leaseIn r))
+
+-- how often the lease of a token was handed out and the worker who claimed it, or nothing
+abbrev pub holdIn : Hold → Option (ℕ × ℕ)
+holdIn (hold.Held n w) = some (n, w)
+holdIn hold.None = none

@@ -16,9 +16,9 @@ use Rattle.lease.specs.declared.LeaseConfig.{LeaseConfig}
 use Rattle.lease.specs.declared.Lease.{Lease}
 
 -- ## one lease
--- its generation, when its attempt began, its deadline, how often it was handed out
-abbrev pub lease : ℕ → ℕ → ℕ → ℕ → Lease
-lease g start deadline n = record { generation = record { 0 = g }; «attempt_start» = start; deadline = deadline; deliveries = n }
+-- its generation, when its attempt began, its deadline, how often it was handed out, and the worker who claimed it
+abbrev pub lease : ℕ → ℕ → ℕ → ℕ → ℕ → Lease
+lease g start deadline n w = record { generation = record { 0 = g }; «attempt_start» = start; deadline = deadline; deliveries = n; worker = w }
 
 -- the lease of an offset
 abbrev pub leaseOf : Table → ℕ → Option Lease
@@ -62,12 +62,12 @@ abbrev pub consumed : Option Lease → ℕ → List (Entry ℕ) → List (Entry 
 consumed (some l) o c = c
 consumed none o c = delete o c
 
--- the offset leased anew under the next generation, the attempt beginning now
-abbrev pub grant : Table → ℕ → ℕ → Table
-grant t o now =
+-- the offset leased anew by worker w under the next generation, the attempt beginning now
+abbrev pub grant : Table → ℕ → ℕ → ℕ → Table
+grant t w o now =
     record {
       config = t .config;
-      leases = put o (lease (t .nextGeneration) now (deadlineFrom (t .config) now now) (nextCount t o)) (t .leases);
+      leases = put o (lease (t .nextGeneration) now (deadlineFrom (t .config) now now) (nextCount t o) w) (t .leases);
       carried = consumed (leaseOf t o) o (t .carried);
       nextGeneration = t .nextGeneration + 1;
       redeliveries = afterGrant (t .redeliveries) (nextCount t o);
@@ -94,9 +94,9 @@ claimRows t o now =
     eqb (t .nextGeneration) MAX ⇒ Exhausted ∷
     (isNone (leaseOf t o) && leb LEASES (length (t .leases))) ⇒ Full ∷ []
 
--- a claim of offset o
-unfoldable pub claim : Table → ℕ → ℕ → Answer Grant Table
-claim t o now = guarded (claimRows t o now) t (answer (done (granted t o)) (grant t o now))
+-- a claim of offset o by worker w
+unfoldable pub claim : Table → ℕ → ℕ → ℕ → Answer Grant Table
+claim t w o now = guarded (claimRows t o now) t (answer (done (granted t o)) (grant t w o now))
 
 -- ## calls with a token, of offset o and generation g
 -- the row that all of them begin with, over the lease of the offset: 24
@@ -117,7 +117,7 @@ startOf (some l) = l .«attempt_start»
 
 -- a lease with another deadline
 abbrev pub withDeadline : ℕ → Lease → Lease
-withDeadline deadline l = lease (l .generation .0) (l .«attempt_start») deadline (l .deliveries)
+withDeadline deadline l = lease (l .generation .0) (l .«attempt_start») deadline (l .deliveries) (l .worker)
 
 -- over the lease: 24, 28
 abbrev pub extensionRows : LeaseConfig → Option Lease → ℕ → ℕ → List Row
@@ -136,9 +136,9 @@ extend t o g now =
     guarded (extendRows t o g now) t
     (answer (done (extended t o now)) (withLeases t (update o (withDeadline (extended t o now)) (t .leases))))
 
--- a lease given up until a deadline: a new generation fences its holder, and the count stays
+-- a lease given up until a deadline: a new generation fences its holder; the count and the worker stay
 abbrev pub requeuedAs : ℕ → ℕ → Lease → Lease
-requeuedAs g deadline l = lease g (l .«attempt_start») deadline (l .deliveries)
+requeuedAs g deadline l = lease g (l .«attempt_start») deadline (l .deliveries) (l .worker)
 
 -- the table with it
 abbrev pub requeue : Table → ℕ → ℕ → Table

@@ -24,7 +24,7 @@ releaseBelow t b = record { config = t .config; leases = dropBelow b (t .leases)
 
 -- a lease under another generation
 abbrev pub resealedAs : ℕ → Lease → Lease
-resealedAs g l = lease g (l .«attempt_start») (l .deadline) (l .deliveries)
+resealedAs g l = lease g (l .«attempt_start») (l .deadline) (l .deliveries) (l .worker)
 
 -- the lease of an offset under another generation, if it has the one that the caller claimed it under; the answer says
 -- whether it had
@@ -47,7 +47,7 @@ deferRedelivery t o now delay =
 
 -- a lease with its clock forward
 abbrev pub shiftedBy : ℕ → Lease → Lease
-shiftedBy delta l = lease (l .generation .0) (sat64 (l .«attempt_start») delta) (sat64 (l .deadline) delta) (l .deliveries)
+shiftedBy delta l = lease (l .generation .0) (sat64 (l .«attempt_start») delta) (sat64 (l .deadline) delta) (l .deliveries) (l .worker)
 
 -- every lease's clock forward, its deadline and the start of its attempt
 abbrev pub shiftDeadlines : Table → ℕ → Table
@@ -66,9 +66,21 @@ isClaimable t o now = not (running (leaseOf t o) now)
 abbrev pub deliveriesOf : Option Lease → Option ℕ
 deliveriesOf l = Option·map (λ (x : Lease). x .deliveries) l
 
+-- the worker who claimed a lease
+abbrev pub holderOf : Option Lease → Option ℕ
+holderOf l = Option·map (λ (x : Lease). x .worker) l
+
 -- the count of the lease that a token owns
 abbrev pub deliveries : Table → ℕ → ℕ → Option ℕ
 deliveries t o g = cond (owns (leaseOf t o) g) (deliveriesOf (leaseOf t o)) none
+
+-- the count of a lease, and the worker who claimed it
+abbrev pub holdOf : Option Lease → Option (ℕ × ℕ)
+holdOf l = Option·map (λ (x : Lease). (x .deliveries, x .worker)) l
+
+-- those of the lease that a token owns
+abbrev pub hold : Table → ℕ → ℕ → Option (ℕ × ℕ)
+hold t o g = cond (owns (leaseOf t o) g) (holdOf (leaseOf t o)) none
 
 -- a token owns a lease that still runs
 abbrev pub holdsActive : Table → ℕ → ℕ → ℕ → Bool

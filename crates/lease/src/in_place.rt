@@ -11,11 +11,10 @@ ghost use Rattle.tables.specs.Search.{Placed};
 ghost use Rattle.tables.specs.declared.Place.the-variants.{Missing};
 ghost use Rattle.lease.specs.State.{view};
 ghost use Rattle.lease.specs.Operations.{lease, leaseOf, claim, ack, extend, nack};
-ghost use Rattle.lease.specs.Rest.{releaseBelow, isClaimable, deliveriesOf, expired};
-ghost use Rattle.lease.specs.Rest as rest;
+ghost use Rattle.lease.specs.Rest.{releaseBelow, isClaimable, deliveriesOf, hold, expired};
 ghost use Rattle.lease.specs.Counts.{attemptCounts, allAttemptCounts};
 ghost use Rattle.lease.specs.Answers.{claimOf, ackOf, extendOf, nackOf, attemptsOf, Answers};
-ghost use Rattle.lease.specs.Lookup.{leaseValues, leaseAt};
+ghost use Rattle.lease.specs.Lookup.{leaseIn, holdIn};
 ghost use Rattle.lease.specs.Helpers.{grantedAt, regranting, AnswersAt, Owned};
 ghost use Rattle.lease.specs.Parts.{gathered, Whole, AnswersIn, BecomesIn, HoldsIn, leasing, extending, requeuing, releasing, counting, timing, keeping, listing, listingAll, carrying};
 use crate::AckOutcome;
@@ -55,6 +54,7 @@ pub fn claim_in_place(
     carried_len: usize,
     next: u64,
     redeliveries: u32,
+    worker: u32,
     offset: u64,
     now: u64,
     offsets: &mut [u64; LEASES],
@@ -62,14 +62,15 @@ pub fn claim_in_place(
     attempt_starts: &mut [u64; LEASES],
     deadlines: &mut [u64; LEASES],
     deliveries: &mut [u32; LEASES],
+    workers: &mut [u32; LEASES],
     carried_offsets: &mut [u64; CARRIED],
     carried_counts: &mut [u32; CARRIED],
 ) -> ClaimedAt
-    requires { ⌜ Whole (gathered config len «carried_len» next redeliveries (offsets .now) (generations .now) («attempt_starts» .now) (deadlines .now) (deliveries .now) («carried_offsets» .now) («carried_counts» .now)) ⌝ }
+    requires { ⌜ Whole (gathered config len «carried_len» next redeliveries (offsets .now) (generations .now) («attempt_starts» .now) (deadlines .now) (deliveries .now) (workers .now) («carried_offsets» .now) («carried_counts» .now)) ⌝ }
     ensures { λ r. ⌜ Answers (claimOf (r .outcome))
-        (gathered config len «carried_len» next redeliveries (offsets .entry .now) (generations .entry .now) («attempt_starts» .entry .now) (deadlines .entry .now) (deliveries .entry .now) («carried_offsets» .entry .now) («carried_counts» .entry .now))
-        (gathered config (r .len) (r .«carried_len») (r .«next_generation») (r .redeliveries) (offsets .exit .now) (generations .exit .now) («attempt_starts» .exit .now) (deadlines .exit .now) (deliveries .exit .now) («carried_offsets» .exit .now) («carried_counts» .exit .now))
-        (claim (view (gathered config len «carried_len» next redeliveries (offsets .entry .now) (generations .entry .now) («attempt_starts» .entry .now) (deadlines .entry .now) (deliveries .entry .now) («carried_offsets» .entry .now) («carried_counts» .entry .now))) offset now) ⌝ }
+        (gathered config len «carried_len» next redeliveries (offsets .entry .now) (generations .entry .now) («attempt_starts» .entry .now) (deadlines .entry .now) (deliveries .entry .now) (workers .entry .now) («carried_offsets» .entry .now) («carried_counts» .entry .now))
+        (gathered config (r .len) (r .«carried_len») (r .«next_generation») (r .redeliveries) (offsets .exit .now) (generations .exit .now) («attempt_starts» .exit .now) (deadlines .exit .now) (deliveries .exit .now) (workers .exit .now) («carried_offsets» .exit .now) («carried_counts» .exit .now))
+        (claim (view (gathered config len «carried_len» next redeliveries (offsets .entry .now) (generations .entry .now) («attempt_starts» .entry .now) (deadlines .entry .now) (deliveries .entry .now) (workers .entry .now) («carried_offsets» .entry .now) («carried_counts» .entry .now))) worker offset now) ⌝ }
 {
     let place = tables::find(offsets, len, offset);
     match place {
@@ -80,12 +81,14 @@ pub fn claim_in_place(
             carried_len,
             next,
             redeliveries,
+            worker,
             offset,
             now,
             generations,
             attempt_starts,
             deadlines,
             deliveries,
+            workers,
         ),
         Place::Missing(at) => claim_first(
             config,
@@ -94,6 +97,7 @@ pub fn claim_in_place(
             carried_len,
             next,
             redeliveries,
+            worker,
             offset,
             now,
             offsets,
@@ -101,6 +105,7 @@ pub fn claim_in_place(
             attempt_starts,
             deadlines,
             deliveries,
+            workers,
             carried_offsets,
             carried_counts,
         ),
@@ -115,15 +120,17 @@ fn claim_again(
     carried_len: usize,
     generation: u64,
     redeliveries: u32,
+    worker: u32,
     offset: u64,
     now: u64,
     generations: &mut [u64; LEASES],
     attempt_starts: &mut [u64; LEASES],
     deadlines: &mut [u64; LEASES],
     deliveries: &mut [u32; LEASES],
+    workers: &mut [u32; LEASES],
 ) -> ClaimedAt
     requires { ⌜ at < LEASES ⌝ }
-    ensures { λ r. ⌜ AnswersAt offset at (claimOf (r .outcome)) (regranting config len «carried_len» generation redeliveries (generations .entry .now) («attempt_starts» .entry .now) (deadlines .entry .now) (deliveries .entry .now)) (regranting config (r .len) (r .«carried_len») (r .«next_generation») (r .redeliveries) (generations .exit .now) («attempt_starts» .exit .now) (deadlines .exit .now) (deliveries .exit .now)) (λ s. claim s offset now) ⌝ }
+    ensures { λ r. ⌜ AnswersAt offset at (claimOf (r .outcome)) (regranting config len «carried_len» generation redeliveries (generations .entry .now) («attempt_starts» .entry .now) (deadlines .entry .now) (deliveries .entry .now) (workers .entry .now)) (regranting config (r .len) (r .«carried_len») (r .«next_generation») (r .redeliveries) (generations .exit .now) («attempt_starts» .exit .now) (deadlines .exit .now) (deliveries .exit .now) (workers .exit .now)) (λ s. claim s worker offset now) ⌝ }
 {
     if now < deadlines[at] {
         return ClaimedAt {
@@ -148,6 +155,7 @@ fn claim_again(
     attempt_starts[at] = now;
     deadlines[at] = config.deadline(now, now);
     deliveries[at] = count;
+    workers[at] = worker;
     granted(offset, generation, count, len, carried_len, redeliveries)
 }
 
@@ -159,6 +167,7 @@ fn claim_first(
     carried_len: usize,
     next: u64,
     redeliveries: u32,
+    worker: u32,
     offset: u64,
     now: u64,
     offsets: &mut [u64; LEASES],
@@ -166,14 +175,15 @@ fn claim_first(
     attempt_starts: &mut [u64; LEASES],
     deadlines: &mut [u64; LEASES],
     deliveries: &mut [u32; LEASES],
+    workers: &mut [u32; LEASES],
     carried_offsets: &mut [u64; CARRIED],
     carried_counts: &mut [u32; CARRIED],
 ) -> ClaimedAt
-    requires { ⌜ Whole (gathered config len «carried_len» next redeliveries (offsets .now) (generations .now) («attempt_starts» .now) (deadlines .now) (deliveries .now) («carried_offsets» .now) («carried_counts» .now)) × Placed offset (take len (offsets .now)) (Missing at) ⌝ }
+    requires { ⌜ Whole (gathered config len «carried_len» next redeliveries (offsets .now) (generations .now) («attempt_starts» .now) (deadlines .now) (deliveries .now) (workers .now) («carried_offsets» .now) («carried_counts» .now)) × Placed offset (take len (offsets .now)) (Missing at) ⌝ }
     ensures { λ r. ⌜ Answers (claimOf (r .outcome))
-        (gathered config len «carried_len» next redeliveries (offsets .entry .now) (generations .entry .now) («attempt_starts» .entry .now) (deadlines .entry .now) (deliveries .entry .now) («carried_offsets» .entry .now) («carried_counts» .entry .now))
-        (gathered config (r .len) (r .«carried_len») (r .«next_generation») (r .redeliveries) (offsets .exit .now) (generations .exit .now) («attempt_starts» .exit .now) (deadlines .exit .now) (deliveries .exit .now) («carried_offsets» .exit .now) («carried_counts» .exit .now))
-        (claim (view (gathered config len «carried_len» next redeliveries (offsets .entry .now) (generations .entry .now) («attempt_starts» .entry .now) (deadlines .entry .now) (deliveries .entry .now) («carried_offsets» .entry .now) («carried_counts» .entry .now))) offset now) ⌝ }
+        (gathered config len «carried_len» next redeliveries (offsets .entry .now) (generations .entry .now) («attempt_starts» .entry .now) (deadlines .entry .now) (deliveries .entry .now) (workers .entry .now) («carried_offsets» .entry .now) («carried_counts» .entry .now))
+        (gathered config (r .len) (r .«carried_len») (r .«next_generation») (r .redeliveries) (offsets .exit .now) (generations .exit .now) («attempt_starts» .exit .now) (deadlines .exit .now) (deliveries .exit .now) (workers .exit .now) («carried_offsets» .exit .now) («carried_counts» .exit .now))
+        (claim (view (gathered config len «carried_len» next redeliveries (offsets .entry .now) (generations .entry .now) («attempt_starts» .entry .now) (deadlines .entry .now) (deliveries .entry .now) (workers .entry .now) («carried_offsets» .entry .now) («carried_counts» .entry .now))) worker offset now) ⌝ }
 {
     if next == MAX {
         return ClaimedAt {
@@ -204,6 +214,7 @@ fn claim_first(
     tables::insert_64(attempt_starts, len, at, now);
     tables::insert_64(deadlines, len, at, deadline);
     tables::insert_count_64(deliveries, len, at, count);
+    tables::insert_count_64(workers, len, at, worker);
     granted(offset, next, count, len + 1, left, redeliveries)
 }
 
@@ -274,9 +285,10 @@ pub fn ack_in_place(
     attempt_starts: &mut [u64; LEASES],
     deadlines: &mut [u64; LEASES],
     deliveries: &mut [u32; LEASES],
+    workers: &mut [u32; LEASES],
 ) -> AckedAt
     requires { ⌜ len ≤ LEASES ⌝ }
-    ensures { λ r. ⌜ AnswersIn (ackOf (r .outcome)) (leasing len (offsets .entry .now) (generations .entry .now) («attempt_starts» .entry .now) (deadlines .entry .now) (deliveries .entry .now)) (leasing (r .len) (offsets .exit .now) (generations .exit .now) («attempt_starts» .exit .now) (deadlines .exit .now) (deliveries .exit .now)) (λ s. ack s offset generation) ⌝ }
+    ensures { λ r. ⌜ AnswersIn (ackOf (r .outcome)) (leasing len (offsets .entry .now) (generations .entry .now) («attempt_starts» .entry .now) (deadlines .entry .now) (deliveries .entry .now) (workers .entry .now)) (leasing (r .len) (offsets .exit .now) (generations .exit .now) («attempt_starts» .exit .now) (deadlines .exit .now) (deliveries .exit .now) (workers .exit .now)) (λ s. ack s offset generation) ⌝ }
 {
     let place = owned(len, offset, generation, offsets, generations);
     let Place::Found(at) = place else {
@@ -291,6 +303,7 @@ pub fn ack_in_place(
     tables::remove_64(attempt_starts, len, at, next);
     tables::remove_64(deadlines, len, at, next);
     tables::remove_counts_64(deliveries, len, at, next);
+    tables::remove_counts_64(workers, len, at, next);
     AckedAt {
         outcome: AckOutcome::Acked,
         len: len - 1,
@@ -384,12 +397,13 @@ pub fn release_below_in_place(
     attempt_starts: &mut [u64; LEASES],
     deadlines: &mut [u64; LEASES],
     deliveries: &mut [u32; LEASES],
+    workers: &mut [u32; LEASES],
     carried_offsets: &mut [u64; CARRIED],
     carried_counts: &mut [u32; CARRIED],
 ) -> ReleasedAt
     ensures { λ r. ⌜ BecomesIn
-        (releasing len «carried_len» (offsets .entry .now) (generations .entry .now) («attempt_starts» .entry .now) (deadlines .entry .now) (deliveries .entry .now) («carried_offsets» .entry .now) («carried_counts» .entry .now))
-        (releasing (r .len) (r .«carried_len») (offsets .exit .now) (generations .exit .now) («attempt_starts» .exit .now) (deadlines .exit .now) (deliveries .exit .now) («carried_offsets» .exit .now) («carried_counts» .exit .now))
+        (releasing len «carried_len» (offsets .entry .now) (generations .entry .now) («attempt_starts» .entry .now) (deadlines .entry .now) (deliveries .entry .now) (workers .entry .now) («carried_offsets» .entry .now) («carried_counts» .entry .now))
+        (releasing (r .len) (r .«carried_len») (offsets .exit .now) (generations .exit .now) («attempt_starts» .exit .now) (deadlines .exit .now) (deliveries .exit .now) (workers .exit .now) («carried_offsets» .exit .now) («carried_counts» .exit .now))
         (λ s. releaseBelow s «up_to») ⌝ }
 {
     let carried = tables::position(carried_offsets, carried_len, up_to);
@@ -401,6 +415,7 @@ pub fn release_below_in_place(
     tables::remove_64(attempt_starts, len, 0, first);
     tables::remove_64(deadlines, len, 0, first);
     tables::remove_counts_64(deliveries, len, 0, first);
+    tables::remove_counts_64(workers, len, 0, first);
     ReleasedAt {
         len: len - first,
         carried_len: carried_len - carried,
@@ -414,9 +429,10 @@ pub fn lease_at<'a>(
     attempt_starts: &'a [u64; LEASES],
     deadlines: &'a [u64; LEASES],
     deliveries: &'a [u32; LEASES],
+    workers: &'a [u32; LEASES],
 ) -> Lease
     requires { ⌜ at < LEASES ⌝ }
-    ensures { λ r. ⌜ r ≡ lease (getD (generations .entry .now) at 0) (getD («attempt_starts» .entry .now) at 0) (getD (deadlines .entry .now) at 0) (getD (deliveries .entry .now) at 0) ⌝ }
+    ensures { λ r. ⌜ r ≡ lease (getD (generations .entry .now) at 0) (getD («attempt_starts» .entry .now) at 0) (getD (deadlines .entry .now) at 0) (getD (deliveries .entry .now) at 0) (getD (workers .entry .now) at 0) ⌝ }
 {
     let generation = Generation(generations[at]);
     Lease {
@@ -424,6 +440,7 @@ pub fn lease_at<'a>(
         attempt_start: attempt_starts[at],
         deadline: deadlines[at],
         deliveries: deliveries[at],
+        worker: workers[at],
     }
 }
 
@@ -436,34 +453,53 @@ pub fn lease_in_place<'a>(
     attempt_starts: &'a [u64; LEASES],
     deadlines: &'a [u64; LEASES],
     deliveries: &'a [u32; LEASES],
+    workers: &'a [u32; LEASES],
 ) -> LeaseAt
     requires { ⌜ len ≤ LEASES ⌝ }
-    ensures { λ r. ⌜ HoldsIn (leasing len (offsets .entry .now) (generations .entry .now) («attempt_starts» .entry .now) (deadlines .entry .now) (deliveries .entry .now)) (λ s. leaseAt r ≡ done (leaseValues (leaseOf s offset))) ⌝ }
+    ensures { λ r. ⌜ HoldsIn (leasing len (offsets .entry .now) (generations .entry .now) («attempt_starts» .entry .now) (deadlines .entry .now) (deliveries .entry .now) (workers .entry .now)) (λ s. leaseIn r ≡ leaseOf s offset) ⌝ }
 {
     let place = tables::find(offsets, len, offset);
     let Place::Found(at) = place else {
         return LeaseAt::None;
     };
-    LeaseAt::Some(lease_at(at, generations, attempt_starts, deadlines, deliveries))
+    LeaseAt::Some(lease_at(
+        at,
+        generations,
+        attempt_starts,
+        deadlines,
+        deliveries,
+        workers,
+    ))
 }
 
-// What `LeaseTable::deliveries` answers.
-pub fn deliveries_in_place<'a>(
+// The lease that a token owns, where it owns one: how often it was handed out, and the worker who claimed it.
+pub enum Hold {
+    Held { deliveries: u32, worker: u32 },
+    None,
+}
+
+// What a call with a token asks of its lease.
+pub fn hold_in_place<'a>(
     len: usize,
     offset: u64,
     generation: u64,
     offsets: &'a [u64; LEASES],
     generations: &'a [u64; LEASES],
     deliveries: &'a [u32; LEASES],
-) -> Attempts
+    workers: &'a [u32; LEASES],
+) -> Hold
     requires { ⌜ len ≤ LEASES ⌝ }
-    ensures { λ r. ⌜ HoldsIn (counting len (offsets .entry .now) (generations .entry .now) (deliveries .entry .now)) (λ s. attemptsOf r ≡ done (optional (rest.deliveries s offset generation))) ⌝ }
+    ensures { λ r. ⌜ HoldsIn (counting len (offsets .entry .now) (generations .entry .now) (deliveries .entry .now) (workers .entry .now)) (λ s. holdIn r ≡ hold s offset generation) ⌝ }
 {
     let place = owned(len, offset, generation, offsets, generations);
     let Place::Found(at) = place else {
-        return Attempts::None;
+        return Hold::None;
     };
-    Attempts::Some(deliveries[at])
+    let worker = workers[at];
+    Hold::Held {
+        deliveries: deliveries[at],
+        worker,
+    }
 }
 
 // How often an offset that is in flight was handed out.

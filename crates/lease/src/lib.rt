@@ -14,6 +14,7 @@ ghost use Rattle.lease.specs.Operations.{claim, ack, extend, nack, capFr
 ghost use Rattle.lease.specs.Rest.{attemptsFlushed, releaseBelow, resealFromTo, deferRedelivery, shiftDeadlines, inFlight, isClaimable, deliveries, holdsActive, pendingRedeliveryAttempt};
 ghost use Rattle.lease.specs.Helpers.{laterBy};
 ghost use Rattle.lease.specs.Answers.{claimOf, ackOf, extendOf, nackOf, attemptsOf, Answers, Tries, Becomes};
+use in_place::Hold;
 use lookup::LeaseAt;
 use tables::Place;
 use types::Generation;
@@ -95,6 +96,8 @@ pub struct Lease {
     pub attempt_start: u64,
     pub deadline: u64,
     pub deliveries: u32,
+    // The number of the worker who claimed it, which the module hands out and tests nowhere.
+    pub worker: u32,
 }
 
 // What a claim answers: the token with the number of hand-outs so far, this one counted; or refusal 23, 25 or 27.
@@ -148,6 +151,7 @@ pub struct LeaseTable {
     pub attempt_starts: [u64; LEASES],
     pub deadlines: [u64; LEASES],
     pub deliveries: [u32; LEASES],
+    pub workers: [u32; LEASES],
     pub len: usize,
     // The counts that a restart carried over: an offset's first lease takes its count over and goes on from it.
     pub carried_offsets: [u64; CARRIED],
@@ -217,6 +221,7 @@ impl LeaseTable {
             attempt_starts: [0; LEASES],
             deadlines: [0; LEASES],
             deliveries: [0; LEASES],
+            workers: [0; LEASES],
             len: 0,
             carried_offsets: [0; CARRIED],
             carried_counts: [0; CARRIED],
@@ -260,6 +265,7 @@ impl LeaseTable {
         let mut attempt_starts = self.attempt_starts;
         let mut deadlines = self.deadlines;
         let mut deliveries = self.deliveries;
+        let mut workers = self.workers;
         let mut carried_offsets = self.carried_offsets;
         let mut carried_counts = self.carried_counts;
         let left = in_place::release_below_in_place(
@@ -271,6 +277,7 @@ impl LeaseTable {
             &mut attempt_starts,
             &mut deadlines,
             &mut deliveries,
+            &mut workers,
             &mut carried_offsets,
             &mut carried_counts,
         );
@@ -279,6 +286,7 @@ impl LeaseTable {
         self.attempt_starts = attempt_starts;
         self.deadlines = deadlines;
         self.deliveries = deliveries;
+        self.workers = workers;
         self.len = left.len;
         self.carried_offsets = carried_offsets;
         self.carried_counts = carried_counts;
@@ -286,18 +294,19 @@ impl LeaseTable {
         self
     }
 
-    // Claims an offset for delivery. One with no lease, or with a lease that has run out, is granted: the attempt begins now,
-    // under the next generation, which fences off whoever held the offset before. The count goes on from the lease's, or
-    // from the carried one, which the new lease takes over.
-    pub fn claim(mut self, offset: Offset, now: u64) -> Claimed
+    // Claims an offset for delivery to a worker. One with no lease, or with a lease that has run out, is granted: the attempt
+    // begins now, under the next generation, which fences off whoever held the offset before. The count goes on from the lease's,
+    // or from the carried one, which the new lease takes over.
+    pub fn claim(mut self, worker: u32, offset: Offset, now: u64) -> Claimed
         requires { ⌜ Sound self ⌝ }
-        ensures { λ r. ⌜ Answers (claimOf (r .outcome)) self (r .table) (claim (view self) (offset .0) now) ⌝ }
+        ensures { λ r. ⌜ Answers (claimOf (r .outcome)) self (r .table) (claim (view self) worker (offset .0) now) ⌝ }
     {
         let mut offsets = self.offsets;
         let mut generations = self.generations;
         let mut attempt_starts = self.attempt_starts;
         let mut deadlines = self.deadlines;
         let mut deliveries = self.deliveries;
+        let mut workers = self.workers;
         let mut carried_offsets = self.carried_offsets;
         let mut carried_counts = self.carried_counts;
         let claimed = in_place::claim_in_place(
@@ -306,6 +315,7 @@ impl LeaseTable {
             self.carried_len,
             self.next_generation.0,
             self.redeliveries_since_flush,
+            worker,
             offset.0,
             now,
             &mut offsets,
@@ -313,6 +323,7 @@ impl LeaseTable {
             &mut attempt_starts,
             &mut deadlines,
             &mut deliveries,
+            &mut workers,
             &mut carried_offsets,
             &mut carried_counts,
         );
@@ -321,6 +332,7 @@ impl LeaseTable {
         self.attempt_starts = attempt_starts;
         self.deadlines = deadlines;
         self.deliveries = deliveries;
+        self.workers = workers;
         self.len = claimed.len;
         self.carried_offsets = carried_offsets;
         self.carried_counts = carried_counts;
@@ -379,6 +391,7 @@ impl LeaseTable {
         let mut attempt_starts = self.attempt_starts;
         let mut deadlines = self.deadlines;
         let mut deliveries = self.deliveries;
+        let mut workers = self.workers;
         let done = in_place::ack_in_place(
             self.len,
             token.offset.0,
@@ -388,12 +401,14 @@ impl LeaseTable {
             &mut attempt_starts,
             &mut deadlines,
             &mut deliveries,
+            &mut workers,
         );
         self.offsets = offsets;
         self.generations = generations;
         self.attempt_starts = attempt_starts;
         self.deadlines = deadlines;
         self.deliveries = deliveries;
+        self.workers = workers;
         self.len = done.len;
         let outcome = done.outcome;
         Acked {
@@ -434,14 +449,22 @@ impl LeaseTable {
         requires { ⌜ Sound self ⌝ }
         ensures { λ r. ⌜ attemptsOf r ≡ done (optional (deliveries (view self) (token .offset .0) (token .generation .0))) ⌝ }
     {
-        in_place::deliveries_in_place(
+        let held = in_place::hold_in_place(
             self.len,
             token.offset.0,
             token.generation.0,
             &self.offsets,
             &self.generations,
             &self.deliveries,
-        )
+            &self.workers,
+        );
+        match held {
+            Hold::Held {
+                deliveries,
+                worker: _,
+            } => Attempts::Some(deliveries),
+            Hold::None => Attempts::None,
+        }
     }
 
     // Whether the token owns its lease and the lease still runs.

@@ -6,7 +6,7 @@ ghost use Rattle.types.specs.Keyed.{lookup, anyBelow};
 ghost use Rattle.lease.specs.State.{Sound, view};
 ghost use Rattle.lease.specs.Operations.{leaseOf};
 ghost use Rattle.lease.specs.Answers.{attemptsOf};
-ghost use Rattle.lease.specs.Lookup.{leaseValues, leaseAt};
+ghost use Rattle.lease.specs.Lookup.{leaseIn};
 use crate::Attempts;
 use crate::Lease;
 use crate::LeaseTable;
@@ -23,7 +23,7 @@ impl LeaseTable {
     // The lease of an offset, run out or not.
     pub fn lease_of(self, offset: Offset) -> LeaseAt
         requires { ⌜ Sound self ⌝ }
-        ensures { λ r. ⌜ leaseAt r ≡ done (leaseValues (leaseOf (view self) (offset .0))) ⌝ }
+        ensures { λ r. ⌜ leaseIn r ≡ leaseOf (view self) (offset .0) ⌝ }
     {
         in_place::lease_in_place(
             self.len,
@@ -33,6 +33,7 @@ impl LeaseTable {
             &self.attempt_starts,
             &self.deadlines,
             &self.deliveries,
+            &self.workers,
         )
     }
 

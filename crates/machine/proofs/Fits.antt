@@ -35,7 +35,7 @@ use Rattle.machine.proofs.calls.Question.Laws as question-laws
 use Rattle.machine.proofs.calls.Ask as ask
 use Rattle.machine.proofs.calls.Ask.Laws as ask-laws
 
-number-fits : (n : ℕ) → n < 2 ^ 64 → u64 n ≡ true
+pub number-fits : (n : ℕ) → n < 2 ^ 64 → u64 n ≡ true
 number-fits n h = le-leb n MAX (omega arith)
 
 offset-fits : (o : Offset) (vs : List Val) → Is offset.the-row o vs → u64 (o .0) ≡ true

@@ -3,21 +3,27 @@ use Prim.Native.Nat.{ℕ}
 use mathlib.Core.Path.{_≡_, refl, sym, ap, subst, _∙_}
 use mathlib.Core.Bool.{true, false}
 use mathlib.Core.List.{List, [], _∷_, _++_, append-assoc}
+use mathlib.Core.Option.{none, some}
 use lib.Dec.{ltb}
 use lib.ListN.{length, drop, replicate}
 use lib.Seq.{take-at}
-use Rattle.types.specs.Refusal.{Result, refused, done, OutTooShort}
-use Rattle.types.specs.Table.{_⇒_, Answer, answer, checked}
+use Rattle.types.specs.Refusal.{Refusal, Result, refused, done, OutTooShort, UnknownWorker, NotPermitted}
+use Rattle.types.specs.Table.{_⇒_, first, Answer, answer, checked}
 use Rattle.types.specs.Lists.{listed}
 use Rattle.types.proofs.Cases.{split}
 use Rattle.types.proofs.Checked.{refused-not-done, done-inj}
 use Rattle.types.specs.Lists.{listedOf}
 use Rattle.types.specs.declared.lent.Listed.{Listed}
 use Rattle.types.specs.declared.lent.Listed.the-variants as lists
-use Rattle.consumer.specs.Questions.{Question, Waiting, waitingAt, reply}
-use Rattle.consumer.specs.View.{view, Sound}
+use Rattle.consumer.specs.Rights.{looking}
+use Rattle.consumer.specs.Calls.{callRows}
+use Rattle.consumer.specs.Questions.{Question, Waiting, Committed, IsSettled, LeaseOf, CountOf, InFlight, IsDue, BlocksLeft, waitingAt, reply}
+use Rattle.consumer.specs.Questions as questions
+use Rattle.consumer.specs.View.{view, Sound, permissionOf}
 use Rattle.consumer.specs.Parts.{Whole}
 use Rattle.consumer.specs.declared.Consumer.{Consumer}
+use Rattle.consumer.specs.declared.rights.Permission.{Permission}
+use Rattle.consumer.specs.declared.rights.Permission.the-variants as permission
 use Rattle.machine.specs.Calls.{look, looked}
 use Rattle.machine.specs.Transitions.{gives, idle}
 use Rattle.machine.specs.Answers.{askOf, firstPlaces, listOf, replyOf, answeredList, filledWith, listIn, argumentsIn, askedBy}
@@ -36,8 +42,8 @@ lent {c} w = c
 -- a reply that fills no list
 pub replied : (c : Consumer) {q q′ : Question} (out : List ℕ) (r : Reply) → q ≡ q′ → askedBy (argumentsIn q′) r ≡ q′ → replyOf r out ≡ reply (view c) q′
     → listIn q′ (reply (view c) q′) ≡ []
-    → LookedIs c q out r out
-replied c {q} {q′} out r e k h l = subst (λ (x : Question). LookedIs c x out r out) (sym e) (record { kind = k; is = h; lists = rw l })
+    → LookedIs (reply (view c) q) q out r out
+replied c {q} {q′} out r e k h l = subst (λ (x : Question). LookedIs (reply (view c) x) x out r out) (sym e) (record { kind = k; is = h; lists = rw l })
 
 -- a list that was put into lent memory, or had no room there
 module _ (list out out′ : List ℕ) where
@@ -72,15 +78,53 @@ module _ (list out out′ : List ℕ) where
       record { is = rw (t, whole) (ap done (at-front n m)); fills = rw t whole })
 
 pub waiting-replied : (c : Consumer) {q : Question} (now : ℕ) (out out′ : List ℕ) (r : Listed) → q ≡ Waiting now (length out)
-    → answer (listedOf r) out′ ≡ listed (waitingAt (view c) now) out → LookedIs c q out (replies.Waiting r) out′
+    → answer (listedOf r) out′ ≡ listed (waitingAt (view c) now) out → LookedIs (reply (view c) q) q out (replies.Waiting r) out′
 waiting-replied c now out out′ r e h =
     let p = listed-puts (waitingAt (view c) now) out out′ r h in
-    subst (λ (x : Question). LookedIs c x out (replies.Waiting r) out′) (sym e) (record { kind = refl; is = p .is; lists = p .fills })
+    subst (λ (x : Question). LookedIs (reply (view c) x) x out (replies.Waiting r) out′) (sym e) (record { kind = refl; is = p .is; lists = p .fills })
+
+-- ## who may look
+-- a refused question fills no list, and is the one that was asked
+no-list : (q : Question) (f : Refusal) → listIn q (refused f) ≡ []
+no-list (Waiting now room) f = refl
+no-list Committed f = refl
+no-list (IsSettled o) f = refl
+no-list (LeaseOf o) f = refl
+no-list (CountOf o) f = refl
+no-list InFlight f = refl
+no-list IsDue f = refl
+no-list BlocksLeft f = refl
+
+asked-itself : (q : Question) → argumentsIn q .question ≡ q
+asked-itself (Waiting now room) = refl
+asked-itself Committed = refl
+asked-itself (IsSettled o) = refl
+asked-itself (LeaseOf o) = refl
+asked-itself (CountOf o) = refl
+asked-itself InFlight = refl
+asked-itself IsDue = refl
+asked-itself BlocksLeft = refl
+
+module _ (c : Consumer) (w : ℕ) (q : Question) (out : List ℕ) (p : Permission) (says : permissionOf p ≡ first (callRows (view c) w looking)) where
+  refused-look : (f : Refusal) (r : Reply) → permissionOf p ≡ some f → replyOf r out ≡ refused f → askedBy (argumentsIn q) r ≡ argumentsIn q .question
+      → LookedIs (questions.look (view c) w q) q out r out
+  refused-look f r e is own =
+      let met : first (callRows (view c) w looking) ≡ some f = sym says ∙ e in
+      record { kind = own ∙ asked-itself q; is = rw met is; lists = rw (met, no-list q f) }
+
+  pub look-unknown : p ≡ permission.UnknownWorker → LookedIs (questions.look (view c) w q) q out replies.UnknownWorker out
+  look-unknown e = refused-look UnknownWorker replies.UnknownWorker (ap permissionOf e) refl refl
+
+  pub look-not-permitted : p ≡ permission.NotPermitted → LookedIs (questions.look (view c) w q) q out replies.NotPermitted out
+  look-not-permitted e = refused-look NotPermitted replies.NotPermitted (ap permissionOf e) refl refl
+
+  pub look-answered : p ≡ permission.Granted → (r : Reply) (out′ : List ℕ) → LookedIs (reply (view c) q) q out r out′ → LookedIs (questions.look (view c) w q) q out r out′
+  look-answered e r out′ h = let met : first (callRows (view c) w looking) ≡ none = sym says ∙ ap permissionOf e in rw met h
 
 -- ## calls
 module _ {c : Consumer} {out out′ : List ℕ} where
-  pub looked-asked : {q : Question} {r : Reply} → Sound c → LookedIs c q out r out′ → AskedIs c (look q) out (record { answer = answers.Looked r; consumer = c }) out′
-  looked-asked {q} {r} ok h =
+  pub looked-asked : {w : ℕ} {q : Question} {r : Reply} → Sound c → LookedIs (questions.look (view c) w q) q out r out′ → AskedIs c w (look q) out (record { answer = answers.Looked r; consumer = c }) out′
+  looked-asked {w} {q} {r} ok h =
       record {
         is = λ a.
             ap (λ (x : Question). gives (looked x (replyOf r out′)) (idle (view c)) a) (h .kind)
@@ -91,5 +135,5 @@ module _ {c : Consumer} {out out′ : List ℕ} where
       }
 
   -- the same of a call of which it is known which it is
-  pub asked-as : (room : ℕ) {q q′ : code.Ask} {r : Asked} → q ≡ q′ → AskedIs c (askOf room q′) out r out′ → AskedIs c (askOf room q) out r out′
-  asked-as room {q} {q′} {r} e h = subst (λ (x : code.Ask). AskedIs c (askOf room x) out r out′) (sym e) h
+  pub asked-as : {w : ℕ} (room : ℕ) {q q′ : code.Ask} {r : Asked} → q ≡ q′ → AskedIs c w (askOf room q′) out r out′ → AskedIs c w (askOf room q) out r out′
+  asked-as {w} room {q} {q′} {r} e h = subst (λ (x : code.Ask). AskedIs c w (askOf room x) out r out′) (sym e) h

@@ -3,8 +3,10 @@
 use Prim.Native.Nat.{ℕ, zero, suc}
 use mathlib.Core.Path.{_≡_, refl, sym, ap, subst, _∙_}
 use mathlib.Core.Bool.{Bool, true, false}
-use mathlib.Core.List.{List}
+use mathlib.Core.List.{List, [], _∷_}
 use mathlib.Core.Option.{Option, none}
+use types.Run.{OneOf, miss}
+use denote.Enum.Declared.{tagOf}
 use Rattle.types.specs.Refusal.{Refusal, Result, refused, done}
 use Rattle.types.specs.Refusal as refusal
 use Rattle.types.specs.Table.{Answer, answer, Kept}
@@ -17,10 +19,12 @@ use Rattle.consumer.specs.declared.Consumer.{Consumer}
 use Rattle.consumer.specs.declared.Configuration.{Configuration}
 use Rattle.checkpoint.specs.Checkpoint.{writes, going, BlockWritten, Lent, lent, stepTable}
 use Rattle.checkpoint.specs.Checkpoint as checkpoint
-use Rattle.checkpoint.specs.Writing.{viewWriting, SoundWriting, BegunIs, stepOf, leftOf, SoundLeft, SteppedIs}
+use Rattle.checkpoint.specs.Writing.{viewWriting, SoundWriting, beginOf, BegunIs, stepOf, leftOf, SoundLeft, SteppedIs}
 use Rattle.checkpoint.specs.declared.Writing.{Writing}
 use Rattle.checkpoint.specs.declared.Begun.{Begun}
+use Rattle.checkpoint.specs.declared.BeginAnswer.{BeginAnswer}
 use Rattle.checkpoint.specs.declared.BeginAnswer.the-variants as begins
+use Rattle.checkpoint.proofs.BeginAnswer as begin-answer
 use Rattle.checkpoint.specs.declared.Stepped.{Stepped}
 use Rattle.checkpoint.specs.declared.StepAnswer.{StepAnswer}
 use Rattle.checkpoint.specs.declared.StepAnswer.the-variants as steps
@@ -29,9 +33,9 @@ use Rattle.starts.specs.Starting.{configurationOf, StartedIs}
 use Rattle.starts.specs.declared.Started.{Started}
 use Rattle.starts.specs.declared.StartAnswer.the-variants as starts
 use Rattle.starts.proofs.Restarting.{Other, other-faulty}
-use Rattle.machine.specs.Calls.{Ask, Call, ask, begin, step, restart, fits}
+use Rattle.machine.specs.Calls.{Ask, Call, ask, begin, step, restart, u64, fits}
 use Rattle.machine.specs.Transitions.{writing, After, onState, onRecord, leftAs, transition}
-use Rattle.machine.specs.Answers.{callOf, AskKept}
+use Rattle.machine.specs.Answers.{callOf, AskKept, begunOf}
 use Rattle.machine.specs.View as machine
 use Rattle.machine.specs.View.{AskedIs, OffIs, phaseAt, phaseOf, SoundAt, Sound, held, CalledIs, Rests, phaseAfter}
 use Rattle.machine.specs.declared.calls.Asked.{Asked}
@@ -78,17 +82,17 @@ module _ (m : Machine) (ok : Sound m) (a out : List ℕ) where
       → CalledIs m q a out (record { answer = calls.NotNow; machine = m }) a out
   not-now q e = record { is = sym e; sound = ok; configuration = refl; kept = refl; lists = rw e }
 
-  pub not-begun : (m .phase ≡ 0 → ⊥) → CalledIs m begin a out (record { answer = calls.NotNow; machine = m }) a out
+  pub not-begun : (w : ℕ) → u64 w ≡ true → (m .phase ≡ 0 → ⊥) → CalledIs m (begin w) a out (record { answer = calls.NotNow; machine = m }) a out
   unfolding transition
-  not-begun h = not-now begin (not-idle (m .phase) (m .writing) _ h)
+  not-begun w f h = not-now (begin w) (rw f (not-idle (m .phase) (m .writing) _ h))
 
   pub not-stepped : (m .phase ≡ 1 → ⊥) → CalledIs m step a out (record { answer = calls.NotNow; machine = m }) a out
   unfolding transition
   not-stepped h = not-now step (not-writing (m .phase) (m .writing) _ h)
 
-  pub not-asked : (q : Ask) → fits q ≡ true → (m .phase ≡ 0 → ⊥) → CalledIs m (ask q) a out (record { answer = calls.NotNow; machine = m }) a out
+  pub not-asked : (w : ℕ) (q : Ask) → u64 w ≡ true → fits q ≡ true → (m .phase ≡ 0 → ⊥) → CalledIs m (ask w q) a out (record { answer = calls.NotNow; machine = m }) a out
   unfolding transition
-  not-asked q f h = not-now (ask q) (rw f (not-idle (m .phase) (m .writing) _ h))
+  not-asked w q g f h = not-now (ask w q) (rw (g, f) (not-idle (m .phase) (m .writing) _ h))
 
 -- ## on the state
 -- the invariant of a machine in its phase
@@ -114,35 +118,55 @@ holding m c =
           };
     }
 
+-- an answer that refuses a begin, as the definitions have it and as it is seen
+pub record RefusedBegin (answer : BeginAnswer) (w : Writing) : Type 0 where
+  pub refusal : Refusal
+  pub is : beginOf answer w ≡ refused refusal
+  pub seen : begunOf answer ≡ refused refusal
+
+-- the places of those answers among the variants
+abbrev pub not-begun-places : List ℕ
+not-begun-places = 1 ∷ 2 ∷ 3 ∷ []
+
+abbrev pub NotBegun : BeginAnswer → Type 0
+NotBegun answer = OneOf not-begun-places (tagOf begin-answer.the-type answer)
+
+pub begin-faulty : (answer : BeginAnswer) → NotBegun answer → (w : Writing) → RefusedBegin answer w
+begin-faulty (begins.Begun n) p w = absurd (miss not-begun-places 0 tt p)
+begin-faulty begins.JournalFull p w = record { refusal = _; is = refl; seen = refl }
+begin-faulty begins.UnknownWorker p w = record { refusal = _; is = refl; seen = refl }
+begin-faulty begins.NotPermitted p w = record { refusal = _; is = refl; seen = refl }
+
 module _ (m : Machine) (e : m .phase ≡ 0) (a out : List ℕ) where
-  pub asked-called : (q : Ask) → fits q ≡ true → (r : Asked) (out′ : List ℕ) → AskedIs (m .writing .consumer) q out r out′
-      → CalledIs m (ask q) a out (record { answer = calls.Asked (r .answer); machine = holding m (r .consumer) }) a out′
+  pub asked-called : (w : ℕ) (q : Ask) → u64 w ≡ true → fits q ≡ true → (r : Asked) (out′ : List ℕ) → AskedIs (m .writing .consumer) w q out r out′
+      → CalledIs m (ask w q) a out (record { answer = calls.Asked (r .answer); machine = holding m (r .consumer) }) a out′
   unfolding transition
-  asked-called q f r out′ h =
+  asked-called w q g f r out′ h =
       record {
-        is = rw (f, e) (h .is a);
+        is = rw (g, f, e) (h .is a);
         sound = rw e (h .sound);
         configuration = refl;
         kept = ask-kept-in (λ c. held (holding m c) a) (m .writing .consumer) (r .consumer) (r .answer) (h .kept);
-        lists = rw (f, e) (h .lists a);
+        lists = rw (g, f, e) (h .lists a);
       }
 
-  module _ (ok : Sound m) (r : Begun) (h : BegunIs (m .writing .consumer) r) where
-    pub begin-refused : r .answer ≡ begins.JournalFull → CalledIs m begin a out (record { answer = calls.Begun (r .answer); machine = m }) a out
+  module _ (ok : Sound m) (v : ℕ) (f : u64 v ≡ true) (r : Begun) (h : BegunIs (m .writing .consumer) v r) where
+    pub begin-refused : NotBegun (r .answer) → CalledIs m (begin v) a out (record { answer = calls.Begun (r .answer); machine = m }) a out
     unfolding transition
     begin-refused p =
-        let w : refused refusal.JournalFull ≡ checkpoint.begin (view (m .writing .consumer)) = rw p at (h .is) in
-        rw p (record { is = rw (e, ← w); sound = ok; configuration = refl; kept = refl; lists = rw (e, ← w) })
+        let t = begin-faulty (r .answer) p (r .writing) in
+        let w : refused (t .refusal) ≡ checkpoint.begin (view (m .writing .consumer)) v = rw (t .is) at (h .is) in
+        record { is = rw (f, e, ← w, t .seen); sound = ok; configuration = refl; kept = rw (t .seen) refl; lists = rw (f, e, ← w) }
 
     pub begin-done : (k : ℕ) → r .answer ≡ begins.Begun k
-        → CalledIs m begin a out
+        → CalledIs m (begin v) a out
         (record { answer = calls.Begun (r .answer); machine = record { configuration = m .configuration; phase = 1; writing = r .writing } }) a out
     unfolding transition
     begin-done k p =
-        let w : done (viewWriting (r .writing)) ≡ checkpoint.begin (view (m .writing .consumer)) = rw p at (h .is) in
+        let w : done (viewWriting (r .writing)) ≡ checkpoint.begin (view (m .writing .consumer)) v = rw p at (h .is) in
         let s : SoundWriting (r .writing) × (k ≡ writes (view (r .writing .consumer))) = rw p at (h .sound) in
         let n : k ≡ writes (view (m .writing .consumer)) = s .1 ∙ ap (λ (c : Consumer). writes (view c)) (h .kept) in
-        rw p (record { is = rw (e, ← w, n); sound = s .0; configuration = refl; kept = tt; lists = rw (e, ← w) })
+        rw p (record { is = rw (f, e, ← w, n); sound = s .0; configuration = refl; kept = tt; lists = rw (f, e, ← w) })
 
 -- ## on the record
 step-phase : (d : StepAnswer) (w : Writing) → phaseAt (phaseAfter d) w ≡ leftAs (leftOf d w)

@@ -8,7 +8,6 @@ use Rattle.types.specs.Refusal.{Result, refused, done}
 use Rattle.types.specs.Refusal as refusal
 use Rattle.types.specs.Table.{Kept}
 use Rattle.delivery.specs.Config.{delayOf}
-use Rattle.lease.specs.Lookup.{leaseAt}
 use Rattle.types.specs.declared.lent.Listed.{Listed}
 use Rattle.types.specs.declared.lent.Listed.the-variants as listed
 use Rattle.consumer.specs.Questions.{Question, Waiting, Committed, IsSettled, LeaseOf, CountOf, InFlight, IsDue, BlocksLeft, bit}
@@ -23,6 +22,8 @@ use Rattle.machine.specs.declared.calls.Ask as code-ask
 use Rattle.machine.specs.declared.calls.Ask.the-variants as asks
 use Rattle.machine.specs.declared.calls.Call as code-call
 use Rattle.machine.specs.declared.calls.Call.the-variants as calls
+use Rattle.machine.specs.declared.calls.LeaseReply.{LeaseReply}
+use Rattle.machine.specs.declared.calls.LeaseReply.the-variants as told
 use Rattle.machine.specs.declared.calls.Reply.{Reply}
 use Rattle.machine.specs.declared.calls.Reply.the-variants as reply
 use Rattle.machine.specs.declared.calls.AskAnswer.{AskAnswer}
@@ -50,8 +51,8 @@ askOf room (asks.Commit bound) = commit (bound .0)
 askOf room (asks.Look q) = look (questionOf room q)
 
 abbrev pub callOf : ℕ → code-call.Call → Call
-callOf room (calls.Ask q) = ask (askOf room q)
-callOf room calls.Begin = begin
+callOf room (calls.Ask w q) = ask w (askOf room q)
+callOf room (calls.Begin w) = begin w
 callOf room calls.Step = step
 callOf room calls.Restart = restart
 
@@ -65,17 +66,24 @@ abbrev pub listOf : Listed → List ℕ → Result (List ℕ)
 listOf (listed.Filled n) out = done (firstPlaces n out)
 listOf listed.OutTooShort out = refused refusal.OutTooShort
 
+-- the generation, attempt start, deadline and deliveries of a lease, or nothing
+abbrev pub leaseTold : LeaseReply → List ℕ
+leaseTold (told.Some l) = l .generation .0 ∷ l .«attempt_start» ∷ l .deadline ∷ l .deliveries ∷ []
+leaseTold told.None = []
+
 abbrev pub replyOf : Reply → List ℕ → Result (List ℕ)
 replyOf (reply.Waiting l) out = listOf l out
 replyOf (reply.Committed o) out = done (o .0 ∷ [])
 replyOf (reply.IsSettled b) out = done (bit b ∷ [])
-replyOf (reply.LeaseOf l) out = leaseAt l
+replyOf (reply.LeaseOf l) out = done (leaseTold l)
 replyOf (reply.CountOf n) out = done (n ∷ [])
 replyOf (reply.InFlight n) out = done (n ∷ [])
 replyOf (reply.IsDue d) out = done (bit (d .ceiling) ∷ bit (d .threshold) ∷ [])
 replyOf (reply.BlocksLeft n) out = done (n ∷ [])
+replyOf reply.UnknownWorker out = refused refusal.UnknownWorker
+replyOf reply.NotPermitted out = refused refusal.NotPermitted
 
--- the arguments of a call; those that it hasn't are 0 and none
+-- the arguments of a call; those that it hasn't are 0, none and the question for committed
 pub record Arguments : Type 0 where
   -- or the bound
   pub offset : ℕ
@@ -83,33 +91,38 @@ pub record Arguments : Type 0 where
   pub clock : ℕ
   pub delay : Option ℕ
   pub room : ℕ
+  pub question : Question
 
-abbrev pub arguments : ℕ → ℕ → ℕ → Option ℕ → ℕ → Arguments
-arguments o g now d room = record { offset = o; generation = g; clock = now; delay = d; room = room }
+abbrev pub arguments : ℕ → ℕ → ℕ → Option ℕ → Arguments
+arguments o g now d = record { offset = o; generation = g; clock = now; delay = d; room = 0; question = Committed }
 
 abbrev pub noArguments : Arguments
-noArguments = arguments 0 0 0 none 0
+noArguments = arguments 0 0 0 none
+
+-- those of a question: the question itself, with its offset, its clock and its room
+abbrev pub asking : Question → ℕ → ℕ → ℕ → Arguments
+asking q o now room = record { offset = o; generation = 0; clock = now; delay = none; room = room; question = q }
 
 abbrev pub argumentsIn : Question → Arguments
-argumentsIn (Waiting now room) = arguments 0 0 now none room
-argumentsIn Committed = noArguments
-argumentsIn (IsSettled o) = arguments o 0 0 none 0
-argumentsIn (LeaseOf o) = arguments o 0 0 none 0
-argumentsIn (CountOf o) = arguments o 0 0 none 0
-argumentsIn InFlight = noArguments
-argumentsIn IsDue = noArguments
-argumentsIn BlocksLeft = noArguments
+argumentsIn (Waiting now room) = asking (Waiting now room) 0 now room
+argumentsIn Committed = asking Committed 0 0 0
+argumentsIn (IsSettled o) = asking (IsSettled o) o 0 0
+argumentsIn (LeaseOf o) = asking (LeaseOf o) o 0 0
+argumentsIn (CountOf o) = asking (CountOf o) o 0 0
+argumentsIn InFlight = asking InFlight 0 0 0
+argumentsIn IsDue = asking IsDue 0 0 0
+argumentsIn BlocksLeft = asking BlocksLeft 0 0 0
 
 abbrev pub argumentsOf : Ask → Arguments
-argumentsOf (claim o now) = arguments o 0 now none 0
-argumentsOf (ack o g) = arguments o g 0 none 0
-argumentsOf (term o g) = arguments o g 0 none 0
-argumentsOf (nack o g now d) = arguments o g now d 0
-argumentsOf (progress o g now) = arguments o g now none 0
-argumentsOf (commit bound) = arguments bound 0 0 none 0
+argumentsOf (claim o now) = arguments o 0 now none
+argumentsOf (ack o g) = arguments o g 0 none
+argumentsOf (term o g) = arguments o g 0 none
+argumentsOf (nack o g now d) = arguments o g now d
+argumentsOf (progress o g now) = arguments o g now none
+argumentsOf (commit bound) = arguments bound 0 0 none
 argumentsOf (look q) = argumentsIn q
 
--- the question that a reply answers
+-- the question that a reply answers; a refusal is one to whatever was asked
 abbrev pub askedBy : Arguments → Reply → Question
 askedBy g (reply.Waiting l) = Waiting (g .clock) (g .room)
 askedBy g (reply.Committed o) = Committed
@@ -119,6 +132,8 @@ askedBy g (reply.CountOf n) = CountOf (g .offset)
 askedBy g (reply.InFlight n) = InFlight
 askedBy g (reply.IsDue d) = IsDue
 askedBy g (reply.BlocksLeft n) = BlocksLeft
+askedBy g reply.UnknownWorker = g .question
+askedBy g reply.NotPermitted = g .question
 
 -- what is seen of a call on the state: its arguments with its answer, which also says what kind of call it was
 abbrev pub seenOf : Arguments → AskAnswer → List ℕ → Event
@@ -143,6 +158,8 @@ AskKept (answer.Looked a) before after = after ≡ before
 -- how many block writes are to come
 abbrev pub begunOf : BeginAnswer → Result ℕ
 begunOf (begins.Begun writes) = done writes
+begunOf begins.UnknownWorker = refused refusal.UnknownWorker
+begunOf begins.NotPermitted = refused refusal.NotPermitted
 begunOf begins.JournalFull = refused refusal.JournalFull
 
 -- ## the lent list

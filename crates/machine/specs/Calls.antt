@@ -25,10 +25,10 @@ pub data Ask : Type 0 where
   commit : ℕ → Ask
   look : Question → Ask
 
--- a call: on the state, a checkpoint's begin and steps, and a restart
+-- a call: a worker's on the state, a worker's begin of a checkpoint, its steps, and a restart
 pub data Call : Type 0 where
-  ask : Ask → Call
-  begin : Call
+  ask : ℕ → Ask → Call
+  begin : ℕ → Call
   step : Call
   restart : Call
 
@@ -60,7 +60,7 @@ fits (progress o g now) = u64 o && u64 g && u64 now
 fits (commit bound) = u64 bound
 fits (look q) = questionFits q
 
--- what is seen of a call: its arguments and its answer; and of a power failure
+-- what is seen of a call: its arguments, but for who made it, and its answer; and of a power failure
 pub data Event : Type 0 where
   claimed : ℕ → ℕ → Result HandOut → Event
   acked : ℕ → ℕ → Result (Unit {0}) → Event

@@ -6,7 +6,7 @@ use mathlib.Core.Option.{Option, none}
 use Rattle.types.specs.Refusal.{Result, refused, done}
 use Rattle.types.specs.Table.{Kept, unless}
 use Rattle.consumer.specs.State.{State}
-use Rattle.consumer.specs.Questions.{Question, reply}
+use Rattle.consumer.specs.Questions.{Question}
 use Rattle.consumer.specs.View.{view}
 use Rattle.consumer.specs.View as consumer
 use Rattle.consumer.specs.declared.Consumer.{Consumer}
@@ -29,18 +29,18 @@ use Rattle.machine.specs.declared.Called.{Called}
 use Rattle.machine.specs.declared.Started.{Started}
 
 -- ## calls on the state
--- event and state are those that `asked` makes on whatever area, and the lent list is what the event says
-pub record AskedIs (before : Consumer) (q : Ask) (out : List ℕ) (r : Asked) (out′ : List ℕ) : Type 0 where
-  pub is : (a : List ℕ) → gives (seenOf (argumentsOf q) (r .answer) out′) (idle (view (r .consumer))) a ≡ asked (view before) a q
+-- a worker's call: event and state are those that `asked` makes on whatever area, and the lent list is what the event says
+pub record AskedIs (before : Consumer) (w : ℕ) (q : Ask) (out : List ℕ) (r : Asked) (out′ : List ℕ) : Type 0 where
+  pub is : (a : List ℕ) → gives (seenOf (argumentsOf q) (r .answer) out′) (idle (view (r .consumer))) a ≡ asked (view before) a w q
   pub sound : consumer.Sound (r .consumer)
   pub kept : AskKept (r .answer) before (r .consumer)
-  pub lists : (a : List ℕ) → out′ ≡ outAfter (asked (view before) a q) out
+  pub lists : (a : List ℕ) → out′ ≡ outAfter (asked (view before) a w q) out
 
--- a question: the reply, which is to just this question, and the lent list
-pub record LookedIs (c : Consumer) (q : Question) (out : List ℕ) (r : Reply) (out′ : List ℕ) : Type 0 where
+-- a question that is answered so: the reply, which is to just this question, and the lent list
+pub record LookedIs (right : Result (List ℕ)) (q : Question) (out : List ℕ) (r : Reply) (out′ : List ℕ) : Type 0 where
   pub kind : askedBy (argumentsIn q) r ≡ q
-  pub is : replyOf r out′ ≡ reply (view c) q
-  pub lists : out′ ≡ filledWith (listIn q (reply (view c) q)) out
+  pub is : replyOf r out′ ≡ right
+  pub lists : out′ ≡ filledWith (listIn q right) out
 
 -- ## the machine
 -- who can be called, by the number of the phase: 0 the state, 1 the record, any other nobody
@@ -81,8 +81,8 @@ pub record OffIs (s : Configuration) (m : Machine) : Type 0 where
 -- ## the step function
 -- the arguments of a call
 abbrev pub givenTo : Call → Arguments
-givenTo (ask q) = argumentsOf q
-givenTo begin = noArguments
+givenTo (ask w q) = argumentsOf q
+givenTo (begin w) = noArguments
 givenTo step = noArguments
 givenTo restart = noArguments
 

@@ -13,10 +13,10 @@ use cursor::AckCursor;
 use lease::LeaseTable;
 use types::Generation;
 
-// One call on the state: its answer beside the state that it leaves.
-pub fn ask(consumer: Consumer, ask: Ask, out: &mut [u64]) -> Asked
+// One call of a worker on the state: its answer beside the state that it leaves.
+pub fn ask(consumer: Consumer, worker: u64, ask: Ask, out: &mut [u64]) -> Asked
     requires { ⌜ Sound consumer ⌝ }
-    ensures { λ r. ⌜ AskedIs consumer (askOf (length (now (out .entry))) ask) (now (out .entry)) r (now (out .exit)) ⌝ }
+    ensures { λ r. ⌜ AskedIs consumer worker (askOf (length (now (out .entry))) ask) (now (out .entry)) r (now (out .exit)) ⌝ }
 {
     let cursor = consumer.cursor;
     let table = consumer.table;
@@ -44,6 +44,7 @@ pub fn ask(consumer: Consumer, ask: Ask, out: &mut [u64]) -> Asked
         redeliveries: table.redeliveries_since_flush,
     };
     let backoff_nanos = delivery.backoff_nanos;
+    let rights = settings.rights;
     let mut starts = cursor.starts;
     let mut ends = cursor.ends;
     let mut offsets = table.offsets;
@@ -51,9 +52,11 @@ pub fn ask(consumer: Consumer, ask: Ask, out: &mut [u64]) -> Asked
     let mut attempt_starts = table.attempt_starts;
     let mut deadlines = table.deadlines;
     let mut deliveries = table.deliveries;
+    let mut workers = table.workers;
     let mut carried_offsets = table.carried_offsets;
     let mut carried_counts = table.carried_counts;
     let done = ask_in_place(
+        worker,
         ask,
         fixed,
         figures,
@@ -64,9 +67,11 @@ pub fn ask(consumer: Consumer, ask: Ask, out: &mut [u64]) -> Asked
         &mut attempt_starts,
         &mut deadlines,
         &mut deliveries,
+        &mut workers,
         &mut carried_offsets,
         &mut carried_counts,
         &backoff_nanos,
+        &rights,
         out,
     );
     let answer = done.answer;
@@ -87,6 +92,7 @@ pub fn ask(consumer: Consumer, ask: Ask, out: &mut [u64]) -> Asked
                 attempt_starts,
                 deadlines,
                 deliveries,
+                workers,
                 len: after.len,
                 carried_offsets,
                 carried_counts,

@@ -10,8 +10,8 @@ use consumer::calls::SettleAnswer;
 use consumer::queries::Due;
 use delivery::Delay;
 use lease::LeaseToken;
-use lease::lookup::LeaseAt;
 use starts::StartAnswer;
+use types::Generation;
 use types::Offset;
 use types::lent::Listed;
 
@@ -49,24 +49,39 @@ pub enum Ask {
     Look(Question),
 }
 
-// A call: on the state, a checkpoint's begin and steps, and a restart.
+// A call: a worker's on the state, a worker's begin of a checkpoint, its steps, and a restart.
 pub enum Call {
-    Ask(Ask),
-    Begin,
+    Ask { worker: u64, ask: Ask },
+    Begin { worker: u64 },
     Step,
     Restart,
 }
 
-// What each question is answered.
+// What is told of a lease: all but who holds it.
+pub struct LeaseFigures {
+    pub generation: Generation,
+    pub attempt_start: u64,
+    pub deadline: u64,
+    pub deliveries: u32,
+}
+
+pub enum LeaseReply {
+    Some(LeaseFigures),
+    None,
+}
+
+// What each question is answered, or refusal 38 or 39.
 pub enum Reply {
     Waiting(Listed),
     Committed(Offset),
     IsSettled(bool),
-    LeaseOf(LeaseAt),
+    LeaseOf(LeaseReply),
     CountOf(u32),
     InFlight(usize),
     IsDue(Due),
     BlocksLeft(usize),
+    UnknownWorker,
+    NotPermitted,
 }
 
 // What each call on the state is answered.

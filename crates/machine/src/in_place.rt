@@ -11,24 +11,34 @@ ghost use Rattle.cursor.specs.View as cursor;
 ghost use Rattle.delivery.specs.Config.{delayOf, LentBackoffs};
 ghost use Rattle.lease.specs.Parts.{gathered};
 ghost use Rattle.lease.specs.Parts as lease;
+ghost use Rattle.lease.specs.Lookup.{leaseIn, leaseValues};
+ghost use Rattle.consumer.specs.Questions as questions;
+ghost use Rattle.consumer.specs.View.{view};
 ghost use Rattle.consumer.specs.Parts.{Whole};
 ghost use Rattle.consumer.specs.declared.Consumer.{Consumer};
-ghost use Rattle.machine.specs.Calls.{claim, ack, term, nack, progress, commit, look};
-ghost use Rattle.machine.specs.Answers.{questionOf, askOf};
+ghost use Rattle.machine.specs.Calls.{claim, ack, term, nack, progress, commit};
+ghost use Rattle.machine.specs.Answers.{questionOf, askOf, leaseTold};
 ghost use Rattle.machine.specs.View.{AskedIs, LookedIs};
 ghost use Rattle.machine.specs.Parts.{consumerOf, fixedOf, left, Ready};
 use crate::calls::Ask;
 use crate::calls::AskAnswer;
+use crate::calls::LeaseFigures;
+use crate::calls::LeaseReply;
 use crate::calls::Question;
 use crate::calls::Reply;
 use consumer::queries::Due;
+use consumer::rights;
+use consumer::rights::LOOK;
+use consumer::rights::Permission;
 use delivery::Delay;
 use lease::LeaseConfig;
 use lease::LeaseToken;
+use lease::lookup::LeaseAt;
 use types::Offset;
 use types::limits::CARRIED;
 use types::limits::LEASES;
 use types::limits::RANGES;
+use types::limits::WORKERS;
 
 // What of a consumer its calls look at and leave.
 pub struct Fixed {
@@ -59,6 +69,7 @@ pub struct AskedAt {
 
 // Claim.
 fn ask_claim<'a>(
+    worker: u64,
     fixed: Fixed,
     figures: Figures,
     offset: Offset,
@@ -70,11 +81,13 @@ fn ask_claim<'a>(
     attempt_starts: &mut [u64; LEASES],
     deadlines: &mut [u64; LEASES],
     deliveries: &mut [u32; LEASES],
+    workers: &mut [u32; LEASES],
     carried_offsets: &mut [u64; CARRIED],
     carried_counts: &mut [u32; CARRIED],
+    rights: &'a [u8; WORKERS],
 ) -> AskedAt
-    requires { ⌜ cursor.Whole (ackCursor (figures .committed) (starts .now) (ends .now) (figures .runs)) × lease.Whole (gathered (fixed .config) (figures .len) (figures .«carried_len») (figures .«next_generation») (figures .redeliveries) (offsets .now) (generations .now) («attempt_starts» .now) (deadlines .now) (deliveries .now) («carried_offsets» .now) («carried_counts» .now)) ⌝ }
-    ensures { λ r. ⌜ ((x : Consumer) (out : List ℕ) → Whole (consumerOf fixed figures (starts .entry .now) (ends .entry .now) (offsets .entry .now) (generations .entry .now) («attempt_starts» .entry .now) (deadlines .entry .now) (deliveries .entry .now) («carried_offsets» .entry .now) («carried_counts» .entry .now) (x .settings .delivery .«backoff_nanos») x) → AskedIs (consumerOf fixed figures (starts .entry .now) (ends .entry .now) (offsets .entry .now) (generations .entry .now) («attempt_starts» .entry .now) (deadlines .entry .now) (deliveries .entry .now) («carried_offsets» .entry .now) («carried_counts» .entry .now) (x .settings .delivery .«backoff_nanos») x) (claim (offset .0) now) out (left (r .answer) (consumerOf fixed (r .figures) (starts .entry .now) (ends .entry .now) (offsets .exit .now) (generations .exit .now) («attempt_starts» .exit .now) (deadlines .exit .now) (deliveries .exit .now) («carried_offsets» .exit .now) («carried_counts» .exit .now) (x .settings .delivery .«backoff_nanos») x)) out) ⌝ }
+    requires { ⌜ cursor.Whole (ackCursor (figures .committed) (starts .now) (ends .now) (figures .runs)) × lease.Whole (gathered (fixed .config) (figures .len) (figures .«carried_len») (figures .«next_generation») (figures .redeliveries) (offsets .now) (generations .now) («attempt_starts» .now) (deadlines .now) (deliveries .now) (workers .now) («carried_offsets» .now) («carried_counts» .now)) ⌝ }
+    ensures { λ r. ⌜ ((x : Consumer) (out : List ℕ) → Whole (consumerOf fixed figures (starts .entry .now) (ends .entry .now) (offsets .entry .now) (generations .entry .now) («attempt_starts» .entry .now) (deadlines .entry .now) (deliveries .entry .now) (workers .entry .now) («carried_offsets» .entry .now) («carried_counts» .entry .now) (x .settings .delivery .«backoff_nanos») (rights .entry .now) x) → AskedIs (consumerOf fixed figures (starts .entry .now) (ends .entry .now) (offsets .entry .now) (generations .entry .now) («attempt_starts» .entry .now) (deadlines .entry .now) (deliveries .entry .now) (workers .entry .now) («carried_offsets» .entry .now) («carried_counts» .entry .now) (x .settings .delivery .«backoff_nanos») (rights .entry .now) x) worker (claim (offset .0) now) out (left (r .answer) (consumerOf fixed (r .figures) (starts .entry .now) (ends .entry .now) (offsets .exit .now) (generations .exit .now) («attempt_starts» .exit .now) (deadlines .exit .now) (deliveries .exit .now) (workers .exit .now) («carried_offsets» .exit .now) («carried_counts» .exit .now) (x .settings .delivery .«backoff_nanos») (rights .entry .now) x)) out) ⌝ }
 {
     let done = consumer::in_place::claim_in_place(
         fixed.config,
@@ -87,8 +100,10 @@ fn ask_claim<'a>(
         figures.carried_len,
         figures.next_generation,
         figures.redeliveries,
+        worker,
         offset.0,
         now,
+        rights,
         starts,
         ends,
         offsets,
@@ -96,6 +111,7 @@ fn ask_claim<'a>(
         attempt_starts,
         deadlines,
         deliveries,
+        workers,
         carried_offsets,
         carried_counts,
     );
@@ -114,7 +130,8 @@ fn ask_claim<'a>(
 }
 
 // Ack.
-fn ask_ack(
+fn ask_ack<'a>(
+    worker: u64,
     figures: Figures,
     token: LeaseToken,
     starts: &mut [u64; RANGES],
@@ -124,16 +141,20 @@ fn ask_ack(
     attempt_starts: &mut [u64; LEASES],
     deadlines: &mut [u64; LEASES],
     deliveries: &mut [u32; LEASES],
+    workers: &mut [u32; LEASES],
+    rights: &'a [u8; WORKERS],
 ) -> AskedAt
     requires { ⌜ cursor.Whole (ackCursor (figures .committed) (starts .now) (ends .now) (figures .runs)) × (figures .len ≤ LEASES) ⌝ }
-    ensures { λ r. ⌜ ((x : Consumer) (out : List ℕ) → Whole (consumerOf (fixedOf x) figures (starts .entry .now) (ends .entry .now) (offsets .entry .now) (generations .entry .now) («attempt_starts» .entry .now) (deadlines .entry .now) (deliveries .entry .now) (x .table .«carried_offsets») (x .table .«carried_counts») (x .settings .delivery .«backoff_nanos») x) → AskedIs (consumerOf (fixedOf x) figures (starts .entry .now) (ends .entry .now) (offsets .entry .now) (generations .entry .now) («attempt_starts» .entry .now) (deadlines .entry .now) (deliveries .entry .now) (x .table .«carried_offsets») (x .table .«carried_counts») (x .settings .delivery .«backoff_nanos») x) (ack (token .offset .0) (token .generation .0)) out (left (r .answer) (consumerOf (fixedOf x) (r .figures) (starts .exit .now) (ends .exit .now) (offsets .exit .now) (generations .exit .now) («attempt_starts» .exit .now) (deadlines .exit .now) (deliveries .exit .now) (x .table .«carried_offsets») (x .table .«carried_counts») (x .settings .delivery .«backoff_nanos») x)) out) ⌝ }
+    ensures { λ r. ⌜ ((x : Consumer) (out : List ℕ) → Whole (consumerOf (fixedOf x) figures (starts .entry .now) (ends .entry .now) (offsets .entry .now) (generations .entry .now) («attempt_starts» .entry .now) (deadlines .entry .now) (deliveries .entry .now) (workers .entry .now) (x .table .«carried_offsets») (x .table .«carried_counts») (x .settings .delivery .«backoff_nanos») (rights .entry .now) x) → AskedIs (consumerOf (fixedOf x) figures (starts .entry .now) (ends .entry .now) (offsets .entry .now) (generations .entry .now) («attempt_starts» .entry .now) (deadlines .entry .now) (deliveries .entry .now) (workers .entry .now) (x .table .«carried_offsets») (x .table .«carried_counts») (x .settings .delivery .«backoff_nanos») (rights .entry .now) x) worker (ack (token .offset .0) (token .generation .0)) out (left (r .answer) (consumerOf (fixedOf x) (r .figures) (starts .exit .now) (ends .exit .now) (offsets .exit .now) (generations .exit .now) («attempt_starts» .exit .now) (deadlines .exit .now) (deliveries .exit .now) (workers .exit .now) (x .table .«carried_offsets») (x .table .«carried_counts») (x .settings .delivery .«backoff_nanos») (rights .entry .now) x)) out) ⌝ }
 {
     let done = consumer::in_place::settle_in_place(
         figures.committed,
         figures.runs,
         figures.len,
+        worker,
         token.offset.0,
         token.generation.0,
+        rights,
         starts,
         ends,
         offsets,
@@ -141,6 +162,7 @@ fn ask_ack(
         attempt_starts,
         deadlines,
         deliveries,
+        workers,
     );
     let answer = done.answer;
     AskedAt {
@@ -157,7 +179,8 @@ fn ask_ack(
 }
 
 // Term: as Ack, but for the name of what is seen.
-fn ask_term(
+fn ask_term<'a>(
+    worker: u64,
     figures: Figures,
     token: LeaseToken,
     starts: &mut [u64; RANGES],
@@ -167,16 +190,20 @@ fn ask_term(
     attempt_starts: &mut [u64; LEASES],
     deadlines: &mut [u64; LEASES],
     deliveries: &mut [u32; LEASES],
+    workers: &mut [u32; LEASES],
+    rights: &'a [u8; WORKERS],
 ) -> AskedAt
     requires { ⌜ cursor.Whole (ackCursor (figures .committed) (starts .now) (ends .now) (figures .runs)) × (figures .len ≤ LEASES) ⌝ }
-    ensures { λ r. ⌜ ((x : Consumer) (out : List ℕ) → Whole (consumerOf (fixedOf x) figures (starts .entry .now) (ends .entry .now) (offsets .entry .now) (generations .entry .now) («attempt_starts» .entry .now) (deadlines .entry .now) (deliveries .entry .now) (x .table .«carried_offsets») (x .table .«carried_counts») (x .settings .delivery .«backoff_nanos») x) → AskedIs (consumerOf (fixedOf x) figures (starts .entry .now) (ends .entry .now) (offsets .entry .now) (generations .entry .now) («attempt_starts» .entry .now) (deadlines .entry .now) (deliveries .entry .now) (x .table .«carried_offsets») (x .table .«carried_counts») (x .settings .delivery .«backoff_nanos») x) (term (token .offset .0) (token .generation .0)) out (left (r .answer) (consumerOf (fixedOf x) (r .figures) (starts .exit .now) (ends .exit .now) (offsets .exit .now) (generations .exit .now) («attempt_starts» .exit .now) (deadlines .exit .now) (deliveries .exit .now) (x .table .«carried_offsets») (x .table .«carried_counts») (x .settings .delivery .«backoff_nanos») x)) out) ⌝ }
+    ensures { λ r. ⌜ ((x : Consumer) (out : List ℕ) → Whole (consumerOf (fixedOf x) figures (starts .entry .now) (ends .entry .now) (offsets .entry .now) (generations .entry .now) («attempt_starts» .entry .now) (deadlines .entry .now) (deliveries .entry .now) (workers .entry .now) (x .table .«carried_offsets») (x .table .«carried_counts») (x .settings .delivery .«backoff_nanos») (rights .entry .now) x) → AskedIs (consumerOf (fixedOf x) figures (starts .entry .now) (ends .entry .now) (offsets .entry .now) (generations .entry .now) («attempt_starts» .entry .now) (deadlines .entry .now) (deliveries .entry .now) (workers .entry .now) (x .table .«carried_offsets») (x .table .«carried_counts») (x .settings .delivery .«backoff_nanos») (rights .entry .now) x) worker (term (token .offset .0) (token .generation .0)) out (left (r .answer) (consumerOf (fixedOf x) (r .figures) (starts .exit .now) (ends .exit .now) (offsets .exit .now) (generations .exit .now) («attempt_starts» .exit .now) (deadlines .exit .now) (deliveries .exit .now) (workers .exit .now) (x .table .«carried_offsets») (x .table .«carried_counts») (x .settings .delivery .«backoff_nanos») (rights .entry .now) x)) out) ⌝ }
 {
     let done = consumer::in_place::settle_in_place(
         figures.committed,
         figures.runs,
         figures.len,
+        worker,
         token.offset.0,
         token.generation.0,
+        rights,
         starts,
         ends,
         offsets,
@@ -184,6 +211,7 @@ fn ask_term(
         attempt_starts,
         deadlines,
         deliveries,
+        workers,
     );
     let answer = done.answer;
     AskedAt {
@@ -201,6 +229,7 @@ fn ask_term(
 
 // Nack.
 fn ask_nack<'a>(
+    worker: u64,
     fixed: Fixed,
     figures: Figures,
     token: LeaseToken,
@@ -210,25 +239,30 @@ fn ask_nack<'a>(
     generations: &mut [u64; LEASES],
     deadlines: &mut [u64; LEASES],
     deliveries: &'a [u32; LEASES],
+    workers: &'a [u32; LEASES],
     backoff_nanos: &'a [u64; 16],
+    rights: &'a [u8; WORKERS],
 ) -> AskedAt
     requires { ⌜ LentBackoffs («backoff_nanos» .now) (fixed .«backoff_len») × (figures .len ≤ LEASES) ⌝ }
-    ensures { λ r. ⌜ ((x : Consumer) (out : List ℕ) → Whole (consumerOf fixed figures (x .cursor .starts) (x .cursor .ends) (offsets .entry .now) (generations .entry .now) (x .table .«attempt_starts») (deadlines .entry .now) (deliveries .entry .now) (x .table .«carried_offsets») (x .table .«carried_counts») («backoff_nanos» .entry .now) x) → AskedIs (consumerOf fixed figures (x .cursor .starts) (x .cursor .ends) (offsets .entry .now) (generations .entry .now) (x .table .«attempt_starts») (deadlines .entry .now) (deliveries .entry .now) (x .table .«carried_offsets») (x .table .«carried_counts») («backoff_nanos» .entry .now) x) (nack (token .offset .0) (token .generation .0) now (delayOf delay)) out (left (r .answer) (consumerOf fixed (r .figures) (x .cursor .starts) (x .cursor .ends) (offsets .entry .now) (generations .exit .now) (x .table .«attempt_starts») (deadlines .exit .now) (deliveries .entry .now) (x .table .«carried_offsets») (x .table .«carried_counts») («backoff_nanos» .entry .now) x)) out) ⌝ }
+    ensures { λ r. ⌜ ((x : Consumer) (out : List ℕ) → Whole (consumerOf fixed figures (x .cursor .starts) (x .cursor .ends) (offsets .entry .now) (generations .entry .now) (x .table .«attempt_starts») (deadlines .entry .now) (deliveries .entry .now) (workers .entry .now) (x .table .«carried_offsets») (x .table .«carried_counts») («backoff_nanos» .entry .now) (rights .entry .now) x) → AskedIs (consumerOf fixed figures (x .cursor .starts) (x .cursor .ends) (offsets .entry .now) (generations .entry .now) (x .table .«attempt_starts») (deadlines .entry .now) (deliveries .entry .now) (workers .entry .now) (x .table .«carried_offsets») (x .table .«carried_counts») («backoff_nanos» .entry .now) (rights .entry .now) x) worker (nack (token .offset .0) (token .generation .0) now (delayOf delay)) out (left (r .answer) (consumerOf fixed (r .figures) (x .cursor .starts) (x .cursor .ends) (offsets .entry .now) (generations .exit .now) (x .table .«attempt_starts») (deadlines .exit .now) (deliveries .entry .now) (workers .entry .now) (x .table .«carried_offsets») (x .table .«carried_counts») («backoff_nanos» .entry .now) (rights .entry .now) x)) out) ⌝ }
 {
     let done = consumer::in_place::nack_in_place(
         fixed.ceiling,
         fixed.backoff_len,
         figures.len,
         figures.next_generation,
+        worker,
         token.offset.0,
         token.generation.0,
         now,
         delay,
+        rights,
         backoff_nanos,
         offsets,
         generations,
         deadlines,
         deliveries,
+        workers,
     );
     let answer = done.answer;
     AskedAt {
@@ -246,6 +280,7 @@ fn ask_nack<'a>(
 
 // Progress.
 fn ask_progress<'a>(
+    worker: u64,
     fixed: Fixed,
     figures: Figures,
     token: LeaseToken,
@@ -254,20 +289,27 @@ fn ask_progress<'a>(
     generations: &'a [u64; LEASES],
     attempt_starts: &'a [u64; LEASES],
     deadlines: &mut [u64; LEASES],
+    deliveries: &'a [u32; LEASES],
+    workers: &'a [u32; LEASES],
+    rights: &'a [u8; WORKERS],
 ) -> AskedAt
     requires { ⌜ figures .len ≤ LEASES ⌝ }
-    ensures { λ r. ⌜ ((x : Consumer) (out : List ℕ) → Whole (consumerOf fixed figures (x .cursor .starts) (x .cursor .ends) (offsets .entry .now) (generations .entry .now) («attempt_starts» .entry .now) (deadlines .entry .now) (x .table .deliveries) (x .table .«carried_offsets») (x .table .«carried_counts») (x .settings .delivery .«backoff_nanos») x) → AskedIs (consumerOf fixed figures (x .cursor .starts) (x .cursor .ends) (offsets .entry .now) (generations .entry .now) («attempt_starts» .entry .now) (deadlines .entry .now) (x .table .deliveries) (x .table .«carried_offsets») (x .table .«carried_counts») (x .settings .delivery .«backoff_nanos») x) (progress (token .offset .0) (token .generation .0) now) out (left (r .answer) (consumerOf fixed (r .figures) (x .cursor .starts) (x .cursor .ends) (offsets .entry .now) (generations .entry .now) («attempt_starts» .entry .now) (deadlines .exit .now) (x .table .deliveries) (x .table .«carried_offsets») (x .table .«carried_counts») (x .settings .delivery .«backoff_nanos») x)) out) ⌝ }
+    ensures { λ r. ⌜ ((x : Consumer) (out : List ℕ) → Whole (consumerOf fixed figures (x .cursor .starts) (x .cursor .ends) (offsets .entry .now) (generations .entry .now) («attempt_starts» .entry .now) (deadlines .entry .now) (deliveries .entry .now) (workers .entry .now) (x .table .«carried_offsets») (x .table .«carried_counts») (x .settings .delivery .«backoff_nanos») (rights .entry .now) x) → AskedIs (consumerOf fixed figures (x .cursor .starts) (x .cursor .ends) (offsets .entry .now) (generations .entry .now) («attempt_starts» .entry .now) (deadlines .entry .now) (deliveries .entry .now) (workers .entry .now) (x .table .«carried_offsets») (x .table .«carried_counts») (x .settings .delivery .«backoff_nanos») (rights .entry .now) x) worker (progress (token .offset .0) (token .generation .0) now) out (left (r .answer) (consumerOf fixed (r .figures) (x .cursor .starts) (x .cursor .ends) (offsets .entry .now) (generations .entry .now) («attempt_starts» .entry .now) (deadlines .exit .now) (deliveries .entry .now) (workers .entry .now) (x .table .«carried_offsets») (x .table .«carried_counts») (x .settings .delivery .«backoff_nanos») (rights .entry .now) x)) out) ⌝ }
 {
     let answer = consumer::in_place::progress_in_place(
         fixed.config,
         figures.len,
+        worker,
         token.offset.0,
         token.generation.0,
         now,
+        rights,
         offsets,
         generations,
         attempt_starts,
         deadlines,
+        deliveries,
+        workers,
     );
     AskedAt {
         answer: AskAnswer::Progressed(answer),
@@ -276,7 +318,8 @@ fn ask_progress<'a>(
 }
 
 // Commit.
-fn ask_commit(
+fn ask_commit<'a>(
+    worker: u64,
     figures: Figures,
     bound: Offset,
     starts: &mut [u64; RANGES],
@@ -286,18 +329,22 @@ fn ask_commit(
     attempt_starts: &mut [u64; LEASES],
     deadlines: &mut [u64; LEASES],
     deliveries: &mut [u32; LEASES],
+    workers: &mut [u32; LEASES],
     carried_offsets: &mut [u64; CARRIED],
     carried_counts: &mut [u32; CARRIED],
+    rights: &'a [u8; WORKERS],
 ) -> AskedAt
     requires { ⌜ cursor.Whole (ackCursor (figures .committed) (starts .now) (ends .now) (figures .runs)) × (figures .len ≤ LEASES) × (figures .«carried_len» ≤ CARRIED) ⌝ }
-    ensures { λ r. ⌜ ((x : Consumer) (out : List ℕ) → Whole (consumerOf (fixedOf x) figures (starts .entry .now) (ends .entry .now) (offsets .entry .now) (generations .entry .now) («attempt_starts» .entry .now) (deadlines .entry .now) (deliveries .entry .now) («carried_offsets» .entry .now) («carried_counts» .entry .now) (x .settings .delivery .«backoff_nanos») x) → AskedIs (consumerOf (fixedOf x) figures (starts .entry .now) (ends .entry .now) (offsets .entry .now) (generations .entry .now) («attempt_starts» .entry .now) (deadlines .entry .now) (deliveries .entry .now) («carried_offsets» .entry .now) («carried_counts» .entry .now) (x .settings .delivery .«backoff_nanos») x) (commit (bound .0)) out (left (r .answer) (consumerOf (fixedOf x) (r .figures) (starts .exit .now) (ends .exit .now) (offsets .exit .now) (generations .exit .now) («attempt_starts» .exit .now) (deadlines .exit .now) (deliveries .exit .now) («carried_offsets» .exit .now) («carried_counts» .exit .now) (x .settings .delivery .«backoff_nanos») x)) out) ⌝ }
+    ensures { λ r. ⌜ ((x : Consumer) (out : List ℕ) → Whole (consumerOf (fixedOf x) figures (starts .entry .now) (ends .entry .now) (offsets .entry .now) (generations .entry .now) («attempt_starts» .entry .now) (deadlines .entry .now) (deliveries .entry .now) (workers .entry .now) («carried_offsets» .entry .now) («carried_counts» .entry .now) (x .settings .delivery .«backoff_nanos») (rights .entry .now) x) → AskedIs (consumerOf (fixedOf x) figures (starts .entry .now) (ends .entry .now) (offsets .entry .now) (generations .entry .now) («attempt_starts» .entry .now) (deadlines .entry .now) (deliveries .entry .now) (workers .entry .now) («carried_offsets» .entry .now) («carried_counts» .entry .now) (x .settings .delivery .«backoff_nanos») (rights .entry .now) x) worker (commit (bound .0)) out (left (r .answer) (consumerOf (fixedOf x) (r .figures) (starts .exit .now) (ends .exit .now) (offsets .exit .now) (generations .exit .now) («attempt_starts» .exit .now) (deadlines .exit .now) (deliveries .exit .now) (workers .exit .now) («carried_offsets» .exit .now) («carried_counts» .exit .now) (x .settings .delivery .«backoff_nanos») (rights .entry .now) x)) out) ⌝ }
 {
     let done = consumer::in_place::commit_in_place(
         figures.committed,
         figures.runs,
         figures.len,
         figures.carried_len,
+        worker,
         bound.0,
+        rights,
         starts,
         ends,
         offsets,
@@ -305,6 +352,7 @@ fn ask_commit(
         attempt_starts,
         deadlines,
         deliveries,
+        workers,
         carried_offsets,
         carried_counts,
     );
@@ -322,7 +370,7 @@ fn ask_commit(
     }
 }
 
-// Answers a question; the waiting list goes into `out`.
+// Answers a question that may be asked; the waiting list goes into `out`.
 fn reply<'a>(
     fixed: Fixed,
     figures: Figures,
@@ -334,12 +382,13 @@ fn reply<'a>(
     attempt_starts: &'a [u64; LEASES],
     deadlines: &'a [u64; LEASES],
     deliveries: &'a [u32; LEASES],
+    workers: &'a [u32; LEASES],
     carried_offsets: &'a [u64; CARRIED],
     carried_counts: &'a [u32; CARRIED],
     out: &mut [u64],
 ) -> Reply
     requires { ⌜ cursor.Whole (ackCursor (figures .committed) (starts .now) (ends .now) (figures .runs)) × (figures .len ≤ LEASES) × (figures .«carried_len» ≤ CARRIED) × (fixed .block ≤ fixed .«area_len» / 512) ⌝ }
-    ensures { λ r. ⌜ ((x : Consumer) → Whole (consumerOf fixed figures (starts .entry .now) (ends .entry .now) (offsets .entry .now) (generations .entry .now) («attempt_starts» .entry .now) (deadlines .entry .now) (deliveries .entry .now) («carried_offsets» .entry .now) («carried_counts» .entry .now) (x .settings .delivery .«backoff_nanos») x) → LookedIs (consumerOf fixed figures (starts .entry .now) (ends .entry .now) (offsets .entry .now) (generations .entry .now) («attempt_starts» .entry .now) (deadlines .entry .now) (deliveries .entry .now) («carried_offsets» .entry .now) («carried_counts» .entry .now) (x .settings .delivery .«backoff_nanos») x) (questionOf (length (now (out .entry))) question) (now (out .entry)) r (now (out .exit))) ⌝ }
+    ensures { λ r. ⌜ ((x : Consumer) → Whole (consumerOf fixed figures (starts .entry .now) (ends .entry .now) (offsets .entry .now) (generations .entry .now) («attempt_starts» .entry .now) (deadlines .entry .now) (deliveries .entry .now) (workers .entry .now) («carried_offsets» .entry .now) («carried_counts» .entry .now) (x .settings .delivery .«backoff_nanos») (x .settings .rights) x) → LookedIs (questions.reply (view (consumerOf fixed figures (starts .entry .now) (ends .entry .now) (offsets .entry .now) (generations .entry .now) («attempt_starts» .entry .now) (deadlines .entry .now) (deliveries .entry .now) (workers .entry .now) («carried_offsets» .entry .now) («carried_counts» .entry .now) (x .settings .delivery .«backoff_nanos») (x .settings .rights) x)) (questionOf (length (now (out .entry))) question)) (questionOf (length (now (out .entry))) question) (now (out .entry)) r (now (out .exit))) ⌝ }
 {
     match question {
         Question::Waiting { now } => {
@@ -364,7 +413,7 @@ fn reply<'a>(
             ))
         }
         Question::LeaseOf(offset) => {
-            Reply::LeaseOf(lease::in_place::lease_in_place(
+            let lease = lease::in_place::lease_in_place(
                 figures.len,
                 offset.0,
                 offsets,
@@ -372,7 +421,9 @@ fn reply<'a>(
                 attempt_starts,
                 deadlines,
                 deliveries,
-            ))
+                workers,
+            );
+            Reply::LeaseOf(told_of(lease))
         }
         Question::CountOf(offset) => {
             Reply::CountOf(consumer::in_place::count_in_place(
@@ -391,6 +442,69 @@ fn reply<'a>(
     }
 }
 
+// A worker's question, where it may ask one.
+fn look<'a>(
+    worker: u64,
+    fixed: Fixed,
+    figures: Figures,
+    question: Question,
+    starts: &'a [u64; RANGES],
+    ends: &'a [u64; RANGES],
+    offsets: &'a [u64; LEASES],
+    generations: &'a [u64; LEASES],
+    attempt_starts: &'a [u64; LEASES],
+    deadlines: &'a [u64; LEASES],
+    deliveries: &'a [u32; LEASES],
+    workers: &'a [u32; LEASES],
+    carried_offsets: &'a [u64; CARRIED],
+    carried_counts: &'a [u32; CARRIED],
+    rights: &'a [u8; WORKERS],
+    out: &mut [u64],
+) -> Reply
+    requires { ⌜ cursor.Whole (ackCursor (figures .committed) (starts .now) (ends .now) (figures .runs)) × (figures .len ≤ LEASES) × (figures .«carried_len» ≤ CARRIED) × (fixed .block ≤ fixed .«area_len» / 512) ⌝ }
+    ensures { λ r. ⌜ ((x : Consumer) → Whole (consumerOf fixed figures (starts .entry .now) (ends .entry .now) (offsets .entry .now) (generations .entry .now) («attempt_starts» .entry .now) (deadlines .entry .now) (deliveries .entry .now) (workers .entry .now) («carried_offsets» .entry .now) («carried_counts» .entry .now) (x .settings .delivery .«backoff_nanos») (rights .entry .now) x) → LookedIs (questions.look (view (consumerOf fixed figures (starts .entry .now) (ends .entry .now) (offsets .entry .now) (generations .entry .now) («attempt_starts» .entry .now) (deadlines .entry .now) (deliveries .entry .now) (workers .entry .now) («carried_offsets» .entry .now) («carried_counts» .entry .now) (x .settings .delivery .«backoff_nanos») (rights .entry .now) x)) worker (questionOf (length (now (out .entry))) question)) (questionOf (length (now (out .entry))) question) (now (out .entry)) r (now (out .exit))) ⌝ }
+{
+    let permission = rights::permission_of(rights, worker, LOOK);
+    match permission {
+        Permission::Granted => reply(
+            fixed,
+            figures,
+            question,
+            starts,
+            ends,
+            offsets,
+            generations,
+            attempt_starts,
+            deadlines,
+            deliveries,
+            workers,
+            carried_offsets,
+            carried_counts,
+            out,
+        ),
+        Permission::UnknownWorker => Reply::UnknownWorker,
+        Permission::NotPermitted => Reply::NotPermitted,
+    }
+}
+
+// What is told of a lease that was looked up.
+fn told_of(lease: LeaseAt) -> LeaseReply
+    ensures { λ r. ⌜ leaseTold r ≡ leaseValues (leaseIn lease) ⌝ }
+{
+    match lease {
+        LeaseAt::Some(lease) => {
+            let generation = lease.generation;
+            LeaseReply::Some(LeaseFigures {
+                generation,
+                attempt_start: lease.attempt_start,
+                deadline: lease.deadline,
+                deliveries: lease.deliveries,
+            })
+        }
+        LeaseAt::None => LeaseReply::None,
+    }
+}
+
 // Whether a checkpoint is due, and why.
 fn due(fixed: Fixed, figures: Figures) -> Due
     ensures { λ r. ⌜ r ≡ record { ceiling = leb (fixed .ceiling) (figures .«next_generation»); threshold = leb (fixed .threshold) (figures .redeliveries) } ⌝ }
@@ -403,6 +517,7 @@ fn due(fixed: Fixed, figures: Figures) -> Due
 
 // One call on the state: its answer, and the numbers that it leaves.
 pub fn ask_in_place<'a>(
+    worker: u64,
     ask: Ask,
     fixed: Fixed,
     figures: Figures,
@@ -413,16 +528,19 @@ pub fn ask_in_place<'a>(
     attempt_starts: &mut [u64; LEASES],
     deadlines: &mut [u64; LEASES],
     deliveries: &mut [u32; LEASES],
+    workers: &mut [u32; LEASES],
     carried_offsets: &mut [u64; CARRIED],
     carried_counts: &mut [u32; CARRIED],
     backoff_nanos: &'a [u64; 16],
+    rights: &'a [u8; WORKERS],
     out: &mut [u64],
 ) -> AskedAt
-    requires { ⌜ Ready fixed figures (starts .now) (ends .now) (offsets .now) (generations .now) («attempt_starts» .now) (deadlines .now) (deliveries .now) («carried_offsets» .now) («carried_counts» .now) («backoff_nanos» .now) ⌝ }
-    ensures { λ r. ⌜ ((x : Consumer) → Whole (consumerOf fixed figures (starts .entry .now) (ends .entry .now) (offsets .entry .now) (generations .entry .now) («attempt_starts» .entry .now) (deadlines .entry .now) (deliveries .entry .now) («carried_offsets» .entry .now) («carried_counts» .entry .now) («backoff_nanos» .entry .now) x) → AskedIs (consumerOf fixed figures (starts .entry .now) (ends .entry .now) (offsets .entry .now) (generations .entry .now) («attempt_starts» .entry .now) (deadlines .entry .now) (deliveries .entry .now) («carried_offsets» .entry .now) («carried_counts» .entry .now) («backoff_nanos» .entry .now) x) (askOf (length (now (out .entry))) ask) (now (out .entry)) (left (r .answer) (consumerOf fixed (r .figures) (starts .exit .now) (ends .exit .now) (offsets .exit .now) (generations .exit .now) («attempt_starts» .exit .now) (deadlines .exit .now) (deliveries .exit .now) («carried_offsets» .exit .now) («carried_counts» .exit .now) («backoff_nanos» .entry .now) x)) (now (out .exit))) ⌝ }
+    requires { ⌜ Ready fixed figures (starts .now) (ends .now) (offsets .now) (generations .now) («attempt_starts» .now) (deadlines .now) (deliveries .now) (workers .now) («carried_offsets» .now) («carried_counts» .now) («backoff_nanos» .now) ⌝ }
+    ensures { λ r. ⌜ ((x : Consumer) → Whole (consumerOf fixed figures (starts .entry .now) (ends .entry .now) (offsets .entry .now) (generations .entry .now) («attempt_starts» .entry .now) (deadlines .entry .now) (deliveries .entry .now) (workers .entry .now) («carried_offsets» .entry .now) («carried_counts» .entry .now) («backoff_nanos» .entry .now) (rights .entry .now) x) → AskedIs (consumerOf fixed figures (starts .entry .now) (ends .entry .now) (offsets .entry .now) (generations .entry .now) («attempt_starts» .entry .now) (deadlines .entry .now) (deliveries .entry .now) (workers .entry .now) («carried_offsets» .entry .now) («carried_counts» .entry .now) («backoff_nanos» .entry .now) (rights .entry .now) x) worker (askOf (length (now (out .entry))) ask) (now (out .entry)) (left (r .answer) (consumerOf fixed (r .figures) (starts .exit .now) (ends .exit .now) (offsets .exit .now) (generations .exit .now) («attempt_starts» .exit .now) (deadlines .exit .now) (deliveries .exit .now) (workers .exit .now) («carried_offsets» .exit .now) («carried_counts» .exit .now) («backoff_nanos» .entry .now) (rights .entry .now) x)) (now (out .exit))) ⌝ }
 {
     match ask {
         Ask::Claim { offset, now } => ask_claim(
+            worker,
             fixed,
             figures,
             offset,
@@ -434,10 +552,13 @@ pub fn ask_in_place<'a>(
             attempt_starts,
             deadlines,
             deliveries,
+            workers,
             carried_offsets,
             carried_counts,
+            rights,
         ),
         Ask::Ack(token) => ask_ack(
+            worker,
             figures,
             token,
             starts,
@@ -447,8 +568,11 @@ pub fn ask_in_place<'a>(
             attempt_starts,
             deadlines,
             deliveries,
+            workers,
+            rights,
         ),
         Ask::Term(token) => ask_term(
+            worker,
             figures,
             token,
             starts,
@@ -458,8 +582,11 @@ pub fn ask_in_place<'a>(
             attempt_starts,
             deadlines,
             deliveries,
+            workers,
+            rights,
         ),
         Ask::Nack { token, now, delay } => ask_nack(
+            worker,
             fixed,
             figures,
             token,
@@ -469,9 +596,12 @@ pub fn ask_in_place<'a>(
             generations,
             deadlines,
             deliveries,
+            workers,
             backoff_nanos,
+            rights,
         ),
         Ask::Progress { token, now } => ask_progress(
+            worker,
             fixed,
             figures,
             token,
@@ -480,8 +610,12 @@ pub fn ask_in_place<'a>(
             generations,
             attempt_starts,
             deadlines,
+            deliveries,
+            workers,
+            rights,
         ),
         Ask::Commit(bound) => ask_commit(
+            worker,
             figures,
             bound,
             starts,
@@ -491,11 +625,14 @@ pub fn ask_in_place<'a>(
             attempt_starts,
             deadlines,
             deliveries,
+            workers,
             carried_offsets,
             carried_counts,
+            rights,
         ),
         Ask::Look(question) => AskedAt {
-            answer: AskAnswer::Looked(reply(
+            answer: AskAnswer::Looked(look(
+                worker,
                 fixed,
                 figures,
                 question,
@@ -506,8 +643,10 @@ pub fn ask_in_place<'a>(
                 attempt_starts,
                 deadlines,
                 deliveries,
+                workers,
                 carried_offsets,
                 carried_counts,
+                rights,
                 out,
             )),
             figures,

@@ -97,10 +97,10 @@ impl Machine {
         Machine::resting(configuration, 2, consumer)
     }
 
-    // A call on the state.
-    fn on_state(self, request: Ask, out: &mut [u64]) -> Called
+    // A worker's call on the state.
+    fn on_state(self, worker: u64, request: Ask, out: &mut [u64]) -> Called
         requires { ⌜ Sound self ⌝ }
-        ensures { λ r. ⌜ ((a : List ℕ) → CalledIs self (ask (askOf (length (now (out .entry))) request)) a (now (out .entry)) r a (now (out .exit))) ⌝ }
+        ensures { λ r. ⌜ ((a : List ℕ) → CalledIs self (ask worker (askOf (length (now (out .entry))) request)) a (now (out .entry)) r a (now (out .exit))) ⌝ }
     {
         if self.phase != 0 {
             return Called {
@@ -108,7 +108,7 @@ impl Machine {
                 machine: self,
             };
         }
-        let asked = asks::ask(self.writing.consumer, request, out);
+        let asked = asks::ask(self.writing.consumer, worker, request, out);
         let answer = asked.answer;
         let consumer = asked.consumer;
         let configuration = self.configuration;
@@ -124,10 +124,10 @@ impl Machine {
         }
     }
 
-    // Begins a checkpoint.
-    fn begin(self) -> Called
+    // A worker begins a checkpoint.
+    fn begin(self, worker: u64) -> Called
         requires { ⌜ Sound self ⌝ }
-        ensures { λ r. ⌜ ((a out : List ℕ) → CalledIs self begin a out r a out) ⌝ }
+        ensures { λ r. ⌜ ((a out : List ℕ) → CalledIs self (begin worker) a out r a out) ⌝ }
     {
         if self.phase != 0 {
             return Called {
@@ -135,7 +135,7 @@ impl Machine {
                 machine: self,
             };
         }
-        let begun = checkpoint::begin(self.writing.consumer);
+        let begun = checkpoint::begin(self.writing.consumer, worker);
         let answer = begun.answer;
         let BeginAnswer::Begun { writes: _ } = answer else {
             return Called {
@@ -208,8 +208,8 @@ pub fn call(machine: Machine, call: Call, area: &mut [u8], out: &mut [u64]) -> C
     ensures { λ r. ⌜ CalledIs machine (callOf (length (now (out .entry))) «call») (now (area .entry)) (now (out .entry)) r (now (area .exit)) (now (out .exit)) ⌝ }
 {
     match call {
-        Call::Ask(request) => machine.on_state(request, out),
-        Call::Begin => machine.begin(),
+        Call::Ask { worker, ask } => machine.on_state(worker, ask, out),
+        Call::Begin { worker } => machine.begin(worker),
         Call::Step => machine.step(area),
         Call::Restart => machine.restart(area),
     }

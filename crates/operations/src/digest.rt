@@ -73,6 +73,7 @@ fn leases(before: u32, table: LeaseTable) -> u32 {
             &table.attempt_starts,
             &table.deadlines,
             &table.deliveries,
+            &table.workers,
         );
         check = lease(check, table.offsets[i], held);
         i += 1;

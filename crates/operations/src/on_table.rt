@@ -171,7 +171,7 @@ fn hold(op: Op, table: LeaseTable) -> Done
     let offset = Offset(op.w);
     let held = token(op.w, op.x);
     match number {
-        39 => claim(table.claim(offset, op.x)),
+        39 => claim(table.claim(0, offset, op.x)),
         40 => tried(table.reseal_from_to(offset, Generation(op.x), Generation(op.y))),
         41 => ack(table.ack(held)),
         42 => extend(table.extend(held, op.y)),

@@ -44,9 +44,13 @@ pub const CUT: usize = 19;
 
 pub const POKED: usize = 20;
 
-pub const BLOCK: usize = 21;
+pub const WORKER: usize = 21;
 
-pub const STATE: usize = 22;
+pub const RIGHTS: usize = 22;
+
+pub const BLOCK: usize = 23;
+
+pub const STATE: usize = 24;
 
 // An answer: a template and its numbers. Behind those of a waiting list, a block and the state stand their entries.
 pub struct Said {
@@ -155,7 +159,7 @@ pub fn print<'a>(
     let next = templates::fill(
         out,
         at,
-        b"|bad line\n|not now\n|refused #\n|refused # #\n|refused # # #\n|started\n|deliver # # #\n|deadletter # # #\n|settled\n|requeued #\n|extended #\n|committed\n|unchanged\n|waiting|begun #\n|wrote #\n|done #\n|restarted\n|cut #\n|poked\n|block |",
+        b"|bad line\n|not now\n|refused #\n|refused # #\n|refused # # #\n|started\n|deliver # # #\n|deadletter # # #\n|settled\n|requeued #\n|extended #\n|committed\n|unchanged\n|waiting|begun #\n|wrote #\n|done #\n|restarted\n|cut #\n|poked\n|worker #\n|rights\n|block |",
         template,
         numbers,
     );

@@ -19,11 +19,14 @@ use power_cut::Kind;
 use server::kinds;
 use server::kinds::Calling;
 use starts::StartAnswer;
+use types::limits::WORKERS;
 
-// The machine, and how many bytes of the lent area are its journal: none before the first start.
+// The machine, how many bytes of the lent area are its journal, which is none before the first start, and the worker who calls. The rights
+// in the machine's configuration are those that were said last: a start and a restart hand them in, and nothing else looks at them.
 pub struct Session {
     pub machine: Machine,
     pub len: usize,
+    pub worker: u64,
 }
 
 // What a line leaves, and its answer.
@@ -52,9 +55,9 @@ fn kind_of(form: usize) -> u64 {
     }
 }
 
-fn call_of(line: Line) -> Calling {
+fn call_of(worker: u64, line: Line) -> Calling {
     let v = line.numbers;
-    kinds::call_of(kind_of(line.form), v[0], v[1], v[2], v[3])
+    kinds::call_of(worker, kind_of(line.form), v[0], v[1], v[2], v[3])
 }
 
 fn cut_of(form: usize) -> Cutting {
@@ -114,8 +117,8 @@ fn backoff_len(count: usize) -> usize {
     count - 6
 }
 
-// The configuration that a start's numbers are.
-fn configuration_of(v: [u64; 24], count: usize) -> Configuration {
+// The configuration that a start's numbers are, with the workers' rights.
+fn configuration_of(v: [u64; 24], count: usize, rights: [u8; WORKERS]) -> Configuration {
     Configuration {
         settings: Settings {
             delivery: DeliveryConfig {
@@ -125,6 +128,7 @@ fn configuration_of(v: [u64; 24], count: usize) -> Configuration {
                 backoff_len: backoff_len(count),
                 attempts_flush_redeliveries: short(v[2]),
             },
+            rights: rights,
         },
         lease: LeaseConfig {
             visibility_nanos: v[3],
@@ -133,14 +137,15 @@ fn configuration_of(v: [u64; 24], count: usize) -> Configuration {
     }
 }
 
-// Before the first start.
+// Before the first start. Worker 0 calls, and has every right; the others have none.
 pub fn nothing_started() -> Session
     ensures { λ r. ⌜ ((n : ℕ) → Ready n r) ⌝ }
 {
-    let configuration = configuration_of([0; 24], 0);
+    let configuration = configuration_of([0; 24], 0, [127, 0, 0, 0, 0, 0, 0, 0]);
     Session {
         machine: Machine::off(configuration),
         len: 0,
+        worker: 0,
     }
 }
 
@@ -169,6 +174,7 @@ fn started(session: Session, configuration: Configuration, len: usize, most: usi
         session: Session {
             machine: machine,
             len: len,
+            worker: session.worker,
         },
         said: printing::plain(printing::STARTED),
     }
@@ -186,7 +192,8 @@ fn start(session: Session, line: Line, area: &mut [u8]) -> Acted
             said: printing::plain(printing::BAD_LINE),
         };
     }
-    let configuration = configuration_of(v, line.count);
+    let rights = session.machine.configuration.settings.rights;
+    let configuration = configuration_of(v, line.count, rights);
     let acted = started(session, configuration, v[5] as usize, area.len());
     if acted.said.template == printing::STARTED {
         let len = acted.session.len;
@@ -212,7 +219,14 @@ fn len_after(form: usize, code: Numbers, len: usize, lent: usize) -> usize
 }
 
 // What a call leaves that was lent so much, with its answer in numbers.
-fn after_call(machine: Machine, line: Line, code: Numbers, len: usize, lent: usize) -> Acted
+fn after_call(
+    machine: Machine,
+    worker: u64,
+    line: Line,
+    code: Numbers,
+    len: usize,
+    lent: usize,
+) -> Acted
     requires { ⌜ (Sound machine) × (lent ≤ len) ⌝ }
     ensures { λ r. ⌜ Ready len (r .session) ⌝ }
 {
@@ -221,6 +235,7 @@ fn after_call(machine: Machine, line: Line, code: Numbers, len: usize, lent: usi
         session: Session {
             machine: machine,
             len: len_after(form, code, len, lent),
+            worker: worker,
         },
         said: printing::answer_said(form, line.numbers[0], code),
     }
@@ -243,7 +258,14 @@ fn called(session: Session, call: Call, line: Line, area: &mut [u8], list: &mut 
     let called = machine::call(before, call, &mut area[..lent], list);
     let answer = called.answer;
     let after = called.machine;
-    after_call(after, line, answers::of_call(answer, list), len, lent)
+    after_call(
+        after,
+        session.worker,
+        line,
+        answers::of_call(answer, list),
+        len,
+        lent,
+    )
 }
 
 // The power fails in the step that is next.
@@ -260,8 +282,79 @@ fn cut(session: Session, kind: Kind, area: &mut [u8]) -> Acted
         session: Session {
             machine: machine,
             len: len,
+            worker: session.worker,
         },
         said: said,
+    }
+}
+
+// ## workers
+
+// Calls are another worker's from here on.
+fn calling(session: Session, worker: u64) -> Acted
+    ensures { λ r. ⌜ ((n : ℕ) → Ready n session → Ready n (r .session)) ⌝ }
+{
+    let machine = session.machine;
+    Acted {
+        session: Session {
+            machine: machine,
+            len: session.len,
+            worker: worker,
+        },
+        said: printing::with(printing::WORKER, worker),
+    }
+}
+
+// The machine, where every start and restart from here on hands in these rights.
+fn handing_in(machine: Machine, rights: [u8; WORKERS]) -> Machine
+    requires { ⌜ Sound machine ⌝ }
+    ensures { λ r. ⌜ Sound r ⌝ }
+{
+    let configuration = machine.configuration;
+    let settings = configuration.settings;
+    let delivery = settings.delivery;
+    let lease = configuration.lease;
+    let writing = machine.writing;
+    Machine {
+        configuration: Configuration {
+            settings: Settings {
+                delivery: delivery,
+                rights: rights,
+            },
+            lease: lease,
+        },
+        phase: machine.phase,
+        writing: writing,
+    }
+}
+
+// What a worker is given at every start and restart from here on.
+fn give(session: Session, worker: u64, mask: u64) -> Acted
+    requires { ⌜ Sound (session .machine) ⌝ }
+    ensures { λ r. ⌜ ((n : ℕ) → Ready n session → Ready n (r .session)) ⌝ }
+{
+    if 7 < worker {
+        return Acted {
+            session: session,
+            said: printing::plain(printing::BAD_LINE),
+        };
+    }
+    if 255 < mask {
+        return Acted {
+            session: session,
+            said: printing::plain(printing::BAD_LINE),
+        };
+    }
+    let mut rights = session.machine.configuration.settings.rights;
+    rights[worker as usize] = mask as u8;
+    let before = session.machine;
+    Acted {
+        session: Session {
+            machine: handing_in(before, rights),
+            len: session.len,
+            worker: session.worker,
+        },
+        said: printing::plain(printing::RIGHTS),
     }
 }
 
@@ -294,7 +387,8 @@ pub fn act(session: Session, line: Line, area: &mut [u8], list: &mut [u64]) -> A
     ensures { λ r. ⌜ Ready (length (now (area .entry))) (r .session) ⌝ }
 {
     let form = line.form;
-    if let Calling::Call(call) = call_of(line) {
+    let v = line.numbers;
+    if let Calling::Call(call) = call_of(session.worker, line) {
         return called(session, call, line, area, list);
     }
     if let Cutting::Cut(kind) = cut_of(form) {
@@ -302,6 +396,12 @@ pub fn act(session: Session, line: Line, area: &mut [u8], list: &mut [u64]) -> A
     }
     if form == script::START {
         return start(session, line, area);
+    }
+    if form == script::WORKER {
+        return calling(session, v[0]);
+    }
+    if form == script::RIGHTS {
+        return give(session, v[0], v[1]);
     }
     Acted {
         session: session,

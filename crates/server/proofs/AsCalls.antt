@@ -30,47 +30,47 @@ fit-found k [] h = tt
 fit-found k (e ∷ l) h = split (eqb k (e .key)) (λ p. rw p (h .0)) (λ p. rw p (fit-found k l (h .1)))
 
 -- on the state, with an area that is lent and not looked at
-abbrev made : Phase → List ℕ → Option Ask → Option After
-made p area o = onAsk o (λ q. onState p (λ s. asked s area q))
+abbrev made : Phase → List ℕ → ℕ → Option Ask → Option After
+made p area w o = onAsk o (λ q. onState p (λ s. asked s area w q))
 
 -- whether the very machine is kept doesn't go by the area
-kept-asked : {T : Type 0} (x y : T) (p : Phase) (area : List ℕ) (q : Ask) → KeptIn (made p [] (some q)) x y → KeptIn (made p area (some q)) x y
-kept-asked x y (idle s) area (claim o now) k = k
-kept-asked x y (idle s) area (ack o g) k = k
-kept-asked x y (idle s) area (term o g) k = k
-kept-asked x y (idle s) area (nack o g now d) k = k
-kept-asked x y (idle s) area (progress o g now) k = k
-kept-asked x y (idle s) area (commit bound) k = k
-kept-asked x y (idle s) area (look q) k = k
-kept-asked x y (writing w) area q k = k
-kept-asked x y off area q k = k
+kept-asked : {T : Type 0} (x y : T) (p : Phase) (area : List ℕ) (w : ℕ) (q : Ask) → KeptIn (made p [] w (some q)) x y → KeptIn (made p area w (some q)) x y
+kept-asked x y (idle s) area w (claim o now) k = k
+kept-asked x y (idle s) area w (ack o g) k = k
+kept-asked x y (idle s) area w (term o g) k = k
+kept-asked x y (idle s) area w (nack o g now d) k = k
+kept-asked x y (idle s) area w (progress o g now) k = k
+kept-asked x y (idle s) area w (commit bound) k = k
+kept-asked x y (idle s) area w (look q) k = k
+kept-asked x y (writing v) area w q k = k
+kept-asked x y off area w q k = k
 
-kept-made : {T : Type 0} (x y : T) (p : Phase) (area : List ℕ) (o : Option Ask) → KeptIn (made p [] o) x y → KeptIn (made p area o) x y
-kept-made x y p area none k = k
-kept-made x y p area (some q) k = kept-asked x y p area q k
+kept-made : {T : Type 0} (x y : T) (p : Phase) (area : List ℕ) (w : ℕ) (o : Option Ask) → KeptIn (made p [] w o) x y → KeptIn (made p area w o) x y
+kept-made x y p area w none k = k
+kept-made x y p area w (some q) k = kept-asked x y p area w q k
 
-same-made : (c : Configuration) (p : Phase) (area : List ℕ) (o : Option Ask) → Fit o → made p area o ≡ onCall (Option·map ask o) (transition c p area)
+same-made : (c : Configuration) (p : Phase) (area : List ℕ) (w : ℕ) (o : Option Ask) → u64 w ≡ true → Fit o → made p area w o ≡ onCall (Option·map (ask w) o) (transition c p area)
 unfolding transition
-same-made c p area none h = refl
-same-made c p area (some q) h = rw h refl
+same-made c p area w none is-w h = refl
+same-made c p area w (some q) is-w h = rw (is-w, h) refl
 
-module _ (a b c d : ℕ) (is-a : u64 a ≡ true) (is-b : u64 b ≡ true) (is-c : u64 c ≡ true) (is-d : u64 d ≡ true) where
+module _ (w a b c d : ℕ) (is-w : u64 w ≡ true) (is-a : u64 a ≡ true) (is-b : u64 b ≡ true) (is-c : u64 c ≡ true) (is-d : u64 d ≡ true) where
   all-fit : (room : ℕ) → All (λ key q. fits q ≡ true) (asks a b c d room)
   all-fit room = rw (is-a, is-b, is-c, is-d) (refl, (refl, (refl, (refl, (refl, (refl, (refl, (refl, (refl, (refl, (refl, (refl, (refl, (refl, (refl, tt)))))))))))))))
 
   -- whatever area is lent: a call on the state leaves it
   pub ask-is-call : (m : Machine) (kind : ℕ) (out : List ℕ) (n : Numbers) (m′ : Machine) (out′ : List ℕ) → (kind ≡ 16 → ⊥) → (kind ≡ 17 → ⊥) → (kind ≡ 18 → ⊥)
-      → AskIs m kind a b c d out n m′ out′ → (area : List ℕ) → CallIs m kind a b c d area out n m′ area out′
+      → AskIs m w kind a b c d out n m′ out′ → (area : List ℕ) → CallIs m w kind a b c d area out n m′ area out′
   ask-is-call m kind out n m′ out′ not-begin not-step not-restart h area =
       let o : Option Ask = askAt kind a b c d (length out) in
-      let e : made (phaseOf m) area o ≡ onCall (callAt kind a b c d (length out)) (transition (configurationOf (m .configuration)) (phaseOf m) area) =
-      same-made (configurationOf (m .configuration)) (phaseOf m) area o (fit-found kind (asks a b c d (length out)) (all-fit (length out)))
-      ∙ ap (λ (q : Option Call). onCall q (transition (configurationOf (m .configuration)) (phaseOf m) area)) (on-state a b c d (length out) kind not-begin not-step not-restart) in
+      let e : made (phaseOf m) area w o ≡ onCall (callAt w kind a b c d (length out)) (transition (configurationOf (m .configuration)) (phaseOf m) area) =
+      same-made (configurationOf (m .configuration)) (phaseOf m) area w o is-w (fit-found kind (asks a b c d (length out)) (all-fit (length out)))
+      ∙ ap (λ (q : Option Call). onCall q (transition (configurationOf (m .configuration)) (phaseOf m) area)) (on-state w a b c d (length out) kind not-begin not-step not-restart) in
       record {
         is = h .is area ∙ ap (answeredBy (phaseOf m) area out) e;
         sound = h .sound;
         configuration = h .configuration;
         kept =
             subst (λ (t : Option After). KeptIn t (held m area) (held m′ area)) e
-            (kept-made (held m area) (held m′ area) (phaseOf m) area o (kept-after (λ u. held u area) m m′ (made (phaseOf m) [] o) (h .kept)));
+            (kept-made (held m area) (held m′ area) (phaseOf m) area w o (kept-after (λ u. held u area) m m′ (made (phaseOf m) [] w o) (h .kept)));
       }

@@ -14,8 +14,8 @@ pub none-found : {A : Type 0} (k : ℕ) (l : List (Entry A)) → All (λ key v. 
 none-found k [] h = refl
 none-found k (e ∷ l) h = rw (ne-eqb k (e .key) (h .0)) (none-found k l (h .1))
 
-module _ (a b c d room kind : ℕ) (not-begin : kind ≡ 16 → ⊥) (not-step : kind ≡ 17 → ⊥) (not-restart : kind ≡ 18 → ⊥) where
-  pub on-state : Option·map ask (askAt kind a b c d room) ≡ callAt kind a b c d room
+module _ (w a b c d room kind : ℕ) (not-begin : kind ≡ 16 → ⊥) (not-step : kind ≡ 17 → ⊥) (not-restart : kind ≡ 18 → ⊥) where
+  pub on-state : Option·map (ask w) (askAt kind a b c d room) ≡ callAt w kind a b c d room
   on-state =
       rw (ne-eqb kind 16 not-begin, ne-eqb kind 17 not-step, ne-eqb kind 18 not-restart)
-      (sym (lookup-mapValues ask kind (asks a b c d room)))
+      (sym (lookup-mapValues (ask w) kind (asks a b c d room)))

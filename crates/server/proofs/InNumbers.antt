@@ -60,26 +60,26 @@ parts : {n : Numbers} {p′ : Phase} {a′ out′ : List ℕ} (p : Phase) (a out
 parts p a out t d e same-n same-p same-a same-out = cc
 
 -- ## a call on a state
-module _ (x : Consumer) (kind a b c d : ℕ) (out : List ℕ) where
-  pub ask-none : consumer.Sound x → none ≡ askAt kind a b c d (length out) → AnswersAsk x kind a b c d out notNow x out
+module _ (x : Consumer) (w kind a b c d : ℕ) (out : List ℕ) where
+  pub ask-none : consumer.Sound x → none ≡ askAt kind a b c d (length out) → AnswersAsk x w kind a b c d out notNow x out
   ask-none sound e =
       record {
-        is = λ area. ap (λ (o : Option Ask). answeredBy (idle (view x)) area out (onAsk o (asked (view x) area))) e;
+        is = λ area. ap (λ (o : Option Ask). answeredBy (idle (view x)) area out (onAsk o (asked (view x) area w))) e;
         sound = sound;
-        kept = subst (λ (o : Option Ask). KeptIn (onAsk o (asked (view x) [])) x x) e refl;
+        kept = subst (λ (o : Option Ask). KeptIn (onAsk o (asked (view x) [] w)) x x) e refl;
       }
 
-  pub ask-some : (q : Ask) (r : Asked) (out′ : List ℕ) (n : Numbers) → some q ≡ askAt kind a b c d (length out) → AskedIs x q out r out′
-      → n ≡ seenNumbers (seenOf (argumentsOf q) (r .answer) out′) → AnswersAsk x kind a b c d out n (r .consumer) out′
+  pub ask-some : (q : Ask) (r : Asked) (out′ : List ℕ) (n : Numbers) → some q ≡ askAt kind a b c d (length out) → AskedIs x w q out r out′
+      → n ≡ seenNumbers (seenOf (argumentsOf q) (r .answer) out′) → AnswersAsk x w kind a b c d out n (r .consumer) out′
   ask-some q r out′ n e h m =
       record {
         is =
             λ area.
             parts (idle (view x)) area out _ _ (h .is area) m refl refl (h .lists area)
-            ∙ ap (λ (o : Option Ask). answeredBy (idle (view x)) area out (onAsk o (asked (view x) area))) e;
+            ∙ ap (λ (o : Option Ask). answeredBy (idle (view x)) area out (onAsk o (asked (view x) area w))) e;
         sound = h .sound;
         kept =
-            subst (λ (o : Option Ask). KeptIn (onAsk o (asked (view x) [])) x (r .consumer)) e
+            subst (λ (o : Option Ask). KeptIn (onAsk o (asked (view x) [] w)) x (r .consumer)) e
             (subst (λ (t : Option After). KeptIn t x (r .consumer)) (h .is []) (ask-kept x (r .consumer) (argumentsOf q) (r .answer) out′ (h .kept)));
       }
 
@@ -112,13 +112,13 @@ module _ {S T : Type 0} (f : S → T) (x y : S) where
   kept-after (some t) k = kept-by (t .event) k
 
 -- on a machine, by its phase
-module _ (s : Configuration) (w : Writing) (kind a b c d : ℕ) (out : List ℕ) (n : Numbers) (x : Consumer) (out′ : List ℕ) where
+module _ (s : Configuration) (w : Writing) (v kind a b c d : ℕ) (out : List ℕ) (n : Numbers) (x : Consumer) (out′ : List ℕ) where
   abbrev at : ℕ → Machine
   at k = record { configuration = s; phase = k; writing = w }
 
   -- nobody can be called
-  module _ (k : ℕ) (e : (area : List ℕ) (o : Option Ask) → onAsk o (λ q. onState (phaseOf (at k)) (λ u. asked u area q)) ≡ none) (ok : Sound (at k)) where
-    declined : Declined (w .consumer) out n x out′ → AskIs (at k) kind a b c d out n (holding (at k) x) out′
+  module _ (k : ℕ) (e : (area : List ℕ) (o : Option Ask) → onAsk o (λ q. onState (phaseOf (at k)) (λ u. asked u area v q)) ≡ none) (ok : Sound (at k)) where
+    declined : Declined (w .consumer) out n x out′ → AskIs (at k) v kind a b c d out n (holding (at k) x) out′
     declined h =
         rw (h .0, h .1, h .2)
         (record {
@@ -132,25 +132,25 @@ module _ (s : Configuration) (w : Writing) (kind a b c d : ℕ) (out : List ℕ)
   none-asked none = refl
   none-asked (some q) = refl
 
-  pub asked-on : (k : ℕ) → Sound (at k) → AskedOn k (w .consumer) kind a b c d out n x out′ → AskIs (at k) kind a b c d out n (holding (at k) x) out′
+  pub asked-on : (k : ℕ) → Sound (at k) → AskedOn k (w .consumer) v kind a b c d out n x out′ → AskIs (at k) v kind a b c d out n (holding (at k) x) out′
   asked-on zero ok h =
-      record { is = h .is; sound = h .sound; configuration = refl; kept = kept-after (holding (at 0)) (w .consumer) x (askAfter (w .consumer) kind a b c d out []) (h .kept) }
+      record { is = h .is; sound = h .sound; configuration = refl; kept = kept-after (holding (at 0)) (w .consumer) x (askAfter (w .consumer) v kind a b c d out []) (h .kept) }
   asked-on (suc zero) ok h = declined 1 (λ area o. none-asked o) ok h
   asked-on (suc (suc k)) ok h = declined (suc (suc k)) (λ area o. none-asked o) ok h
 
 -- by the number of a phase
-pub not-idle : (k : ℕ) (x : Consumer) (kind a b c d : ℕ) (out : List ℕ) → (k ≡ 0 → ⊥) → AskedOn k x kind a b c d out notNow x out
-not-idle zero x kind a b c d out h = absurd (h refl)
-not-idle (suc k) x kind a b c d out h = (refl, refl, refl)
+pub not-idle : (k : ℕ) (x : Consumer) (w kind a b c d : ℕ) (out : List ℕ) → (k ≡ 0 → ⊥) → AskedOn k x w kind a b c d out notNow x out
+not-idle zero x w kind a b c d out h = absurd (h refl)
+not-idle (suc k) x w kind a b c d out h = (refl, refl, refl)
 
 pub idle-sound : (k : ℕ) (x : Consumer) → k ≡ 0 → SoundIf k x → consumer.Sound x
 idle-sound zero x e ok = ok
 idle-sound (suc k) x e ok = absurd (omega arith)
 
-pub idle-asked : (k : ℕ) (x : Consumer) (kind a b c d : ℕ) (out : List ℕ) (n : Numbers) (y : Consumer) (out′ : List ℕ) → k ≡ 0
-    → AnswersAsk x kind a b c d out n y out′ → AskedOn k x kind a b c d out n y out′
-idle-asked zero x kind a b c d out n y out′ e h = h
-idle-asked (suc k) x kind a b c d out n y out′ e h = absurd (omega arith)
+pub idle-asked : (k : ℕ) (x : Consumer) (w kind a b c d : ℕ) (out : List ℕ) (n : Numbers) (y : Consumer) (out′ : List ℕ) → k ≡ 0
+    → AnswersAsk x w kind a b c d out n y out′ → AskedOn k x w kind a b c d out n y out′
+idle-asked zero x w kind a b c d out n y out′ e h = h
+idle-asked (suc k) x w kind a b c d out n y out′ e h = absurd (omega arith)
 
 pub sound-if : (s : Configuration) (w : Writing) (k : ℕ) → Sound (record { configuration = s; phase = k; writing = w }) → SoundIf k (w .consumer)
 sound-if s w zero ok = ok
@@ -179,10 +179,10 @@ module _ (m : Machine) (area : List ℕ) (q : Call) (m′ : Machine) (area′ ou
   call-kept (callAnswers.Restarted a) k = start-kept (held m area) (held m′ area′) (startFault a) _ k
   call-kept callAnswers.NotNow k = k
 
-module _ (m : Machine) (kind a b c d : ℕ) (area out : List ℕ) where
-  pub call-some : (q : Call) (r : Called) (area′ out′ : List ℕ) (n : Numbers) → some q ≡ callAt kind a b c d (length out)
+module _ (m : Machine) (w kind a b c d : ℕ) (area out : List ℕ) where
+  pub call-some : (q : Call) (r : Called) (area′ out′ : List ℕ) (n : Numbers) → some q ≡ callAt w kind a b c d (length out)
       → CalledIs m q area out r area′ out′ → n ≡ numbersIn (afterOf q (r .answer) (r .machine) area′ out′)
-      → CallIs m kind a b c d area out n (r .machine) area′ out′
+      → CallIs m w kind a b c d area out n (r .machine) area′ out′
   call-some q r area′ out′ n e h same =
       record {
         is =
@@ -199,9 +199,9 @@ module _ (m : Machine) (kind a b c d : ℕ) (area out : List ℕ) where
 
 -- a restart, whatever list is lent
 pub restart-numbers : (m : Machine) (area : List ℕ) (r : Called) (n : Numbers) (list : List ℕ) → ((out : List ℕ) → CalledIs m restart area out r area out)
-    → n ≡ numbersIn (afterOf restart (r .answer) (r .machine) area list) → (out : List ℕ) → CallIs m 18 0 0 0 0 area out n (r .machine) area out
+    → n ≡ numbersIn (afterOf restart (r .answer) (r .machine) area list) → (out : List ℕ) → CallIs m 0 18 0 0 0 0 area out n (r .machine) area out
 restart-numbers m area r n list h e out =
-    call-some m 18 0 0 0 0 area out restart r area out n refl (h out) (e ∙ ap numbersIn (h list .is ∙ sym (h out .is)))
+    call-some m 0 18 0 0 0 0 area out restart r area out n refl (h out) (e ∙ ap numbersIn (h list .is ∙ sym (h out .is)))
 
 -- ## a start
 module _ (before : Machine) (s : Configuration) (size : ℕ) (r : Started) (n : Numbers) (h : StartedIs s size r)

@@ -2,7 +2,9 @@
 use Prim.Native.Nat.{ℕ, zero, suc}
 use native.Mathlib.Omega.{arith}
 use mathlib.Core.Path.{_≡_, refl, ap, subst}
+use mathlib.Core.Bool.{true}
 use mathlib.Core.List.{List}
+use types.Run.{hit}
 use Rattle.types.specs.Refusal as refusal
 use Rattle.consumer.specs.Calls as consumer
 use Rattle.consumer.specs.Parts.{Whole}
@@ -16,7 +18,7 @@ use Rattle.checkpoint.specs.declared.Writing.{Writing}
 use Rattle.checkpoint.specs.declared.BeginAnswer.{BeginAnswer}
 use Rattle.checkpoint.specs.declared.BeginAnswer.the-variants as begins
 use Rattle.checkpoint.specs.declared.Stepped.{Stepped}
-use Rattle.machine.specs.Calls.{progress, begin, step, progressed}
+use Rattle.machine.specs.Calls.{progress, begin, step, u64, progressed}
 use Rattle.machine.specs.Transitions.{answeredAs}
 use Rattle.machine.specs.Answers.{begunOf}
 use Rattle.machine.specs.View.{SoundAt, CalledIs, phaseAfter}
@@ -25,7 +27,7 @@ use Rattle.machine.specs.declared.in_place.Fixed.{Fixed}
 use Rattle.machine.specs.declared.in_place.Figures.{Figures}
 use Rattle.machine.specs.declared.calls.AskAnswer.the-variants as asks
 use Rattle.machine.specs.declared.calls.CallAnswer.the-variants as calls
-use Rattle.machine.proofs.Transitions.{not-begun, not-stepped, begin-refused, begin-done, step-called}
+use Rattle.machine.proofs.Transitions.{not-begun, not-stepped, not-begun-places, NotBegun, begin-faulty, begin-refused, begin-done, step-called}
 use Rattle.answers.specs.Numbers.{numbersOf, notNow, oneValue, wroteValues}
 use Rattle.answers.specs.declared.Numbers.{Numbers}
 use Rattle.server.specs.Transitions.{AskedOn, CallIs}
@@ -37,9 +39,9 @@ use Rattle.server.proofs.InNumbers.{idle-sound, idle-asked, ask-some, c
 pub whole : (k : ℕ) (x : Consumer) → k ≡ 0 → Askable k x → Whole x
 whole k x e h = record { full = h .sized .table; sound = idle-sound k x e (h .sound) }
 
-pub ready : (k : ℕ) (f : Fixed) (n : Figures) (starts ends ks gs ss ds ns cks cvs backoffs : List ℕ) (x : Consumer)
-    → let y = consumerOf f n starts ends ks gs ss ds ns cks cvs backoffs x in k ≡ 0 → Askable k y → Ready f n starts ends ks gs ss ds ns cks cvs backoffs
-ready k f n starts ends ks gs ss ds ns cks cvs backoffs x e h =
+pub ready : (k : ℕ) (f : Fixed) (n : Figures) (starts ends ks gs ss ds ns ws cks cvs backoffs rights : List ℕ) (x : Consumer)
+    → let y = consumerOf f n starts ends ks gs ss ds ns ws cks cvs backoffs rights x in k ≡ 0 → Askable k y → Ready f n starts ends ks gs ss ds ns ws cks cvs backoffs
+ready k f n starts ends ks gs ss ds ns ws cks cvs backoffs rights x e h =
     let z = h .sized in
     let ok = idle-sound k _ e (h .sound) in
     record {
@@ -50,11 +52,11 @@ ready k f n starts ends ks gs ss ds ns cks cvs backoffs x e h =
     }
 
 -- Progress, from what the consumer answers
-pub progress-numbers : (k : ℕ) (x : Consumer) (o g now : ℕ) (out : List ℕ) (y : Consumer) (a : ProgressAnswer) (n : Numbers) → k ≡ 0
-    → Answers (progressOf a) x y (consumer.progress (view x) o g now) → n ≡ numbersOf (refusal.answered oneValue (progressOf a)) → AskedOn k x 5 o g now 0 out n y out
-progress-numbers k x o g now out y a n e h same =
-    idle-asked k x 5 o g now 0 out n y out e
-    (ask-some x 5 o g now 0 out (progress o g now) (left (asks.Progressed a) y) out n refl
+pub progress-numbers : (k : ℕ) (x : Consumer) (w o g now : ℕ) (out : List ℕ) (y : Consumer) (a : ProgressAnswer) (n : Numbers) → k ≡ 0
+    → Answers (progressOf a) x y (consumer.progress (view x) w o g now) → n ≡ numbersOf (refusal.answered oneValue (progressOf a)) → AskedOn k x w 5 o g now 0 out n y out
+progress-numbers k x w o g now out y a n e h same =
+    idle-asked k x w 5 o g now 0 out n y out e
+    (ask-some x w 5 o g now 0 out (progress o g now) (left (asks.Progressed a) y) out n refl
     (record { is = λ area. ap (answeredAs area (progressed o g now)) (h .is); sound = h .sound; kept = h .kept; lists = λ area. refl }) same)
 
 -- ## begin
@@ -68,25 +70,32 @@ lent-of zero w e h =
     }
 lent-of (suc k) w e h = absurd (omega arith)
 
-module _ (s : Configuration) (k : ℕ) (w : Writing) (ok : SoundAt k w) (a out : List ℕ) where
-  pub begin-declined : (k ≡ 0 → ⊥) → CallIs (machineOf s k w) 16 0 0 0 0 a out notNow (machineOf s k w) a out
+module _ (s : Configuration) (k : ℕ) (w : Writing) (ok : SoundAt k w) (v : ℕ) (f : u64 v ≡ true) (a out : List ℕ) where
+  pub begin-declined : (k ≡ 0 → ⊥) → CallIs (machineOf s k w) v 16 0 0 0 0 a out notNow (machineOf s k w) a out
   begin-declined h =
-      call-some (machineOf s k w) 16 0 0 0 0 a out begin (record { answer = calls.NotNow; machine = machineOf s k w }) a out notNow refl
-      (not-begun (machineOf s k w) ok a out h) refl
+      call-some (machineOf s k w) v 16 0 0 0 0 a out (begin v) (record { answer = calls.NotNow; machine = machineOf s k w }) a out notNow refl
+      (not-begun (machineOf s k w) ok a out v f h) refl
 
   module _ (e : k ≡ 0) (w′ : Writing) where
-    begun-called : (answer : BeginAnswer) → BegunAs answer w w′
-        → CalledIs (machineOf s k w) begin a out (record { answer = calls.Begun answer; machine = machineOf s (phaseBegun answer) w′ }) a out
-    begun-called (begins.Begun n) h =
-        begin-done (machineOf s k w) e a out ok (record { answer = begins.Begun n; writing = w′ }) (h .begun) n refl
-    begun-called begins.JournalFull h =
-        rw (h .kept, ← e) (begin-refused (machineOf s k w) e a out ok (record { answer = begins.JournalFull; writing = w′ }) (h .begun) refl)
+    begun-refused : (answer : BeginAnswer) → NotBegun answer → BegunAs answer v w w′
+        → CalledIs (machineOf s k w) (begin v) a out (record { answer = calls.Begun answer; machine = machineOf s 0 w′ }) a out
+    begun-refused answer p h =
+        let same : w′ ≡ w = rw (begin-faulty answer p w′ .is) at (h .kept) in
+        rw (same, ← e) (begin-refused (machineOf s k w) e a out ok v f (record { answer = answer; writing = w′ }) (h .begun) p)
 
-    pub begun-numbers : (answer : BeginAnswer) → BegunAs answer w w′ → (n : Numbers) (k′ : ℕ) → n ≡ numbersOf (refusal.answered oneValue (begunOf answer))
-        → k′ ≡ phaseBegun answer → CallIs (machineOf s k w) 16 0 0 0 0 a out n (machineOf s k′ w′) a out
+    begun-called : (answer : BeginAnswer) → BegunAs answer v w w′
+        → CalledIs (machineOf s k w) (begin v) a out (record { answer = calls.Begun answer; machine = machineOf s (phaseBegun answer) w′ }) a out
+    begun-called (begins.Begun n) h =
+        begin-done (machineOf s k w) e a out ok v f (record { answer = begins.Begun n; writing = w′ }) (h .begun) n refl
+    begun-called begins.JournalFull h = begun-refused begins.JournalFull (hit not-begun-places 1 tt) h
+    begun-called begins.UnknownWorker h = begun-refused begins.UnknownWorker (hit not-begun-places 2 tt) h
+    begun-called begins.NotPermitted h = begun-refused begins.NotPermitted (hit not-begun-places 3 tt) h
+
+    pub begun-numbers : (answer : BeginAnswer) → BegunAs answer v w w′ → (n : Numbers) (k′ : ℕ) → n ≡ numbersOf (refusal.answered oneValue (begunOf answer))
+        → k′ ≡ phaseBegun answer → CallIs (machineOf s k w) v 16 0 0 0 0 a out n (machineOf s k′ w′) a out
     begun-numbers answer h n k′ same p =
         rw p
-        (call-some (machineOf s k w) 16 0 0 0 0 a out begin (record { answer = calls.Begun answer; machine = machineOf s (phaseBegun answer) w′ }) a out n refl
+        (call-some (machineOf s k w) v 16 0 0 0 0 a out (begin v) (record { answer = calls.Begun answer; machine = machineOf s (phaseBegun answer) w′ }) a out n refl
         (begun-called answer h) same)
 
 -- ## step
@@ -94,13 +103,13 @@ pub writing-sound : (k : ℕ) (w : Writing) → k ≡ 1 → SoundAt k w → Soun
 writing-sound k w e ok = subst (λ (n : ℕ). SoundAt n w) e ok
 
 module _ (s : Configuration) (k : ℕ) (w : Writing) (ok : SoundAt k w) (a out : List ℕ) where
-  pub step-declined : (k ≡ 1 → ⊥) → CallIs (machineOf s k w) 17 0 0 0 0 a out notNow (machineOf s k w) a out
+  pub step-declined : (k ≡ 1 → ⊥) → CallIs (machineOf s k w) 0 17 0 0 0 0 a out notNow (machineOf s k w) a out
   step-declined h =
-      call-some (machineOf s k w) 17 0 0 0 0 a out step (record { answer = calls.NotNow; machine = machineOf s k w }) a out notNow refl
+      call-some (machineOf s k w) 0 17 0 0 0 0 a out step (record { answer = calls.NotNow; machine = machineOf s k w }) a out notNow refl
       (not-stepped (machineOf s k w) ok a out h) refl
 
   pub stepped-numbers : (r : Stepped) (a′ : List ℕ) → k ≡ 1 → SteppedIs w a r a′ → (n : Numbers) (k′ : ℕ) → n ≡ numbersOf (refusal.answered wroteValues (stepOf (r .answer)))
-      → k′ ≡ phaseAfter (r .answer) → CallIs (machineOf s k w) 17 0 0 0 0 a out n (machineOf s k′ (r .writing)) a′ out
+      → k′ ≡ phaseAfter (r .answer) → CallIs (machineOf s k w) 0 17 0 0 0 0 a out n (machineOf s k′ (r .writing)) a′ out
   stepped-numbers r a′ e h n k′ same p =
-      call-some (machineOf s k w) 17 0 0 0 0 a out step (record { answer = calls.Stepped (r .answer); machine = machineOf s k′ (r .writing) }) a′ out n refl
+      call-some (machineOf s k w) 0 17 0 0 0 0 a out step (record { answer = calls.Stepped (r .answer); machine = machineOf s k′ (r .writing) }) a′ out n refl
       (step-called (machineOf s k w) e a a′ r h out k′ p) same

@@ -56,7 +56,7 @@ abbrev pub OfMachine : Type 0
 OfMachine = Path TMachine′.mir
 
 abbrev in-writing : Path TWriting′.mir → OfMachine
-in-writing p = into {τ = TWriting′.mir} {d = 176} 2 refl p
+in-writing p = into {τ = TWriting′.mir} {d = 184} 2 refl p
 
 abbrev in-consumer : Path TConsumer′.mir → OfMachine
 in-consumer p = in-writing (into {τ = TConsumer′.mir} {d = 0} 0 refl p)
@@ -67,8 +67,11 @@ in-cursor p = in-consumer (into {τ = TCursor′.mir} {d = 0} 0 refl p)
 abbrev in-table : Path TTable′.mir → OfMachine
 in-table p = in-consumer (into {τ = TTable′.mir} {d = 2064} 1 refl p)
 
+abbrev in-settings : Path TSettings′.mir → OfMachine
+in-settings p = in-consumer (into {τ = TSettings′.mir} {d = 6240} 5 refl p)
+
 abbrev in-delivery : Path TDelivery′.mir → OfMachine
-in-delivery p = in-consumer (into {τ = TSettings′.mir} {d = 5984} 5 refl (into {τ = TDelivery′.mir} {d = 0} 0 refl p))
+in-delivery p = in-settings (into {τ = TDelivery′.mir} {d = 0} 0 refl p)
 
 -- a column, and how it is lent: shared or not
 pub record MachineColumn : Type 0 where
@@ -102,7 +105,7 @@ fetching [] (x ∷ xs) = lent (x .0 .path) ∷ fetching [] xs
 fetching (p ∷ ps) xs = copied p ∷ fetching ps xs
 
 abbrev pub phase : OfMachine
-phase = into {d = 168} 1 refl here
+phase = into {d = 176} 1 refl here
 
 abbrev pub committed : OfMachine
 committed = in-cursor (into {d = 0} 0 refl here)
@@ -134,29 +137,32 @@ deadlines = record { path = in-table (into {d = 1552} 4 refl here); width = w64;
 abbrev pub deliveries : MachineColumn
 deliveries = record { path = in-table (into {d = 2064} 5 refl here); width = w32; size = 64; of = λ m. m .writing .consumer .table .deliveries }
 
+abbrev pub workers : MachineColumn
+workers = record { path = in-table (into {d = 2320} 6 refl here); width = w32; size = 64; of = λ m. m .writing .consumer .table .workers }
+
 abbrev pub len : OfMachine
-len = in-table (into {d = 2320} 6 refl here)
+len = in-table (into {d = 2576} 7 refl here)
 
 abbrev pub carried-offsets : MachineColumn
-carried-offsets = record { path = in-table (into {d = 2328} 7 refl here); width = w64; size = 128; of = λ m. m .writing .consumer .table .«carried_offsets» }
+carried-offsets = record { path = in-table (into {d = 2584} 8 refl here); width = w64; size = 128; of = λ m. m .writing .consumer .table .«carried_offsets» }
 
 abbrev pub carried-counts : MachineColumn
-carried-counts = record { path = in-table (into {d = 3352} 8 refl here); width = w32; size = 128; of = λ m. m .writing .consumer .table .«carried_counts» }
+carried-counts = record { path = in-table (into {d = 3608} 9 refl here); width = w32; size = 128; of = λ m. m .writing .consumer .table .«carried_counts» }
 
 abbrev pub carried-len : OfMachine
-carried-len = in-table (into {d = 3864} 9 refl here)
+carried-len = in-table (into {d = 4120} 10 refl here)
 
 abbrev pub next-generation : OfMachine
-next-generation = in-table (into {τ = TGeneration′.mir} {d = 3872} 10 refl (into {d = 0} 0 refl here))
+next-generation = in-table (into {τ = TGeneration′.mir} {d = 4128} 11 refl (into {d = 0} 0 refl here))
 
 abbrev pub redeliveries : OfMachine
-redeliveries = in-table (into {d = 3880} 11 refl here)
+redeliveries = in-table (into {d = 4136} 12 refl here)
 
 abbrev pub ceiling : OfMachine
-ceiling = in-consumer (into {τ = TGeneration′.mir} {d = 5952} 2 refl (into {d = 0} 0 refl here))
+ceiling = in-consumer (into {τ = TGeneration′.mir} {d = 6208} 2 refl (into {d = 0} 0 refl here))
 
 abbrev in-next : Path TNext′.mir → OfMachine
-in-next p = in-consumer (into {τ = TNext′.mir} {d = 5960} 3 refl p)
+in-next p = in-consumer (into {τ = TNext′.mir} {d = 6216} 3 refl p)
 
 abbrev pub next-number : OfMachine
 next-number = in-next (into {d = 0} 0 refl here)
@@ -165,7 +171,7 @@ abbrev pub block : OfMachine
 block = in-next (into {d = 8} 1 refl here)
 
 abbrev pub area-len : OfMachine
-area-len = in-consumer (into {d = 5976} 4 refl here)
+area-len = in-consumer (into {d = 6232} 4 refl here)
 
 abbrev pub max-deliver : OfMachine
 max-deliver = in-delivery (into {d = 0} 0 refl here)
@@ -179,17 +185,20 @@ backoff-len = in-delivery (into {d = 136} 3 refl here)
 abbrev pub threshold : OfMachine
 threshold = in-delivery (into {d = 144} 4 refl here)
 
+abbrev pub rights : MachineColumn
+rights = record { path = in-settings (into {d = 152} 1 refl here); width = w8; size = 8; of = λ m. m .writing .consumer .settings .rights }
+
 abbrev pub written : OfMachine
-written = in-writing (into {d = 6136} 1 refl here)
+written = in-writing (into {d = 6400} 1 refl here)
 
 abbrev pub payload : MachineColumn
-payload = record { path = in-writing (into {d = 6144} 2 refl here); width = w8; size = 3606; of = λ m. m .writing .payload }
+payload = record { path = in-writing (into {d = 6408} 2 refl here); width = w8; size = 3606; of = λ m. m .writing .payload }
 
 abbrev pub cursor-len : OfMachine
-cursor-len = in-writing (into {d = 9752} 3 refl here)
+cursor-len = in-writing (into {d = 10016} 3 refl here)
 
 abbrev pub attempt-len : OfMachine
-attempt-len = in-writing (into {d = 9760} 4 refl here)
+attempt-len = in-writing (into {d = 10024} 4 refl here)
 
 -- ## what a machine value tells
 generation-told : (g : Generation) → Typed TGeneration′.mir (TGeneration′.lowered g) → Is TGeneration.the-row g (TGeneration′.lowered g ∷ [])
@@ -206,7 +215,7 @@ lease-told c t = told-struct TLease.struct TLease.propositions TLease′.the-law
 table-told : (x : LeaseTable) → Typed TTable′.mir (TTable′.lowered x) → Is TTable.the-row x (TTable′.lowered x ∷ [])
 table-told x t =
     told-struct TTable.struct TTable.propositions TTable′.the-laws
-    (lease-told, (column w64 64, (column w64 64, (column w64 64, (column w64 64, (column w32 64, (number w64, (column w64 128, (column w32 128, (number w64, (generation-told, (number w32, tt)))))))))))) x
+    (lease-told, (column w64 64, (column w64 64, (column w64 64, (column w64 64, (column w32 64, (column w32 64, (number w64, (column w64 128, (column w32 128, (number w64, (generation-told, (number w32, tt))))))))))))) x
     (all-typed (fieldTys TTable′.mir) (fieldsIn (TTable′.lowered x)) t)
 
 delivery-told : (x : DeliveryConfig) → Typed TDelivery′.mir (TDelivery′.lowered x) → Is TDelivery.the-row x (TDelivery′.lowered x ∷ [])
@@ -215,7 +224,7 @@ delivery-told x t =
     (all-typed (fieldTys TDelivery′.mir) (fieldsIn (TDelivery′.lowered x)) t)
 
 settings-told : (x : Settings) → Typed TSettings′.mir (TSettings′.lowered x) → Is TSettings.the-row x (TSettings′.lowered x ∷ [])
-settings-told x t = told-struct TSettings.struct TSettings.propositions TSettings′.the-laws (delivery-told, tt) x (all-typed (fieldTys TSettings′.mir) (fieldsIn (TSettings′.lowered x)) t)
+settings-told x t = told-struct TSettings.struct TSettings.propositions TSettings′.the-laws (delivery-told, (column w8 8, tt)) x (all-typed (fieldTys TSettings′.mir) (fieldsIn (TSettings′.lowered x)) t)
 
 pub configuration-told : (x : Configuration) → Typed TConfiguration′.mir (TConfiguration′.lowered x) → Is TConfiguration.the-row x (TConfiguration′.lowered x ∷ [])
 configuration-told x t =
@@ -270,9 +279,10 @@ sized-told m t =
                     starts = long w64 64 (x .table .«attempt_starts») (table .1 .1 .1 .0);
                     deadlines = long w64 64 (x .table .deadlines) (table .1 .1 .1 .1 .0);
                     counts = long w32 64 (x .table .deliveries) (table .1 .1 .1 .1 .1 .0);
+                    workers = long w32 64 (x .table .workers) (table .1 .1 .1 .1 .1 .1 .0);
                   };
-              carried-offsets = long w64 128 (x .table .«carried_offsets») (table .1 .1 .1 .1 .1 .1 .1 .0);
-              carried-counts = long w32 128 (x .table .«carried_counts») (table .1 .1 .1 .1 .1 .1 .1 .1 .0);
+              carried-offsets = long w64 128 (x .table .«carried_offsets») (table .1 .1 .1 .1 .1 .1 .1 .1 .0);
+              carried-counts = long w32 128 (x .table .«carried_counts») (table .1 .1 .1 .1 .1 .1 .1 .1 .1 .0);
             };
         backoffs = long w64 16 (x .settings .delivery .«backoff_nanos») (delivery .1 .1 .0);
       },

@@ -23,12 +23,12 @@ asks a b c d room =
 abbrev pub askAt : ℕ → ℕ → ℕ → ℕ → ℕ → ℕ → Option Ask
 askAt kind a b c d room = lookup kind (asks a b c d room)
 
--- ## calls on a machine: its own from 16 on, and those on its state
-abbrev pub calls : ℕ → ℕ → ℕ → ℕ → ℕ → List (Entry Call)
-calls a b c d room = entry 16 begin ∷ entry 17 step ∷ entry 18 restart ∷ mapValues ask (asks a b c d room)
+-- ## calls of worker w on a machine: its own from 16 on, and those on its state
+abbrev pub calls : ℕ → ℕ → ℕ → ℕ → ℕ → ℕ → List (Entry Call)
+calls w a b c d room = entry 16 (begin w) ∷ entry 17 step ∷ entry 18 restart ∷ mapValues (ask w) (asks a b c d room)
 
-abbrev pub callAt : ℕ → ℕ → ℕ → ℕ → ℕ → ℕ → Option Call
-callAt kind a b c d room = lookup kind (calls a b c d room)
+abbrev pub callAt : ℕ → ℕ → ℕ → ℕ → ℕ → ℕ → ℕ → Option Call
+callAt w kind a b c d room = lookup kind (calls w a b c d room)
 
 -- ## the calls of a decoder's answer
 abbrev pub askingOf : ℕ → Asking → Option Ask

@@ -48,14 +48,14 @@ pub record AskableIn (k : ℕ) (parts : Consumer → Consumer) : Type 0 where
   pub consumer : Consumer
   pub askable : Askable k (parts consumer)
 
--- a call on every consumer that has these parts
-abbrev pub AskedIn : ℕ → (before : Consumer → Consumer) (kind a b c d : ℕ) (out : List ℕ) (n : Numbers) (after : Consumer → Consumer) (out′ : List ℕ) → Type 0
-AskedIn k before kind a b c d out n after out′ =
-    (x : Consumer) → Askable k (before x) → AskedOn k (before x) kind a b c d out n (after x) out′
+-- a call of worker w on every consumer that has these parts
+abbrev pub AskedIn : ℕ → (before : Consumer → Consumer) (w kind a b c d : ℕ) (out : List ℕ) (n : Numbers) (after : Consumer → Consumer) (out′ : List ℕ) → Type 0
+AskedIn k before w kind a b c d out n after out′ =
+    (x : Consumer) → Askable k (before x) → AskedOn k (before x) w kind a b c d out n (after x) out′
 
 -- Progress, which is call 5, on every consumer that has these parts, whatever list is lent
-abbrev pub ProgressedIn : ℕ → (before : Consumer → Consumer) (offset generation clock : ℕ) (n : Numbers) (after : Consumer → Consumer) → Type 0
-ProgressedIn k before offset generation clock n after = (out : List ℕ) → AskedIn k before 5 offset generation clock 0 out n after out
+abbrev pub ProgressedIn : ℕ → (before : Consumer → Consumer) (w offset generation clock : ℕ) (n : Numbers) (after : Consumer → Consumer) → Type 0
+ProgressedIn k before w offset generation clock n after = (out : List ℕ) → AskedIn k before w 5 offset generation clock 0 out n after out
 
 -- ## begin
 -- a record with these parts
@@ -76,13 +76,15 @@ pub record Beginnable (k : ℕ) (parts : Consumer → Writing) : Type 0 where
 -- the number of the phase that a begin leaves
 abbrev pub phaseBegun : BeginAnswer → ℕ
 phaseBegun (begins.Begun n) = 1
+phaseBegun begins.UnknownWorker = 0
+phaseBegun begins.NotPermitted = 0
 phaseBegun begins.JournalFull = 0
 
--- call 16 on every machine that has these parts, whatever area and list are lent
-abbrev pub BegunOn : ℕ → (Consumer → Writing) → Numbers → ℕ → (Consumer → Writing) → Type 0
-BegunOn k before n k′ after =
+-- call 16 of worker w on every machine that has these parts, whatever area and list are lent
+abbrev pub BegunOn : ℕ → (Consumer → Writing) → ℕ → Numbers → ℕ → (Consumer → Writing) → Type 0
+BegunOn k before w n k′ after =
     (s : Configuration) (c : Consumer) → Lendable k (before c) → (area out : List ℕ)
-    → CallIs (machineOf s k (before c)) 16 0 0 0 0 area out n (machineOf s k′ (after c)) area out
+    → CallIs (machineOf s k (before c)) w 16 0 0 0 0 area out n (machineOf s k′ (after c)) area out
 
 -- ## step
 -- the parts of a record that is sound in a phase
@@ -94,4 +96,4 @@ pub record Steppable (k : ℕ) (p : Parts) : Type 0 where
 abbrev pub SteppedOn : ℕ → Parts → List ℕ → Numbers → ℕ → Parts → List ℕ → Type 0
 SteppedOn k before a n k′ after a′ =
     (s : Configuration) (w : Writing) → SoundAt k (withParts before w) → (out : List ℕ)
-    → CallIs (machineOf s k (withParts before w)) 17 0 0 0 0 a out n (machineOf s k′ (withParts after w)) a′ out
+    → CallIs (machineOf s k (withParts before w)) 0 17 0 0 0 0 a out n (machineOf s k′ (withParts after w)) a′ out

@@ -73,14 +73,14 @@ abbrev pub KeptIn : {T : Type 0} → Option After → T → T → Type 0
 KeptIn none before after = after ≡ before
 KeptIn (some t) before after = KeptBy (t .event) before after
 
--- ## a call on the state, with whatever area
-abbrev pub askAfter : Consumer → ℕ → ℕ → ℕ → ℕ → ℕ → List ℕ → List ℕ → Option After
-askAfter s kind a b c d out area = onAsk (askAt kind a b c d (length out)) (asked (view s) area)
+-- ## a call of worker w on the state, with whatever area
+abbrev pub askAfter : Consumer → ℕ → ℕ → ℕ → ℕ → ℕ → ℕ → List ℕ → List ℕ → Option After
+askAfter s w kind a b c d out area = onAsk (askAt kind a b c d (length out)) (asked (view s) area w)
 
-pub record AnswersAsk (before : Consumer) (kind a b c d : ℕ) (out : List ℕ) (n : Numbers) (after : Consumer) (out′ : List ℕ) : Type 0 where
-  pub is : (area : List ℕ) → answeredWith n (idle (view after)) area out′ ≡ answeredBy (idle (view before)) area out (askAfter before kind a b c d out area)
+pub record AnswersAsk (before : Consumer) (w kind a b c d : ℕ) (out : List ℕ) (n : Numbers) (after : Consumer) (out′ : List ℕ) : Type 0 where
+  pub is : (area : List ℕ) → answeredWith n (idle (view after)) area out′ ≡ answeredBy (idle (view before)) area out (askAfter before w kind a b c d out area)
   pub sound : consumer.Sound after
-  pub kept : KeptIn (askAfter before kind a b c d out []) before after
+  pub kept : KeptIn (askAfter before w kind a b c d out []) before after
 
 -- nothing happened
 abbrev pub Declined : Consumer → List ℕ → Numbers → Consumer → List ℕ → Type 0
@@ -91,9 +91,9 @@ abbrev pub SoundIf : ℕ → Consumer → Type 0
 SoundIf zero s = consumer.Sound s
 SoundIf (suc n) s = Unit {0}
 
-abbrev pub AskedOn : ℕ → Consumer → ℕ → ℕ → ℕ → ℕ → ℕ → List ℕ → Numbers → Consumer → List ℕ → Type 0
-AskedOn zero before kind a b c d out n after out′ = AnswersAsk before kind a b c d out n after out′
-AskedOn (suc k) before kind a b c d out n after out′ = Declined before out n after out′
+abbrev pub AskedOn : ℕ → Consumer → ℕ → ℕ → ℕ → ℕ → ℕ → ℕ → List ℕ → Numbers → Consumer → List ℕ → Type 0
+AskedOn zero before w kind a b c d out n after out′ = AnswersAsk before w kind a b c d out n after out′
+AskedOn (suc k) before w kind a b c d out n after out′ = Declined before out n after out′
 
 -- the machine with another consumer in its place
 abbrev pub holding : Machine → Consumer → Machine
@@ -111,25 +111,25 @@ holding m s =
     }
 
 -- what the transition makes of it
-abbrev pub askAfterOf : Machine → ℕ → ℕ → ℕ → ℕ → ℕ → List ℕ → List ℕ → Option After
-askAfterOf m kind a b c d out area =
-    onAsk (askAt kind a b c d (length out)) (λ q. onState (phaseOf m) (λ s. asked s area q))
+abbrev pub askAfterOf : Machine → ℕ → ℕ → ℕ → ℕ → ℕ → ℕ → List ℕ → List ℕ → Option After
+askAfterOf m w kind a b c d out area =
+    onAsk (askAt kind a b c d (length out)) (λ q. onState (phaseOf m) (λ s. asked s area w q))
 
-pub record AskIs (before : Machine) (kind a b c d : ℕ) (out : List ℕ) (n : Numbers) (after : Machine) (out′ : List ℕ) : Type 0 where
-  pub is : (area : List ℕ) → answeredWith n (phaseOf after) area out′ ≡ answeredBy (phaseOf before) area out (askAfterOf before kind a b c d out area)
+pub record AskIs (before : Machine) (w kind a b c d : ℕ) (out : List ℕ) (n : Numbers) (after : Machine) (out′ : List ℕ) : Type 0 where
+  pub is : (area : List ℕ) → answeredWith n (phaseOf after) area out′ ≡ answeredBy (phaseOf before) area out (askAfterOf before w kind a b c d out area)
   pub sound : Sound after
   pub configuration : after .configuration ≡ before .configuration
-  pub kept : KeptIn (askAfterOf before kind a b c d out []) before after
+  pub kept : KeptIn (askAfterOf before w kind a b c d out []) before after
 
--- ## a call on the machine
-abbrev pub callAfter : Machine → ℕ → ℕ → ℕ → ℕ → ℕ → List ℕ → List ℕ → Option After
-callAfter m kind a b c d area out = onCall (callAt kind a b c d (length out)) (transition (configurationOf (m .configuration)) (phaseOf m) area)
+-- ## a call of worker w on the machine
+abbrev pub callAfter : Machine → ℕ → ℕ → ℕ → ℕ → ℕ → ℕ → List ℕ → List ℕ → Option After
+callAfter m w kind a b c d area out = onCall (callAt w kind a b c d (length out)) (transition (configurationOf (m .configuration)) (phaseOf m) area)
 
-pub record CallIs (before : Machine) (kind a b c d : ℕ) (area out : List ℕ) (n : Numbers) (after : Machine) (area′ out′ : List ℕ) : Type 0 where
-  pub is : answeredWith n (phaseOf after) area′ out′ ≡ answeredBy (phaseOf before) area out (callAfter before kind a b c d area out)
+pub record CallIs (before : Machine) (w kind a b c d : ℕ) (area out : List ℕ) (n : Numbers) (after : Machine) (area′ out′ : List ℕ) : Type 0 where
+  pub is : answeredWith n (phaseOf after) area′ out′ ≡ answeredBy (phaseOf before) area out (callAfter before w kind a b c d area out)
   pub sound : Sound after
   pub configuration : after .configuration ≡ before .configuration
-  pub kept : KeptIn (callAfter before kind a b c d area out) (held before area) (held after area′)
+  pub kept : KeptIn (callAfter before w kind a b c d area out) (held before area) (held after area′)
 
 -- ## a start, whatever stood in the machine's place before
 -- a fresh machine, or beside a refusal the very thing that stood there

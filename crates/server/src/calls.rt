@@ -45,7 +45,7 @@ pub extern "C" fn ninotskev_off(machine: &mut Machine, configuration: &Configura
 #[no_mangle]
 pub extern "C" fn ninotskev_restart(machine: &mut Machine, numbers: &mut Numbers, area: &[u8])
     requires { ⌜ Sound (now machine) ⌝ }
-    ensures { λ _. ⌜ ((out : List ℕ) → CallIs (now (machine .entry)) 18 0 0 0 0 (now (area .entry)) out (now (numbers .exit)) (now (machine .exit)) (now (area .entry)) out) ⌝ }
+    ensures { λ _. ⌜ ((out : List ℕ) → CallIs (now (machine .entry)) 0 18 0 0 0 0 (now (area .entry)) out (now (numbers .exit)) (now (machine .exit)) (now (area .entry)) out) ⌝ }
 {
     let before = *machine;
     let restarted = restart(before, area);
@@ -53,14 +53,15 @@ pub extern "C" fn ninotskev_restart(machine: &mut Machine, numbers: &mut Numbers
     *numbers = restarted.numbers;
 }
 
-// Begins a checkpoint on the machine in its place: call 16.
+// A worker begins a checkpoint on the machine in its place: call 16.
 #[no_mangle]
-pub extern "C" fn ninotskev_begin(machine: &mut Machine, numbers: &mut Numbers)
+pub extern "C" fn ninotskev_begin(machine: &mut Machine, numbers: &mut Numbers, worker: u64)
     requires { ⌜ Sound (now machine) ⌝ }
-    ensures { λ _. ⌜ ((area out : List ℕ) → CallIs (now (machine .entry)) 16 0 0 0 0 area out (now (numbers .exit)) (now (machine .exit)) area out) ⌝ }
+    ensures { λ _. ⌜ ((area out : List ℕ) → CallIs (now (machine .entry)) worker 16 0 0 0 0 area out (now (numbers .exit)) (now (machine .exit)) area out) ⌝ }
 {
     let done = begin_in_place(
         machine.phase,
+        worker,
         machine.writing.consumer.cursor.committed,
         machine.writing.consumer.cursor.runs,
         machine.writing.consumer.table.len,
@@ -70,6 +71,7 @@ pub extern "C" fn ninotskev_begin(machine: &mut Machine, numbers: &mut Numbers)
         machine.writing.written,
         machine.writing.cursor_len,
         machine.writing.attempt_len,
+        &machine.writing.consumer.settings.rights,
         &mut machine.writing.consumer.cursor.starts,
         &mut machine.writing.consumer.cursor.ends,
         &mut machine.writing.consumer.table.offsets,
@@ -89,7 +91,7 @@ pub extern "C" fn ninotskev_begin(machine: &mut Machine, numbers: &mut Numbers)
 #[no_mangle]
 pub extern "C" fn ninotskev_step(machine: &mut Machine, numbers: &mut Numbers, area: &mut [u8])
     requires { ⌜ Sound (now machine) ⌝ }
-    ensures { λ _. ⌜ ((out : List ℕ) → CallIs (now (machine .entry)) 17 0 0 0 0 (now (area .entry)) out (now (numbers .exit)) (now (machine .exit)) (now (area .exit)) out) ⌝ }
+    ensures { λ _. ⌜ ((out : List ℕ) → CallIs (now (machine .entry)) 0 17 0 0 0 0 (now (area .entry)) out (now (numbers .exit)) (now (machine .exit)) (now (area .exit)) out) ⌝ }
 {
     let done = step_in_place(
         machine.phase,
@@ -114,11 +116,12 @@ pub extern "C" fn ninotskev_step(machine: &mut Machine, numbers: &mut Numbers, a
     *numbers = done.numbers;
 }
 
-// A call on the state of the machine in its place.
+// A call of a worker on the state of the machine in its place.
 #[no_mangle]
 pub extern "C" fn ninotskev_ask(
     machine: &mut Machine,
     numbers: &mut Numbers,
+    worker: u64,
     kind: u64,
     a: u64,
     b: u64,
@@ -127,10 +130,11 @@ pub extern "C" fn ninotskev_ask(
     out: &mut [u64],
 )
     requires { ⌜ Sound (now machine) ⌝ }
-    ensures { λ _. ⌜ AskIs (now (machine .entry)) kind a b c d (now (out .entry)) (now (numbers .exit)) (now (machine .exit)) (now (out .exit)) ⌝ }
+    ensures { λ _. ⌜ AskIs (now (machine .entry)) worker kind a b c d (now (out .entry)) (now (numbers .exit)) (now (machine .exit)) (now (out .exit)) ⌝ }
 {
     let done = ask_in_place(
         machine.phase,
+        worker,
         kind,
         a,
         b,
@@ -161,9 +165,11 @@ pub extern "C" fn ninotskev_ask(
         &mut machine.writing.consumer.table.attempt_starts,
         &mut machine.writing.consumer.table.deadlines,
         &mut machine.writing.consumer.table.deliveries,
+        &mut machine.writing.consumer.table.workers,
         &mut machine.writing.consumer.table.carried_offsets,
         &mut machine.writing.consumer.table.carried_counts,
         &machine.writing.consumer.settings.delivery.backoff_nanos,
+        &mut machine.writing.consumer.settings.rights,
         out,
     );
     machine.writing.consumer.cursor.committed = done.figures.committed;
@@ -181,24 +187,29 @@ pub extern "C" fn ninotskev_ask(
 pub extern "C" fn ninotskev_progress(
     machine: &mut Machine,
     numbers: &mut Numbers,
+    worker: u64,
     offset: u64,
     generation: u64,
     now: u64,
 )
     requires { ⌜ Sound (machine .now) ⌝ }
-    ensures { λ _. ⌜ ((out : List ℕ) → AskIs (machine .entry .now) 5 offset generation now 0 out (numbers .exit .now) (machine .exit .now) out) ⌝ }
+    ensures { λ _. ⌜ ((out : List ℕ) → AskIs (machine .entry .now) worker 5 offset generation now 0 out (numbers .exit .now) (machine .exit .now) out) ⌝ }
 {
     let done = progress_in_place(
         machine.phase,
+        worker,
         offset,
         generation,
         now,
         machine.writing.consumer.table.config,
         machine.writing.consumer.table.len,
+        &machine.writing.consumer.settings.rights,
         &mut machine.writing.consumer.table.offsets,
         &mut machine.writing.consumer.table.generations,
         &mut machine.writing.consumer.table.attempt_starts,
         &mut machine.writing.consumer.table.deadlines,
+        &mut machine.writing.consumer.table.deliveries,
+        &mut machine.writing.consumer.table.workers,
     );
     *numbers = done;
 }

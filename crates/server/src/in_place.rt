@@ -17,6 +17,7 @@ use machine::in_place::Fixed;
 use types::limits::CARRIED;
 use types::limits::LEASES;
 use types::limits::RANGES;
+use types::limits::WORKERS;
 
 // What a call on the state answers, and the numbers of the machine that it changes.
 pub struct AskDone {
@@ -24,9 +25,11 @@ pub struct AskDone {
     pub figures: Figures,
 }
 
-// A call on the state, where it can be called: that is phase 0.
+// A call of a worker on the state, where it can be called: that is phase 0. The rights are read only; they are lent by themselves, as
+// the columns are, since the machine's function takes them and the backoffs for one lifetime.
 fn ask_on(
     phase: u64,
+    worker: u64,
     kind: u64,
     a: u64,
     b: u64,
@@ -41,14 +44,16 @@ fn ask_on(
     attempt_starts: &mut [u64; LEASES],
     deadlines: &mut [u64; LEASES],
     deliveries: &mut [u32; LEASES],
+    workers: &mut [u32; LEASES],
     carried_offsets: &mut [u64; CARRIED],
     carried_counts: &mut [u32; CARRIED],
     backoff_nanos: &[u64; 16],
+    rights: &mut [u8; WORKERS],
     out: &mut [u64],
 ) -> AskDone
-    requires { ⌜ AskableIn phase (consumerOf fixed figures (now starts) (now ends) (now offsets) (now generations) (now «attempt_starts») (now deadlines) (now deliveries) (now «carried_offsets») (now «carried_counts») (now «backoff_nanos»)) ⌝ }
-    ensures { λ r. ⌜ AskedIn phase (consumerOf fixed figures (now (starts .entry)) (now (ends .entry)) (now (offsets .entry)) (now (generations .entry)) (now («attempt_starts» .entry)) (now (deadlines .entry)) (now (deliveries .entry)) (now («carried_offsets» .entry)) (now («carried_counts» .entry)) (now («backoff_nanos» .entry))) kind a b c d (now (out .entry))
-        (r .numbers) (consumerOf fixed (r .figures) (now (starts .exit)) (now (ends .exit)) (now (offsets .exit)) (now (generations .exit)) (now («attempt_starts» .exit)) (now (deadlines .exit)) (now (deliveries .exit)) (now («carried_offsets» .exit)) (now («carried_counts» .exit)) (now («backoff_nanos» .entry))) (now (out .exit)) ⌝ }
+    requires { ⌜ AskableIn phase (consumerOf fixed figures (now starts) (now ends) (now offsets) (now generations) (now «attempt_starts») (now deadlines) (now deliveries) (now workers) (now «carried_offsets») (now «carried_counts») (now «backoff_nanos») (now rights)) ⌝ }
+    ensures { λ r. ⌜ AskedIn phase (consumerOf fixed figures (now (starts .entry)) (now (ends .entry)) (now (offsets .entry)) (now (generations .entry)) (now («attempt_starts» .entry)) (now (deadlines .entry)) (now (deliveries .entry)) (now (workers .entry)) (now («carried_offsets» .entry)) (now («carried_counts» .entry)) (now («backoff_nanos» .entry)) (now (rights .entry))) worker kind a b c d (now (out .entry))
+        (r .numbers) (consumerOf fixed (r .figures) (now (starts .exit)) (now (ends .exit)) (now (offsets .exit)) (now (generations .exit)) (now («attempt_starts» .exit)) (now (deadlines .exit)) (now (deliveries .exit)) (now (workers .exit)) (now («carried_offsets» .exit)) (now («carried_counts» .exit)) (now («backoff_nanos» .entry)) (now (rights .exit))) (now (out .exit)) ⌝ }
 {
     if phase != 0 {
         return AskDone {
@@ -64,6 +69,7 @@ fn ask_on(
         };
     };
     let done = machine::in_place::ask_in_place(
+        worker,
         ask,
         fixed,
         figures,
@@ -74,9 +80,11 @@ fn ask_on(
         attempt_starts,
         deadlines,
         deliveries,
+        workers,
         carried_offsets,
         carried_counts,
         backoff_nanos,
+        rights,
         out,
     );
     let answer = done.answer;
@@ -87,9 +95,10 @@ fn ask_on(
     }
 }
 
-// A call on the state.
+// A call of a worker on the state.
 pub fn ask_in_place(
     phase: u64,
+    worker: u64,
     kind: u64,
     a: u64,
     b: u64,
@@ -115,14 +124,16 @@ pub fn ask_in_place(
     attempt_starts: &mut [u64; LEASES],
     deadlines: &mut [u64; LEASES],
     deliveries: &mut [u32; LEASES],
+    workers: &mut [u32; LEASES],
     carried_offsets: &mut [u64; CARRIED],
     carried_counts: &mut [u32; CARRIED],
     backoff_nanos: &[u64; 16],
+    rights: &mut [u8; WORKERS],
     out: &mut [u64],
 ) -> AskDone
-    requires { ⌜ AskableIn phase (consumerOf (fixedAs config ceiling block «area_len» «max_deliver» «backoff_len» threshold) (figuresAs committed runs len «carried_len» «next_generation» redeliveries) (now starts) (now ends) (now offsets) (now generations) (now «attempt_starts») (now deadlines) (now deliveries) (now «carried_offsets») (now «carried_counts») (now «backoff_nanos»)) ⌝ }
-    ensures { λ r. ⌜ AskedIn phase (consumerOf (fixedAs config ceiling block «area_len» «max_deliver» «backoff_len» threshold) (figuresAs committed runs len «carried_len» «next_generation» redeliveries) (now (starts .entry)) (now (ends .entry)) (now (offsets .entry)) (now (generations .entry)) (now («attempt_starts» .entry)) (now (deadlines .entry)) (now (deliveries .entry)) (now («carried_offsets» .entry)) (now («carried_counts» .entry)) (now («backoff_nanos» .entry))) kind a b c d (now (out .entry))
-        (r .numbers) (consumerOf (fixedAs config ceiling block «area_len» «max_deliver» «backoff_len» threshold) (r .figures) (now (starts .exit)) (now (ends .exit)) (now (offsets .exit)) (now (generations .exit)) (now («attempt_starts» .exit)) (now (deadlines .exit)) (now (deliveries .exit)) (now («carried_offsets» .exit)) (now («carried_counts» .exit)) (now («backoff_nanos» .entry))) (now (out .exit)) ⌝ }
+    requires { ⌜ AskableIn phase (consumerOf (fixedAs config ceiling block «area_len» «max_deliver» «backoff_len» threshold) (figuresAs committed runs len «carried_len» «next_generation» redeliveries) (now starts) (now ends) (now offsets) (now generations) (now «attempt_starts») (now deadlines) (now deliveries) (now workers) (now «carried_offsets») (now «carried_counts») (now «backoff_nanos») (now rights)) ⌝ }
+    ensures { λ r. ⌜ AskedIn phase (consumerOf (fixedAs config ceiling block «area_len» «max_deliver» «backoff_len» threshold) (figuresAs committed runs len «carried_len» «next_generation» redeliveries) (now (starts .entry)) (now (ends .entry)) (now (offsets .entry)) (now (generations .entry)) (now («attempt_starts» .entry)) (now (deadlines .entry)) (now (deliveries .entry)) (now (workers .entry)) (now («carried_offsets» .entry)) (now («carried_counts» .entry)) (now («backoff_nanos» .entry)) (now (rights .entry))) worker kind a b c d (now (out .entry))
+        (r .numbers) (consumerOf (fixedAs config ceiling block «area_len» «max_deliver» «backoff_len» threshold) (r .figures) (now (starts .exit)) (now (ends .exit)) (now (offsets .exit)) (now (generations .exit)) (now («attempt_starts» .exit)) (now (deadlines .exit)) (now (deliveries .exit)) (now (workers .exit)) (now («carried_offsets» .exit)) (now («carried_counts» .exit)) (now («backoff_nanos» .entry)) (now (rights .exit))) (now (out .exit)) ⌝ }
 {
     let figures = Figures {
         committed,
@@ -143,6 +154,7 @@ pub fn ask_in_place(
     };
     ask_on(
         phase,
+        worker,
         kind,
         a,
         b,
@@ -157,29 +169,35 @@ pub fn ask_in_place(
         attempt_starts,
         deadlines,
         deliveries,
+        workers,
         carried_offsets,
         carried_counts,
         backoff_nanos,
+        rights,
         out,
     )
 }
 
-// Progress, where the state can be called: that is phase 0. Three of the columns are read only; each is lent by itself.
+// Progress, where the state can be called: that is phase 0. All columns but the deadlines are read only; each is lent by itself.
 pub fn progress_in_place(
     phase: u64,
+    worker: u64,
     offset: u64,
     generation: u64,
     now: u64,
     config: LeaseConfig,
     len: usize,
+    rights: &[u8; WORKERS],
     offsets: &mut [u64; LEASES],
     generations: &mut [u64; LEASES],
     attempt_starts: &mut [u64; LEASES],
     deadlines: &mut [u64; LEASES],
+    deliveries: &mut [u32; LEASES],
+    workers: &mut [u32; LEASES],
 ) -> Numbers
-    requires { ⌜ AskableIn phase (progressing config len (offsets .now) (generations .now) («attempt_starts» .now) (deadlines .now)) ⌝ }
-    ensures { λ r. ⌜ ProgressedIn phase (progressing config len (offsets .entry .now) (generations .entry .now) («attempt_starts» .entry .now) (deadlines .entry .now)) offset generation now
-        r (progressing config len (offsets .exit .now) (generations .exit .now) («attempt_starts» .exit .now) (deadlines .exit .now)) ⌝ }
+    requires { ⌜ AskableIn phase (progressing (rights .now) config len (offsets .now) (generations .now) («attempt_starts» .now) (deadlines .now) (deliveries .now) (workers .now)) ⌝ }
+    ensures { λ r. ⌜ ProgressedIn phase (progressing (rights .entry .now) config len (offsets .entry .now) (generations .entry .now) («attempt_starts» .entry .now) (deadlines .entry .now) (deliveries .entry .now) (workers .entry .now)) worker offset generation now
+        r (progressing (rights .entry .now) config len (offsets .exit .now) (generations .exit .now) («attempt_starts» .exit .now) (deadlines .exit .now) (deliveries .exit .now) (workers .exit .now)) ⌝ }
 {
     if phase != 0 {
         return Numbers(255, 0, 0, 0, 0, 0);
@@ -187,13 +205,17 @@ pub fn progress_in_place(
     let answer = consumer::in_place::progress_in_place(
         config,
         len,
+        worker,
         offset,
         generation,
         now,
+        rights,
         offsets,
         generations,
         attempt_starts,
         deadlines,
+        deliveries,
+        workers,
     );
     answers::of_progress(answer)
 }
@@ -224,6 +246,8 @@ fn phase_begun(answer: BeginAnswer) -> u64
 {
     match answer {
         BeginAnswer::Begun { writes: _ } => 1,
+        BeginAnswer::UnknownWorker => 0,
+        BeginAnswer::NotPermitted => 0,
         BeginAnswer::JournalFull => 0,
     }
 }
@@ -231,6 +255,7 @@ fn phase_begun(answer: BeginAnswer) -> u64
 // Call 16, where a checkpoint can be begun: that is phase 0. The columns are read only; each is lent by itself.
 pub fn begin_in_place(
     phase: u64,
+    worker: u64,
     committed: u64,
     runs: usize,
     len: usize,
@@ -240,6 +265,7 @@ pub fn begin_in_place(
     written: usize,
     cursor_len: usize,
     attempt_len: usize,
+    rights: &[u8; WORKERS],
     starts: &mut [u64; RANGES],
     ends: &mut [u64; RANGES],
     offsets: &mut [u64; LEASES],
@@ -248,9 +274,9 @@ pub fn begin_in_place(
     carried_counts: &mut [u32; CARRIED],
     payload: &mut [u8; 3606],
 ) -> BeginDone
-    requires { ⌜ Beginnable phase (toBegin written «cursor_len» «attempt_len» (now payload) (beginning (ackCursor committed (now starts) (now ends) runs) (listingAll len «carried_len» (now offsets) (now deliveries) (now «carried_offsets») (now «carried_counts»)) block «area_len»)) ⌝ }
-    ensures { λ r. ⌜ BegunOn phase (toBegin written «cursor_len» «attempt_len» (now (payload .entry)) (beginning (ackCursor committed (now (starts .entry)) (now (ends .entry)) runs) (listingAll len «carried_len» (now (offsets .entry)) (now (deliveries .entry)) (now («carried_offsets» .entry)) (now («carried_counts» .entry))) block «area_len»))
-        (r .numbers) (r .phase) (toBegin (r .written) (r .«cursor_len») (r .«attempt_len») (now (payload .exit)) (beginning (ackCursor committed (now (starts .exit)) (now (ends .exit)) runs) (listingAll len «carried_len» (now (offsets .exit)) (now (deliveries .exit)) (now («carried_offsets» .exit)) (now («carried_counts» .exit))) block «area_len»)) ⌝ }
+    requires { ⌜ Beginnable phase (toBegin written «cursor_len» «attempt_len» (now payload) (beginning (now rights) (ackCursor committed (now starts) (now ends) runs) (listingAll len «carried_len» (now offsets) (now deliveries) (now «carried_offsets») (now «carried_counts»)) block «area_len»)) ⌝ }
+    ensures { λ r. ⌜ BegunOn phase (toBegin written «cursor_len» «attempt_len» (now (payload .entry)) (beginning (now (rights .entry)) (ackCursor committed (now (starts .entry)) (now (ends .entry)) runs) (listingAll len «carried_len» (now (offsets .entry)) (now (deliveries .entry)) (now («carried_offsets» .entry)) (now («carried_counts» .entry))) block «area_len»)) worker
+        (r .numbers) (r .phase) (toBegin (r .written) (r .«cursor_len») (r .«attempt_len») (now (payload .exit)) (beginning (now (rights .entry)) (ackCursor committed (now (starts .exit)) (now (ends .exit)) runs) (listingAll len «carried_len» (now (offsets .exit)) (now (deliveries .exit)) (now («carried_offsets» .exit)) (now («carried_counts» .exit))) block «area_len»)) ⌝ }
 {
     if phase != 0 {
         return BeginDone {
@@ -271,6 +297,8 @@ pub fn begin_in_place(
         carried_len,
         block,
         area_len,
+        worker,
+        rights,
         starts,
         ends,
         offsets,

@@ -59,18 +59,18 @@ pub fn ask_of(kind: u64, a: u64, b: u64, c: u64, d: u64) -> Asking
     }
 }
 
-// The call on a machine that a number is.
-pub fn call_of(kind: u64, a: u64, b: u64, c: u64, d: u64) -> Calling
-    ensures { λ r. ⌜ ((room : ℕ) → callingOf room r ≡ callAt kind a b c d room) ⌝ }
+// The call of a worker on a machine that a number is.
+pub fn call_of(worker: u64, kind: u64, a: u64, b: u64, c: u64, d: u64) -> Calling
+    ensures { λ r. ⌜ ((room : ℕ) → callingOf room r ≡ callAt worker kind a b c d room) ⌝ }
 {
     match kind {
-        16 => Calling::Call(Call::Begin),
+        16 => Calling::Call(Call::Begin { worker }),
         17 => Calling::Call(Call::Step),
         18 => Calling::Call(Call::Restart),
         _ => {
             let asking = ask_of(kind, a, b, c, d);
             match asking {
-                Asking::Ask(ask) => Calling::Call(Call::Ask(ask)),
+                Asking::Ask(ask) => Calling::Call(Call::Ask { worker, ask }),
                 Asking::None => Calling::None,
             }
         }

@@ -19,7 +19,7 @@ pub struct MachineAnswer {
 // A restart, from what the journal has: call 18.
 pub fn restart(machine: Machine, area: &[u8]) -> MachineAnswer
     requires { ⌜ Sound machine ⌝ }
-    ensures { λ r. ⌜ ((out : List ℕ) → CallIs machine 18 0 0 0 0 (now (area .entry)) out (r .numbers) (r .machine) (now (area .entry)) out) ⌝ }
+    ensures { λ r. ⌜ ((out : List ℕ) → CallIs machine 0 18 0 0 0 0 (now (area .entry)) out (r .numbers) (r .machine) (now (area .entry)) out) ⌝ }
 {
     let called = machine.restart(area);
     let answer = called.answer;

@@ -91,6 +91,7 @@ fn leases(out: &mut [u8], at: usize, table: LeaseTable) -> usize
             &table.attempt_starts,
             &table.deadlines,
             &table.deliveries,
+            &table.workers,
         );
         next = lease(out, next, table.offsets[i], held);
         i += 1;

@@ -51,6 +51,7 @@ handedOf s =
       policy =
           policy (s .delivery .«max_deliver») (s .delivery .«allow_unlimited») (backoffsOf (s .delivery))
           (s .delivery .«attempts_flush_redeliveries»);
+      rights = s .rights;
     }
 
 abbrev pub configurationOf : Configuration → state.Configuration

@@ -153,6 +153,7 @@ fn resumed_table(config: LeaseConfig, ceiling: u64, carried: Carried) -> LeaseTa
         attempt_starts: [0; LEASES],
         deadlines: [0; LEASES],
         deliveries: [0; LEASES],
+        workers: [0; LEASES],
         len: 0,
         carried_offsets: carried_offsets,
         carried_counts: carried_counts,

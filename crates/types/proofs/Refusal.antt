@@ -3,7 +3,7 @@ use Prim.Native.Nat.{ℕ, _-_}
 use mathlib.Core.Path.{_≡_, refl, sym, _∙_}
 use mathlib.Core.List.{List, [], _∷_}
 use lib.ListN.{length, getD}
-use Rattle.types.specs.Refusal.{Refusal, UnlimitedDeliverNotAllowed, TooManySteps, ZeroThreshold, BadArea, Damaged, CursorTruncated, CursorBadLength, CursorUnsupportedVersion, CursorBadCrc, EmptyRange, NotSortedDisjointAndAboveCommitted, TooManyRuns, AttemptTruncated, AttemptUnsupportedVersion, AttemptBadLength, CountMismatch, AttemptBadCrc, NotSorted, TooManyPairs, OutTooShort, LastOffset, Settled, InFlight, Fenced, Exhausted, CheckpointDue, Full, CapReached, Shed, Held, JournalFull, numbered, NumberedApart}
+use Rattle.types.specs.Refusal.{Refusal, UnlimitedDeliverNotAllowed, TooManySteps, ZeroThreshold, BadArea, Damaged, CursorTruncated, CursorBadLength, CursorUnsupportedVersion, CursorBadCrc, EmptyRange, NotSortedDisjointAndAboveCommitted, TooManyRuns, AttemptTruncated, AttemptUnsupportedVersion, AttemptBadLength, CountMismatch, AttemptBadCrc, NotSorted, TooManyPairs, OutTooShort, LastOffset, Settled, InFlight, Fenced, Exhausted, CheckpointDue, Full, CapReached, Shed, Held, JournalFull, UnknownWorker, NotPermitted, ForeignToken, numbered, NumberedApart}
 
 -- a refusal without values, with one and with two
 abbrev plain : Refusal → List ℕ → Refusal
@@ -15,7 +15,11 @@ one f vs = f (getD vs 0 0)
 abbrev two : (ℕ → ℕ → Refusal) → List ℕ → Refusal
 two f vs = f (getD vs 0 0) (getD vs 1 0)
 
--- 01's refusals in order
+-- a number that no refusal has
+abbrev unused : List ℕ → Refusal
+unused = plain JournalFull
+
+-- the refusals in order
 abbrev inOrder : List (List ℕ → Refusal)
 inOrder =
     plain UnlimitedDeliverNotAllowed ∷ plain TooManySteps ∷ plain ZeroThreshold ∷ plain BadArea ∷ one Damaged
@@ -24,10 +28,11 @@ inOrder =
     ∷ plain AttemptTruncated ∷ one AttemptUnsupportedVersion ∷ one AttemptBadLength ∷ two CountMismatch ∷ plain AttemptBadCrc
     ∷ two NotSorted ∷ plain TooManyPairs ∷ plain OutTooShort
     ∷ plain LastOffset ∷ plain Settled ∷ plain InFlight ∷ plain Fenced ∷ plain Exhausted ∷ plain CheckpointDue ∷ plain Full
-    ∷ plain CapReached ∷ plain Shed ∷ plain Held ∷ plain JournalFull ∷ []
+    ∷ plain CapReached ∷ plain Shed ∷ plain Held ∷ plain JournalFull
+    ∷ unused ∷ unused ∷ unused ∷ unused ∷ unused ∷ unused ∷ plain UnknownWorker ∷ plain NotPermitted ∷ plain ForeignToken ∷ []
 
 abbrev made : ℕ → List ℕ → Refusal
-made n vs = getD inOrder (n - 1) (plain JournalFull) vs
+made n vs = getD inOrder (n - 1) unused vs
 
 -- the refusal again, and as many values as its number has
 abbrev Again : Refusal → Type 0
@@ -67,6 +72,9 @@ again CapReached = (refl, refl)
 again Shed = (refl, refl)
 again Held = (refl, refl)
 again JournalFull = (refl, refl)
+again UnknownWorker = (refl, refl)
+again NotPermitted = (refl, refl)
+again ForeignToken = (refl, refl)
 
 pub numbered-apart : NumberedApart
 unfolding NumberedApart

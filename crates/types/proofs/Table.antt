@@ -2,12 +2,12 @@
 -- Assumes nothing.
 use Prim.Native.Nat.{ℕ}
 use native.Mathlib.Omega.{arith}
-use mathlib.Core.Path.{_≡_, refl, sym}
-use mathlib.Core.Bool.{true}
+use mathlib.Core.Path.{_≡_, refl, sym, ap}
+use mathlib.Core.Bool.{true, false, cond}
 use mathlib.Core.List.{List, [], _∷_, _++_}
 use mathlib.Core.Option.{Option, none, some, Option·none-ne-some}
 use Rattle.types.specs.Refusal.{Refusal, Result, refused, done}
-use Rattle.types.specs.Table.{Row, first, Passed, Answer, answer, checked, guarded, unlessKept}
+use Rattle.types.specs.Table.{Row, _⇒_, first, Passed, Answer, answer, checked, guarded, unlessKept}
 use Rattle.types.proofs.Cases.{split}
 
 pub first-none : (ws : List Row) → first ws ≡ none → Passed ws
@@ -25,6 +25,15 @@ passed-none (w ∷ ws) p = rw (p .0) (passed-none ws (p .1))
 pub first-met : (ws vs : List Row) (w : Row) → Passed ws → w .test ≡ true → first (ws ++ w ∷ vs) ≡ some (w .refusal)
 first-met [] vs w p t = rw t
 first-met (u ∷ ws) vs w p t = rw (p .0) (first-met ws vs w (p .1) t)
+
+-- nothing behind a test that holds is looked at, and one that fails can be left out
+pub first-cut : (ws vs : List Row) (w : Row) → w .test ≡ true → first (ws ++ w ∷ vs) ≡ first (ws ++ (true ⇒ w .refusal ∷ []))
+first-cut [] vs w t = rw t
+first-cut (u ∷ ws) vs w t = ap (cond (u .test) (some (u .refusal))) (first-cut ws vs w t)
+
+pub first-skip : (ws vs : List Row) (w : Row) → w .test ≡ false → first (ws ++ w ∷ vs) ≡ first (ws ++ vs)
+first-skip [] vs w t = rw t
+first-skip (u ∷ ws) vs w t = ap (cond (u .test) (some (u .refusal))) (first-skip ws vs w t)
 
 module _ {A S : Type 0} (ws : List Row) (s : S) (a : Answer A S) where
   pub guarded-passed : Passed ws → guarded ws s a ≡ a

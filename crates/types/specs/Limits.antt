@@ -24,6 +24,10 @@ PAIRS = 128
 abbrev pub STEPS : ℕ
 STEPS = 16
 
+-- workers, numbered from 0 (02, g)
+abbrev pub WORKERS : ℕ
+WORKERS = 8
+
 -- sums that stay at the largest number of their type
 abbrev pub sat64 : ℕ → ℕ → ℕ
 sat64 a b = min (a + b) MAX

@@ -1,4 +1,4 @@
--- The refusals of document 01, "Refused, in checking order", each with its number and its values, and what a call
+-- The refusals of document 01, "Refused, in checking order", and of document 02, each with its number and its values, and what a call
 -- answers: a refusal, or an outcome of its own, which has number 0.
 use Prim.Native.Nat.{ℕ}
 use mathlib.Core.Path.{_≡_}
@@ -47,6 +47,10 @@ pub data Refusal : Type 0 where
   Shed : Refusal
   Held : Refusal
   JournalFull : Refusal
+  -- of document 02: there is no worker of that number; the worker may not do that; the token is another worker's
+  UnknownWorker : Refusal
+  NotPermitted : Refusal
+  ForeignToken : Refusal
 
 -- the code of an answer: 01's number, which is 0 where nothing was refused, and the values
 pub record Code : Type 0 where
@@ -88,6 +92,9 @@ numbered CapReached = code 28 []
 numbered Shed = code 29 []
 numbered Held = code 30 []
 numbered JournalFull = code 31 []
+numbered UnknownWorker = code 38 []
+numbered NotPermitted = code 39 []
+numbered ForeignToken = code 40 []
 
 -- refusals of one number differ in their values alone: they have as many, and with the same ones they are the same
 pub record OneKind (r q : Refusal) : Type 0 where

@@ -1,4 +1,4 @@
-// The limits of document 01, "Records and their measures".
+// The limits of document 01, "Records and their measures", and of document 02.
 
 // The largest u64, which 01 calls MAX, and the largest u32.
 pub const MAX: u64 = 18446744073709551615;
@@ -17,3 +17,6 @@ pub const RANGES: usize = 128;
 
 // Pairs in a snapshot.
 pub const PAIRS: usize = 128;
+
+// Workers, numbered from 0.
+pub const WORKERS: usize = 8;

@@ -1,12 +1,14 @@
 //! 01's consumer over the original's cursor, lease table and delivery policy. Each call runs down 01's refusals in their order, then
-//! lets the original act.
+//! lets the original act. A lease's worker (02, g) stands beside the original's table, which has no place for it.
 use crate::journal::{read, writes, Stored};
+use crate::rights::{Operation, Rights};
 use ironbus::cursor::{AckCursor, BoundedAck};
 use ironbus::delivery::{DeliveryConfig, Disposition};
 use ironbus::lease::{AckOutcome, Claim, ExtendOutcome, LeaseConfig, LeaseTable, LeaseToken, NackOutcome};
 use ironbus::types::Offset;
 use lists::codecs::{attempt_snapshot_v2, decode_attempts, decode_cursor, Code, RANGES};
 use lists::state::{read_table, starting_at, Table};
+use std::collections::BTreeMap;
 
 const LEASES: usize = 64;
 const COUNTS: usize = 128;
@@ -17,11 +19,19 @@ const GENERATIONS: u64 = 4_096;
 pub struct Settings {
     delivery: DeliveryConfig,
     lease: LeaseConfig,
+    rights: Rights,
 }
 
 impl Settings {
     /// Refusals 1 to 3.
-    pub fn new(limit: u32, opt_in: bool, threshold: u32, lease: LeaseConfig, backoffs: &[u64]) -> Result<Settings, Code> {
+    pub fn new(
+        limit: u32,
+        opt_in: bool,
+        threshold: u32,
+        lease: LeaseConfig,
+        backoffs: &[u64],
+        rights: Rights,
+    ) -> Result<Settings, Code> {
         let delivery = DeliveryConfig::new(limit, opt_in, backoffs.to_vec()).map_err(|_| vec![1])?;
         if backoffs.len() > BACKOFFS {
             return Err(vec![2]);
@@ -32,7 +42,13 @@ impl Settings {
         Ok(Settings {
             delivery: delivery.with_attempts_flush_redeliveries(threshold),
             lease,
+            rights,
         })
+    }
+
+    /// The same, with the rights that a restart is handed.
+    pub fn with_rights(&self, rights: Rights) -> Settings {
+        Settings { rights, ..self.clone() }
     }
 }
 
@@ -40,6 +56,8 @@ impl Settings {
 pub struct Consumer {
     pub cursor: AckCursor,
     table: LeaseTable,
+    /// Who claimed the offset last, for each that has a lease.
+    holders: BTreeMap<u64, u64>,
     pub ceiling: u64,
     pub group: u32,
     pub block: usize,
@@ -83,6 +101,7 @@ impl Consumer {
         Ok(Consumer {
             cursor,
             table,
+            holders: BTreeMap::new(),
             ceiling,
             group: found.group,
             block: found.block,
@@ -96,8 +115,37 @@ impl Consumer {
         read_table(&self.table)
     }
 
-    /// Refusals 21, 22, 23, 25, 26, 27.
-    pub fn claim(&mut self, offset: u64, now: u64) -> Result<HandOut, Code> {
+    /// Refusals 24, 40: whether the token works for the worker.
+    fn owns(&self, worker: u64, token: &LeaseToken) -> Result<(), Code> {
+        if self.table.deliveries(token).is_none() {
+            return Err(vec![24]);
+        }
+        if self.holders[&token.offset.get()] != worker {
+            return Err(vec![40]);
+        }
+        Ok(())
+    }
+
+    pub fn rights(&self) -> Rights {
+        self.settings.rights
+    }
+
+    /// The same consumer with other rights.
+    pub fn with_rights(&self, rights: Rights) -> Consumer {
+        Consumer {
+            settings: self.settings.with_rights(rights),
+            ..self.clone()
+        }
+    }
+
+    /// Who claimed the offset's lease.
+    pub fn holder(&self, offset: u64) -> Option<u64> {
+        self.holders.get(&offset).copied()
+    }
+
+    /// Refusals 38, 39, 21, 22, 23, 25, 26, 27.
+    pub fn claim(&mut self, worker: u64, offset: u64, now: u64) -> Result<HandOut, Code> {
+        self.settings.rights.ask(worker, Operation::Claim)?;
         let table = self.table();
         let leased = table.leases.iter().any(|lease| lease.offset == offset);
         let counted = table.carried.iter().any(|&(carried, _)| carried == offset);
@@ -122,19 +170,25 @@ impl Consumer {
             return Err(vec![27]);
         }
         match self.table.claim(Offset::new(offset), now) {
-            Claim::Granted { token, deliveries } => Ok(HandOut {
-                dead: self.settings.delivery.disposition(deliveries) == Disposition::DeadLetter,
-                generation: token.generation,
-                count: deliveries,
-            }),
+            Claim::Granted { token, deliveries } => {
+                self.holders.insert(offset, worker);
+                Ok(HandOut {
+                    dead: self.settings.delivery.disposition(deliveries) == Disposition::DeadLetter,
+                    generation: token.generation,
+                    count: deliveries,
+                })
+            }
             Claim::InFlight => Err(vec![23]),
             Claim::Exhausted => Err(vec![25]),
         }
     }
 
-    /// Ack and Term: refusals 24, 29.
-    pub fn settle(&mut self, offset: u64, generation: u64) -> Result<(), Code> {
+    /// Ack and Term: refusals 38, 39, 24, 40, 29.
+    pub fn settle(&mut self, worker: u64, offset: u64, generation: u64) -> Result<(), Code> {
+        self.settings.rights.ask(worker, Operation::Settle)?;
+        self.owns(worker, &token(offset, generation))?;
         let mut after = self.clone();
+        after.holders.remove(&offset);
         if after.table.ack(&token(offset, generation)) == AckOutcome::Fenced {
             return Err(vec![24]);
         }
@@ -145,9 +199,11 @@ impl Consumer {
         Ok(())
     }
 
-    /// Refusals 24, 25, 26. The answer is the new deadline.
-    pub fn nack(&mut self, offset: u64, generation: u64, now: u64, delay: Option<u64>) -> Result<u64, Code> {
+    /// Refusals 38, 39, 24, 40, 25, 26. The answer is the new deadline; the lease stays the worker's.
+    pub fn nack(&mut self, worker: u64, offset: u64, generation: u64, now: u64, delay: Option<u64>) -> Result<u64, Code> {
+        self.settings.rights.ask(worker, Operation::Nack)?;
         let token = token(offset, generation);
+        self.owns(worker, &token)?;
         let Some(attempt) = self.table.deliveries(&token) else {
             return Err(vec![24]);
         };
@@ -166,8 +222,10 @@ impl Consumer {
         }
     }
 
-    /// Refusals 24, 28. The answer is the new deadline.
-    pub fn progress(&mut self, offset: u64, generation: u64, now: u64) -> Result<u64, Code> {
+    /// Refusals 38, 39, 24, 40, 28. The answer is the new deadline.
+    pub fn progress(&mut self, worker: u64, offset: u64, generation: u64, now: u64) -> Result<u64, Code> {
+        self.settings.rights.ask(worker, Operation::Extend)?;
+        self.owns(worker, &token(offset, generation))?;
         match self.table.extend(&token(offset, generation), now) {
             ExtendOutcome::Extended(deadline) => Ok(deadline),
             ExtendOutcome::Fenced => Err(vec![24]),
@@ -175,8 +233,9 @@ impl Consumer {
         }
     }
 
-    /// Refusal 30. The answer is false where nothing changes.
-    pub fn commit(&mut self, bound: u64) -> Result<bool, Code> {
+    /// Refusals 38, 39, 30. The answer is false where nothing changes.
+    pub fn commit(&mut self, worker: u64, bound: u64) -> Result<bool, Code> {
+        self.settings.rights.ask(worker, Operation::Commit)?;
         if bound <= self.cursor.committed().get() {
             return Ok(false);
         }
@@ -188,15 +247,17 @@ impl Consumer {
         Ok(true)
     }
 
-    /// Carried offsets, then those whose deadline has come; 01 leaves the order free.
-    pub fn waiting(&self, now: u64) -> Vec<u64> {
+    /// Refusals 38, 39. Carried offsets, then those whose deadline has come; 01 leaves the order free.
+    pub fn waiting(&self, worker: u64, now: u64) -> Result<Vec<u64>, Code> {
+        self.settings.rights.ask(worker, Operation::Look)?;
         let mut offsets: Vec<u64> = self.table().carried.iter().map(|&(offset, _)| offset).collect();
         offsets.extend(self.table.expired(now).into_iter().map(Offset::get));
-        offsets
+        Ok(offsets)
     }
 
-    /// Refusal 31. The counts are stored in version 2 (02, j).
-    pub fn begin(&self) -> Result<Writing, Code> {
+    /// Refusals 38, 39, 31. The counts are stored in version 2 (02, j).
+    pub fn begin(&self, worker: u64) -> Result<Writing, Code> {
+        self.settings.rights.ask(worker, Operation::Checkpoint)?;
         let mut stored = Stored {
             ceiling: self.table().next_generation.saturating_add(GENERATIONS),
             cursor: Vec::new(),

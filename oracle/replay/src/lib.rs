@@ -7,9 +7,11 @@ pub mod journal;
 pub mod line;
 pub mod make;
 pub mod program;
+pub mod rights;
 pub mod scenes;
 pub mod versions;
 pub mod wear;
+pub mod workers;
 
 #[cfg(test)]
 mod tests;

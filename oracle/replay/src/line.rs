@@ -1,4 +1,5 @@
 //! How a line of a script is read.
+use crate::rights::WORKERS;
 
 /// The longest line that is read, one less than 65,536 for its line end; a longer one is none of the calls (docs/DECISIONS.md).
 pub const LINE: usize = 65_535;
@@ -22,6 +23,8 @@ pub enum Left {
 
 pub enum Call {
     Start(Start),
+    Worker(u64),
+    Rights(usize, u8),
     Claim(u64, u64),
     Settle(u64, u64),
     Nack(u64, u64, u64, Option<u64>),
@@ -64,6 +67,11 @@ fn start(numbers: &[u64]) -> Option<Call> {
     }))
 }
 
+fn rights(worker: u64, mask: u64) -> Option<Call> {
+    let worker = worker.try_into().ok().filter(|&worker| worker < WORKERS)?;
+    Some(Call::Rights(worker, mask.try_into().ok()?))
+}
+
 /// The call that a line makes, or nothing where it is none.
 pub fn read(line: &[u8]) -> Option<Call> {
     if line.len() > LINE {
@@ -80,6 +88,8 @@ pub fn read(line: &[u8]) -> Option<Call> {
     let numbers: Vec<u64> = words.map(number).collect::<Option<_>>()?;
     Some(match (word, &numbers[..]) {
         ("start", numbers) => return start(numbers),
+        ("worker", &[worker]) => Call::Worker(worker),
+        ("rights", &[worker, mask]) => return rights(worker, mask),
         ("claim", &[offset, now]) => Call::Claim(offset, now),
         ("ack" | "term", &[offset, generation]) => Call::Settle(offset, generation),
         ("nack", &[offset, generation, now]) => Call::Nack(offset, generation, now, None),
@@ -167,6 +177,25 @@ mod tests {
             "start 1 0 4294967296 1 2 3",
             "start 1 2 1 1 2 3",
             "start 1 0 1 1 2",
+        ] {
+            assert!(is_none(line), "{line}");
+        }
+    }
+
+    #[test]
+    fn workers_and_rights() {
+        assert!(matches!(read(b"worker 18446744073709551615"), Some(Call::Worker(u64::MAX))));
+        assert!(matches!(read(b"rights 7 255"), Some(Call::Rights(7, 255))));
+        assert!(matches!(read(b"rights 00 00"), Some(Call::Rights(0, 0))));
+        for line in [
+            "worker",
+            "worker 1 2",
+            "worker 18446744073709551616",
+            "rights 0",
+            "rights 8 0",
+            "rights 0 256",
+            "rights 4294967296 0",
+            "rights 0 1 2",
         ] {
             assert!(is_none(line), "{line}");
         }

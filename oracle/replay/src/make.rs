@@ -1,7 +1,8 @@
 //! Makes scripts. The model runs along, so that tokens, times, offsets and blocks are those that matter.
 use crate::line::LINE;
 use crate::program::{Phase, Program};
-use crate::{headers, scenes, versions, wear};
+use crate::workers::Crew;
+use crate::{headers, scenes, versions, wear, workers};
 use lists::random::Random;
 use lists::state::Table;
 
@@ -14,6 +15,7 @@ pub struct Maker {
     now: u64,
     /// Tokens that were given out, stale ones too.
     tokens: Vec<(u64, u64)>,
+    pub crew: Crew,
 }
 
 /// What can't be called before a start.
@@ -29,8 +31,25 @@ const NEEDS_A_START: [&str; 8] = [
 ];
 
 /// Lines that look like calls.
-const NO_CALLS: [&str; 10] = [
-    "cut", "cut half", "cut old ", "cut 1", "step old", "begin 1", "state 0", "peek", "poke 0 0", "start",
+const NO_CALLS: [&str; 18] = [
+    "cut",
+    "cut half",
+    "cut old ",
+    "cut 1",
+    "step old",
+    "begin 1",
+    "state 0",
+    "peek",
+    "poke 0 0",
+    "start",
+    "worker",
+    "worker 18446744073709551616",
+    "worker 1 1",
+    "rights",
+    "rights 0",
+    "rights 8 0",
+    "rights 0 256",
+    "rights 0 0 0",
 ];
 
 /// A script of so many lines.
@@ -43,7 +62,10 @@ pub fn script(seed: u64, lines: usize) -> Vec<Vec<u8>> {
         cap: 0,
         now: 0,
         tokens: Vec::new(),
+        crew: Crew::Alone,
     };
+    let worker = maker.random.pick(&[0, 1, 8]);
+    maker.worker(worker);
     for call in NEEDS_A_START {
         maker.say(call);
     }
@@ -51,7 +73,7 @@ pub fn script(seed: u64, lines: usize) -> Vec<Vec<u8>> {
         scenes::spend(&mut maker);
     }
     while maker.lines.len() < lines {
-        match maker.random.below(23) {
+        match maker.random.below(28) {
             0..=5 => scenes::life(&mut maker),
             6..=7 => scenes::cuts(&mut maker),
             8 => scenes::full(&mut maker),
@@ -61,8 +83,9 @@ pub fn script(seed: u64, lines: usize) -> Vec<Vec<u8>> {
             12 => scenes::filled(&mut maker),
             13..=14 => wear::worn(&mut maker),
             15 => wear::bounds(&mut maker),
-            16..=18 => headers::headers(&mut maker),
-            19 => versions::versions(&mut maker),
+            16..=19 => headers::headers(&mut maker),
+            20..=21 => versions::versions(&mut maker),
+            22..=24 => workers::workers(&mut maker),
             _ => wear::forged(&mut maker),
         }
     }
@@ -83,8 +106,17 @@ impl Maker {
         answer
     }
 
-    /// Starts a consumer with such times; `rest` is the limit, the opt-in and the threshold.
+    /// Starts a consumer with such times, which worker 0 calls, mostly alone; `rest` is the limit, the opt-in and the threshold.
     pub fn start(&mut self, rest: &str, visibility: u64, cap: u64, blocks: u64, backoffs: &[u64]) {
+        match self.random.below(4) {
+            0 => self.with_guest(),
+            _ => self.alone(),
+        }
+        self.start_crew(rest, visibility, cap, blocks, backoffs);
+    }
+
+    /// The same, with the workers and rights that were said.
+    pub fn start_crew(&mut self, rest: &str, visibility: u64, cap: u64, blocks: u64, backoffs: &[u64]) {
         self.visibility = visibility;
         self.cap = cap;
         self.tokens.clear();
@@ -102,7 +134,11 @@ impl Maker {
         let count = self.random.pick(&[0, 0, 1, 2, 3, 16]);
         let backoffs: Vec<u64> = (0..count).map(|_| self.random.pick(&[0, 3, 7, 50, u64::MAX])).collect();
         self.now = self.random.pick(&[0, 100, 100, 1 << 40, u64::MAX - 60]);
-        self.start(&format!("{limit} {threshold}"), visibility, cap, blocks, &backoffs);
+        match self.random.below(2) {
+            0 => self.alone(),
+            _ => self.several(),
+        }
+        self.start_crew(&format!("{limit} {threshold}"), visibility, cap, blocks, &backoffs);
     }
 
     /// What the lease table holds where there is a consumer.

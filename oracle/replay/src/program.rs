@@ -3,6 +3,7 @@ use crate::block::BLOCK;
 use crate::consumer::{Consumer, Settings, Writing};
 use crate::journal::{area_length, block_of};
 use crate::line::{read, Call, Left, Start};
+use crate::rights::Rights;
 use ironbus::lease::LeaseConfig;
 use lists::codecs::Code;
 
@@ -20,9 +21,22 @@ pub struct Started {
     pub phase: Phase,
 }
 
-#[derive(Default)]
 pub struct Program {
     pub started: Option<Started>,
+    /// The worker whose number the calls carry.
+    pub worker: u64,
+    /// What the next start or restart hands in.
+    pub rights: Rights,
+}
+
+impl Default for Program {
+    fn default() -> Program {
+        Program {
+            started: None,
+            worker: 0,
+            rights: Rights::FIRST,
+        }
+    }
 }
 
 const NOT_NOW: &str = "not now";
@@ -73,23 +87,31 @@ fn state(consumer: &Consumer) -> String {
     )
 }
 
-/// A call on a consumer that has no record out.
-fn ask(consumer: &mut Consumer, call: &Call) -> Result<String, Code> {
+/// A worker's call on a consumer that has no record out.
+pub fn ask(consumer: &mut Consumer, worker: u64, call: &Call) -> Result<String, Code> {
     Ok(match *call {
         Call::Claim(offset, now) => {
-            let answer = consumer.claim(offset, now)?;
+            let answer = consumer.claim(worker, offset, now)?;
             let word = if answer.dead { "deadletter" } else { "deliver" };
             format!("{word} {offset} {} {}", answer.generation, answer.count)
         }
-        Call::Settle(offset, generation) => consumer.settle(offset, generation).map(|()| "settled".to_string())?,
-        Call::Nack(offset, generation, now, delay) => format!("requeued {}", consumer.nack(offset, generation, now, delay)?),
-        Call::Progress(offset, generation, now) => format!("extended {}", consumer.progress(offset, generation, now)?),
-        Call::Commit(bound) => match consumer.commit(bound)? {
+        Call::Settle(offset, generation) => consumer.settle(worker, offset, generation).map(|()| "settled".to_string())?,
+        Call::Nack(offset, generation, now, delay) => {
+            format!("requeued {}", consumer.nack(worker, offset, generation, now, delay)?)
+        }
+        Call::Progress(offset, generation, now) => {
+            format!("extended {}", consumer.progress(worker, offset, generation, now)?)
+        }
+        Call::Commit(bound) => match consumer.commit(worker, bound)? {
             true => "committed".to_string(),
             false => "unchanged".to_string(),
         },
         Call::Waiting(now) => {
-            let offsets: String = consumer.waiting(now).iter().map(|offset| format!(" {offset}")).collect();
+            let offsets: String = consumer
+                .waiting(worker, now)?
+                .iter()
+                .map(|offset| format!(" {offset}"))
+                .collect();
             format!("waiting{offsets}")
         }
         Call::State => state(consumer),
@@ -98,12 +120,12 @@ fn ask(consumer: &mut Consumer, call: &Call) -> Result<String, Code> {
 }
 
 impl Started {
-    fn fresh(start: &Start) -> Result<Started, Code> {
+    fn fresh(start: &Start, rights: Rights) -> Result<Started, Code> {
         let lease = LeaseConfig {
             visibility_nanos: start.visibility,
             hard_cap_nanos: start.cap,
         };
-        let settings = Settings::new(start.limit, start.opt_in, start.threshold, lease, &start.backoffs)?;
+        let settings = Settings::new(start.limit, start.opt_in, start.threshold, lease, &start.backoffs, rights)?;
         area_length(start.bytes)?;
         let area = vec![0; start.bytes as usize];
         let consumer = Consumer::restart(&settings, &area)?;
@@ -114,26 +136,26 @@ impl Started {
         })
     }
 
-    fn call(&mut self, call: &Call) -> String {
+    fn call(&mut self, worker: u64, rights: Rights, call: &Call) -> String {
         match call {
-            Call::Restart(bytes) => self.restart(*bytes),
+            Call::Restart(bytes) => self.restart(*bytes, rights),
             Call::Poke(block, byte, value) => self.poke(*block, *byte, *value),
             Call::Peek(block) => self.peek(*block),
-            Call::Begin => self.begin(),
+            Call::Begin => self.begin(worker),
             Call::Step(bytes) => self.step(*bytes),
             Call::Cut(left) => self.cut(*left),
             _ => match &mut self.phase {
-                Phase::Idle(consumer) => ask(consumer, call).unwrap_or_else(refused),
+                Phase::Idle(consumer) => ask(consumer, worker, call).unwrap_or_else(refused),
                 _ => NOT_NOW.to_string(),
             },
         }
     }
 
-    fn begin(&mut self) -> String {
+    fn begin(&mut self, worker: u64) -> String {
         let Phase::Idle(consumer) = &self.phase else {
             return NOT_NOW.to_string();
         };
-        match consumer.begin() {
+        match consumer.begin(worker) {
             Ok(writing) => {
                 let answer = format!("begun {}", writing.writes.len());
                 self.phase = Phase::Writing(writing);
@@ -190,11 +212,12 @@ impl Started {
         format!("cut {block}")
     }
 
-    fn restart(&mut self, bytes: Option<u64>) -> String {
+    fn restart(&mut self, bytes: Option<u64>, rights: Rights) -> String {
         let Some(bytes) = self.lent(bytes) else {
             return NOT_NOW.to_string();
         };
-        let restarted = area_length(bytes).and_then(|()| Consumer::restart(&self.settings, &self.area[..bytes as usize]));
+        let settings = self.settings.with_rights(rights);
+        let restarted = area_length(bytes).and_then(|()| Consumer::restart(&settings, &self.area[..bytes as usize]));
         match restarted {
             Ok(consumer) => {
                 self.area.truncate(bytes as usize);
@@ -237,7 +260,15 @@ impl Program {
         }
         Some(match read(line) {
             None => "bad line".to_string(),
-            Some(Call::Start(start)) => match Started::fresh(&start) {
+            Some(Call::Worker(worker)) => {
+                self.worker = worker;
+                format!("worker {worker}")
+            }
+            Some(Call::Rights(worker, mask)) => {
+                self.rights.0[worker] = mask;
+                "rights".to_string()
+            }
+            Some(Call::Start(start)) => match Started::fresh(&start, self.rights) {
                 Ok(started) => {
                     self.started = Some(started);
                     "started".to_string()
@@ -245,7 +276,7 @@ impl Program {
                 Err(code) => refused(code),
             },
             Some(call) => match &mut self.started {
-                Some(started) => started.call(&call),
+                Some(started) => started.call(self.worker, self.rights, &call),
                 None => NOT_NOW.to_string(),
             },
         })

@@ -1,5 +1,7 @@
 //! The scenes of a script: what a consumer may live through.
 use crate::make::Maker;
+use crate::rights::Operation;
+use crate::workers::Crew;
 
 /// A checkpoint gives out so many generations.
 pub const GENERATIONS: u64 = 4_096;
@@ -8,6 +10,9 @@ const KINDS: [&str; 3] = ["old", "new", "torn"];
 
 /// Begins a checkpoint and makes all its steps. Answers the header's block, or nothing where the journal had no room.
 pub fn checkpoint(maker: &mut Maker) -> Option<usize> {
+    if maker.random.below(8) > 0 {
+        maker.able(Operation::Checkpoint);
+    }
     let mut answer = maker.say("begin");
     while maker.writing() {
         answer = maker.say("step");
@@ -27,7 +32,12 @@ pub fn life(maker: &mut Maker) {
         match maker.random.below(60) {
             0..=2 => interrupted(maker),
             3 => drop(checkpoint(maker)),
-            4 => drop(maker.say("restart")),
+            4 => {
+                if maker.crew == Crew::Several && maker.random.below(2) == 0 {
+                    maker.several();
+                }
+                maker.say("restart");
+            }
             5 => {
                 let line = maker.bad_line();
                 maker.say(line);
@@ -35,8 +45,7 @@ pub fn life(maker: &mut Maker) {
             6 => out_of_place(maker),
             7 => drop(maker.say("step")),
             _ => {
-                let call = maker.call();
-                let answer = maker.say(call);
+                let answer = maker.any_call();
                 if answer == "refused 26" && maker.random.below(3) > 0 && checkpoint(maker).is_none() {
                     calls = calls.min(5);
                 }
@@ -48,6 +57,7 @@ pub fn life(maker: &mut Maker) {
 
 /// A checkpoint in which anything may happen.
 fn interrupted(maker: &mut Maker) {
+    maker.able(Operation::Checkpoint);
     maker.say("begin");
     while maker.writing() {
         match maker.random.below(12) {
@@ -56,10 +66,7 @@ fn interrupted(maker: &mut Maker) {
                 maker.say(format!("cut {kind}"));
             }
             1 => out_of_place(maker),
-            2 => {
-                let call = maker.call();
-                maker.say(call);
-            }
+            2 => drop(maker.any_call()),
             3 => drop(maker.say("begin")),
             4 => drop(maker.say("restart")),
             _ => drop(maker.say("step")),
@@ -153,8 +160,7 @@ fn cut_everywhere(maker: &mut Maker, kind: &str) {
         }
         maker.say("restart");
         maker.say("state");
-        let call = maker.call();
-        maker.say(call);
+        maker.any_call();
     }
 }
 
@@ -181,10 +187,12 @@ pub fn full(maker: &mut Maker) {
         }
         maker.say("state");
         for _ in 0..6 {
-            let call = maker.call();
-            maker.say(call);
+            maker.any_call();
         }
         maker.say(format!("claim {} 5", base + 90));
+        for _ in 0..4 {
+            maker.say_as_anyone(&format!("claim {} 5", base + 90));
+        }
         checkpoint(maker);
         maker.say("restart");
         maker.say("waiting 0");
@@ -207,8 +215,7 @@ pub fn filled(maker: &mut Maker) {
     maker.start("3 0 9", 10, 25, blocks, &[]);
     while checkpoint(maker).is_some() {
         for _ in 0..maker.random.below(4) {
-            let call = maker.call();
-            maker.say(call);
+            maker.any_call();
         }
     }
     maker.say("state");
@@ -228,7 +235,9 @@ pub fn ranges(maker: &mut Maker) {
             let time = maker.time();
             maker.say(format!("claim {offset} {time}"));
             let token = maker.token();
-            maker.say(format!("{} {token}", if offset % 2 == 0 { "ack" } else { "term" }));
+            let call = format!("{} {token}", if offset % 2 == 0 { "ack" } else { "term" });
+            maker.say_as_anyone(&call);
+            maker.say(call);
         }
         maker.say("state");
         checkpoint(maker);
@@ -242,7 +251,8 @@ pub fn ranges(maker: &mut Maker) {
 
 /// All generations of one checkpoint, and the nack and the claim after them.
 pub fn spend(maker: &mut Maker) {
-    maker.start("3 0 4294967295", 0, 25, 6, &[]);
+    maker.with_guest();
+    maker.start_crew("3 0 4294967295", 0, 25, 6, &[]);
     checkpoint(maker);
     let spare = maker.random.below(3);
     for i in 0..GENERATIONS - spare {
@@ -253,10 +263,10 @@ pub fn spend(maker: &mut Maker) {
         });
     }
     for i in 0..8 {
-        let call = maker.call();
-        maker.say(call);
+        maker.any_call();
         maker.say(format!("claim {} 9", i % 2));
         let token = maker.token();
+        maker.say_as_anyone(&format!("nack {token} 7"));
         maker.say(format!("nack {token} 7"));
         maker.say("state");
     }
@@ -282,15 +292,17 @@ pub fn last_generations(maker: &mut Maker) {
         maker.say("claim 1 0");
         checkpoint(maker);
         for _ in 0..12 {
-            let call = maker.call();
-            maker.say(call);
+            maker.any_call();
         }
+        let token = maker.token();
+        maker.say_as_anyone(&format!("nack {token} 7"));
         maker.say("state");
     }
 }
 
 /// Settings and lengths that a start takes or refuses.
 pub fn starts(maker: &mut Maker) {
+    maker.alone();
     for _ in 0..12 {
         let limit = maker
             .random

@@ -2,8 +2,10 @@
 use crate::block::{bodies_for, seal, sound_header};
 use crate::compare::{answers, difference};
 use crate::journal::{block_of, header_behind, walk};
+use crate::line::{read, Call};
 use crate::make::script;
-use crate::program::Program;
+use crate::program::{ask, Program};
+use crate::rights::{Rights, WORKERS};
 use crate::versions::rewritten;
 use lists::codecs::as_version_1;
 use std::collections::{BTreeMap, BTreeSet};
@@ -233,6 +235,91 @@ fn calls_out_of_place() {
     );
 }
 
+/// 02, g: 38 and 39 before all else that a call could answer, 40 right behind 24.
+#[test]
+fn workers_and_rights() {
+    play(
+        "worker 18446744073709551615 => worker 18446744073709551615
+        rights 1 127 => rights
+        rights 2 128 => rights
+        rights 8 0 => bad line
+        rights 0 256 => bad line
+        claim 0 0 => not now
+        start 2 0 9 10 25 9216 5 => started
+        begin => refused 38
+        worker 0 => worker 0
+        checkpoint => 1,0
+        claim 0 0 => deliver 0 0 1
+        worker 1 => worker 1
+        ack 0 0 => refused 40
+        progress 0 0 25 => refused 40
+        nack 0 1 0 => refused 24
+        claim 0 9 => refused 23
+        claim 0 10 => deliver 0 1 2
+        nack 0 0 10 => refused 24
+        worker 0 => worker 0
+        term 0 1 => refused 40
+        ack 0 0 => refused 24
+        worker 1 => worker 1
+        nack 0 1 10 => requeued 15
+        worker 0 => worker 0
+        nack 0 2 10 => refused 40
+        worker 1 => worker 1
+        progress 0 2 12 => extended 22
+        worker 2 => worker 2
+        claim 18446744073709551615 0 => refused 39
+        ack 0 0 => refused 39
+        nack 0 0 0 => refused 39
+        progress 0 0 0 => refused 39
+        commit 0 => refused 39
+        waiting 0 => refused 39
+        begin => refused 39
+        worker 8 => worker 8
+        claim 18446744073709551615 0 => refused 38
+        commit 0 => refused 38
+        waiting 0 => refused 38
+        state => state committed 0 ranges none leases 0:2:10:22:2 carried none next 3 ceiling 4096 counter 1 group 2 block 2
+        restart => restarted
+        worker 0 => worker 0
+        begin => begun 2
+        worker 8 => worker 8
+        claim 0 0 => not now
+        step => wrote 3
+        step => done 2",
+    );
+}
+
+/// 02, g: a restart takes the rights that it is handed; what is said touches no consumer that is running.
+#[test]
+fn rights_of_a_restart() {
+    play(
+        "start 2 0 9 10 25 9216 => started
+        rights 0 119 => rights
+        rights 3 32 => rights
+        checkpoint => 1,0
+        progress 5 5 5 => refused 24
+        poke 1 9 77 => poked
+        restart => refused 5 1
+        progress 5 5 5 => refused 24
+        poke 1 9 0 => poked
+        restart => restarted
+        progress 5 5 5 => refused 39
+        ack 5 5 => refused 24
+        worker 3 => worker 3
+        checkpoint => 3,2
+        claim 0 0 => refused 39
+        waiting 0 => refused 39
+        rights 3 33 => rights
+        begin => begun 2
+        cut new => cut 5
+        claim 0 0 => not now
+        restart => restarted
+        claim 0 0 => refused 26
+        checkpoint => 5,4
+        claim 0 0 => deliver 0 8192 1",
+    );
+}
+
 /// Lines that get no answer, and a last line without a line end.
 #[test]
 fn lines_of_a_text() {
@@ -267,8 +354,97 @@ fn scripts_have_everything() {
             }
         }
     }
-    assert_eq!(words.len(), 20, "{words:?}");
-    assert_eq!(refusals, (1..=5).chain(7..=11).chain(14..=18).chain(21..=31).collect());
+    assert_eq!(words.len(), 22, "{words:?}");
+    assert_eq!(
+        refusals,
+        (1..=5).chain(7..=11).chain(14..=18).chain(21..=31).chain(38..=40).collect()
+    );
+}
+
+/// What a call that was refused 38, 39 or 40 would be answered without workers: its first word, or the refusal's number.
+fn without_workers(program: &Program, line: &[u8]) -> Option<String> {
+    let consumer = program.consumer()?.with_rights(Rights([127; WORKERS]));
+    let call = read(line)?;
+    let owner = match call {
+        Call::Settle(offset, _) | Call::Nack(offset, ..) | Call::Progress(offset, ..) => consumer.holder(offset),
+        _ => None,
+    };
+    let owner = owner.unwrap_or(0);
+    let answer = match call {
+        Call::Begin => consumer.begin(owner).map(|_| "begun".to_string()),
+        _ => ask(&mut consumer.clone(), owner, &call),
+    };
+    Some(match answer {
+        Ok(answer) => answer.split(' ').next().unwrap().to_string(),
+        Err(code) => code[0].to_string(),
+    })
+}
+
+/// The scripts that `oracle/run compare` uses refuse every call for its worker and its right, and every token for its owner; and so
+/// where something else would have been refused too, each refusal of these calls at least once.
+#[test]
+fn scripts_have_workers() {
+    let mut met = BTreeMap::new();
+    let mut instead: BTreeMap<&str, BTreeSet<String>> = BTreeMap::new();
+    let scripts = (1..=40)
+        .map(|seed| script(seed, 2_000))
+        .chain([script(1, 9_000), script(2, 9_000)]);
+    for lines in scripts {
+        let mut program = Program::default();
+        for line in lines {
+            let other = without_workers(&program, &line);
+            let answer = program.answer(&line).unwrap_or_default();
+            let Some(refusal) = ["38", "39", "40"].into_iter().find(|n| answer == format!("refused {n}")) else {
+                continue;
+            };
+            let word = String::from_utf8_lossy(&line).split(' ').next().unwrap().to_string();
+            *met.entry((refusal, word)).or_insert(0) += 1;
+            instead.entry(refusal).or_default().extend(other);
+        }
+    }
+    for word in ["claim", "ack", "term", "nack", "progress", "commit", "begin", "waiting"] {
+        assert!(met.get(&("38", word.to_string())) >= Some(&20), "{word} {met:?}");
+        assert!(met.get(&("39", word.to_string())) >= Some(&40), "{word} {met:?}");
+    }
+    for word in ["ack", "term", "nack", "progress"] {
+        assert!(met.get(&("40", word.to_string())) >= Some(&20), "{word} {met:?}");
+    }
+    let has = |refusal: &str, numbers: &[&str]| {
+        let seen = &instead[refusal];
+        assert!(numbers.iter().all(|&number| seen.contains(number)), "{refusal} {seen:?}");
+    };
+    for refusal in ["38", "39"] {
+        has(
+            refusal,
+            &["21", "22", "23", "24", "26", "27", "28", "30", "31", "unchanged", "committed"],
+        );
+        has(refusal, &["begun", "deliver", "settled", "requeued", "extended", "waiting"]);
+    }
+    has("40", &["25", "26", "28", "29", "settled", "requeued", "extended"]);
+}
+
+/// 02, g: a script without the refused calls of one worker gives all else the same answers.
+#[test]
+fn refused_calls_left_out() {
+    let mut left_out = 0;
+    for seed in 1..=10 {
+        let mut whole = Program::default();
+        let mut less: Vec<Program> = (0..WORKERS).map(|_| Program::default()).collect();
+        for line in script(seed, 2_000) {
+            let worker = whole.worker;
+            let answer = whole.answer(&line);
+            let refused = answer.as_deref().is_some_and(|answer| answer.starts_with("refused"));
+            let a_call = !matches!(read(&line), Some(Call::Start(_) | Call::Step(_) | Call::Restart(_)));
+            for (i, program) in less.iter_mut().enumerate() {
+                if refused && a_call && worker == i as u64 {
+                    left_out += 1;
+                } else {
+                    assert_eq!(program.answer(&line), answer);
+                }
+            }
+        }
+    }
+    assert!(left_out >= 1_000, "{left_out}");
 }
 
 /// What a restart on an area meets of worn headers.

@@ -181,8 +181,7 @@ pub fn forged(maker: &mut Maker) {
     }
     checkpoint(maker);
     for _ in 0..10 {
-        let call = maker.call();
-        maker.say(call);
+        maker.any_call();
     }
     checkpoint(maker);
     maker.say("restart");

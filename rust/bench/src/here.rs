@@ -3,12 +3,16 @@
 use std::ops::{ControlFlow, Range};
 
 use ironbus_delivery_state::{
-    Configuration, Consumer, Generation, LeaseToken, NewJournal, Offset, Step, Storage, Writing,
+    Configuration, Consumer, Generation, LeaseToken, NewJournal, Offset, Step, Storage, WorkerId,
+    Writing,
 };
 
 use crate::{Side, Token};
 
 pub struct Here<S>(Consumer<S>);
+
+/// Who makes the calls: by default worker 0 has every right.
+const WORKER: WorkerId = WorkerId::new(0);
 
 fn here(token: Token) -> LeaseToken {
     LeaseToken {
@@ -42,7 +46,7 @@ impl<S: Storage> Side for Here<S> {
     }
 
     fn claim(&mut self, offset: u64, now: u64) -> Token {
-        let token = self.0.claim(Offset::new(offset), now).unwrap().token();
+        let token = self.0.claim(WORKER, Offset::new(offset), now).unwrap().token();
         Token {
             offset: token.offset.get(),
             generation: token.generation.get(),
@@ -50,41 +54,41 @@ impl<S: Storage> Side for Here<S> {
     }
 
     fn ack(&mut self, token: Token) {
-        self.0.ack(here(token)).unwrap();
+        self.0.ack(WORKER, here(token)).unwrap();
     }
 
     fn nack(&mut self, token: Token, now: u64) -> u64 {
-        self.0.nack(here(token), now, None).unwrap()
+        self.0.nack(WORKER, here(token), now, None).unwrap()
     }
 
     fn progress(&mut self, token: Token, now: u64) -> u64 {
-        self.0.progress(here(token), now).unwrap()
+        self.0.progress(WORKER, here(token), now).unwrap()
     }
 
     fn commit(&mut self, up_to: u64) -> bool {
-        self.0.commit(Offset::new(up_to)).unwrap()
+        self.0.commit(WORKER, Offset::new(up_to)).unwrap()
     }
 
     fn is_settled(&mut self, offset: u64) -> bool {
-        self.0.is_settled(Offset::new(offset))
+        self.0.is_settled(WORKER, Offset::new(offset)).unwrap()
     }
 
     fn deliveries(&mut self, token: Token) -> Option<u32> {
-        let lease = self.0.lease_of(Offset::new(token.offset))?;
+        let lease = self.0.lease_of(WORKER, Offset::new(token.offset)).unwrap()?;
         (lease.generation.get() == token.generation).then_some(lease.deliveries)
     }
 
     fn committed(&mut self) -> u64 {
-        self.0.committed().get()
+        self.0.committed(WORKER).unwrap().get()
     }
 
     fn held(&mut self) -> (usize, usize) {
-        let waiting = self.0.waiting(0, &mut [Offset::ZERO; 128]).unwrap();
-        (self.0.in_flight(), waiting)
+        let waiting = self.0.waiting(WORKER, 0, &mut [Offset::ZERO; 128]).unwrap();
+        (self.0.in_flight(WORKER).unwrap(), waiting)
     }
 
     fn begin(self) -> Writing<S> {
-        match self.0.begin() {
+        match self.0.begin(WORKER) {
             Ok(writing) => writing,
             Err((refusal, _)) => panic!("{refusal}"),
         }

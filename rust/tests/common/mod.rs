@@ -11,8 +11,11 @@ use std::rc::Rc;
 
 use ironbus_delivery_state::{
     Configuration, Consumer, DeliveryConfig, LeaseConfig, LeaseToken, Offset, Settings, Storage,
-    BLOCK,
+    WorkerId, BLOCK,
 };
+
+/// The worker that makes the calls, where it doesn't matter which: it has every right.
+pub const WORKER: WorkerId = WorkerId::new(0);
 
 /// A file of this name in the folder for tests, which isn't there.
 pub fn fresh_path(name: &str) -> PathBuf {
@@ -27,6 +30,7 @@ pub fn configuration(max_deliver: u32, threshold: u32, visibility: u64, cap: u64
         settings: Settings {
             delivery: DeliveryConfig::new(max_deliver, false, &[3, 7])
                 .with_attempts_flush_redeliveries(threshold),
+            ..Settings::default()
         },
         lease: LeaseConfig {
             visibility_nanos: visibility,
@@ -120,7 +124,7 @@ impl Book {
         self.restarts += 1;
         self.page = self.copy.clone();
         self.compare(consumer, offsets);
-        assert_eq!(consumer.in_flight(), 0);
+        assert_eq!(consumer.in_flight(WORKER).unwrap(), 0);
     }
 
     /// The consumer has the settled offsets and the counts of the book.
@@ -128,12 +132,12 @@ impl Book {
         for offset in offsets {
             let name = Offset::new(*offset);
             assert_eq!(
-                consumer.is_settled(name),
+                consumer.is_settled(WORKER, name).unwrap(),
                 self.page.is_settled(*offset),
                 "whether {offset} is settled"
             );
             assert_eq!(
-                consumer.count_of(name),
+                consumer.count_of(WORKER, name).unwrap(),
                 self.page.count(*offset),
                 "the count of {offset}"
             );
@@ -142,7 +146,7 @@ impl Book {
         let counts: Vec<(Offset, u32)> = counts
             .map(|(offset, count)| (Offset::new(*offset), *count))
             .collect();
-        assert_eq!(consumer.all_attempt_counts(), counts);
+        assert_eq!(consumer.all_attempt_counts(WORKER).unwrap(), counts);
     }
 
     /// Demand 3's bound: at most M + C × (N + 1) deliveries of each offset.

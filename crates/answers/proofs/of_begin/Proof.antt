@@ -18,11 +18,33 @@ enum-known-answer c = search needs
 enum-told : tie.Need-enum-told
 enum-told c = search needs
 
+enum-told-2 : tie.Need-enum-told-2
+enum-told-2 c = search needs
+
+enum-told-3 : tie.Need-enum-told-3
+enum-told-3 c = search needs
+
 returns : tie.Need-returns
 returns c = ap as-numbers (sym (c .before .answer .given .1))
 
 returns-2 : tie.Need-returns-2
 returns-2 c = ap as-numbers (sym (c .enum-told .given .1))
 
+returns-3 : tie.Need-returns-3
+returns-3 c = ap as-numbers (sym (c .enum-told2 .given .1))
+
+returns-4 : tie.Need-returns-4
+returns-4 c = ap as-numbers (sym (c .enum-told3 .given .1))
+
 pub of-begin-spec : {M : Type 1} → statement M
-of-begin-spec = tie.close (tie.spec enum-known-answer enum-told returns returns-2)
+of-begin-spec =
+    tie.close
+    (tie.spec
+    enum-known-answer
+    enum-told
+    enum-told-2
+    enum-told-3
+    returns
+    returns-2
+    returns-3
+    returns-4)

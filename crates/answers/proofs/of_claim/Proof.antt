@@ -42,6 +42,12 @@ enum-told-5 c = search needs
 enum-told-6 : tie.Need-enum-told-6
 enum-told-6 c = search needs
 
+enum-told-7 : tie.Need-enum-told-7
+enum-told-7 c = search needs
+
+enum-told-8 : tie.Need-enum-told-8
+enum-told-8 c = search needs
+
 returns : tie.Need-returns
 returns c = ap as-numbers (sym (c .before .answer .given .1))
 
@@ -66,6 +72,12 @@ returns-7 c = ap as-numbers (sym (c .enum-told5 .given .1))
 returns-8 : tie.Need-returns-8
 returns-8 c = ap as-numbers (sym (c .enum-told6 .given .1))
 
+returns-9 : tie.Need-returns-9
+returns-9 c = ap as-numbers (sym (c .enum-told7 .given .1))
+
+returns-10 : tie.Need-returns-10
+returns-10 c = ap as-numbers (sym (c .enum-told8 .given .1))
+
 pub of-claim-spec : {M : Type 1} → statement M
 of-claim-spec =
     tie.close
@@ -80,6 +92,8 @@ of-claim-spec =
     enum-told-4
     enum-told-5
     enum-told-6
+    enum-told-7
+    enum-told-8
     returns
     returns-2
     returns-3
@@ -87,4 +101,6 @@ of-claim-spec =
     returns-5
     returns-6
     returns-7
-    returns-8)
+    returns-8
+    returns-9
+    returns-10)

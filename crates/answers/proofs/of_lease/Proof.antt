@@ -1,16 +1,16 @@
 -- `of_lease` meets its contract. Assumes nothing.
 use mathlib.Core.Path.{sym, ap}
 use borrow.Author.Needs.{needs}
-use Rattle.types.specs.Refusal.{answered}
-use Rattle.lease.specs.Lookup.{leaseAt}
-use Rattle.lease.specs.declared.lookup.LeaseAt.{LeaseAt}
+use Rattle.types.specs.Refusal.{done, answered}
+use Rattle.machine.specs.Answers.{leaseTold}
+use Rattle.machine.specs.declared.calls.LeaseReply.{LeaseReply}
 use Rattle.answers.specs.declared.Numbers.{Numbers}
 use Rattle.answers.specs.Numbers.{numbersOf, values}
 use Rattle.answers.proofs.of_lease.Statement.{statement}
 use Rattle.answers.proofs.of_lease.Tie as tie
 
-abbrev as-numbers : LeaseAt → Numbers
-as-numbers l = numbersOf (answered values (leaseAt l))
+abbrev as-numbers : LeaseReply → Numbers
+as-numbers l = numbersOf (answered values (done (leaseTold l)))
 
 enum-known-lease : tie.Need-enum-known-lease
 enum-known-lease c = search needs

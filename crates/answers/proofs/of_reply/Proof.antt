@@ -57,6 +57,12 @@ bit-of-requires-3 c κs = search needs
 enum-known-reply-8 : tie.Need-enum-known-reply-8
 enum-known-reply-8 c = search needs
 
+enum-told : tie.Need-enum-told
+enum-told c = search needs
+
+enum-told-2 : tie.Need-enum-told-2
+enum-told-2 c = search needs
+
 returns : tie.Need-returns
 returns c = c .of-list .ensures ∙ ap (as-numbers (c .before .before .before .before .before .args .out .now)) (sym (c .before .before .reply .given .1))
 
@@ -81,6 +87,12 @@ returns-7 c = same-numbers refl (c .before .bit-of2 .ensures) (c .bit-of3 .ensur
 returns-8 : tie.Need-returns-8
 returns-8 c = ap (as-numbers (c .before .before .before .before .args .out .now)) (sym (c .before .reply8 .given .1))
 
+returns-9 : tie.Need-returns-9
+returns-9 c = ap (as-numbers (c .before .before .before .args .out .now)) (sym (c .enum-told .given .1))
+
+returns-10 : tie.Need-returns-10
+returns-10 c = ap (as-numbers (c .before .before .before .args .out .now)) (sym (c .enum-told2 .given .1))
+
 pub of-reply-spec : {M : Type 1} → statement M
 of-reply-spec =
     tie.close
@@ -99,6 +111,8 @@ of-reply-spec =
     bit-of-requires-2
     bit-of-requires-3
     enum-known-reply-8
+    enum-told
+    enum-told-2
     returns
     returns-2
     returns-3
@@ -106,4 +120,6 @@ of-reply-spec =
     returns-5
     returns-6
     returns-7
-    returns-8)
+    returns-8
+    returns-9
+    returns-10)

@@ -11,20 +11,20 @@ enum-known-call c = search needs
 on-state-requires : tie.Need-on-state-requires
 on-state-requires c κs = search needs
 
-enum-told : tie.Need-enum-told
-enum-told c = search needs
+enum-known-call-2 : tie.Need-enum-known-call-2
+enum-known-call-2 c = search needs
 
 begin-requires : tie.Need-begin-requires
 begin-requires c κs = search needs
 
-enum-told-2 : tie.Need-enum-told-2
-enum-told-2 c = search needs
+enum-told : tie.Need-enum-told
+enum-told c = search needs
 
 step-requires : tie.Need-step-requires
 step-requires c κs = search needs
 
-enum-told-3 : tie.Need-enum-told-3
-enum-told-3 c = search needs
+enum-told-2 : tie.Need-enum-told-2
+enum-told-2 c = search needs
 
 restart-requires : tie.Need-restart-requires
 restart-requires c κs = search needs
@@ -41,9 +41,9 @@ returns c =
 
 returns-2 : tie.Need-returns-2
 returns-2 c =
-    let g = c .before in
+    let g = c .before .before in
     let s = g .before .before .before .before in
-    called-as (length (s .args .out .now)) (g .enum-told .given .1) (c .begin .ensures (s .args .area .now) (s .args .out .now))
+    called-as (length (s .args .out .now)) (g .call2 .given .1) (c .begin .ensures (s .args .area .now) (s .args .out .now))
 
 same-length-2 : tie.Need-same-length-2
 same-length-2 c = search needs
@@ -53,7 +53,7 @@ returns-3 c =
     let k = c .before .before in
     let g = k .before .before in
     let s = g .before .before .before .before in
-    called-as (length (s .args .out .now)) (g .enum-told2 .given .1) (k .step .ensures (s .args .out .now))
+    called-as (length (s .args .out .now)) (g .enum-told .given .1) (k .step .ensures (s .args .out .now))
 
 same-length-3 : tie.Need-same-length-3
 same-length-3 c = search needs
@@ -62,7 +62,7 @@ returns-4 : tie.Need-returns-4
 returns-4 c =
     let g = c .before .before in
     let s = g .before .before .before .before in
-    called-as (length (s .args .out .now)) (g .enum-told3 .given .1) (c .restart .ensures (s .args .out .now))
+    called-as (length (s .args .out .now)) (g .enum-told2 .given .1) (c .restart .ensures (s .args .out .now))
 
 pub call-spec : {M : Type 1} → statement M
 call-spec =
@@ -70,11 +70,11 @@ call-spec =
     (tie.spec
     enum-known-call
     on-state-requires
-    enum-told
+    enum-known-call-2
     begin-requires
-    enum-told-2
+    enum-told
     step-requires
-    enum-told-3
+    enum-told-2
     restart-requires
     same-length
     returns

@@ -29,7 +29,7 @@ full : (s : tie.Start Inv-loop μ-loop) → Full (s .args .t3)
 full s =
     record {
       offsets = search needs;
-      leases = record { generations = search needs; starts = search needs; deadlines = search needs; counts = search needs };
+      leases = record { generations = search needs; starts = search needs; deadlines = search needs; counts = search needs; workers = search needs };
       carried-offsets = search needs;
       carried-counts = search needs;
     }
@@ -70,7 +70,7 @@ loop-less c = omega arith
 loop-again : tie.Need-loop-again Inv-loop μ-loop
 loop-again c =
     let r = c .before .before .before .before .before in
-    let b = r .before .before .before .before .before .before .before .before in
+    let b = r .before .before .before .before .before .before .before .before .before in
     let at-loop = b .before .before .before .before in
     let l = at-loop .loop in
     let a = start at-loop .args .t3 in

@@ -1,117 +1,76 @@
--- `begin_in_place` meets its contract: the snapshots' lengths are known before they are written, so that a group without room is
--- refused with nothing changed. Assumes nothing.
-use Prim.Native.Nat.{_≤_}
-use native.Mathlib.Omega.{arith}
-use mathlib.Core.Path.{_≡_, _∙_}
-use lib.ListN.{length}
+-- `begin_in_place` meets its contract: the worker's rows, then what a begin does that is permitted. Assumes nothing.
+use mathlib.Core.Path.{sym, ap, _∙_}
 use borrow.Author.Needs.{needs}
-use Rattle.types.specs.Lists.{ListsCounts}
+use Rattle.types.proofs.Table.{first-none}
 use Rattle.cursor.specs.View.{ackCursor}
 use Rattle.lease.specs.Parts.{listingAll}
-use Rattle.lease.specs.Counts.{allAttemptCounts}
-use Rattle.consumer.specs.View.{view}
+use Rattle.consumer.specs.Rights.{checkpointing}
+use Rattle.consumer.specs.Calls.{callRows}
+use Rattle.consumer.specs.View.{view, permissionOf}
+use Rattle.consumer.specs.Parts.{permitting}
 use Rattle.consumer.specs.declared.Consumer.{Consumer}
-use Rattle.checkpoint.specs.Checkpoint.{cursorBytes, attemptBytes}
-use Rattle.checkpoint.specs.Parts.{beginning, Lent}
-use Rattle.checkpoint.proofs.Encoding.{Full, cursor-size, few-counts, attempt-size, both-encoded, begin-refused, begin-done}
+use Rattle.checkpoint.specs.Parts.{beginning}
+use Rattle.checkpoint.proofs.Encoding.{begin-unknown, begin-not-permitted}
 use Rattle.checkpoint.proofs.in_place.begin_in_place.Statement.{statement}
 use Rattle.checkpoint.proofs.in_place.begin_in_place.Tie as tie
 
--- ---- what is known at a place, of every consumer with the parts that were handed in
+-- a consumer with the parts that were handed in
 abbrev given : tie.Start → Consumer → Consumer
 given s =
     let a = s .args in
-    beginning (ackCursor (a .committed) (a .starts .now) (a .ends .now) (a .runs))
+    beginning (a .rights .now) (ackCursor (a .committed) (a .starts .now) (a .ends .now) (a .runs))
     (listingAll (a .len) (a .carried-len) (a .offsets .now) (a .deliveries .now) (a .carried-offsets .now) (a .carried-counts .now))
     (a .block)
     (a .area-len)
 
-full : (c : tie.After-all-counts-in-place) → Full (c .all-counts-in-place .result)
-full c = record { offsets = search needs; attempts = search needs }
+permission-of-requires : tie.Need-permission-of-requires
+permission-of-requires c κs = search needs
 
-listed : (c : tie.After-all-counts-in-place) (w : Consumer) → Lent (given (c .before) w)
-    → ListsCounts (c .all-counts-in-place .result) (allAttemptCounts (view (given (c .before) w) .table))
-listed c w l = c .all-counts-in-place .ensures (w .table) (record { full = l .table; sound = l .sound .table })
+enum-told : tie.Need-enum-told
+enum-told c = search needs
 
-few : (c : tie.After-all-counts-in-place) → c .all-counts-in-place .result .len ≤ 128
-few c =
-    let p = c .before .pre in
-    few-counts (given (c .before) (p .consumer)) (p .lent) (c .all-counts-in-place .result) (full c) (listed c (p .consumer) (p .lent))
+enum-told-2 : tie.Need-enum-told-2
+enum-told-2 c = search needs
 
--- the lengths of the two snapshots
-first : (c : tie.After-snapshot-len2) (w : Consumer) → let s = c .before .before .before in
-    Lent (given s w) → c .before .snapshot-len .result ≡ length (cursorBytes (view (given s w)))
-first c w l = c .before .snapshot-len .ensures ∙ cursor-size (given (c .before .before .before) w) l
+enum-told-3 : tie.Need-enum-told-3
+enum-told-3 c = search needs
 
-second : (c : tie.After-snapshot-len2) (w : Consumer) → let s = c .before .before .before in
-    Lent (given s w) → c .snapshot-len2 .result ≡ length (attemptBytes (view (given s w)))
-second c w l =
-    let k = c .before .before in
-    c .snapshot-len2 .ensures ∙ attempt-size (given (k .before) w) l (k .all-counts-in-place .result) (full k) (listed k w l)
-
-all-counts-in-place-requires : tie.Need-all-counts-in-place-requires
-all-counts-in-place-requires c κs = search needs
-
-snapshot-len-requires : tie.Need-snapshot-len-requires
-snapshot-len-requires c κs = search needs
-
-snapshot-len-requires-2 : tie.Need-snapshot-len-requires-2
-snapshot-len-requires-2 c κs = few (c .before)
-
-bodies-of-requires : tie.Need-bodies-of-requires
-bodies-of-requires c κs =
-    let s = c .before .before .before in
-    (omega (arith, c .before .snapshot-len .ensures, s .pre .lent .cursor .sound .few), omega (arith, c .snapshot-len2 .ensures, few (c .before .before)))
-
-add-writes : tie.Need-add-writes
-add-writes c = search needs
-
-add-if1 : tie.Need-add-if1
-add-if1 c = search needs
+begin-permitted-requires : tie.Need-begin-permitted-requires
+begin-permitted-requires c κs =
+    let s = c .before .before .before .before in
+    record { consumer = permitting (s .args .rights .now) (s .pre .consumer); lent = s .pre .lent; payload = s .pre .payload }
 
 returns : tie.Need-returns
-returns c =
-    let b = c .before in
-    let n = b .before in
-    let s = n .before .before .before in
-    let a = s .args in
-    λ w l. begin-refused (given s w) (l .sound) (n .before .snapshot-len .result) (n .snapshot-len2 .result) (first n w l) (second n w l) (a .written) (a .cursor-len) (a .attempt-len) (a .payload .now) (rw (b .bodies-of .ensures) at (c .if1 .taken))
-
-encode-in-place-requires : tie.Need-encode-in-place-requires
-encode-in-place-requires c κs = search needs
-
-put-counts-requires : tie.Need-put-counts-requires
-put-counts-requires c κs =
-    let k = c .before .before .before .before .before .before .before .before .before .before .before .before in
-    (omega (arith, few k, full k .offsets), omega (arith, few k, full k .attempts))
+returns c x l =
+    let k = c .before .before in
+    let s = k .before in
+    begin-unknown (given s x) (s .args .worker) (s .args .written) (s .args .cursor-len) (s .args .attempt-len) (s .args .payload .now)
+    (sym (ap permissionOf (c .enum-told .given .1)) ∙ k .permission-of .ensures)
 
 returns-2 : tie.Need-returns-2
-returns-2 c =
-    let e = c .before .before .before .before .before .before .before in
-    let o = e .before .before in
-    let b = o .before in
-    let n = b .before in
-    let k = n .before .before in
+returns-2 c x l =
+    let k = c .before .before in
     let s = k .before in
-    let a = s .args in
-    let lc = n .before .snapshot-len .result in
-    let la = n .snapshot-len2 .result in
-    λ w l.
-    let counts = rw (listed k w l .is) at (c .put-counts .ensures) in
-    let bytes = both-encoded (view (given s w)) (l .sound .valid) (a .payload .now) _ _ _ _ lc la (s .pre .payload) (first n w l) (second n w l) (e .encode-in-place .ensures) counts in
-    rw (b .bodies-of .ensures) (begin-done (given s w) (l .sound) lc la (first n w l) (second n w l) (a .written) (a .cursor-len) (a .attempt-len) (a .payload .now) (rw (b .bodies-of .ensures) at (o .if1 .left)) _ bytes)
+    begin-not-permitted (given s x) (s .args .worker) (s .args .written) (s .args .cursor-len) (s .args .attempt-len) (s .args .payload .now)
+    (sym (ap permissionOf (c .enum-told2 .given .1)) ∙ k .permission-of .ensures)
+
+returns-3 : tie.Need-returns-3
+returns-3 c x l =
+    let d = c .before .before in
+    let k = d .before .before in
+    let s = k .before in
+    c .begin-permitted .ensures (permitting (s .args .rights .now) x) l (s .args .worker)
+    (first-none (callRows (view (given s x)) (s .args .worker) checkpointing) (sym (sym (ap permissionOf (d .enum-told3 .given .1)) ∙ k .permission-of .ensures)))
 
 pub begin-in-place-spec : {M : Type 1} → statement M
 begin-in-place-spec =
     tie.close
     (tie.spec
-    all-counts-in-place-requires
-    snapshot-len-requires
-    snapshot-len-requires-2
-    bodies-of-requires
-    add-writes
-    add-if1
+    permission-of-requires
+    enum-told
+    enum-told-2
+    enum-told-3
+    begin-permitted-requires
     returns
-    encode-in-place-requires
-    put-counts-requires
-    returns-2)
+    returns-2
+    returns-3)

@@ -1,65 +1,78 @@
--- `nack_in_place` meets its contract: each test of the table in its order, then the effect, on every consumer that has the parts that it is
--- lent. Assumes nothing.
-use mathlib.Core.Path.{_≡_, sym}
-use mathlib.Core.Option.{some}
+-- `nack_in_place` meets its contract: the token's test, each test of the table in its order, then the effect, on every consumer that has
+-- the parts that it is lent. Assumes nothing.
+use Prim.Native.Nat.{ℕ}
+use mathlib.Core.Path.{_≡_, refl, sym, ap, subst, _∙_}
 use borrow.Author.Needs.{needs}
+use Rattle.types.specs.Refusal.{Result}
+use Rattle.types.specs.Table.{Passed}
 use Rattle.delivery.specs.Config.{delayOf}
 use Rattle.lease.specs.Answers as answers
-use Rattle.lease.specs.Rest.{deliveries}
-use Rattle.lease.proofs.Found.{found-count, no-count}
-use Rattle.consumer.specs.Parts.{Whole, nacking}
-use Rattle.consumer.specs.View.{view, nackOf}
+use Rattle.consumer.specs.Rights as rights
+use Rattle.consumer.specs.Calls.{tokenRows, attemptOf, nack}
+use Rattle.consumer.specs.Parts.{Whole, nacking, tokenOf, tokenRefusalOf}
+use Rattle.consumer.specs.View.{view, Answers, nackOf}
 use Rattle.consumer.specs.declared.Consumer.{Consumer}
 use Rattle.consumer.proofs.CallsReturns.{table-whole}
-use Rattle.consumer.proofs.CallsToken.{nack-fenced, attempt-is, nack-exhausted, nack-due, nack-passed, nack-requeued}
+use Rattle.consumer.proofs.CallsToken.{first-refused, test-passed, nack-refused, nack-exhausted, nack-due, nack-passed, nack-requeued}
 use Rattle.consumer.proofs.in_place.nack_in_place.Statement.{statement}
 use Rattle.consumer.proofs.in_place.nack_in_place.Tie as tie
 
 -- a consumer with the parts that the arguments are
 abbrev made : tie.Start → Consumer → Consumer
 made s =
-    nacking (s .args .ceiling) (s .args .backoff-nanos .now) (s .args .backoff-len) (s .args .len) (s .args .next-generation) (s .args .offsets .now) (s .args .generations .now)
-    (s .args .deadlines .now) (s .args .deliveries .now)
+    nacking (s .args .rights .now) (s .args .ceiling) (s .args .backoff-nanos .now) (s .args .backoff-len) (s .args .len) (s .args .next-generation) (s .args .offsets .now)
+    (s .args .generations .now) (s .args .deadlines .now) (s .args .deliveries .now) (s .args .workers .now)
 
 abbrev start : tie.After-known-told → tie.Start
 start k = k .before .before .before .before .before
 
--- the token owns the lease, and this is its count
-counted : (k : tie.After-known-told) (x : Consumer) → Whole (made (start k) x)
-    → let s = start k in some (k .before .held .given .0 .0) ≡ deliveries (view (made s x) .table) (s .args .offset) (s .args .generation)
-counted k x w =
-    sym (found-count _ (k .before .before .before .deliveries-in-place .ensures (made (start k) x .table) (table-whole w)) (k .before .held .given .1))
+-- the token's rows are passed, and this is the count of its lease
+owned : (k : tie.After-known-told) (x : Consumer) → let s = start k in Whole (made s x)
+    → Passed (tokenRows (view (made s x)) (s .args .worker) rights.nacking (s .args .offset) (s .args .generation)) × (k .before .test .given .0 .0 ≡ attemptOf (view (made s x)) (s .args .offset))
+owned k x w =
+    let s = start k in
+    test-passed (tokenRows (view (made s x)) (s .args .worker) rights.nacking (s .args .offset) (s .args .generation)) (k .before .test .given .0 .0)
+    (attemptOf (view (made s x)) (s .args .offset))
+    (sym (ap tokenOf (k .before .test .given .1)) ∙ k .before .before .before .token-test .ensures (made s x) w rights.nacking refl)
 
-deliveries-in-place-requires : tie.Need-deliveries-in-place-requires
-deliveries-in-place-requires c κs = search needs
+token-test-requires : tie.Need-token-test-requires
+token-test-requires c κs = search needs
 
-enum-known-held : tie.Need-enum-known-held
-enum-known-held c = search needs
+enum-known-test : tie.Need-enum-known-test
+enum-known-test c = search needs
 
-enum-told : tie.Need-enum-told
-enum-told c = search needs
+enum-known-test-2 : tie.Need-enum-known-test-2
+enum-known-test-2 c = search needs
+
+not-nacked-requires : tie.Need-not-nacked-requires
+not-nacked-requires c κs = search needs
 
 returns : tie.Need-returns
 returns c x w =
-    let k = c .before .before in
+    let o = c .before .before in
+    let k = o .before .before in
     let s = k .before .before in
-    nack-fenced (made s x) (w .sound) (s .args .offset) (s .args .generation) (s .args .now) (delayOf (s .args .delay))
-    (sym (no-count _ (k .deliveries-in-place .ensures (made s x .table) (table-whole w)) (c .enum-told .given .1)))
+    let r = tokenRefusalOf (o .test2 .given .0 .0) in
+    subst (λ (y : Result ℕ). Answers y (made s x) (made s x) (nack (view (made s x)) (s .args .worker) (s .args .offset) (s .args .generation) (s .args .now) (delayOf (s .args .delay))))
+    (sym (c .not-nacked .ensures))
+    (nack-refused (made s x) (w .sound) (s .args .worker) (s .args .offset) (s .args .generation) (s .args .now) (delayOf (s .args .delay)) r
+    (first-refused (tokenRows (view (made s x)) (s .args .worker) rights.nacking (s .args .offset) (s .args .generation)) (attemptOf (view (made s x)) (s .args .offset)) r
+    (sym (ap tokenOf (o .test2 .given .1)) ∙ k .token-test .ensures (made s x) w rights.nacking refl)))
 
 returns-2 : tie.Need-returns-2
 returns-2 c x w =
     let k = c .before in
     let s = start k in
-    nack-exhausted (made s x) (w .sound) (s .args .offset) (s .args .generation) (s .args .now) (delayOf (s .args .delay))
-    (k .before .held .given .0 .0) (counted k x w) (c .if1 .taken)
+    nack-exhausted (made s x) (w .sound) (s .args .worker) (s .args .offset) (s .args .generation) (s .args .now) (delayOf (s .args .delay))
+    (owned k x w .0) (c .if1 .taken)
 
 returns-3 : tie.Need-returns-3
 returns-3 c x w =
     let e = c .before in
     let k = e .before in
     let s = start k in
-    nack-due (made s x) (w .sound) (s .args .offset) (s .args .generation) (s .args .now) (delayOf (s .args .delay))
-    (k .before .held .given .0 .0) (counted k x w) (e .if1 .left) (c .if2 .taken)
+    nack-due (made s x) (w .sound) (s .args .worker) (s .args .offset) (s .args .generation) (s .args .now) (delayOf (s .args .delay))
+    (owned k x w .0) (e .if1 .left) (c .if2 .taken)
 
 nack-delay-in-place-requires : tie.Need-nack-delay-in-place-requires
 nack-delay-in-place-requires c κs = search needs
@@ -78,10 +91,9 @@ returns-4 c x w =
     let e = f .before in
     let k = e .before in
     let s = start k in
-    let attempt = k .before .held .given .0 .0 in
-    nack-requeued (made s x) (w .sound) (s .args .offset) (s .args .generation) (s .args .now) attempt (delayOf (s .args .delay))
-    (nack-passed (made s x) (w .sound) (s .args .offset) (s .args .generation) (s .args .now) (delayOf (s .args .delay)) attempt (counted k x w) (e .if1 .left) (f .if2 .left))
-    (attempt-is (made s x) (w .sound) (s .args .offset) (s .args .generation) (s .args .now) (delayOf (s .args .delay)) attempt (counted k x w))
+    nack-requeued (made s x) (w .sound) (s .args .worker) (s .args .offset) (s .args .generation) (s .args .now) (k .before .test .given .0 .0) (delayOf (s .args .delay))
+    (nack-passed (made s x) (w .sound) (s .args .worker) (s .args .offset) (s .args .generation) (s .args .now) (delayOf (s .args .delay)) (owned k x w .0) (e .if1 .left) (f .if2 .left))
+    (owned k x w .1)
     (d .nack-delay-in-place .result) (d .nack-delay-in-place .ensures) (answers.nackOf (n .nack-in-place .result .outcome)) _
     (n .nack-in-place .ensures (made s x .table) (table-whole w)) (nackOf (c .requeued .result)) (c .requeued .ensures)
 
@@ -89,9 +101,10 @@ pub nack-in-place-spec : {M : Type 1} → statement M
 nack-in-place-spec =
     tie.close
     (tie.spec
-    deliveries-in-place-requires
-    enum-known-held
-    enum-told
+    token-test-requires
+    enum-known-test
+    enum-known-test-2
+    not-nacked-requires
     returns
     returns-2
     returns-3

@@ -1,132 +1,88 @@
--- `claim_test` meets its contract: each test of the table in its order. Assumes nothing.
-use native.Mathlib.Omega.{arith}
-use mathlib.Core.Path.{_≡_, sym, _∙_}
-use mathlib.Core.Bool.{false}
+-- `claim_test` meets its contract: the worker's rows, then the claim's own. Assumes nothing.
+use mathlib.Core.Path.{_≡_, sym, ap, _∙_}
+use mathlib.Core.Option.{none, Option·none-ne-some}
 use borrow.Author.Needs.{needs}
-use Rattle.cursor.specs.Cursor.{settled}
+use Rattle.types.specs.Refusal.{UnknownWorker, NotPermitted}
+use Rattle.types.specs.Table.{first}
 use Rattle.cursor.specs.View.{ackCursor}
-use Rattle.lease.specs.Operations.{leaseOf, running}
-use Rattle.consumer.specs.State.{State}
-use Rattle.consumer.specs.Parts.{Whole, testing}
-use Rattle.consumer.specs.View.{view}
+use Rattle.consumer.specs.Rights.{workerRows}
+use Rattle.consumer.specs.Parts.{permitting, permitted, testing}
+use Rattle.consumer.specs.View.{view, permissionOf, asResult}
 use Rattle.consumer.specs.declared.Consumer.{Consumer}
-use Rattle.consumer.proofs.CallsReturns.{table-whole}
-use Rattle.consumer.proofs.CallsClaim.{blocked, unblocked, is-last, is-settled, is-running, is-exhausted, is-at-ceiling, is-at-threshold, is-full, is-open}
+use Rattle.consumer.proofs.Permission.{is-known}
+use Rattle.consumer.proofs.CallsClaim.{claim-unpermitted, claim-permitted}
 use Rattle.consumer.proofs.steps.claim_test.Statement.{statement}
 use Rattle.consumer.proofs.steps.claim_test.Tie as tie
 
--- a consumer with the parts that the arguments are, and its state
+-- a consumer with the parts that the arguments are
 abbrev made : tie.Start → Consumer → Consumer
 made s =
-    testing (s .args .ceiling) (s .args .threshold) (ackCursor (s .args .committed) (s .args .starts .now) (s .args .ends .now) (s .args .runs)) (s .args .len) (s .args .carried-len)
+    permitted (s .args .rights .now)
+    (testing (s .args .ceiling) (s .args .threshold) (ackCursor (s .args .committed) (s .args .starts .now) (s .args .ends .now) (s .args .runs)) (s .args .len) (s .args .carried-len)
     (s .args .next-generation) (s .args .redeliveries) (s .args .offsets .now) (s .args .deadlines .now) (s .args .deliveries .now) (s .args .carried-offsets .now)
-    (s .args .carried-counts .now)
+    (s .args .carried-counts .now))
 
-abbrev shown : tie.Start → Consumer → State
-shown s c = view (made s c)
+permission-of-requires : tie.Need-permission-of-requires
+permission-of-requires c κs = search needs
 
-abbrev second : tie.Else3 → tie.Else2
-second d = d .before .before
+enum-told : tie.Need-enum-told
+enum-told c = search needs
 
-abbrev first : tie.Else2 → tie.Else1
-first d = d .before .before
+enum-told-2 : tie.Need-enum-told-2
+enum-told-2 c = search needs
 
-abbrev start : tie.Else3 → tie.Start
-start d = first (second d) .before
+enum-told-3 : tie.Need-enum-told-3
+enum-told-3 c = search needs
+
+offset-test-requires : tie.Need-offset-test-requires
+offset-test-requires c κs = search needs
 
 returns : tie.Need-returns
-returns c x w = let s = c .before in is-last (shown s x) (s .args .offset) (s .args .now) (c .if1 .taken)
-
-is-acked-in-place-requires : tie.Need-is-acked-in-place-requires
-is-acked-in-place-requires c κs = search needs
+returns c =
+    let k = c .before .before in
+    let s = k .before in
+    record {
+      known = λ e. absurd (Option·none-ne-some _ (sym e));
+      is = λ x w.
+          claim-unpermitted (view (made s x)) (s .args .worker) (s .args .offset) (s .args .now) UnknownWorker
+          (sym (ap permissionOf (c .enum-told .given .1)) ∙ k .permission-of .ensures);
+    }
 
 returns-2 : tie.Need-returns-2
-returns-2 c x w =
-    let k = c .before in
-    let e = k .before in
-    let s = e .before in
-    is-settled (shown s x) (s .args .offset) (s .args .now) (e .if1 .left) (sym (k .is-acked-in-place .ensures) ∙ c .if2 .taken)
+returns-2 c =
+    let k = c .before .before in
+    let s = k .before in
+    record {
+      known = λ e. absurd (Option·none-ne-some _ (sym e));
+      is = λ x w.
+          claim-unpermitted (view (made s x)) (s .args .worker) (s .args .offset) (s .args .now) NotPermitted
+          (sym (ap permissionOf (c .enum-told2 .given .1)) ∙ k .permission-of .ensures);
+    }
 
-is-claimable-in-place-requires : tie.Need-is-claimable-in-place-requires
-is-claimable-in-place-requires c κs = search needs
-
-unsettled : (d : tie.Else2) (x : Consumer) → let s = first d .before in settled (shown s x .cursor) (s .args .offset) ≡ false
-unsettled d x = sym (d .before .is-acked-in-place .ensures) ∙ d .if2 .left
+-- the worker may claim
+open-to : (d : tie.After-enum-told3) → let s = d .before .before .before in none ≡ first (workerRows (s .args .rights .now) (s .args .worker) 1)
+open-to d = sym (ap permissionOf (d .enum-told3 .given .1)) ∙ d .before .before .permission-of .ensures
 
 returns-3 : tie.Need-returns-3
-returns-3 c x w =
-    let k = c .before in
-    let e = first (k .before) in
-    let s = e .before in
-    is-running (shown s x) (s .args .offset) (s .args .now) (e .if1 .left) (unsettled (k .before) x)
-    (blocked (k .is-claimable-in-place .result) _ (k .is-claimable-in-place .ensures (made s x .table) (table-whole w)) (c .if3 .taken))
-
-not-running : (d : tie.Else3) (x : Consumer) → Whole (made (start d) x)
-    → running (leaseOf (shown (start d) x .table) (start d .args .offset)) (start d .args .now) ≡ false
-not-running d x w =
-    unblocked (d .before .is-claimable-in-place .result) _
-    (d .before .is-claimable-in-place .ensures (made (start d) x .table) (table-whole w)) (d .if3 .left)
-
-returns-4 : tie.Need-returns-4
-returns-4 c x w =
+returns-3 c =
     let d = c .before in
-    let s = start d in
-    is-exhausted (shown s x) (s .args .offset) (s .args .now) (first (second d) .if1 .left) (unsettled (second d) x) (not-running d x w) (c .if4 .taken)
-
-returns-5 : tie.Need-returns-5
-returns-5 c x w =
-    let g = c .before in
-    let d = g .before in
-    let s = start d in
-    is-at-ceiling (shown s x) (s .args .offset) (s .args .now) (first (second d) .if1 .left) (unsettled (second d) x) (not-running d x w) (g .if4 .left)
-    (omega (arith, c .if5 .taken))
-
-returns-6 : tie.Need-returns-6
-returns-6 c x w =
-    let h = c .before in
-    let g = h .before in
-    let d = g .before in
-    let s = start d in
-    is-at-threshold (shown s x) (s .args .offset) (s .args .now) (first (second d) .if1 .left) (unsettled (second d) x) (not-running d x w) (g .if4 .left)
-    (omega (arith, h .if5 .left)) (c .if6 .taken)
-
-is-full-requires : tie.Need-is-full-requires
-is-full-requires c κs = search needs
-
-returns-7 : tie.Need-returns-7
-returns-7 c x w =
-    let f = c .before in
-    let k = f .before in
-    let h = k .before in
-    let g = h .before in
-    let d = g .before in
-    let s = start d in
-    is-full (shown s x) (s .args .offset) (s .args .now) (first (second d) .if1 .left) (unsettled (second d) x) (not-running d x w) (g .if4 .left)
-    (omega (arith, h .if5 .left)) (k .if6 .left) (sym (f .is-full .ensures (made s x .table) (table-whole w)) ∙ c .if7 .taken)
-
-returns-8 : tie.Need-returns-8
-returns-8 c x w =
-    let f = c .before in
-    let k = f .before in
-    let h = k .before in
-    let g = h .before in
-    let d = g .before in
-    let s = start d in
-    is-open (shown s x) (s .args .offset) (s .args .now) (first (second d) .if1 .left) (unsettled (second d) x) (not-running d x w) (g .if4 .left)
-    (omega (arith, h .if5 .left)) (k .if6 .left) (sym (f .is-full .ensures (made s x .table) (table-whole w)) ∙ c .if7 .left)
+    let s = d .before .before .before in
+    record {
+      known = λ e. is-known (s .args .rights .now) (s .args .worker) 1 (open-to d);
+      is = λ x w.
+          c .offset-test .ensures (permitting (s .args .rights .now) x) w
+          ∙ ap asResult (claim-permitted (view (made s x)) (s .args .worker) (s .args .offset) (s .args .now) (open-to d));
+    }
 
 pub claim-test-spec : {M : Type 1} → statement M
 claim-test-spec =
     tie.close
     (tie.spec
+    permission-of-requires
+    enum-told
+    enum-told-2
+    enum-told-3
+    offset-test-requires
     returns
-    is-acked-in-place-requires
     returns-2
-    is-claimable-in-place-requires
-    returns-3
-    returns-4
-    returns-5
-    returns-6
-    is-full-requires
-    returns-7
-    returns-8)
+    returns-3)

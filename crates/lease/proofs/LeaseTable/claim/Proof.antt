@@ -6,7 +6,7 @@ use Rattle.lease.proofs.LeaseTable.claim.Tie as tie
 
 claim-in-place-requires : tie.Need-claim-in-place-requires
 claim-in-place-requires c κs =
-    let s = c .before .before .before .before .before .before .before .before .before .before .before .before .before .before in
+    let s = c .before .before .before .before .before .before .before .before .before .before .before .before .before .before .before .before in
     whole (s .good .0) (s .pre)
 
 returns : tie.Need-returns

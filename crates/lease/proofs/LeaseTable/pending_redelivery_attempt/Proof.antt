@@ -19,19 +19,19 @@ enum-told c = c .match .keys2
 returns : tie.Need-returns
 returns c =
     let s = c .before .before .before in
-    rw (none-expired (view (s .args .self)) (s .args .offset .0) (s .args .now) (found-none (view (s .args .self)) (s .args .offset .0) (c .before .before .lease-of .ensures) (c .enum-told .given .1)))
+    rw (none-expired (view (s .args .self)) (s .args .offset .0) (s .args .now) (found-none _ (c .before .before .lease-of .ensures) (c .enum-told .given .1)))
 
 returns-2 : tie.Need-returns-2
 returns-2 c =
     let p = c .before .before .before in
     let s = p .before .before .before in
-    rw (still-running (view (s .args .self)) (s .args .offset .0) (s .args .now) _ (found-lease (view (s .args .self)) (s .args .offset .0) (p .before .before .lease-of .ensures) (p .found .given .1)) (c .if1 .taken))
+    rw (still-running (view (s .args .self)) (s .args .offset .0) (s .args .now) _ (found-lease _ (p .before .before .lease-of .ensures) (p .found .given .1)) (c .if1 .taken))
 
 returns-3 : tie.Need-returns-3
 returns-3 c =
     let p = c .before .before .before in
     let s = p .before .before .before in
-    pending (view (s .args .self)) (s .args .offset .0) (s .args .now) _ (found-lease (view (s .args .self)) (s .args .offset .0) (p .before .before .lease-of .ensures) (p .found .given .1)) (c .if1 .left)
+    pending (view (s .args .self)) (s .args .offset .0) (s .args .now) _ (found-lease _ (p .before .before .lease-of .ensures) (p .found .given .1)) (c .if1 .left)
 
 pub pending-redelivery-attempt-spec : {M : Type 1} → statement M
 pending-redelivery-attempt-spec =

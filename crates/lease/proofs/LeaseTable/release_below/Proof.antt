@@ -9,7 +9,7 @@ release-below-in-place-requires c κs = tt
 
 returns : tie.Need-returns
 returns c =
-    let s = c .before .before .before .before .before .before .before .before .before .before .before .before .before .before .before in
+    let s = c .before .before .before .before .before .before .before .before .before .before .before .before .before .before .before .before .before in
     c .release-below-in-place .ensures (s .args .self) (whole (s .good .0) (s .pre))
 
 pub release-below-spec : {M : Type 1} → statement M

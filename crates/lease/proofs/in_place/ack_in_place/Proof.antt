@@ -13,7 +13,7 @@ use Rattle.lease.proofs.in_place.ack_in_place.Tie as tie
 
 -- a table with the parts that the arguments are
 abbrev table : tie.Start → LeaseTable → LeaseTable
-table s = leasing (s .args .len) (s .args .offsets .now) (s .args .generations .now) (s .args .attempt-starts .now) (s .args .deadlines .now) (s .args .deliveries .now)
+table s = leasing (s .args .len) (s .args .offsets .now) (s .args .generations .now) (s .args .attempt-starts .now) (s .args .deadlines .now) (s .args .deliveries .now) (s .args .workers .now)
 
 abbrev start : tie.After-place → tie.Start
 start p = p .before .before .before .before .before
@@ -56,12 +56,16 @@ remove-64-requires-4 c κs = tt
 remove-counts-64-requires : tie.Need-remove-counts-64-requires
 remove-counts-64-requires c κs = tt
 
-sub-t22 : tie.Need-sub-t22
-sub-t22 c = some-left (inside (c .before .before .before .before .before .before .before .before .before .before .before) .0)
+remove-counts-64-requires-2 : tie.Need-remove-counts-64-requires-2
+remove-counts-64-requires-2 c κs = tt
+
+sub-t24 : tie.Need-sub-t24
+sub-t24 c = some-left (inside (c .before .before .before .before .before .before .before .before .before .before .before .before .before) .0)
 
 returns-2 : tie.Need-returns-2
 returns-2 c t w =
-    let r4 = c .before .before in
+    let r5 = c .before .before in
+    let r4 = r5 .before .before in
     let r3 = r4 .before .before in
     let r2 = r3 .before .before in
     let r1 = r2 .before .before in
@@ -71,9 +75,9 @@ returns-2 c t w =
     let up = up-to (inside p .0) in
     let few = w .sound .len in
     acked (table s t) (w .full) (w .sound) (s .args .offset) (s .args .generation) (p .before .before .owned .ensures) (p .place .given .1)
-    (r1 .remove-64 .last .0) (r2 .remove-642 .last .0) (r3 .remove-643 .last .0) (r4 .remove-644 .last .0) (c .remove-counts-64 .last .0)
+    (r1 .remove-64 .last .0) (r2 .remove-642 .last .0) (r3 .remove-643 .last .0) (r4 .remove-644 .last .0) (r5 .remove-counts-64 .last .0) (c .remove-counts-642 .last .0)
     (taken-out-front (s .args .len) at (at + 1) (s .args .offsets .now) (up-one at) up (within (w .full .offsets) few) (r1 .remove-64 .ensures))
-    (leases-out (w .full .leases) (s .args .len) at (at + 1) (up-one at) up few (r2 .remove-642 .ensures) (r3 .remove-643 .ensures) (r4 .remove-644 .ensures) (c .remove-counts-64 .ensures))
+    (leases-out (w .full .leases) (s .args .len) at (at + 1) (up-one at) up few (r2 .remove-642 .ensures) (r3 .remove-643 .ensures) (r4 .remove-644 .ensures) (r5 .remove-counts-64 .ensures) (c .remove-counts-642 .ensures))
 
 pub ack-in-place-spec : {M : Type 1} → statement M
 ack-in-place-spec =
@@ -89,5 +93,6 @@ ack-in-place-spec =
     remove-64-requires-3
     remove-64-requires-4
     remove-counts-64-requires
-    sub-t22
+    remove-counts-64-requires-2
+    sub-t24
     returns-2)

@@ -22,7 +22,7 @@ use Rattle.lease.proofs.in_place.claim_again.Tie as tie
 abbrev table : tie.Start → LeaseTable → LeaseTable
 table s =
     regranting (s .args .config) (s .args .len) (s .args .carried-len) (s .args .generation) (s .args .redeliveries)
-    (s .args .generations .now) (s .args .attempt-starts .now) (s .args .deadlines .now) (s .args .deliveries .now)
+    (s .args .generations .now) (s .args .attempt-starts .now) (s .args .deadlines .now) (s .args .deliveries .now) (s .args .workers .now)
 
 fits : (s : tie.Start) → s .args .offset ≤ MAX
 fits s = omega arith
@@ -45,12 +45,12 @@ element-copy-out-if1 c = c .pre
 returns : tie.Need-returns
 returns c t w p =
     let s = c .before .before in
-    claim-in-flight (table s t) (w .sound) (s .args .offset) (s .args .now) (rw (lease-at (table s t) (w .full) (w .sound) (s .args .offset) p refl) (lt-ltb _ _ (c .if1 .taken)))
+    claim-in-flight (table s t) (w .sound) (s .args .worker) (s .args .offset) (s .args .now) (rw (lease-at (table s t) (w .full) (w .sound) (s .args .offset) p refl) (lt-ltb _ _ (c .if1 .taken)))
 
 returns-2 : tie.Need-returns-2
 returns-2 c t w p =
     let s = c .before .before .before in
-    claim-exhausted (table s t) (w .sound) (s .args .offset) (s .args .now) (rw (lease-at (table s t) (w .full) (w .sound) (s .args .offset) p refl) (le-ltb _ _ (c .before .if1 .left))) (c .if2 .taken)
+    claim-exhausted (table s t) (w .sound) (s .args .worker) (s .args .offset) (s .args .now) (rw (lease-at (table s t) (w .full) (w .sound) (s .args .offset) p refl) (le-ltb _ _ (c .before .if1 .left))) (c .if2 .taken)
 
 mul-saturating-next : tie.Need-mul-saturating-next
 mul-saturating-next c = count-in-memory (c .before .before .before .pre) all
@@ -88,6 +88,12 @@ mul-deliveries c = count-in-memory (c .before .before .before .before .before .b
 element-write-deliveries : tie.Need-element-write-deliveries
 element-write-deliveries c = c .before .before .before .before .before .before .pre
 
+mul-workers : tie.Need-mul-workers
+mul-workers c = count-in-memory (c .before .before .before .before .before .before .pre) all
+
+element-write-workers : tie.Need-element-write-workers
+element-write-workers c = c .before .before .before .before .before .before .pre
+
 granted-requires : tie.Need-granted-requires
 granted-requires c κs = left (c .before .before .before)
 
@@ -103,10 +109,10 @@ returns-3 c t w p =
     let one = column-at (w .full .leases) at in
     let count = n .saturating-next .result in
     let again : count ≡ sat32 (getD (leasesIn u) at nil .deliveries) 1 = rw one (n .saturating-next .ensures) in
-    rw (c .granted .ensures) (claimed u (w .sound) (s .args .offset) (s .args .now) (rw (h .is, one) (le-ltb _ _ (e .before .if1 .left))) (e .if2 .left)
+    rw (c .granted .ensures) (claimed u (w .sound) (s .args .worker) (s .args .offset) (s .args .now) (rw (h .is, one) (le-ltb _ _ (e .before .if1 .left))) (e .if2 .left)
     (rw (h .is)) (fits s) count (count-again u (s .args .offset) at count h again)
-    (granted-again u (w .sound) (s .args .offset) at (s .args .now) count _ (ap (λ (k : ℕ). lease (s .args .generation) (s .args .now) k count) (d .deadline .ensures)) h again _ _ _ _
-    (column-set (u .generations) (u .«attempt_starts») (u .deadlines) (u .deliveries) at (s .args .generation) (s .args .now) (d .deadline .result) count)))
+    (granted-again u (w .sound) (s .args .worker) (s .args .offset) at (s .args .now) count _ (ap (λ (k : ℕ). lease (s .args .generation) (s .args .now) k count (s .args .worker)) (d .deadline .ensures)) h again _ _ _ _ _
+    (column-set (u .generations) (u .«attempt_starts») (u .deadlines) (u .deliveries) (u .workers) at (s .args .generation) (s .args .now) (d .deadline .result) count (s .args .worker))))
 
 pub claim-again-spec : {M : Type 1} → statement M
 claim-again-spec =
@@ -128,5 +134,7 @@ claim-again-spec =
     element-write-deadlines
     mul-deliveries
     element-write-deliveries
+    mul-workers
+    element-write-workers
     granted-requires
     returns-3)

@@ -20,7 +20,7 @@ use Rattle.lease.proofs.in_place.claim_first.Tie as tie
 abbrev table : tie.Start → LeaseTable
 table s =
     gathered (s .args .config) (s .args .len) (s .args .carried-len) (s .args .next) (s .args .redeliveries)
-    (s .args .offsets .now) (s .args .generations .now) (s .args .attempt-starts .now) (s .args .deadlines .now) (s .args .deliveries .now) (s .args .carried-offsets .now) (s .args .carried-counts .now)
+    (s .args .offsets .now) (s .args .generations .now) (s .args .attempt-starts .now) (s .args .deadlines .now) (s .args .deliveries .now) (s .args .workers .now) (s .args .carried-offsets .now) (s .args .carried-counts .now)
 
 fits : (s : tie.Start) → s .args .offset ≤ MAX
 fits s = omega arith
@@ -36,8 +36,8 @@ room o = o .before .before .before .before .before
 left : (e : tie.Else2) → e .before .before .args .next < MAX
 left e = omega (arith, e .before .before .pre .0 .sound .valid .generation-fits, e .before .if1 .left)
 
-abbrev counted : tie.After-insert-count-64 → tie.After-count-of
-counted c = c .before .before .before .before .before .before .before .before .before .before .before .before .before .before .before .before .before
+abbrev counted : tie.After-insert-count-642 → tie.After-count-of
+counted c = c .before .before .before .before .before .before .before .before .before .before .before .before .before .before .before .before .before .before .before
 
 prior : (o : tie.After-count-of) → let s = room o .before .before in Spanned (s .args .carried-len) (s .args .carried-offsets .now) (s .args .carried-counts .now) (s .args .offset) (o .count-of .result)
 prior o = let s = room o .before .before in carried-span (table s) (s .pre .0 .full) (s .pre .0 .sound) (o .count-of .ensures)
@@ -45,13 +45,13 @@ prior o = let s = room o .before .before in carried-span (table s) (s .pre .0 .f
 returns : tie.Need-returns
 returns c =
     let s = c .before in
-    claim-exhausted (table s) (s .pre .0 .sound) (s .args .offset) (s .args .now) (rw (lacked s .is)) (c .if1 .taken)
+    claim-exhausted (table s) (s .pre .0 .sound) (s .args .worker) (s .args .offset) (s .args .now) (rw (lacked s .is)) (c .if1 .taken)
 
 returns-2 : tie.Need-returns-2
 returns-2 c =
     let s = c .before .before in
     let ok = s .pre .0 .sound in
-    claim-full (table s) ok (s .args .offset) (s .args .now) (rw (lacked s .is)) (c .before .if1 .left) (lacked s .is) (rw (in-flight (table s) (s .pre .0 .full) ok) (c .if2 .taken))
+    claim-full (table s) ok (s .args .worker) (s .args .offset) (s .args .now) (rw (lacked s .is)) (c .before .if1 .left) (lacked s .is) (rw (in-flight (table s) (s .pre .0 .full) ok) (c .if2 .taken))
 
 count-of-requires : tie.Need-count-of-requires
 count-of-requires c κs = tt
@@ -89,6 +89,9 @@ insert-64-requires-4 c κs = tt
 insert-count-64-requires : tie.Need-insert-count-64-requires
 insert-count-64-requires c κs = tt
 
+insert-count-64-requires-2 : tie.Need-insert-count-64-requires-2
+insert-count-64-requires-2 c κs = tt
+
 add-granted : tie.Need-add-granted
 add-granted c = one-more (room (counted c) .if2 .left)
 
@@ -97,7 +100,8 @@ granted-requires c κs = left (room (counted c))
 
 returns-3 : tie.Need-returns-3
 returns-3 c =
-    let i5 = c .before in
+    let i6 = c .before in
+    let i5 = i6 .before .before in
     let i4 = i5 .before .before in
     let i3 = i4 .before .before in
     let i2 = i3 .before .before in
@@ -118,14 +122,14 @@ returns-3 c =
     let count = n .saturating-next .result in
     let deadline = d .deadline .result in
     let few : t .len < LEASES = e .if2 .left in
-    rw (c .granted .ensures) (claimed t ok (s .args .offset) (s .args .now) (rw (h .is)) (e .before .if1 .left)
+    rw (c .granted .ensures) (claimed t ok (s .args .worker) (s .args .offset) (s .args .now) (rw (h .is)) (e .before .if1 .left)
     (room-first t (s .args .offset) at h (in-flight t f ok) few) (fits s) count
     (count-first t (s .args .offset) at count h (o .count-of .result) q (n .saturating-next .ensures))
-    (granted-first t ok (s .args .offset) at (s .args .now) count _ (ap (λ (k : ℕ). lease (s .args .next) (s .args .now) k count) (d .deadline .ensures))
+    (granted-first t ok (s .args .worker) (s .args .offset) at (s .args .now) count _ (ap (λ (k : ℕ). lease (s .args .next) (s .args .now) k count (s .args .worker)) (d .deadline .ensures))
     h few (o .count-of .result) q (n .saturating-next .ensures)
-    (i1 .insert-64 .last .0) (i2 .insert-642 .last .0) (i3 .insert-643 .last .0) (i4 .insert-644 .last .0) (i5 .insert-count-64 .last .0) (r1 .remove-128 .last .0) (r2 .remove-counts-128 .last .0)
+    (i1 .insert-64 .last .0) (i2 .insert-642 .last .0) (i3 .insert-643 .last .0) (i4 .insert-644 .last .0) (i5 .insert-count-64 .last .0) (i6 .insert-count-642 .last .0) (r1 .remove-128 .last .0) (r2 .remove-counts-128 .last .0)
     (put-in-front (t .len) at (s .args .offset) (t .offsets) (h .inside) (rw (f .offsets) few) (i1 .insert-64 .ensures))
-    (leases-put (f .leases) (t .len) at (s .args .next) (s .args .now) deadline count (h .inside) few (i2 .insert-642 .ensures) (i3 .insert-643 .ensures) (i4 .insert-644 .ensures) (i5 .insert-count-64 .ensures))
+    (leases-put (f .leases) (t .len) at (s .args .next) (s .args .now) deadline count (s .args .worker) (h .inside) few (i2 .insert-642 .ensures) (i3 .insert-643 .ensures) (i4 .insert-644 .ensures) (i5 .insert-count-64 .ensures) (i6 .insert-count-642 .ensures))
     (taken-out-front (t .«carried_len») (o .count-of .result .from) (o .count-of .result .to) (t .«carried_offsets») (q .order) (q .inside) (within (f .carried-offsets) (ok .carried-len)) (r1 .remove-128 .ensures))
     (taken-out-front (t .«carried_len») (o .count-of .result .from) (o .count-of .result .to) (t .«carried_counts») (q .order) (q .inside) (within (f .carried-counts) (ok .carried-len)) (r2 .remove-counts-128 .ensures))))
 
@@ -147,6 +151,7 @@ claim-first-spec =
     insert-64-requires-3
     insert-64-requires-4
     insert-count-64-requires
+    insert-count-64-requires-2
     add-granted
     granted-requires
     returns-3)

@@ -14,7 +14,7 @@ use Rattle.lease.proofs.in_place.claim_in_place.Tie as tie
 abbrev table : tie.Start → LeaseTable
 table s =
     gathered (s .args .config) (s .args .len) (s .args .carried-len) (s .args .next) (s .args .redeliveries)
-    (s .args .offsets .now) (s .args .generations .now) (s .args .attempt-starts .now) (s .args .deadlines .now) (s .args .deliveries .now) (s .args .carried-offsets .now) (s .args .carried-counts .now)
+    (s .args .offsets .now) (s .args .generations .now) (s .args .attempt-starts .now) (s .args .deadlines .now) (s .args .deliveries .now) (s .args .workers .now) (s .args .carried-offsets .now) (s .args .carried-counts .now)
 
 find-requires : tie.Need-find-requires
 find-requires c κs = tt
@@ -24,13 +24,13 @@ enum-known-place c = c .match .keys1
 
 claim-again-requires : tie.Need-claim-again-requires
 claim-again-requires c κs =
-    let p = c .before .before .before .before .before in
+    let p = c .before .before .before .before .before .before in
     let s = p .before .before .before .before .before in
     omega (arith, found-used (s .args .offset) (s .args .len) (s .args .offsets .now) (p .before .before .find .ensures) (p .place .given .1), s .pre .sound .len)
 
 returns : tie.Need-returns
 returns c =
-    let p = c .before .before .before .before .before .before in
+    let p = c .before .before .before .before .before .before .before in
     let s = p .before .before .before .before .before in
     c .claim-again .ensures (table s) (s .pre) (subst (Placed (s .args .offset) (take (s .args .len) (s .args .offsets .now))) (p .place .given .1) (p .before .before .find .ensures))
 
@@ -39,7 +39,7 @@ enum-known-place-2 c = c .match .keys2
 
 claim-first-requires : tie.Need-claim-first-requires
 claim-first-requires c κs =
-    let p = c .before .before .before .before .before .before .before .before in
+    let p = c .before .before .before .before .before .before .before .before .before in
     let s = p .before .before .before .before .before in
     (s .pre, subst (Placed (s .args .offset) (take (s .args .len) (s .args .offsets .now))) (p .place2 .given .1) (p .before .before .find .ensures))
 

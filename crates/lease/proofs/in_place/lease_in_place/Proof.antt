@@ -13,7 +13,7 @@ use Rattle.lease.proofs.in_place.lease_in_place.Tie as tie
 
 -- a table with the parts that the arguments are
 abbrev table : tie.Start → LeaseTable → LeaseTable
-table s = leasing (s .args .len) (s .args .offsets .now) (s .args .generations .now) (s .args .attempt-starts .now) (s .args .deadlines .now) (s .args .deliveries .now)
+table s = leasing (s .args .len) (s .args .offsets .now) (s .args .generations .now) (s .args .attempt-starts .now) (s .args .deadlines .now) (s .args .deliveries .now) (s .args .workers .now)
 
 abbrev start : tie.After-place → tie.Start
 start p = p .before .before .before .before

@@ -13,7 +13,7 @@ use Rattle.lease.proofs.in_place.release_below_in_place.Tie as tie
 
 -- a table with the parts that the arguments are
 abbrev table : tie.Start → LeaseTable → LeaseTable
-table s = releasing (s .args .len) (s .args .carried-len) (s .args .offsets .now) (s .args .generations .now) (s .args .attempt-starts .now) (s .args .deadlines .now) (s .args .deliveries .now) (s .args .carried-offsets .now) (s .args .carried-counts .now)
+table s = releasing (s .args .len) (s .args .carried-len) (s .args .offsets .now) (s .args .generations .now) (s .args .attempt-starts .now) (s .args .deadlines .now) (s .args .deliveries .now) (s .args .workers .now) (s .args .carried-offsets .now) (s .args .carried-counts .now)
 
 -- the two places that were found lie within what is in use
 abbrev start : tie.After-position → tie.Start
@@ -55,15 +55,19 @@ remove-64-requires-4 c κs = tt
 remove-counts-64-requires : tie.Need-remove-counts-64-requires
 remove-counts-64-requires c κs = tt
 
-sub-t25 : tie.Need-sub-t25
-sub-t25 c = used (c .before .before .before .before .before .before .before .before .before .before)
+remove-counts-64-requires-2 : tie.Need-remove-counts-64-requires-2
+remove-counts-64-requires-2 c κs = tt
 
-sub-t26 : tie.Need-sub-t26
-sub-t26 c = carried-used (c .before .before .before .before .before .before .before .before .before .before .before .before .before .before .before .before .before)
+sub-t27 : tie.Need-sub-t27
+sub-t27 c = used (c .before .before .before .before .before .before .before .before .before .before .before .before)
+
+sub-t28 : tie.Need-sub-t28
+sub-t28 c = carried-used (c .before .before .before .before .before .before .before .before .before .before .before .before .before .before .before .before .before .before .before)
 
 returns : tie.Need-returns
 returns c t w =
-    let r4 = c .before .before in
+    let r5 = c .before .before in
+    let r4 = r5 .before .before in
     let r3 = r4 .before .before in
     let r2 = r3 .before .before in
     let r1 = r2 .before .before in
@@ -75,10 +79,10 @@ returns c t w =
     let few = w .sound .len in
     let carried-few = w .sound .carried-len in
     releases (table s t) (w .full) (w .sound) (s .args .up-to) n (q .position .result)
-    (r1 .remove-64 .last .0) (r2 .remove-642 .last .0) (r3 .remove-643 .last .0) (r4 .remove-644 .last .0) (c .remove-counts-64 .last .0) (m .before .before .remove-128 .last .0) (m .remove-counts-128 .last .0)
+    (r1 .remove-64 .last .0) (r2 .remove-642 .last .0) (r3 .remove-643 .last .0) (r4 .remove-644 .last .0) (r5 .remove-counts-64 .last .0) (c .remove-counts-642 .last .0) (m .before .before .remove-128 .last .0) (m .remove-counts-128 .last .0)
     (p .position2 .ensures) (q .position .ensures)
     (taken-out-front (s .args .len) 0 n (s .args .offsets .now) (from-first n) (used p) (within (w .full .offsets) few) (r1 .remove-64 .ensures))
-    (leases-out (w .full .leases) (s .args .len) 0 n (from-first n) (used p) few (r2 .remove-642 .ensures) (r3 .remove-643 .ensures) (r4 .remove-644 .ensures) (c .remove-counts-64 .ensures))
+    (leases-out (w .full .leases) (s .args .len) 0 n (from-first n) (used p) few (r2 .remove-642 .ensures) (r3 .remove-643 .ensures) (r4 .remove-644 .ensures) (r5 .remove-counts-64 .ensures) (c .remove-counts-642 .ensures))
     (taken-out-front (s .args .carried-len) 0 (q .position .result) (s .args .carried-offsets .now) (from-first _) (carried-used q) (within (w .full .carried-offsets) carried-few) (m .before .before .remove-128 .ensures))
     (taken-out-front (s .args .carried-len) 0 (q .position .result) (s .args .carried-counts .now) (from-first _) (carried-used q) (within (w .full .carried-counts) carried-few) (m .remove-counts-128 .ensures))
 
@@ -95,6 +99,7 @@ release-below-in-place-spec =
     remove-64-requires-3
     remove-64-requires-4
     remove-counts-64-requires
-    sub-t25
-    sub-t26
+    remove-counts-64-requires-2
+    sub-t27
+    sub-t28
     returns)

@@ -4,9 +4,9 @@ use native.Mathlib.Omega.{arith}
 use mathlib.Core.Bool.{true}
 use lib.ListN.{length}
 use borrow.Author.Needs.{needs}
-use Rattle.machine.specs.Calls.{fits}
+use Rattle.machine.specs.Calls.{u64, fits}
 use Rattle.machine.specs.Answers.{askOf}
-use Rattle.machine.proofs.Fits.{ask-fits}
+use Rattle.machine.proofs.Fits.{number-fits, ask-fits}
 use Rattle.machine.proofs.Transitions.{not-asked, sound-idle, asked-called}
 use Rattle.machine.proofs.Machine.on_state.Statement.{statement}
 use Rattle.machine.proofs.Machine.on_state.Tie as tie
@@ -18,13 +18,16 @@ here : (c : tie.Else1) → c .before .before .before .args .self .phase ≡ 0
 here c = omega arith
 
 -- what the types of the call say
+worker-fits : (c : tie.Start) → u64 (c .args .worker) ≡ true
+worker-fits c = number-fits (c .args .worker) (c .good .1 .0 .1)
+
 fit : (c : tie.Start) → fits (askOf (length (c .args .out .now)) (c .args .request)) ≡ true
-fit c = ask-fits (length (c .args .out .now)) (c .args .request) _ (c .good .1 .0)
+fit c = ask-fits (length (c .args .out .now)) (c .args .request) _ (c .good .1 .1 .0)
 
 returns : tie.Need-returns
 returns c =
     let s = c .before .before .before in
-    λ a. not-asked (s .args .self) (s .pre) a (s .args .out .now) _ (fit s) (elsewhere c)
+    λ a. not-asked (s .args .self) (s .pre) a (s .args .out .now) _ _ (worker-fits s) (fit s) (elsewhere c)
 
 ask-requires : tie.Need-ask-requires
 ask-requires c κs =
@@ -41,7 +44,7 @@ returns-2 c =
     let e = k .before .before in
     let s = e .before .before .before in
     λ a.
-    asked-called (s .args .self) (here e) a (s .args .out .now) _ (fit s) (k .ask .result) (k .ask .last .1 .1 .0) (k .ask .ensures)
+    asked-called (s .args .self) (here e) a (s .args .out .now) _ _ (worker-fits s) (fit s) (k .ask .result) (k .ask .last .1 .1 .1 .0) (k .ask .ensures)
 
 pub on-state-spec : {M : Type 1} → statement M
 on-state-spec = tie.close (tie.spec returns ask-requires same-length returns-2)

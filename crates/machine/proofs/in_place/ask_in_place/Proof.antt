@@ -44,42 +44,42 @@ ask-commit-requires c κs = search needs
 enum-known-ask-7 : tie.Need-enum-known-ask-7
 enum-known-ask-7 c = search needs
 
-reply-requires : tie.Need-reply-requires
-reply-requires c κs = search needs
+look-requires : tie.Need-look-requires
+look-requires c κs = search needs
 
 returns : tie.Need-returns
 returns c x w =
-    let g = c .before .before .before .before .before .before .before .before .before .before .before in
+    let g = c .before .before .before .before .before .before .before .before .before .before .before .before in
     let s = g .before .before .before in
     asked-as (length (s .args .out .now)) (g .ask .given .1) (c .ask-claim .ensures (lent w) (s .args .out .now) w)
 
 returns-2 : tie.Need-returns-2
 returns-2 c x w =
-    let g = c .before .before .before .before .before .before .before .before .before in
+    let g = c .before .before .before .before .before .before .before .before .before .before in
     let s = g .before .before .before in
     asked-as (length (s .args .out .now)) (g .ask2 .given .1) (c .ask-ack .ensures (lent w) (s .args .out .now) w)
 
 returns-3 : tie.Need-returns-3
 returns-3 c x w =
-    let g = c .before .before .before .before .before .before .before .before .before in
+    let g = c .before .before .before .before .before .before .before .before .before .before in
     let s = g .before .before .before in
     asked-as (length (s .args .out .now)) (g .ask3 .given .1) (c .ask-term .ensures (lent w) (s .args .out .now) w)
 
 returns-4 : tie.Need-returns-4
 returns-4 c x w =
-    let g = c .before .before .before .before .before .before in
+    let g = c .before .before .before .before .before .before .before in
     let s = g .before .before .before in
     asked-as (length (s .args .out .now)) (g .ask4 .given .1) (c .ask-nack .ensures (lent w) (s .args .out .now) w)
 
 returns-5 : tie.Need-returns-5
 returns-5 c x w =
-    let g = c .before .before .before .before .before .before in
+    let g = c .before .before .before .before .before .before .before .before in
     let s = g .before .before .before in
     asked-as (length (s .args .out .now)) (g .ask5 .given .1) (c .ask-progress .ensures (lent w) (s .args .out .now) w)
 
 returns-6 : tie.Need-returns-6
 returns-6 c x w =
-    let g = c .before .before .before .before .before .before .before .before .before .before .before in
+    let g = c .before .before .before .before .before .before .before .before .before .before .before .before in
     let s = g .before .before .before in
     asked-as (length (s .args .out .now)) (g .ask6 .given .1) (c .ask-commit .ensures (lent w) (s .args .out .now) w)
 
@@ -89,9 +89,9 @@ same-length c = search needs
 returns-7 : tie.Need-returns-7
 returns-7 c x w =
     let k = c .before .before in
-    let g = k .before .before .before .before .before .before .before .before .before .before .before .before in
+    let g = k .before .before .before .before .before .before .before .before .before .before .before .before .before in
     let s = g .before .before .before in
-    asked-as (length (s .args .out .now)) (g .ask7 .given .1) (looked-asked (w .sound) (k .reply .ensures (lent w) w))
+    asked-as (length (s .args .out .now)) (g .ask7 .given .1) (looked-asked (w .sound) (k .look .ensures (lent w) w))
 
 pub ask-in-place-spec : {M : Type 1} → statement M
 ask-in-place-spec =
@@ -110,7 +110,7 @@ ask-in-place-spec =
     enum-known-ask-6
     ask-commit-requires
     enum-known-ask-7
-    reply-requires
+    look-requires
     returns
     returns-2
     returns-3

@@ -1,11 +1,12 @@
 -- `reply` meets its contract: each question is answered from the parts that it looks at. Assumes nothing.
 use Prim.Native.Nat.{ℕ}
-use mathlib.Core.Path.{refl, sym, ap}
+use mathlib.Core.Path.{refl, sym, ap, _∙_}
 use mathlib.Core.Bool.{Bool}
 use mathlib.Core.List.{[], _∷_}
 use lib.ListN.{length}
 use borrow.Author.Needs.{needs}
 use Rattle.types.specs.Refusal.{done}
+use Rattle.lease.specs.Lookup.{leaseValues}
 use Rattle.lease.proofs.Slots.{in-flight}
 use Rattle.consumer.specs.Questions.{bit}
 use Rattle.consumer.specs.declared.queries.Due.{Due}
@@ -36,6 +37,9 @@ enum-known-question-3 c = search needs
 lease-in-place-requires : tie.Need-lease-in-place-requires
 lease-in-place-requires c κs = search needs
 
+told-of-requires : tie.Need-told-of-requires
+told-of-requires c κs = search needs
+
 enum-known-question-4 : tie.Need-enum-known-question-4
 enum-known-question-4 c = search needs
 
@@ -54,8 +58,8 @@ due-requires c κs = search needs
 enum-told-4 : tie.Need-enum-told-4
 enum-told-4 c = search needs
 
-sub-t28 : tie.Need-sub-t28
-sub-t28 c = search needs
+sub-t30 : tie.Need-sub-t30
+sub-t30 c = search needs
 
 same-length : tie.Need-same-length
 same-length c = search needs
@@ -82,9 +86,11 @@ returns-3 c x w =
 
 returns-4 : tie.Need-returns-4
 returns-4 c x w =
-    let g = c .before .before in
+    let k = c .before in
+    let g = k .before .before in
     let s = g .before .before .before in
-    replied (lent w) (s .args .out .now) _ (ap (questionOf (length (s .args .out .now))) (g .question3 .given .1)) refl (c .lease-in-place .ensures (lent w .table) (table-whole w)) refl
+    replied (lent w) (s .args .out .now) _ (ap (questionOf (length (s .args .out .now))) (g .question3 .given .1)) refl
+    (ap done (c .told-of .ensures ∙ ap leaseValues (k .lease-in-place .ensures (lent w .table) (table-whole w)))) refl
 
 returns-5 : tie.Need-returns-5
 returns-5 c x w =
@@ -121,13 +127,14 @@ reply-spec =
     is-acked-in-place-requires
     enum-known-question-3
     lease-in-place-requires
+    told-of-requires
     enum-known-question-4
     count-in-place-requires
     enum-told-2
     enum-told-3
     due-requires
     enum-told-4
-    sub-t28
+    sub-t30
     same-length
     returns
     returns-2

@@ -1,4 +1,4 @@
--- `ninotskev_ask` meets its contract: a walk of its code, by hand. Fourteen fields of the machine are copied, ten columns are lent to
+-- `ninotskev_ask` meets its contract: a walk of its code, by hand. Fourteen fields of the machine are copied, twelve columns are lent to
 -- `ask_in_place` in their places, and the slice is handed on for good; of the call only its contract is known. Six numbers that it
 -- returned are stored into their places. Assumes nothing.
 use mathlib.Core.Path.{_≡_, refl}
@@ -67,7 +67,7 @@ use Rattle.server.proofs.calls.ninotskev_ask.Statement as stated
 use Rattle.server.proofs.calls.ninotskev_ask.Code as code
 
 abbrev stayed : Stays (f.ended .signature .params) (f.ended .kept)
-stayed = (stay-ref (0 ∷ []) tt (plain (λ _. TMachine.the-row)), (stay-ref (1 ∷ []) tt (plain (λ _. TNumbers.the-row)), (stay-dropped (plain (λ _. u64)) yes, (stay-dropped (plain (λ _. u64)) yes, (stay-dropped (plain (λ _. u64)) yes, (stay-dropped (plain (λ _. u64)) yes, (stay-dropped (plain (λ _. u64)) yes, (gave-slice (2 ∷ []) tt (plain (λ _. u64)), tt))))))))
+stayed = (stay-ref (0 ∷ []) tt (plain (λ _. TMachine.the-row)), (stay-ref (1 ∷ []) tt (plain (λ _. TNumbers.the-row)), (stay-dropped (plain (λ _. u64)) yes, (stay-dropped (plain (λ _. u64)) yes, (stay-dropped (plain (λ _. u64)) yes, (stay-dropped (plain (λ _. u64)) yes, (stay-dropped (plain (λ _. u64)) yes, (stay-dropped (plain (λ _. u64)) yes, (gave-slice (2 ∷ []) tt (plain (λ _. u64)), tt)))))))))
 
 abbrev C-ask : {M : Type 1} (𝓤 : URA M) (H : Heap 𝓤) (A : Atoms 𝓤) (mem : Memory → SProp 𝓤) (run : Routine → Fun 𝓤) → Contract 𝓤
 C-ask 𝓤 H A mem run = tripleOf 𝓤 H A ask.signature (ask.spec 𝓤 H A mem run)
@@ -76,7 +76,7 @@ C-ask 𝓤 H A mem run = tripleOf 𝓤 H A ask.signature (ask.spec 𝓤 H A mem 
 abbrev lent : List Lending
 lent =
     mutably at.starts ∷ mutably at.ends ∷ mutably at.offsets ∷ mutably at.generations ∷ mutably at.attempt-starts ∷ mutably at.deadlines ∷ mutably at.deliveries ∷
-    mutably at.carried-offsets ∷ mutably at.carried-counts ∷ shared at.backoff-nanos ∷ []
+    mutably at.workers ∷ mutably at.carried-offsets ∷ mutably at.carried-counts ∷ shared at.backoff-nanos ∷ mutably at.rights ∷ []
 
 -- the table's configuration is copied between the numbers
 abbrev cursor-numbers : List OfMachine
@@ -89,10 +89,10 @@ other-numbers =
 abbrev taken : List (Fetch TMachine′.mir)
 taken = fetching (at.phase ∷ cursor-numbers ++ at.config ∷ other-numbers) lent
 
--- the call's arguments, by their locals: what is taken stands from 10 on, the function's own numbers from 3 on
+-- the call's arguments, by their locals: what is taken stands from 11 on, the function's own numbers from 3 on
 abbrev operands : List ℕ
 operands =
-    10 ∷ 3 ∷ 4 ∷ 5 ∷ 6 ∷ 7 ∷ 11 ∷ 12 ∷ 13 ∷ 14 ∷ 15 ∷ 16 ∷ 17 ∷ 18 ∷ 19 ∷ 20 ∷ 21 ∷ 22 ∷ 23 ∷ 24 ∷ 25 ∷ 26 ∷ 27 ∷ 28 ∷ 29 ∷ 30 ∷ 31 ∷ 32 ∷ 33 ∷ 35 ∷ []
+    11 ∷ 3 ∷ 4 ∷ 5 ∷ 6 ∷ 7 ∷ 8 ∷ 12 ∷ 13 ∷ 14 ∷ 15 ∷ 16 ∷ 17 ∷ 18 ∷ 19 ∷ 20 ∷ 21 ∷ 22 ∷ 23 ∷ 24 ∷ 25 ∷ 26 ∷ 27 ∷ 28 ∷ 29 ∷ 30 ∷ 31 ∷ 32 ∷ 33 ∷ 34 ∷ 35 ∷ 36 ∷ 38 ∷ []
 
 abbrev in-figures : Path TFigures′.mir → Path TDone′.mir
 in-figures p = into {τ = TFigures′.mir} {d = 48} 1 refl p
@@ -106,8 +106,8 @@ abbrev answer : List (Path TDone′.mir × Path TNumbers′.mir)
 answer = (into {τ = TNumbers′.mir} {d = 0} 0 refl here, here) ∷ []
 
 module _ {M : Type 1} (𝓤 : URA M) (H : Heap 𝓤) (A : Atoms 𝓤) (W : Given 𝓤 H A) (at-mem : Memory → SProp 𝓤) (run : Routine → Fun 𝓤) (κs : Lfts 3) (qs : Shares 3) (x : Args f.signature κs)
-    (f3 : Fits w64 (x .1 .1 .0)) (f4 : Fits w64 (x .1 .1 .1 .0)) (f5 : Fits w64 (x .1 .1 .1 .1 .0)) (f6 : Fits w64 (x .1 .1 .1 .1 .1 .0)) (f7 : Fits w64 (x .1 .1 .1 .1 .1 .1 .0))
-    (room : Room u64 (length (x .1 .1 .1 .1 .1 .1 .1 .0 .now))) (req : Sound (x .0 .now)) where
+    (f3 : Fits w64 (x .1 .1 .0)) (f4 : Fits w64 (x .1 .1 .1 .0)) (f5 : Fits w64 (x .1 .1 .1 .1 .0)) (f6 : Fits w64 (x .1 .1 .1 .1 .1 .0)) (f7 : Fits w64 (x .1 .1 .1 .1 .1 .1 .0)) (f8 : Fits w64 (x .1 .1 .1 .1 .1 .1 .1 .0))
+    (room : Room u64 (length (x .1 .1 .1 .1 .1 .1 .1 .1 .0 .now))) (req : Sound (x .0 .now)) where
   -- the parameters, by their names
   abbrev both : Both
   both = record { κ0 = κs .0; κ1 = κs .1 .0; q0 = qs .0; q1 = qs .1 .0; machine = x .0; numbers = x .1 .0 }
@@ -139,17 +139,20 @@ module _ {M : Type 1} (𝓤 : URA M) (H : Heap 𝓤) (A : Atoms 𝓤) (W : Given
   abbrev n7 : ℕ
   n7 = x .1 .1 .1 .1 .1 .1 .0
 
+  abbrev n8 : ℕ
+  n8 = x .1 .1 .1 .1 .1 .1 .1 .0
+
   abbrev out : RefT (List ℕ)
-  out = x .1 .1 .1 .1 .1 .1 .1 .0
+  out = x .1 .1 .1 .1 .1 .1 .1 .1 .0
 
   abbrev s-out : Val
   s-out = sliceVal (out .ptr) (length (out .now))
 
   abbrev vals : Vals f.signature κs
-  vals = (ptr-vals (x .0), (ptr-vals (x .1 .0), (uint-vals w64 n3, (uint-vals w64 n4, (uint-vals w64 n5, (uint-vals w64 n6, (uint-vals w64 n7, (slice-vals out, tt))))))))
+  vals = (ptr-vals (x .0), (ptr-vals (x .1 .0), (uint-vals w64 n3, (uint-vals w64 n4, (uint-vals w64 n5, (uint-vals w64 n6, (uint-vals w64 n7, (uint-vals w64 n8, (slice-vals out, tt)))))))))
 
   abbrev args : List Val
-  args = vptr b o ∷ vptr (x .1 .0 .ptr .0) (x .1 .0 .ptr .1) ∷ vint w64 n3 ∷ vint w64 n4 ∷ vint w64 n5 ∷ vint w64 n6 ∷ vint w64 n7 ∷ s-out ∷ []
+  args = vptr b o ∷ vptr (x .1 .0 .ptr .0) (x .1 .0 .ptr .1) ∷ vint w64 n3 ∷ vint w64 n4 ∷ vint w64 n5 ∷ vint w64 n6 ∷ vint w64 n7 ∷ vint w64 n8 ∷ s-out ∷ []
 
   abbrev Post : Val → SProp 𝓤
   Post = walkOf 𝓤 H A f.ended stayed (f.clauses 𝓤 H A at-mem run) .post ((κs, qs, tt, x, vals), tt)
@@ -162,20 +165,20 @@ module _ {M : Type 1} (𝓤 : URA M) (H : Heap 𝓤) (A : Atoms 𝓤) (W : Given
   at-entry = entering (code.function .locals) args
 
   abbrev with-taken : List Slot
-  with-taken = fetched b o low at-entry 10 taken
+  with-taken = fetched b o low at-entry 11 taken
 
   abbrev at-call : List Slot
-  at-call = with-value (with-value with-taken 34 (vptr (out .ptr .0) (out .ptr .1))) 35 s-out
+  at-call = with-value (with-value with-taken 37 (vptr (out .ptr .0) (out .ptr .1))) 38 s-out
 
   abbrev with-done : AskDone → List Slot
-  with-done r = with-value at-call 9 (TDone′.lowered r)
+  with-done r = with-value at-call 10 (TDone′.lowered r)
 
   -- ## the call: what it is handed
   abbrev cs : List Column
   cs = columns o m lent
 
   abbrev handed : (ns : Names cs) → Args ask.signature (lifetimes _ cs ns (κs .1 .1))
-  handed ns = (m .phase, (n3, (n4, (n5, (n6, (n7, numbersAt low cursor-numbers _ (c .table .config, numbersAt low other-numbers _ (refs b _ cs ns (out, tt)))))))))
+  handed ns = (m .phase, (n3, (n4, (n5, (n6, (n7, (n8, numbersAt low cursor-numbers _ (c .table .config, numbersAt low other-numbers _ (refs b _ cs ns (out, tt))))))))))
 
   -- the slice, with its lifetime's token
   abbrev token : SProp 𝓤
@@ -187,7 +190,7 @@ module _ {M : Type 1} (𝓤 : URA M) (H : Heap 𝓤) (A : Atoms 𝓤) (W : Given
   abbrev plains : Typed TMachine′.mir low → List (Free 𝓤 H A)
   plains typed =
       let wt = typed .1 in
-      figures 𝓤 H A W low wt (at.phase ∷ []) tt (number 𝓤 H A W f3 ∷ number 𝓤 H A W f4 ∷ number 𝓤 H A W f5 ∷ number 𝓤 H A W f6 ∷ number 𝓤 H A W f7 ∷
+      figures 𝓤 H A W low wt (at.phase ∷ []) tt (number 𝓤 H A W f3 ∷ number 𝓤 H A W f4 ∷ number 𝓤 H A W f5 ∷ number 𝓤 H A W f6 ∷ number 𝓤 H A W f7 ∷ number 𝓤 H A W f8 ∷
       figures 𝓤 H A W low wt cursor-numbers tt (
       struct 𝓤 H A TLease.the-row (LL.makes TLease.the-type TLease′.the-plain 𝓤 H A) (c .table .config) _ (lease-told (c .table .config) (tt, wt-in at.config low tt wt)) ∷
       figures 𝓤 H A W low wt other-numbers tt []))
@@ -197,22 +200,22 @@ module _ {M : Type 1} (𝓤 : URA M) (H : Heap 𝓤) (A : Atoms 𝓤) (W : Given
   Last = Endings cs (List ℕ × Unit {0})
 
   abbrev out-of : Last → List ℕ
-  out-of ws = ws .1 .1 .1 .1 .1 .1 .1 .1 .1 .1 .0
+  out-of ws = ws .1 .1 .1 .1 .1 .1 .1 .1 .1 .1 .1 .1 .0
 
   -- a consumer with these numbers and columns in their places
   abbrev before : Consumer → Consumer
   before =
       consumerOf (fixedOf c) (figuresAs (c .cursor .committed) (c .cursor .runs) (c .table .len) (c .table .«carried_len») (c .table .«next_generation» .0) (c .table .«redeliveries_since_flush»))
       (c .cursor .starts) (c .cursor .ends) (c .table .offsets) (c .table .generations) (c .table .«attempt_starts») (c .table .deadlines) (c .table .deliveries)
-      (c .table .«carried_offsets») (c .table .«carried_counts») (c .settings .delivery .«backoff_nanos»)
+      (c .table .workers) (c .table .«carried_offsets») (c .table .«carried_counts») (c .settings .delivery .«backoff_nanos») (c .settings .rights)
 
   abbrev after : AskDone → Last → Consumer → Consumer
   after r ws =
       consumerOf (fixedOf c) (r .figures) (ws .0) (ws .1 .0) (ws .1 .1 .0) (ws .1 .1 .1 .0) (ws .1 .1 .1 .1 .0) (ws .1 .1 .1 .1 .1 .0) (ws .1 .1 .1 .1 .1 .1 .0)
-      (ws .1 .1 .1 .1 .1 .1 .1 .0) (ws .1 .1 .1 .1 .1 .1 .1 .1 .0) (c .settings .delivery .«backoff_nanos»)
+      (ws .1 .1 .1 .1 .1 .1 .1 .0) (ws .1 .1 .1 .1 .1 .1 .1 .1 .0) (ws .1 .1 .1 .1 .1 .1 .1 .1 .1 .0) (c .settings .delivery .«backoff_nanos») (ws .1 .1 .1 .1 .1 .1 .1 .1 .1 .1 .1 .0)
 
   abbrev Said : AskDone → Last → Type 0
-  Said r ws = AskedIn (m .phase) before n3 n4 n5 n6 n7 (out .now) (r .numbers) (after r ws) (out-of ws)
+  Said r ws = AskedIn (m .phase) before n3 n4 n5 n6 n7 n8 (out .now) (r .numbers) (after r ws) (out-of ws)
 
   abbrev out-last : Last → Fml
   out-last ws = fsep (fsep (finally u64 (out .name) (out-of ws)) (feq ℕ (length (out-of ws)) (length (out .now)))) ftrue
@@ -247,8 +250,8 @@ module _ {M : Type 1} (𝓤 : URA M) (H : Heap 𝓤) (A : Atoms 𝓤) (W : Given
       qed W (Left r ws) ∵ move ! (6 ∷ []) $
       use1 W (given (length (out-of ws) ≡ length (out .now)) (raw (sep 𝓤 token (sem 𝓤 H A (fsep last ftrue))))) (last-list W token last (length (out-of ws)) (length (out .now))) $ learn ! (λ len-out.
       move ! (1 ∷ 2 ∷ 3 ∷ 4 ∷ 5 ∷ 6 ∷ []) $ suffices ! _
-      (ends-at 𝓤 H A f.ended stayed (f.clauses 𝓤 H A at-mem run) W ((κs, qs, tt, x, vals), tt) vunit tt (machine r ws, (r .numbers, (tt, (tt, (tt, (tt, (tt, (out-of ws, tt)))))))) (tt, (tt, (tt, (tt, (tt, (tt, (tt, (len-out, tt))))))))) $
-      says ! (asked-on (m .configuration) (m .writing) n3 n4 n5 n6 n7 (out .now) (r .numbers) (after r ws c) (out-of ws) (m .phase) req (said c (askable-told m req typed))) $ by ! (left-over W both 5 (fsep last ftrue) token (machine r ws) (r .numbers)))
+      (ends-at 𝓤 H A f.ended stayed (f.clauses 𝓤 H A at-mem run) W ((κs, qs, tt, x, vals), tt) vunit tt (machine r ws, (r .numbers, (tt, (tt, (tt, (tt, (tt, (tt, (out-of ws, tt))))))))) (tt, (tt, (tt, (tt, (tt, (tt, (tt, (tt, (len-out, tt)))))))))) $
+      says ! (asked-on (m .configuration) (m .writing) n3 n4 n5 n6 n7 n8 (out .now) (r .numbers) (after r ws c) (out-of ws) (m .phase) req (said c (askable-told m req typed))) $ by ! (left-over W both 6 (fsep last ftrue) token (machine r ws) (r .numbers)))
 
   -- ## the walk
   module _ (C : Calls 𝓤 H) (Λ : Loops 𝓤 H) (fm : FmC 𝓤 H (W .laws) C) (known : Triple 𝓤 (C #ask) (C-ask 𝓤 H A at-mem run)) where
@@ -258,29 +261,29 @@ module _ {M : Type 1} (𝓤 : URA M) (H : Heap 𝓤) (A : Atoms 𝓤) (W : Given
     body : (bs : Blocks 𝓤 H (code.function .locals)) → Running W C Λ code.function args Start Post bs
     body bs =
         let E = envOf 𝓤 H (code.function .locals) bs in
-        opening W both C Λ E at-entry (sep 𝓤 token (sem 𝓤 H A with-out)) (λ typed. fetches W E 1 TMachine′.mir b o low at-entry 10 taken (tt, refl) tt (typed .1) $
-        relends W E 8 (named 2) mut (tyInt w64) (tyInt w64) (out .ptr .0) (out .ptr .1) (length (out .now)) refl with-taken 34 (tt, refl) tt (record { fits = room .0 }) $
+        opening W both C Λ E at-entry (sep 𝓤 token (sem 𝓤 H A with-out)) (λ typed. fetches W E 1 TMachine′.mir b o low at-entry 11 taken (tt, refl) tt (typed .1) $
+        relends W E 9 (named 2) mut (tyInt w64) (tyInt w64) (out .ptr .0) (out .ptr .1) (length (out .now)) refl with-taken 37 (tt, refl) tt (record { fits = room .0 }) $
         calls-lending W both C Λ E fm (callee typed) known (paths lent) low (TNumbers′.lowered (x .1 .0 .now)) (record { there = tt; lie = refl; fill = λ ws. tt; whole = λ ws. tt; lie-again = λ ws. refl })
-        at-call operands tt (λ ns. refl) 9 tt refl (λ r ws said wt-done.
-        stores W E 1 TMachine′.mir b o (with-done r) 9 put-back _ (tt, refl) tt tt wt-done $ move ! (0 ∷ 2 ∷ []) $
-        stores W E 2 TNumbers′.mir _ _ (with-done r) 9 answer _ (tt, refl) tt tt wt-done $ move ! (0 ∷ 2 ∷ []) $
+        at-call operands tt (λ ns. refl) 10 tt refl (λ r ws said wt-done.
+        stores W E 1 TMachine′.mir b o (with-done r) 10 put-back _ (tt, refl) tt tt wt-done $ move ! (0 ∷ 2 ∷ []) $
+        stores W E 2 TNumbers′.mir _ _ (with-done r) 10 answer _ (tt, refl) tt tt wt-done $ move ! (0 ∷ 2 ∷ []) $
         closing W both C Λ E (with-done r) (machine r ws) (r .numbers) _ tt tt $ by ! (exits typed r ws said)))
 
     walk : ent 𝓤 (onEntry 𝓤 H A f.signature κs qs x vals) (WpFn 𝓤 H C Λ code.function args Post)
     walk =
-        via 𝓤 (⋆ 𝓤 H A Start) (at-start W both (u64 .own n3 (uint-vals w64 n3) ∷ u64 .own n4 (uint-vals w64 n4) ∷ u64 .own n5 (uint-vals w64 n5) ∷ u64 .own n6 (uint-vals w64 n6) ∷ u64 .own n7 (uint-vals w64 n7) ∷ []) with-out token)
-        (enters W C Λ code.function args Start Post ((tt, tt), ((tt, tt), ((tt, f3), ((tt, f4), ((tt, f5), ((tt, f6), ((tt, f7), ((tt, (tt, (record { fits = room .0 }, tt))), tt)))))))) body)
+        via 𝓤 (⋆ 𝓤 H A Start) (at-start W both (u64 .own n3 (uint-vals w64 n3) ∷ u64 .own n4 (uint-vals w64 n4) ∷ u64 .own n5 (uint-vals w64 n5) ∷ u64 .own n6 (uint-vals w64 n6) ∷ u64 .own n7 (uint-vals w64 n7) ∷ u64 .own n8 (uint-vals w64 n8) ∷ []) with-out token)
+        (enters W C Λ code.function args Start Post ((tt, tt), ((tt, tt), ((tt, f3), ((tt, f4), ((tt, f5), ((tt, f6), ((tt, f7), ((tt, f8), ((tt, (tt, (record { fits = room .0 }, tt))), tt))))))))) body)
 
 module _ {M : Type 1} (𝓤 : URA M) (H : Heap 𝓤) (A : Atoms 𝓤) (W : Given 𝓤 H A) (at-mem : Memory → SProp 𝓤) (run : Routine → Fun 𝓤) where
   walks : (C : Calls 𝓤 H) (Λ : Loops 𝓤 H) → FmC 𝓤 H (W .laws) C → Triple 𝓤 (C #ask) (C-ask 𝓤 H A at-mem run) → Walks 𝓤 H A f.ended stayed (WpFn 𝓤 H C Λ code.function) (f.clauses 𝓤 H A at-mem run)
   walks C Λ fm known =
-      walked 𝓤 H A f.ended stayed (f.clauses 𝓤 H A at-mem run) (WpFn 𝓤 H C Λ code.function) (λ κs. (ptr-vals, (ptr-vals, (uint-vals w64, (uint-vals w64, (uint-vals w64, (uint-vals w64, (uint-vals w64, (slice-vals, tt)))))))))
-      (λ κs. (mut-tells (named 0) (κs .0) TMachine.the-row, (mut-tells (named 1) (κs .1 .0) TNumbers.the-row, (uint-tells w64, (uint-tells w64, (uint-tells w64, (uint-tells w64, (uint-tells w64, (mut-slice-tells (named 2) (κs .1 .1 .0) u64, tt)))))))))
+      walked 𝓤 H A f.ended stayed (f.clauses 𝓤 H A at-mem run) (WpFn 𝓤 H C Λ code.function) (λ κs. (ptr-vals, (ptr-vals, (uint-vals w64, (uint-vals w64, (uint-vals w64, (uint-vals w64, (uint-vals w64, (uint-vals w64, (slice-vals, tt))))))))))
+      (λ κs. (mut-tells (named 0) (κs .0) TMachine.the-row, (mut-tells (named 1) (κs .1 .0) TNumbers.the-row, (uint-tells w64, (uint-tells w64, (uint-tells w64, (uint-tells w64, (uint-tells w64, (uint-tells w64, (mut-slice-tells (named 2) (κs .1 .1 .0) u64, tt))))))))))
       (λ κs qs bounds x _ are. needs 𝓤 (Sound (x .0 .now)) _ (λ req. walk 𝓤 H A W at-mem run κs qs x (record { fits = are .1 .1 .0 .1 }) (record { fits = are .1 .1 .1 .0 .1 }) (record { fits = are .1 .1 .1 .1 .0 .1 }) (record { fits = are .1 .1 .1 .1 .1 .0 .1 })
-      (record { fits = are .1 .1 .1 .1 .1 .1 .0 .1 }) (are .1 .1 .1 .1 .1 .1 .1 .0 .0 .1) req C Λ fm known))
+      (record { fits = are .1 .1 .1 .1 .1 .1 .0 .1 }) (record { fits = are .1 .1 .1 .1 .1 .1 .1 .0 .1 }) (are .1 .1 .1 .1 .1 .1 .1 .1 .0 .0 .1) req C Λ fm known))
 
   goes : AllGo 𝓤 H A W 3 (f.signature .params) (f.ended .kept) stayed
-  goes = (goes-ref 𝓤 H A W 3 0 tt (plain (λ _. TMachine.the-row)), (goes-ref 𝓤 H A W 3 1 tt (plain (λ _. TNumbers.the-row)), (goes-dropped 𝓤 H A W 3 (plain (λ _. u64)) yes (λ κs x f. refl), (goes-dropped 𝓤 H A W 3 (plain (λ _. u64)) yes (λ κs x f. refl), (goes-dropped 𝓤 H A W 3 (plain (λ _. u64)) yes (λ κs x f. refl), (goes-dropped 𝓤 H A W 3 (plain (λ _. u64)) yes (λ κs x f. refl), (goes-dropped 𝓤 H A W 3 (plain (λ _. u64)) yes (λ κs x f. refl), (goes-gave-slice 𝓤 H A W 3 2 tt (plain (λ _. u64)), tt))))))))
+  goes = (goes-ref 𝓤 H A W 3 0 tt (plain (λ _. TMachine.the-row)), (goes-ref 𝓤 H A W 3 1 tt (plain (λ _. TNumbers.the-row)), (goes-dropped 𝓤 H A W 3 (plain (λ _. u64)) yes (λ κs x f. refl), (goes-dropped 𝓤 H A W 3 (plain (λ _. u64)) yes (λ κs x f. refl), (goes-dropped 𝓤 H A W 3 (plain (λ _. u64)) yes (λ κs x f. refl), (goes-dropped 𝓤 H A W 3 (plain (λ _. u64)) yes (λ κs x f. refl), (goes-dropped 𝓤 H A W 3 (plain (λ _. u64)) yes (λ κs x f. refl), (goes-dropped 𝓤 H A W 3 (plain (λ _. u64)) yes (λ κs x f. refl), (goes-gave-slice 𝓤 H A W 3 2 tt (plain (λ _. u64)), tt)))))))))
 
 meets : {M : Type 1} (𝓤 : URA M) (H : Heap 𝓤) (A : Atoms 𝓤) → Given 𝓤 H A → (at-mem : Memory → SProp 𝓤) (run : Routine → Fun 𝓤) (𝓣 : Tables 𝓤 H) → Triple 𝓤 (𝓣 .C #ask) (C-ask 𝓤 H A at-mem run)
     → Meets 𝓤 H A f.signature (WpFn 𝓤 H (𝓣 .C) (𝓣 .Λ) code.function) (f.spec 𝓤 H A at-mem run)

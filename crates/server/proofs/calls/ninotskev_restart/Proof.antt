@@ -95,7 +95,7 @@ module _ {M : Type 1} (𝓤 : URA M) (H : Heap 𝓤) (A : Atoms 𝓤) (W : Given
   low-both r = TMachineAnswer′.lowered r ∷ []
 
   abbrev Said : MachineAnswer → Type 0
-  Said r = (out : List ℕ) → CallIs h1 18 0 0 0 0 xs3 out (r .numbers) (r .machine) xs3 out
+  Said r = (out : List ℕ) → CallIs h1 0 18 0 0 0 0 xs3 out (r .numbers) (r .machine) xs3 out
 
   said : (r : MachineAnswer) → ent 𝓤 (ensured 𝓤 H A restart.ended (restart.clauses 𝓤 H A at-mem run) (κ2, tt) (h1, (area, tt)) tt r) (fact 𝓤 (Said r))
   said r = exE 𝓤 _ (λ ws. snd∗ 𝓤 (sem 𝓤 H A (lasts restart.ended (κ2, tt) (h1, (area, tt)) ws)) (fact 𝓤 (Said r)))

@@ -16,11 +16,11 @@ here c = omega arith
 returns : tie.Need-returns
 returns c out x h =
     let g = c .before .args in
-    not-idle (g .phase) _ 5 (g .offset) (g .generation) (g .now) 0 out (elsewhere c)
+    not-idle (g .phase) _ (g .worker) 5 (g .offset) (g .generation) (g .now) 0 out (elsewhere c)
 
 progress-in-place-requires : tie.Need-progress-in-place-requires
 progress-in-place-requires c κs =
-    let otherwise = c .before .before .before .before in
+    let otherwise = c .before .before .before .before .before .before in
     let p = otherwise .before .pre in
     idle-sound _ _ (here otherwise) (p .askable .sound) .table .len
 
@@ -30,9 +30,9 @@ of-progress-requires c κs = search needs
 returns-2 : tie.Need-returns-2
 returns-2 c out x h =
     let b = c .before in
-    let e = here (b .before .before .before .before .before) in
-    let g = b .before .before .before .before .before .before .args in
-    progress-numbers (g .phase) _ (g .offset) (g .generation) (g .now) out _ (b .progress-in-place .result) _ e
+    let e = here (b .before .before .before .before .before .before .before) in
+    let g = b .before .before .before .before .before .before .before .before .args in
+    progress-numbers (g .phase) _ (g .worker) (g .offset) (g .generation) (g .now) out _ (b .progress-in-place .result) _ e
     (b .progress-in-place .ensures x (whole (g .phase) _ e h)) (c .of-progress .ensures)
 
 pub progress-in-place-spec : {M : Type 1} → statement M

@@ -9,8 +9,8 @@ use borrow.Author.Needs.{needs}
 use Rattle.server.proofs.kinds.call_of.Statement.{statement}
 use Rattle.server.proofs.kinds.call_of.Tie as tie
 
-abbrev as-numbers : ℕ → ℕ → ℕ → ℕ → ℕ → ℕ → Option Call
-as-numbers a b c d room kind = callAt kind a b c d room
+abbrev as-numbers : ℕ → ℕ → ℕ → ℕ → ℕ → ℕ → ℕ → Option Call
+as-numbers w a b c d room kind = callAt w kind a b c d room
 
 ask-of-requires : tie.Need-ask-of-requires
 ask-of-requires c κs = search needs
@@ -22,29 +22,29 @@ enum-told : tie.Need-enum-told
 enum-told c = search needs
 
 returns : tie.Need-returns
-returns c room = ap (as-numbers (c .before .args .a) (c .before .args .b) (c .before .args .c) (c .before .args .d) room) (sym (c .match .keys1))
+returns c room = ap (as-numbers (c .before .args .worker) (c .before .args .a) (c .before .args .b) (c .before .args .c) (c .before .args .d) room) (sym (c .match .keys1))
 
 returns-2 : tie.Need-returns-2
-returns-2 c room = ap (as-numbers (c .before .args .a) (c .before .args .b) (c .before .args .c) (c .before .args .d) room) (sym (c .match .keys2))
+returns-2 c room = ap (as-numbers (c .before .args .worker) (c .before .args .a) (c .before .args .b) (c .before .args .c) (c .before .args .d) room) (sym (c .match .keys2))
 
 returns-3 : tie.Need-returns-3
-returns-3 c room = ap (as-numbers (c .before .args .a) (c .before .args .b) (c .before .args .c) (c .before .args .d) room) (sym (c .match .keys3))
+returns-3 c room = ap (as-numbers (c .before .args .worker) (c .before .args .a) (c .before .args .b) (c .before .args .c) (c .before .args .d) room) (sym (c .match .keys3))
 
 returns-4 : tie.Need-returns-4
 returns-4 c room =
     let k = c .before .before .before in
     let x = k .before .before .args in
     let r = k .before .match .rest in
-    ap (Option·map ask) (ap (askingOf room) (sym (c .before .asking .given .1)) ∙ k .ask-of .ensures room)
-    ∙ on-state (x .a) (x .b) (x .c) (x .d) room (x .kind) (r .0 .0 .1) (r .0 .1) (r .1)
+    ap (Option·map (ask (x .worker))) (ap (askingOf room) (sym (c .before .asking .given .1)) ∙ k .ask-of .ensures room)
+    ∙ on-state (x .worker) (x .a) (x .b) (x .c) (x .d) room (x .kind) (r .0 .0 .1) (r .0 .1) (r .1)
 
 returns-5 : tie.Need-returns-5
 returns-5 c room =
     let k = c .before .before in
     let x = k .before .before .args in
     let r = k .before .match .rest in
-    ap (Option·map ask) (ap (askingOf room) (sym (c .enum-told .given .1)) ∙ k .ask-of .ensures room)
-    ∙ on-state (x .a) (x .b) (x .c) (x .d) room (x .kind) (r .0 .0 .1) (r .0 .1) (r .1)
+    ap (Option·map (ask (x .worker))) (ap (askingOf room) (sym (c .enum-told .given .1)) ∙ k .ask-of .ensures room)
+    ∙ on-state (x .worker) (x .a) (x .b) (x .c) (x .d) room (x .kind) (r .0 .0 .1) (r .0 .1) (r .1)
 
 pub call-of-spec : {M : Type 1} → statement M
 call-of-spec =

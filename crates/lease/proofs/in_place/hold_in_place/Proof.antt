@@ -1,4 +1,4 @@
--- `deliveries_in_place` meets its contract: that of `LeaseTable::deliveries`, on every table that has the parts that it is lent.
+-- `hold_in_place` meets its contract, on every table that has the parts that it is lent.
 -- Assumes nothing.
 use Prim.Native.Nat.{_≤_, _<_}
 use Rattle.types.specs.Limits.{LEASES}
@@ -6,12 +6,12 @@ use Rattle.lease.specs.Parts.{counting}
 use Rattle.lease.specs.declared.LeaseTable.{LeaseTable}
 use Rattle.lease.proofs.Bounds.{in-use, count-in-memory}
 use Rattle.lease.proofs.Tokens.{owned-used, not-owned, owned, one}
-use Rattle.lease.proofs.in_place.deliveries_in_place.Statement.{statement}
-use Rattle.lease.proofs.in_place.deliveries_in_place.Tie as tie
+use Rattle.lease.proofs.in_place.hold_in_place.Statement.{statement}
+use Rattle.lease.proofs.in_place.hold_in_place.Tie as tie
 
 -- a table with the parts that the arguments are
 abbrev table : tie.Start → LeaseTable → LeaseTable
-table s = counting (s .args .len) (s .args .offsets .now) (s .args .generations .now) (s .args .deliveries .now)
+table s = counting (s .args .len) (s .args .offsets .now) (s .args .generations .now) (s .args .deliveries .now) (s .args .workers .now)
 
 abbrev start : tie.After-place → tie.Start
 start p = p .before .before .before
@@ -36,26 +36,34 @@ returns c t w =
     let s = c .before .before .before in
     rw (not-owned (table s t) (w .full) (w .sound) (s .args .offset) (s .args .generation) (c .before .before .owned .ensures) (c .enum-told .given .1))
 
-mul-t9 : tie.Need-mul-t9
-mul-t9 c = count-in-memory (inside (c .before) .0) (inside (c .before) .1)
+mul-worker : tie.Need-mul-worker
+mul-worker c = count-in-memory (inside (c .before) .0) (inside (c .before) .1)
 
-element-copy-out-t12 : tie.Need-element-copy-out-t12
-element-copy-out-t12 c = in-use (inside (c .before) .0) (inside (c .before) .1)
+element-copy-out-worker : tie.Need-element-copy-out-worker
+element-copy-out-worker c = in-use (inside (c .before) .0) (inside (c .before) .1)
+
+mul-t11 : tie.Need-mul-t11
+mul-t11 c = count-in-memory (inside (c .before .before) .0) (inside (c .before .before) .1)
+
+element-copy-out-t14 : tie.Need-element-copy-out-t14
+element-copy-out-t14 c = in-use (inside (c .before .before) .0) (inside (c .before .before) .1)
 
 returns-2 : tie.Need-returns-2
 returns-2 c t w =
-    let p = c .before .before in
+    let p = c .before .before .before in
     let s = start p in
     rw (owned (table s t) (w .full) (w .sound) (s .args .offset) (s .args .generation) (p .before .before .owned .ensures) (p .place .given .1), one (table s t) (w .full) (w .sound) (s .args .offset) (s .args .generation) (p .before .before .owned .ensures) (p .place .given .1))
 
-pub deliveries-in-place-spec : {M : Type 1} → statement M
-deliveries-in-place-spec =
+pub hold-in-place-spec : {M : Type 1} → statement M
+hold-in-place-spec =
     tie.close
     (tie.spec
     owned-requires
     enum-known-place
     enum-told
     returns
-    mul-t9
-    element-copy-out-t12
+    mul-worker
+    element-copy-out-worker
+    mul-t11
+    element-copy-out-t14
     returns-2)

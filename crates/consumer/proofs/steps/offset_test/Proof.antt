@@ -1,0 +1,132 @@
+-- `offset_test` meets its contract: each test of the table in its order. Assumes nothing.
+use native.Mathlib.Omega.{arith}
+use mathlib.Core.Path.{_≡_, sym, _∙_}
+use mathlib.Core.Bool.{false}
+use borrow.Author.Needs.{needs}
+use Rattle.cursor.specs.Cursor.{settled}
+use Rattle.cursor.specs.View.{ackCursor}
+use Rattle.lease.specs.Operations.{leaseOf, running}
+use Rattle.consumer.specs.State.{State}
+use Rattle.consumer.specs.Parts.{Whole, testing}
+use Rattle.consumer.specs.View.{view}
+use Rattle.consumer.specs.declared.Consumer.{Consumer}
+use Rattle.consumer.proofs.CallsReturns.{table-whole}
+use Rattle.consumer.proofs.CallsClaim.{blocked, unblocked, is-last, is-settled, is-running, is-exhausted, is-at-ceiling, is-at-threshold, is-full, is-open}
+use Rattle.consumer.proofs.steps.offset_test.Statement.{statement}
+use Rattle.consumer.proofs.steps.offset_test.Tie as tie
+
+-- a consumer with the parts that the arguments are, and its state
+abbrev made : tie.Start → Consumer → Consumer
+made s =
+    testing (s .args .ceiling) (s .args .threshold) (ackCursor (s .args .committed) (s .args .starts .now) (s .args .ends .now) (s .args .runs)) (s .args .len) (s .args .carried-len)
+    (s .args .next-generation) (s .args .redeliveries) (s .args .offsets .now) (s .args .deadlines .now) (s .args .deliveries .now) (s .args .carried-offsets .now)
+    (s .args .carried-counts .now)
+
+abbrev shown : tie.Start → Consumer → State
+shown s c = view (made s c)
+
+abbrev second : tie.Else3 → tie.Else2
+second d = d .before .before
+
+abbrev first : tie.Else2 → tie.Else1
+first d = d .before .before
+
+abbrev start : tie.Else3 → tie.Start
+start d = first (second d) .before
+
+returns : tie.Need-returns
+returns c x w = let s = c .before in is-last (shown s x) (s .args .offset) (s .args .now) (c .if1 .taken)
+
+is-acked-in-place-requires : tie.Need-is-acked-in-place-requires
+is-acked-in-place-requires c κs = search needs
+
+returns-2 : tie.Need-returns-2
+returns-2 c x w =
+    let k = c .before in
+    let e = k .before in
+    let s = e .before in
+    is-settled (shown s x) (s .args .offset) (s .args .now) (e .if1 .left) (sym (k .is-acked-in-place .ensures) ∙ c .if2 .taken)
+
+is-claimable-in-place-requires : tie.Need-is-claimable-in-place-requires
+is-claimable-in-place-requires c κs = search needs
+
+unsettled : (d : tie.Else2) (x : Consumer) → let s = first d .before in settled (shown s x .cursor) (s .args .offset) ≡ false
+unsettled d x = sym (d .before .is-acked-in-place .ensures) ∙ d .if2 .left
+
+returns-3 : tie.Need-returns-3
+returns-3 c x w =
+    let k = c .before in
+    let e = first (k .before) in
+    let s = e .before in
+    is-running (shown s x) (s .args .offset) (s .args .now) (e .if1 .left) (unsettled (k .before) x)
+    (blocked (k .is-claimable-in-place .result) _ (k .is-claimable-in-place .ensures (made s x .table) (table-whole w)) (c .if3 .taken))
+
+not-running : (d : tie.Else3) (x : Consumer) → Whole (made (start d) x)
+    → running (leaseOf (shown (start d) x .table) (start d .args .offset)) (start d .args .now) ≡ false
+not-running d x w =
+    unblocked (d .before .is-claimable-in-place .result) _
+    (d .before .is-claimable-in-place .ensures (made (start d) x .table) (table-whole w)) (d .if3 .left)
+
+returns-4 : tie.Need-returns-4
+returns-4 c x w =
+    let d = c .before in
+    let s = start d in
+    is-exhausted (shown s x) (s .args .offset) (s .args .now) (first (second d) .if1 .left) (unsettled (second d) x) (not-running d x w) (c .if4 .taken)
+
+returns-5 : tie.Need-returns-5
+returns-5 c x w =
+    let g = c .before in
+    let d = g .before in
+    let s = start d in
+    is-at-ceiling (shown s x) (s .args .offset) (s .args .now) (first (second d) .if1 .left) (unsettled (second d) x) (not-running d x w) (g .if4 .left)
+    (omega (arith, c .if5 .taken))
+
+returns-6 : tie.Need-returns-6
+returns-6 c x w =
+    let h = c .before in
+    let g = h .before in
+    let d = g .before in
+    let s = start d in
+    is-at-threshold (shown s x) (s .args .offset) (s .args .now) (first (second d) .if1 .left) (unsettled (second d) x) (not-running d x w) (g .if4 .left)
+    (omega (arith, h .if5 .left)) (c .if6 .taken)
+
+is-full-requires : tie.Need-is-full-requires
+is-full-requires c κs = search needs
+
+returns-7 : tie.Need-returns-7
+returns-7 c x w =
+    let f = c .before in
+    let k = f .before in
+    let h = k .before in
+    let g = h .before in
+    let d = g .before in
+    let s = start d in
+    is-full (shown s x) (s .args .offset) (s .args .now) (first (second d) .if1 .left) (unsettled (second d) x) (not-running d x w) (g .if4 .left)
+    (omega (arith, h .if5 .left)) (k .if6 .left) (sym (f .is-full .ensures (made s x .table) (table-whole w)) ∙ c .if7 .taken)
+
+returns-8 : tie.Need-returns-8
+returns-8 c x w =
+    let f = c .before in
+    let k = f .before in
+    let h = k .before in
+    let g = h .before in
+    let d = g .before in
+    let s = start d in
+    is-open (shown s x) (s .args .offset) (s .args .now) (first (second d) .if1 .left) (unsettled (second d) x) (not-running d x w) (g .if4 .left)
+    (omega (arith, h .if5 .left)) (k .if6 .left) (sym (f .is-full .ensures (made s x .table) (table-whole w)) ∙ c .if7 .left)
+
+pub offset-test-spec : {M : Type 1} → statement M
+offset-test-spec =
+    tie.close
+    (tie.spec
+    returns
+    is-acked-in-place-requires
+    returns-2
+    is-claimable-in-place-requires
+    returns-3
+    returns-4
+    returns-5
+    returns-6
+    is-full-requires
+    returns-7
+    returns-8)
