@@ -56,8 +56,8 @@ impl<S: Storage> Consumer<S> {
     /// claimed again, and every token from before is refused from now on (24). Nothing is written.
     ///
     /// # Errors
-    /// Refusals 1 to 19, with the journal. None of 4 to 19 comes on a journal that only consumers have written, whenever the
-    /// power failed.
+    /// Refusals 1 to 19, with the journal. None of 4 to 19 comes on a journal that only consumers of this version of the crate have
+    /// written, whenever the power failed.
     pub fn restart(
         configuration: &Configuration,
         journal: Journal<S>,
@@ -71,8 +71,8 @@ impl<S: Storage> Consumer<S> {
     /// Takes the consumer into the writing of a checkpoint. Nothing is written yet.
     ///
     /// # Errors
-    /// Refusals 38 and 39, and 31 where the journal has too few blocks left, with the consumer. It goes on, until its generations
-    /// or its redeliveries run out.
+    /// Refusals 38 and 39, and 31 where the journal has had 4294967295 checkpoints, with the consumer. It goes on, until its
+    /// generations or its redeliveries run out.
     pub fn begin(mut self, worker: WorkerId) -> Result<Writing<S>, (Refusal, Consumer<S>)> {
         match self.machine.begin(worker) {
             Ok(writes) => Ok(Writing {
@@ -299,7 +299,8 @@ impl<S> Consumer<S> {
         })
     }
 
-    /// How many blocks of the journal are left.
+    /// How many blocks are left in the half of the journal that is in use. A checkpoint that takes more of them goes to the other
+    /// half, which is zeroed first: so many writes more.
     ///
     /// # Errors
     /// Refusals 38 and 39.
@@ -322,7 +323,8 @@ impl<S> fmt::Debug for Consumer<S> {
 
 /// Why a [checkpoint](Consumer::checkpoint) was not made.
 pub enum CheckpointError<S = JournalFile> {
-    /// The worker may not begin one (38, 39), or the journal is full (31). Nothing has changed, and here is the consumer.
+    /// The worker may not begin one (38, 39), or the numbers of checkpoints are used up (31). Nothing has changed, and here is the
+    /// consumer.
     Refused(Refusal, Consumer<S>),
     /// The disk failed: only a restart is left.
     Failed(Failed<S>),
@@ -421,7 +423,7 @@ impl<S: Storage> Writing<S> {
 }
 
 impl<S> Writing<S> {
-    /// How many block writes are to come.
+    /// How many block writes are to come, those of zeros among them.
     #[must_use]
     pub fn writes_left(&self) -> usize {
         self.writes_left

@@ -15,6 +15,9 @@ use std::path::{Path, PathBuf};
 /// The bytes of a block.
 pub const BLOCK: usize = 512;
 
+/// The fewest blocks of a journal: each half of it has room for the largest checkpoint.
+pub const MIN_BLOCKS: usize = 18;
+
 /// The most blocks of a journal.
 pub const MAX_BLOCKS: usize = 128;
 
@@ -40,7 +43,7 @@ pub trait Storage {
 pub enum JournalError {
     /// Another process, or another value here, has it.
     Locked,
-    /// A new journal can't have so many blocks: 1 to 128.
+    /// A new journal can't have so many blocks: an even number from 18 to 128.
     BadBlocks(usize),
     /// There is a file of that name, so it can only be opened.
     Exists,
@@ -89,7 +92,7 @@ impl JournalFile {
     // whole journal or none.
     fn create(path: impl AsRef<Path>, blocks: usize) -> Result<JournalFile, JournalError> {
         let path = path.as_ref();
-        if !(1..=MAX_BLOCKS).contains(&blocks) {
+        if !(MIN_BLOCKS..=MAX_BLOCKS).contains(&blocks) || !blocks.is_multiple_of(2) {
             return Err(JournalError::BadBlocks(blocks));
         }
         let (file, made) = make_beside(path)?;
@@ -180,7 +183,9 @@ pub struct NewJournal<S = JournalFile> {
 }
 
 impl NewJournal {
-    /// Makes a journal of so many blocks, 1 to 128. A checkpoint takes 2 to 9 of them.
+    /// Makes a journal of so many blocks: an even number, at least [18](MIN_BLOCKS) and at most [128](MAX_BLOCKS). It is used as two
+    /// equal halves. A checkpoint takes 2 to 9 blocks of one of them; where there is no room for it, the other half is zeroed, block
+    /// by block, and the checkpoint goes there. So a journal is never full, and a longer one writes fewer zeros.
     ///
     /// # Errors
     /// [`JournalError::BadBlocks`], [`JournalError::Exists`], or what the disk says.

@@ -116,7 +116,7 @@ mod workers;
 pub use configuration::{Configuration, DeliveryConfig, LeaseConfig, Settings};
 pub use consumer::{CheckpointError, Consumer, Step, Writing};
 pub use journal::{
-    Failed, Journal, JournalError, JournalFile, NewJournal, Storage, BLOCK, MAX_BLOCKS,
+    Failed, Journal, JournalError, JournalFile, NewJournal, Storage, BLOCK, MAX_BLOCKS, MIN_BLOCKS,
 };
 pub use refusal::Refusal;
 pub use snapshot::{

@@ -12,12 +12,21 @@ pub enum Refusal {
     TooManySteps,
     /// 3: the flush threshold is 0.
     ZeroThreshold,
-    /// 4: the journal is empty, no whole number of blocks, or too long.
+    /// 4: the journal isn't of an even number of blocks of 512 bytes, at least 18 and at most 128. One from before there were halves may
+    /// have another length: the README says how it is taken over.
     BadArea,
-    /// 5: a block isn't what it has to be. Either a body that a sound header counts is unsound, or a header is: the
-    /// groups end where it would stand, and a block behind that has the kind of a header and a right check, so that the group
-    /// before isn't the last one. Where the last header is worn there is no such block, and the group before counts, as after
-    /// a power failure. No power failure leaves a journal that is refused.
+    /// 5: a block of the half in use isn't what it has to be.
+    ///
+    /// - A body that a sound header counts is unsound.
+    /// - A header is: the groups end where it would stand, and a block behind that, in this half, has the kind of a header and a
+    ///   right check, so that the group before isn't the last one. Where the last header is worn there is no such block, and the
+    ///   group before counts, as after a power failure.
+    /// - A header is sound, and its bodies pass the end of its half, as in a journal from before there were halves, with a group
+    ///   across the middle. The README says how such a journal is taken over.
+    ///
+    /// No power failure leaves a journal that is refused. The first block of the half in use is guarded less: where it is worn, and a
+    /// header opens the other half, that half is read, without a refusal. Where none opens it, the refusal names block 0 if a
+    /// header is left behind that block in the first half; if none is left there, a restart gives a fresh consumer.
     Damaged {
         /// The first unsound body on the walk over the groups, or else the block where the walk ended; from 0.
         block: u64,
@@ -104,7 +113,7 @@ pub enum Refusal {
     Shed,
     /// 30: an offset below the bound is in flight.
     Held,
-    /// 31: fewer blocks are left than the checkpoint needs.
+    /// 31: the numbers of groups are used up: the last is 4294967295. It is never met for want of blocks.
     JournalFull,
     /// 38: there is no worker of that number: it is 8 or more.
     UnknownWorker,
@@ -250,7 +259,7 @@ const WORDS: [&str; 31] = [
     "a delivery limit of 0 or 4294967295 needs the opt-in",
     "more than 16 backoffs",
     "the flush threshold is 0",
-    "the journal's length",
+    "a journal has an even number of blocks, 18 to 128",
     "block # of the journal is damaged",
     "the cursor snapshot is under 13 bytes",
     "a cursor snapshot can't have # bytes",
@@ -277,7 +286,7 @@ const WORDS: [&str; 31] = [
     "the attempt has lasted as long as the hard cap allows",
     "there is no room for another range of settled offsets",
     "an offset below the bound is in flight",
-    "fewer blocks are left than the checkpoint needs",
+    "the numbers of checkpoints are used up",
 ];
 
 // The same from 38 on.

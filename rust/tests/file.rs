@@ -163,7 +163,7 @@ fn calls_give_01s_answers() {
 fn a_checkpoint_goes_block_by_block() {
     let path = fresh_path("steps");
     let configuration = configuration(3, 9, 10, 25);
-    let consumer = Consumer::start(&configuration, NewJournal::create(&path, 4).unwrap()).unwrap();
+    let consumer = Consumer::start(&configuration, NewJournal::create(&path, 18).unwrap()).unwrap();
     let writing = consumer.begin(WORKER).unwrap();
     assert_eq!(writing.writes_left(), 2);
     let Step::Wrote { block: 1, writing } = writing.step().unwrap() else {
@@ -178,17 +178,13 @@ fn a_checkpoint_goes_block_by_block() {
     };
     assert_eq!(fs::read(&path).unwrap()[0], 1);
     let mut consumer = consumer.checkpoint(WORKER).unwrap();
-    assert_eq!(consumer.blocks_left(WORKER).unwrap(), 0);
-    let (refusal, mut consumer) = consumer.begin(WORKER).unwrap_err();
-    assert_eq!(refusal, Refusal::JournalFull);
-    // A full journal is no reason to stop before the generations run out.
-    consumer.claim(WORKER, Offset::ZERO, 0).unwrap();
+    assert_eq!(consumer.blocks_left(WORKER).unwrap(), 5);
 }
 
 #[test]
 fn configurations_are_refused_by_01s_numbers() {
     let path = fresh_path("configuration");
-    let mut journal = NewJournal::create(&path, 2).unwrap();
+    let mut journal = NewJournal::create(&path, 18).unwrap();
     let mut one = configuration(0, 1, 10, 25);
     let refused = |journal, configuration: &Configuration| {
         let (refusal, journal) = Consumer::start(configuration, journal).unwrap_err();
@@ -204,24 +200,30 @@ fn configurations_are_refused_by_01s_numbers() {
     let (number, journal) = refused(journal, &configuration(3, 0, 10, 25));
     assert_eq!(number, 3);
     Consumer::start(&configuration(3, 1, 10, 25), journal).unwrap();
-    // A file that is no journal.
-    fs::write(&path, [1; 100]).unwrap();
-    let journal = Journal::open(&path).unwrap();
-    let (refusal, _) = Consumer::restart(&configuration(3, 1, 10, 25), journal).unwrap_err();
-    assert_eq!(refusal, Refusal::BadArea);
+    // Files that are no journals.
+    for len in [
+        0,
+        100,
+        16 * BLOCK,
+        17 * BLOCK,
+        19 * BLOCK,
+        20 * BLOCK - 1,
+        130 * BLOCK,
+    ] {
+        fs::write(&path, vec![0; len]).unwrap();
+        let journal = Journal::open(&path).unwrap();
+        let (refusal, _) = Consumer::restart(&configuration(3, 1, 10, 25), journal).unwrap_err();
+        assert_eq!(refusal, Refusal::BadArea);
+    }
 }
 
 #[test]
 fn a_journal_that_is_there_can_only_be_opened() {
     let path = fresh_path("there");
-    assert!(matches!(
-        NewJournal::create(&path, 0),
-        Err(JournalError::BadBlocks(0))
-    ));
-    assert!(matches!(
-        NewJournal::create(&path, 129),
-        Err(JournalError::BadBlocks(129))
-    ));
+    for blocks in [0, 1, 16, 17, 19, 127, 129, 130] {
+        let refused = NewJournal::create(&path, blocks);
+        assert!(matches!(refused, Err(JournalError::BadBlocks(n)) if n == blocks));
+    }
     assert!(matches!(Journal::open(&path), Err(JournalError::Io(_))));
     let configuration = configuration(3, 1, 10, 25);
     let consumer = Consumer::start(&configuration, NewJournal::create(&path, 18).unwrap()).unwrap();

@@ -6,7 +6,7 @@ mod common;
 use common::{configuration, fresh_path, Book, Cut, Cuttable, Power, Random, WORKER};
 use ironbus_delivery_state::{
     CheckpointError, Configuration, Consumer, HandOut, Journal, LeaseToken, NewJournal, Offset,
-    Refusal, Writing,
+    Refusal,
 };
 use std::cell::RefCell;
 use std::path::Path;
@@ -60,17 +60,7 @@ impl Run {
 
     /// A checkpoint, whose power may fail at some write.
     fn checkpoint(&mut self, consumer: Consumer<Cuttable>) -> Consumer<Cuttable> {
-        match consumer.begin(WORKER) {
-            Err((refusal, consumer)) => {
-                assert_eq!(refusal, Refusal::JournalFull);
-                self.refused += 1;
-                consumer
-            }
-            Ok(writing) => self.write(writing),
-        }
-    }
-
-    fn write(&mut self, writing: Writing<Cuttable>) -> Consumer<Cuttable> {
+        let writing = consumer.begin(WORKER).expect("there is always room");
         match writing.finish() {
             Ok(consumer) => {
                 self.book.header_written();
@@ -183,22 +173,21 @@ fn cut_of(random: &mut Random) -> Cut {
     }
 }
 
-/// A list of calls with power failures at random writes; answers how many there were.
-fn random_list(path: &Path, seed: u64, calls: usize) -> u64 {
+/// A list of calls with power failures at random writes, on a journal of so many blocks; answers what was done.
+fn random_list(path: &Path, seed: u64, calls: usize, blocks: usize) -> Run {
     let mut run = Run::new(seed);
-    let blocks = 2 + run.random.below(127) as usize;
     let journal = NewJournal::on(Cuttable::new(path, blocks, &run.power)).unwrap();
     let mut consumer = Consumer::start(&run.configuration, journal).unwrap();
     for _ in 0..calls {
         if run.power.borrow().cut.is_none() && run.random.below(6) == 0 {
             let cut = cut_of(&mut run.random);
-            let left = run.random.below(6) as usize;
+            let left = run.random.below(12) as usize;
             run.power.borrow_mut().cut = Some((left, cut));
         }
         consumer = run.call(consumer);
     }
     run.book.holds_the_bound(&run.configuration);
-    run.cuts
+    run
 }
 
 #[test]
@@ -206,18 +195,32 @@ fn random_lists_keep_the_book() {
     let path = fresh_path("random-lists");
     let mut cuts = 0;
     for seed in 0..3000 {
-        cuts += random_list(&path, seed, 120);
+        let blocks = 18 + 2 * (seed as usize % 56);
+        cuts += random_list(&path, seed, 120, blocks).cuts;
     }
     assert!(cuts > 1000);
 }
 
-/// A list of calls that is always the same, with a checkpoint after every few.
+/// Lists that are long enough for dozens of changes between the halves, on the shortest journal and on one of 20 blocks, of whose halves
+/// the blocks are an even number.
+#[test]
+fn dozens_of_changes_between_the_halves_keep_the_book() {
+    let path = fresh_path("changes");
+    for seed in 0..60 {
+        let run = random_list(&path, seed, 2000, 18 + 2 * (seed as usize % 2));
+        let power = run.power.borrow();
+        assert!(power.zeroed >= 24 * 9, "{} blocks zeroed", power.zeroed);
+        assert!(power.cut_zeros >= 5, "{} cuts in zeroing", power.cut_zeros);
+    }
+}
+
+/// A list of calls that is always the same, with a checkpoint after every few: the halves change three times.
 fn fixed_list(path: &Path, cut: Option<(usize, Cut)>) -> usize {
     let mut run = Run::new(7);
     run.power.borrow_mut().cut = cut;
-    let journal = NewJournal::on(Cuttable::new(path, 128, &run.power)).unwrap();
+    let journal = NewJournal::on(Cuttable::new(path, 18, &run.power)).unwrap();
     let mut consumer = Consumer::start(&run.configuration, journal).unwrap();
-    for turn in 0..40 {
+    for turn in 0..60 {
         if turn % 4 == 0 {
             consumer = run.checkpoint(consumer);
         }
@@ -233,7 +236,7 @@ fn fixed_list(path: &Path, cut: Option<(usize, Cut)>) -> usize {
 fn every_write_of_a_list_is_cut_in_every_way() {
     let path = fresh_path("every-write");
     let writes = fixed_list(&path, None);
-    assert!(writes > 20);
+    assert!(writes > 50);
     for at in 0..writes {
         for cut in [
             Cut::Old,

@@ -14,7 +14,7 @@ const OTHER: WorkerId = WorkerId::new(5);
 
 /// Each operation's right, and every call that it covers. A call answers whether it was permitted.
 type Call = fn(&mut Consumer, LeaseToken) -> Result<(), Refusal>;
-const CALLS: [(Rights, Call); 14] = [
+const CALLS: [(Rights, Call); 17] = [
     (Rights::CLAIM, |c, _| {
         c.claim(OTHER, Offset::new(9), 0).map(drop)
     }),
@@ -44,8 +44,13 @@ const CALLS: [(Rights, Call); 14] = [
     (Rights::LOOK, |c, _| {
         c.lease_of(OTHER, Offset::ZERO).map(drop)
     }),
+    (Rights::LOOK, |c, _| {
+        c.count_of(OTHER, Offset::ZERO).map(drop)
+    }),
     (Rights::LOOK, |c, _| c.all_attempt_counts(OTHER).map(drop)),
+    (Rights::LOOK, |c, _| c.in_flight(OTHER).map(drop)),
     (Rights::LOOK, |c, _| c.is_due(OTHER).map(drop)),
+    (Rights::LOOK, |c, _| c.blocks_left(OTHER).map(drop)),
 ];
 
 const OPERATIONS: [Rights; 7] = [

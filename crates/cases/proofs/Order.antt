@@ -13,10 +13,9 @@ use Rattle.cursor.specs.Snapshot.{decodeCursor, cursorIn}
 use Rattle.cursor.specs.Snapshot as cursor
 use Rattle.attempt.specs.Snapshot.{decodeAttempts, pairsIn, pairsTable}
 use Rattle.attempt.specs.Snapshot as attempt
-use Rattle.journal.specs.Area.{blocks}
 use Rattle.journal.specs.Walks.{groupAt, group, unsound, walkOver, walkFrom, walk, damaged}
 use Rattle.consumer.specs.State.{Configuration}
-use Rattle.starts.specs.Restart.{startTable, start, fresh, fromWalk, restart}
+use Rattle.starts.specs.Restart.{startTable, start, fresh, walkOf, fromWalk, restart}
 
 -- after 6 to 9 the ranges are tested as those of a resumption: 10 and 11 range by range, then 12
 pub cursor-after-its-frame : (b : List ℕ) → first (cursor.frameTable b) ≡ none
@@ -35,7 +34,7 @@ attempts-after-their-frame b e = rw (first-none-before (attempt.frameTable b) (p
 pub restart-refused-as-a-start : (c : Configuration) (a : List ℕ) (r : Refusal) → start c (length a) ≡ refused r → restart c a ≡ refused r
 unfolding start restart
 restart-refused-as-a-start c a r e =
-    checked-refused (startTable c (length a)) (fresh c (length a)) (fromWalk c a (walk a (blocks a) 1 0)) r e
+    checked-refused (startTable c (length a)) (fresh c (length a)) (fromWalk c a (walkOf a)) r e
 
 -- 5 is met in every group on the walk, here in the second of a journal with at least two blocks
 pub walk-second-group-damaged : (a : List ℕ) (n : ℕ) → groupAt a (suc (suc n)) 1 0 ≡ group 2 → groupAt a (suc (suc n)) 2 2 ≡ unsound 3

@@ -2,10 +2,10 @@
 -- journal's own functions 4 and 20. proofs/Order.antt has more of a restart, and crates/examples restarts that are answered.
 use Prim.Native.Nat.{ℕ}
 use mathlib.Core.Path.{_≡_, refl}
-use mathlib.Core.Bool.{false, xor}
+use mathlib.Core.Bool.{true, false, xor}
 use mathlib.Core.List.{List, [], _∷_, _++_}
 use mathlib.Core.Option.{none}
-use lib.ListN.{replicate}
+use lib.ListN.{take, replicate}
 use Rattle.types.specs.Refusal.{refused, done, UnlimitedDeliverNotAllowed, TooManySteps, ZeroThreshold, BadArea}
 use Rattle.types.specs.Refusal.{Damaged, CursorUnsupportedVersion, AttemptUnsupportedVersion, OutTooShort, JournalFull}
 use Rattle.crc.specs.Crc32c.{bits, unbits, polynomial, crc}
@@ -21,8 +21,8 @@ use Rattle.journal.specs.Sound.{isKind, wellFormed, soundHeader, soundBody}
 use Rattle.journal.specs.Walks.{stop, groupAt, walkOver, walkFrom, headerBehind, payload}
 use Rattle.journal.specs.Answers.{fill, writeBlock, walkIn, readPayload}
 use Rattle.consumer.specs.State.{Configuration, State, stateOf, nextGroupAt, badArea}
-use Rattle.checkpoint.specs.Checkpoint.{begin, step, writing}
-use Rattle.starts.specs.Restart.{start, fresh, readGroup, fromWalk, restart}
+use Rattle.checkpoint.specs.Checkpoint.{headerPlace, zeroedFor, writes, groupBlock, begin, step, writing}
+use Rattle.starts.specs.Restart.{start, fresh, readGroup, origin, fromWalk, restart}
 use Rattle.cases.specs.States.{rangesFrom, leaseConfig, rights, tableOf}
 
 -- ## start
@@ -49,32 +49,44 @@ pub start-zero-threshold : start (configuration 2 16 0) 0 ≡ refused ZeroThresh
 unfolding start
 start-zero-threshold = refl
 
--- 4 for no bytes, for parts of a block and for 129 blocks; from 1 to 128 blocks a start
+-- 4 for no bytes, for parts of a block, for fewer than 18 blocks, an odd number of them and for 130; from 18 to 128 a start
 pub start-on-nothing : start accepted 0 ≡ refused BadArea
 unfolding start badArea
 start-on-nothing = refl
 
-pub start-below-a-block : start accepted 511 ≡ refused BadArea
+pub start-below-a-block : start accepted 9215 ≡ refused BadArea
 unfolding start badArea
 start-below-a-block = refl
 
-pub start-above-a-block : start accepted 513 ≡ refused BadArea
+pub start-above-a-block : start accepted 9217 ≡ refused BadArea
 unfolding start badArea
 start-above-a-block = refl
 
-pub start-on-129-blocks : start accepted 66048 ≡ refused BadArea
+pub start-on-130-blocks : start accepted 66560 ≡ refused BadArea
 unfolding start badArea
-start-on-129-blocks = refl
+start-on-130-blocks = refl
 
-pub start-on-a-block : start accepted 512 ≡ done (fresh accepted 512)
+pub start-on-16-blocks : start accepted 8192 ≡ refused BadArea
 unfolding start badArea
-start-on-a-block = refl
+start-on-16-blocks = refl
+
+pub start-on-127-blocks : start accepted 65024 ≡ refused BadArea
+unfolding start badArea
+start-on-127-blocks = refl
+
+pub start-on-18-blocks : start accepted 9216 ≡ done (fresh accepted 9216)
+unfolding start badArea
+start-on-18-blocks = refl
 
 pub start-on-128-blocks : start accepted 65536 ≡ done (fresh accepted 65536)
 unfolding start badArea
 start-on-128-blocks = refl
 
 -- ## restart
+-- 18 blocks in halves of 9, with zeros behind what stands in each of them
+abbrev halves : List ℕ → List ℕ → List ℕ
+halves first second = take 4608 (first ++ replicate 4608 0) ++ take 4608 (second ++ replicate 4608 0)
+
 -- a sound header of group 1 that counts two bodies, with what stands behind it
 abbrev headed : List ℕ → List ℕ
 headed behind = headerBlock 1 4096 493 9 ++ behind
@@ -85,41 +97,73 @@ unfolding restart badArea headerBlock
 restart-bad-area-before-damaged = refl
 
 -- 5 with the first unsound body, counted from 0
-pub restart-first-body-damaged : restart accepted (headed (replicate 1024 0)) ≡ refused (Damaged 1)
-unfolding restart badArea fromWalk walkFrom walkOver groupAt soundHeader wellFormed soundBody isKind isSealed blockAt headerBlock crc bits unbits polynomial xor
+pub restart-first-body-damaged : restart accepted (halves (headed []) []) ≡ refused (Damaged 1)
+unfolding restart badArea origin fromWalk walkFrom walkOver groupAt soundHeader wellFormed soundBody isKind isSealed blockAt headerBlock crc bits unbits polynomial xor
 restart-first-body-damaged = refl
 
-pub restart-second-body-damaged : restart accepted (headed (bodyBlock 1 1 (replicate 500 7) ++ replicate 512 0)) ≡ refused (Damaged 2)
-unfolding restart badArea fromWalk walkFrom walkOver groupAt soundHeader wellFormed soundBody isKind isSealed blockAt headerBlock bodyBlock crc bits unbits polynomial xor
+pub restart-second-body-damaged : restart accepted (halves (headed (bodyBlock 1 1 (replicate 500 7))) []) ≡ refused (Damaged 2)
+unfolding restart badArea origin fromWalk walkFrom walkOver groupAt soundHeader wellFormed soundBody isKind isSealed blockAt headerBlock bodyBlock crc bits unbits polynomial xor
 restart-second-body-damaged = refl
 
--- a header whose bodies the area has no room for is not sound, and what is no header damages nothing; as the block
--- where the walk ended it isn't looked at either, though its kind and check are right
-pub restart-header-without-room : restart accepted (headed (replicate 512 0)) ≡ done (fresh accepted 1024)
-unfolding restart badArea fromWalk walkFrom walkOver groupAt headerBehind soundHeader wellFormed isKind isSealed blockAt headerBlock crc bits unbits polynomial xor
+-- 5 with the block where the walk ended, for a header there that has the number and is sound, but for the room in its half: here
+-- in its last block, behind a group of seven bodies
+abbrev eightBlocks : List ℕ
+eightBlocks =
+    headerBlock 1 4096 2061 1000 ++ bodyBlock 1 1 full ++ bodyBlock 1 2 full ++ bodyBlock 1 3 full ++ bodyBlock 1 4 full
+    ++ bodyBlock 1 5 full ++ bodyBlock 1 6 full ++ bodyBlock 1 7 (replicate 61 7)
+  where
+    full : List ℕ
+    full = replicate 500 7
+
+pub restart-header-without-room : restart accepted (halves (eightBlocks ++ headerBlock 2 4096 13 9) []) ≡ refused (Damaged 8)
+unfolding restart badArea origin fromWalk walkFrom walkOver groupAt headerBehind soundHeader wellFormed soundBody isKind isSealed blockAt headerBlock bodyBlock crc bits unbits polynomial xor
 restart-header-without-room = refl
+
+-- the half is read whose first block is a sound header, the greater number first, the first half where they are equal; its blocks are
+-- counted from the start of the area
+pub restart-second-half : restart accepted (halves [] (headerBlock 2 4096 13 9)) ≡ refused (Damaged 10)
+unfolding restart badArea origin fromWalk walkFrom walkOver groupAt soundHeader wellFormed soundBody isKind isSealed blockAt headerBlock crc bits unbits polynomial xor
+restart-second-half = refl
+
+pub restart-greater-number : restart accepted (halves (headerBlock 1 4096 13 9) (headerBlock 2 4096 13 9)) ≡ refused (Damaged 10)
+unfolding restart badArea origin fromWalk walkFrom walkOver groupAt soundHeader wellFormed soundBody isKind isSealed blockAt headerBlock crc bits unbits polynomial xor
+restart-greater-number = refl
+
+pub restart-equal-numbers : restart accepted (halves (headerBlock 2 4096 13 9) (headerBlock 2 4096 13 9)) ≡ refused (Damaged 1)
+unfolding restart badArea origin fromWalk walkFrom walkOver groupAt soundHeader wellFormed soundBody isKind isSealed blockAt headerBlock crc bits unbits polynomial xor
+restart-equal-numbers = refl
+
+-- its number may be any
+pub restart-number-0 : restart accepted (halves (headerBlock 0 4096 13 9) []) ≡ refused (Damaged 1)
+unfolding restart badArea origin fromWalk walkFrom walkOver groupAt soundHeader wellFormed soundBody isKind isSealed blockAt headerBlock crc bits unbits polynomial xor
+restart-number-0 = refl
 
 -- a block of kind 1 with a right check, though no sound header
 abbrev kind1 : List ℕ
 kind1 = headerBlock 7 0 0 0
 
--- 5, with the block where the walk ended, for such a block right behind it, and in the last block of the area
-pub restart-header-right-behind : restart accepted (replicate 512 0 ++ kind1) ≡ refused (Damaged 0)
-unfolding restart badArea fromWalk walkFrom walkOver groupAt headerBehind soundHeader wellFormed isKind isSealed blockAt headerBlock crc bits unbits polynomial xor
+-- 5, with the block where the walk ended, for such a block right behind it, and in the last block of the half in use; not for one in
+-- the other half
+pub restart-header-right-behind : restart accepted (halves (replicate 512 0 ++ kind1) []) ≡ refused (Damaged 0)
+unfolding restart badArea origin fromWalk walkFrom walkOver groupAt headerBehind soundHeader wellFormed isKind isSealed blockAt headerBlock crc bits unbits polynomial xor
 restart-header-right-behind = refl
 
-pub restart-header-in-the-last-block : restart accepted (replicate 1024 0 ++ kind1) ≡ refused (Damaged 0)
-unfolding restart badArea fromWalk walkFrom walkOver groupAt headerBehind soundHeader wellFormed isKind isSealed blockAt headerBlock crc bits unbits polynomial xor
+pub restart-header-in-the-last-block : restart accepted (halves (replicate 4096 0 ++ kind1) []) ≡ refused (Damaged 0)
+unfolding restart badArea origin fromWalk walkFrom walkOver groupAt headerBehind soundHeader wellFormed isKind isSealed blockAt headerBlock crc bits unbits polynomial xor
 restart-header-in-the-last-block = refl
 
+pub restart-header-in-the-other-half : restart accepted (halves [] kind1) ≡ done (fresh accepted 9216)
+unfolding restart badArea origin fromWalk walkFrom walkOver groupAt headerBehind soundHeader wellFormed isKind isSealed blockAt headerBlock crc bits unbits polynomial xor
+restart-header-in-the-other-half = refl
+
 -- a block of kind 1 whose check is wrong is none
-pub restart-wrong-check-behind : restart accepted (replicate 512 0 ++ (1 ∷ replicate 511 0)) ≡ done (fresh accepted 1024)
-unfolding restart badArea fromWalk walkFrom walkOver groupAt headerBehind soundHeader wellFormed isKind isSealed blockAt crc bits unbits polynomial xor
+pub restart-wrong-check-behind : restart accepted (halves (replicate 512 0 ++ (1 ∷ [])) []) ≡ done (fresh accepted 9216)
+unfolding restart badArea origin fromWalk walkFrom walkOver groupAt headerBehind soundHeader wellFormed isKind isSealed blockAt crc bits unbits polynomial xor
 restart-wrong-check-behind = refl
 
 -- an unsound body on the walk is named first
-pub restart-body-before-header-behind : restart accepted (headed (replicate 1536 0 ++ kind1)) ≡ refused (Damaged 1)
-unfolding restart badArea fromWalk walkFrom walkOver groupAt soundHeader wellFormed soundBody isKind isSealed blockAt headerBlock crc bits unbits polynomial xor
+pub restart-body-before-header-behind : restart accepted (halves (headed (replicate 1536 0 ++ kind1)) []) ≡ refused (Damaged 1)
+unfolding restart badArea origin fromWalk walkFrom walkOver groupAt soundHeader wellFormed soundBody isKind isSealed blockAt headerBlock crc bits unbits polynomial xor
 restart-body-before-header-behind = refl
 
 -- the header of group 1 with snapshots of 13 and 9 bytes, and the group with these bytes as its payload
@@ -130,8 +174,8 @@ abbrev groupWith : List ℕ → List ℕ
 groupWith bytes = header ++ bodyBlock 1 1 bytes
 
 -- 5 for a header behind comes before what is in the last group
-pub restart-header-behind-before-cursor : restart accepted (groupWith (replicate 22 0) ++ (replicate 512 0 ++ kind1)) ≡ refused (Damaged 2)
-unfolding restart badArea fromWalk walkFrom walkOver groupAt headerBehind soundHeader wellFormed soundBody isKind isSealed blockAt headerBlock bodyBlock crc bits unbits polynomial xor
+pub restart-header-behind-before-cursor : restart accepted (halves (groupWith (replicate 22 0) ++ (replicate 512 0 ++ kind1)) []) ≡ refused (Damaged 2)
+unfolding restart badArea origin fromWalk walkFrom walkOver groupAt headerBehind soundHeader wellFormed soundBody isKind isSealed blockAt headerBlock bodyBlock crc bits unbits polynomial xor
 restart-header-behind-before-cursor = refl
 
 -- after 5, in the last group: the refusals of the cursor's snapshot, then those of the attempts'; here both are of version 0
@@ -144,39 +188,89 @@ unfolding blockAt headerBlock bodyBlock payload encodeCursor decodeCursor decode
 restart-attempts-after-cursor = refl
 
 -- ## begin
--- 18 blocks of which so many are written, and so many ranges in the cursor
-abbrev pub written : ℕ → ℕ → State
-written block ranges =
-    stateOf (cursor 0 (rangesFrom ranges 1)) (tableOf [] [] 1 0) 4096 (nextGroupAt 2 block) 9216 (accepted .settings)
+-- the next group with this number at this block of 18, and so many ranges in the cursor
+abbrev pub numbered : ℕ → ℕ → ℕ → State
+numbered number block ranges =
+    stateOf (cursor 0 (rangesFrom ranges 1)) (tableOf [] [] 1 0) 4096 (nextGroupAt number block) 9216 (accepted .settings)
 
--- 31 where a block less is left than a header and its body need; with as many, a record
-pub begin-journal-full : begin (written 17 0) 0 ≡ refused JournalFull
-unfolding begin encodeCursor encodeAttempts allAttemptCounts
+abbrev written : ℕ → ℕ → State
+written block ranges = numbered 2 block ranges
+
+-- 31 where the number is one more than a header holds; with the largest, a record, whether the group fits in its half or not
+pub begin-journal-full : begin (numbered 4294967296 2 0) 0 ≡ refused JournalFull
+unfolding begin
 begin-journal-full = refl
 
-pub begin-in-the-last-two-blocks : begin (written 16 0) 0 ≡ done (writing (written 16 0) 0)
-unfolding begin encodeCursor encodeAttempts allAttemptCounts
-begin-in-the-last-two-blocks = refl
+pub begin-with-the-last-number : begin (numbered 4294967295 2 0) 0 ≡ done (writing (numbered 4294967295 2 0) 0)
+unfolding begin
+begin-with-the-last-number = refl
+
+pub begin-in-the-last-block : begin (numbered 4294967295 17 0) 0 ≡ done (writing (numbered 4294967295 17 0) 0)
+unfolding begin
+begin-in-the-last-block = refl
+
+-- how many writes it takes, and where its header goes: with a block less in the half in use than a header and its body need, the
+-- nine blocks of the other half are zeroed first
+pub record Goes (s : State) (count block : ℕ) : Type 0 where
+  pub takes : writes s ≡ count
+  pub goes : groupBlock s ≡ block
+
+pub two-blocks-left-in-the-first-half : Goes (written 7 0) 2 7
+unfolding headerPlace zeroedFor encodeCursor encodeAttempts allAttemptCounts
+two-blocks-left-in-the-first-half = record { takes = refl; goes = refl }
+
+pub one-block-left-in-the-first-half : Goes (written 8 0) 11 9
+unfolding headerPlace zeroedFor encodeCursor encodeAttempts allAttemptCounts
+one-block-left-in-the-first-half = record { takes = refl; goes = refl }
+
+pub first-half-just-full : Goes (written 9 0) 11 9
+unfolding headerPlace zeroedFor encodeCursor encodeAttempts allAttemptCounts
+first-half-just-full = record { takes = refl; goes = refl }
+
+pub two-blocks-left-in-the-second-half : Goes (written 16 0) 2 16
+unfolding headerPlace zeroedFor encodeCursor encodeAttempts allAttemptCounts
+two-blocks-left-in-the-second-half = record { takes = refl; goes = refl }
+
+pub one-block-left-in-the-second-half : Goes (written 17 0) 11 0
+unfolding headerPlace zeroedFor encodeCursor encodeAttempts allAttemptCounts
+one-block-left-in-the-second-half = record { takes = refl; goes = refl }
 
 -- 29 ranges take 486 bytes with the counts and so one body; 30 take 502 and two
-pub begin-with-one-body : begin (written 16 29) 0 ≡ done (writing (written 16 29) 0)
-unfolding begin encodeCursor encodeAttempts allAttemptCounts
-begin-with-one-body = refl
+pub with-one-body : Goes (written 16 29) 2 16
+unfolding headerPlace zeroedFor encodeCursor encodeAttempts allAttemptCounts
+with-one-body = record { takes = refl; goes = refl }
 
-pub begin-with-two-bodies : begin (written 16 30) 0 ≡ refused JournalFull
-unfolding begin encodeCursor encodeAttempts allAttemptCounts
-begin-with-two-bodies = refl
+pub with-two-bodies : Goes (written 16 30) 12 0
+unfolding headerPlace zeroedFor encodeCursor encodeAttempts allAttemptCounts
+with-two-bodies = record { takes = refl; goes = refl }
 
 -- ## step
 -- 4 for an area of another length than the consumer's, though a consumer could be started on it
-pub step-on-another-area : step (writing (written 0 0) 0) (replicate 1024 0) .outcome ≡ refused BadArea
+pub step-on-another-area : step (writing (written 0 0) 0) (replicate 10240 0) .outcome ≡ refused BadArea
 unfolding step
 step-on-another-area = refl
 
 -- a body behind the header's place on its own area
-pub step-on-its-own-area : step (writing (fresh accepted 1024) 0) (replicate 1024 0) .outcome ≡ done (record { block = 1; last = false })
-unfolding step encodeCursor encodeAttempts allAttemptCounts
+pub step-on-its-own-area : step (writing (fresh accepted 9216) 0) (replicate 9216 0) .outcome ≡ done (record { block = 1; last = false })
+unfolding step headerPlace zeroedFor encodeCursor encodeAttempts allAttemptCounts
 step-on-its-own-area = refl
+
+-- to the other half: zeros on its nine blocks, then the body, then the header
+pub step-zeroes-first : step (writing (written 8 0) 0) (replicate 9216 0) .outcome ≡ done (record { block = 9; last = false })
+unfolding step headerPlace zeroedFor encodeCursor encodeAttempts allAttemptCounts
+step-zeroes-first = refl
+
+pub step-zeroes-last : step (writing (written 8 0) 8) (replicate 9216 0) .outcome ≡ done (record { block = 17; last = false })
+unfolding step headerPlace zeroedFor encodeCursor encodeAttempts allAttemptCounts
+step-zeroes-last = refl
+
+pub step-behind-the-zeros : step (writing (written 8 0) 9) (replicate 9216 0) .outcome ≡ done (record { block = 10; last = false })
+unfolding step headerPlace zeroedFor encodeCursor encodeAttempts allAttemptCounts
+step-behind-the-zeros = refl
+
+pub step-of-the-header : step (writing (written 8 0) 10) (replicate 9216 0) .outcome ≡ done (record { block = 9; last = true })
+unfolding step headerPlace zeroedFor encodeCursor encodeAttempts allAttemptCounts
+step-of-the-header = refl
 
 -- ## blocks, as the journal itself has them
 -- 4 for a part of the area that is no block, and for a block behind the end

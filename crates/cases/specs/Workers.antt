@@ -19,7 +19,7 @@ use Rattle.consumer.specs.Questions.{Waiting, Committed, look}
 use Rattle.checkpoint.specs.Checkpoint.{begin, writing}
 use Rattle.cases.specs.States.{leasesFrom, tableOf}
 use Rattle.cases.specs.Consumer.{consumerOf, consumer, five, with, held, crowd, fragmented, handsOut}
-use Rattle.cases.specs.Journal.{written}
+use Rattle.cases.specs.Journal.{numbered}
 
 -- ## 38
 -- for worker 8, in every call; worker 7 is one
@@ -47,7 +47,7 @@ pub commit-by-worker-8 : commit (with (held 1 0)) 8 5 .outcome ≡ refused Unkno
 unfolding commit
 commit-by-worker-8 = refl
 
-pub begin-by-worker-8 : begin (written 17 0) 8 ≡ refused UnknownWorker
+pub begin-by-worker-8 : begin (numbered 4294967296 2 0) 8 ≡ refused UnknownWorker
 unfolding begin
 begin-by-worker-8 = refl
 
@@ -85,7 +85,7 @@ pub commit-not-permitted-before-unchanged : commit (with (held 1 0)) 2 5 .outcom
 unfolding commit
 commit-not-permitted-before-unchanged = refl
 
-pub begin-not-permitted-before-full : begin (written 17 0) 2 ≡ refused NotPermitted
+pub begin-not-permitted-before-full : begin (numbered 4294967296 2 0) 2 ≡ refused NotPermitted
 unfolding begin
 begin-not-permitted-before-full = refl
 

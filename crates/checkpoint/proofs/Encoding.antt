@@ -1,6 +1,6 @@
 -- What a begin makes of a sound consumer: how long its two snapshots are, both of them one behind the other at the front of the
--- bytes, and room for the group or none. Assumes nothing.
-use Prim.Native.Nat.{ℕ, suc, _+_, _*_, _/_, _≤_, _<_}
+-- bytes, and a number for the group or none. Assumes nothing.
+use Prim.Native.Nat.{ℕ, _+_, _*_, _≤_, _<_}
 use native.Mathlib.Omega.{arith}
 use native.Mathlib.Numerals.{add-one}
 use mathlib.Core.Path.{_≡_, refl, sym, ap, _∙_}
@@ -8,7 +8,7 @@ use mathlib.Core.List.{List}
 use mathlib.Core.Option.{some}
 use lib.ListN.{length, take, length-append}
 use borrow.Author.Tests.{lt-ltb, le-ltb}
-use Rattle.types.specs.Limits.{PAIRS}
+use Rattle.types.specs.Limits.{MAX32, PAIRS}
 use Rattle.types.specs.Refusal.{Refusal, Result, refused, UnknownWorker, NotPermitted}
 use Rattle.types.specs.Table.{Passed, answer}
 use Rattle.types.specs.Table as table
@@ -24,7 +24,8 @@ use Rattle.attempt.specs.Snapshot.{encodeInto2}
 use Rattle.attempt.proofs.Snapshot.{attempts-length}
 use Rattle.lease.specs.Counts.{allAttemptCounts}
 use Rattle.journal.proofs.Area.{whole-says}
-use Rattle.consumer.specs.State.{State, blocksOf}
+use Rattle.journal.specs.Blocks.{bodiesFor}
+use Rattle.consumer.specs.State.{State}
 use Rattle.consumer.specs.Valid.{Valid}
 use Rattle.consumer.specs.Rights.{checkpointing}
 use Rattle.consumer.specs.Calls.{callRows}
@@ -32,13 +33,13 @@ use Rattle.consumer.specs.View.{view, Sound}
 use Rattle.consumer.specs.declared.Consumer.{Consumer}
 use Rattle.consumer.proofs.Area.{area-taken}
 use Rattle.consumer.proofs.Counts.{counts-few}
-use Rattle.checkpoint.specs.Checkpoint.{cursorBytes, attemptBytes, payloadOf, bodies, beginRows, beginTable, begin}
-use Rattle.checkpoint.specs.Checkpoint as checkpoint
+use Rattle.checkpoint.specs.Checkpoint.{cursorBytes, attemptBytes, payloadOf, bodies, zeroedFor, zeros, beginRows, beginTable, begin}
 use Rattle.checkpoint.specs.Writing.{SoundWriting}
 use Rattle.checkpoint.specs.Parts.{recording, Lent, BegunAs}
 use Rattle.checkpoint.specs.declared.BeginAnswer.the-variants as begins
 use Rattle.checkpoint.specs.declared.BeginAnswer.the-variants.{Begun, JournalFull}
 use Rattle.checkpoint.proofs.Payload.{payload-fits}
+use Rattle.checkpoint.proofs.Places.{state-room}
 
 -- ## The lengths
 -- the arrays of counts have theirs
@@ -85,57 +86,50 @@ module _ (s : State) (v : Valid s) (b₀ b₁ b₂ : List ℕ) (o₁ o₂ : Resu
       rw (m, both) (take-overwritten 0 (payloadOf s) b₀ (omega (arith, fits)))
 
 -- ## The answer
-module _ (c : Consumer) (s : Sound c) (lc la : ℕ) (first : lc ≡ length (cursorBytes (view c))) (second : la ≡ length (attemptBytes (view c))) where
-  -- the block writes, counted as the code does
-  abbrev writes : ℕ
-  writes = (lc + la + 499) / 500 + 1
+module _ (c : Consumer) (s : Sound c) where
+  module _ (lc la : ℕ) (first : lc ≡ length (cursorBytes (view c))) (second : la ≡ length (attemptBytes (view c))) where
+    -- the bodies, counted as the code does
+    pub bodies-counted : bodiesFor (lc + la) ≡ bodies (view c)
+    bodies-counted = rw (payload-fits (view c) (s .valid) .total, first, second)
 
-  pub record Lengths : Type 0 where
-    pub cursor-len : lc ≤ 2061
-    pub attempt-len : la ≤ 1545
-    pub block : c .next .block ≤ 128
-    pub count : writes ≡ checkpoint.writes (view c)
+    pub bodies-few : (n : ℕ) → n ≡ bodiesFor (lc + la) → n ≤ 8
+    bodies-few n e = omega (arith, e ∙ bodies-counted, payload-fits (view c) (s .valid) .few-bodies)
 
-  pub lengths : Lengths
-  lengths =
-      let p = payload-fits (view c) (s .valid) in
-      record {
-        cursor-len = omega (arith, first, p .cursor-high);
-        attempt-len = omega (arith, second, p .attempt-high);
-        block = omega (arith, s .valid .within, whole-says (c .«area_len») (area-taken (c .«area_len») (s .valid .area)) .most);
-        count = rw (add-one, p .total, first, second);
-      }
+    pub zeroed-few : (n z : ℕ) → n ≡ bodiesFor (lc + la) → z ≡ zeroedFor (c .«area_len») (c .next .block) n → z ≤ 128
+    zeroed-few n z e f =
+        let is : z ≡ zeros (view c) = rw (← (e ∙ bodies-counted)) f in
+        omega (arith, is, state-room (view c) (s .valid) .zeroed, whole-says (c .«area_len») (area-taken (c .«area_len») (s .valid .area)) .most)
 
-  -- whatever record the consumer stands in, for a worker that may
-  module _ (w lc′ la′ : ℕ) (bytes : List ℕ) (worker : ℕ) (p : Passed (callRows (view c) worker checkpointing)) where
-    its-own : table.first (beginTable (view c) worker) ≡ table.first (beginRows (view c))
-    its-own = first-none-before (callRows (view c) worker checkpointing) (beginRows (view c)) (passed-none (callRows (view c) worker checkpointing) p)
+  -- the block of its next group is within the largest area
+  pub block-small : c .next .block ≤ 128
+  block-small = omega (arith, s .valid .within, whole-says (c .«area_len») (area-taken (c .«area_len») (s .valid .area)) .most)
 
-    pub begin-refused : blocksOf (view c) < c .next .block + writes
-        → BegunAs JournalFull worker (recording w lc′ la′ bytes c) (recording w lc′ la′ bytes c)
+-- whatever record the consumer stands in, for a worker that may
+module _ (c : Consumer) (s : Sound c) (w lc′ la′ : ℕ) (bytes : List ℕ) (worker : ℕ) (p : Passed (callRows (view c) worker checkpointing)) where
+  its-own : table.first (beginTable (view c) worker) ≡ table.first (beginRows (view c))
+  its-own = first-none-before (callRows (view c) worker checkpointing) (beginRows (view c)) (passed-none (callRows (view c) worker checkpointing) p)
+
+  pub begin-refused : MAX32 < c .next .number → BegunAs JournalFull worker (recording w lc′ la′ bytes c) (recording w lc′ la′ bytes c)
+  unfolding begin
+  begin-refused h =
+      let none = lt-ltb MAX32 (c .next .number) h in
+      record { begun = record { is = rw (its-own, none); sound = tt; kept = refl }; kept = refl }
+
+  module _ (lc la : ℕ) (first : lc ≡ length (cursorBytes (view c))) (second : la ≡ length (attemptBytes (view c))) where
+    pub begin-done : c .next .number ≤ MAX32 → (n z : ℕ) → n ≡ bodiesFor (lc + la) → z ≡ zeroedFor (c .«area_len») (c .next .block) n
+        → (after : List ℕ) → take (lc + la) after ≡ payloadOf (view c)
+        → BegunAs (Begun (z + (n + 1))) worker (recording w lc′ la′ bytes c) (recording 0 lc la after c)
     unfolding begin
-    begin-refused h =
-        let full = lt-ltb (blocksOf (view c)) (c .next .block + suc (bodies (view c))) (rw (lengths .count) at h) in
-        record { begun = record { is = rw (its-own, full); sound = tt; kept = refl }; kept = refl }
-
-    pub begin-done : c .next .block + writes ≤ blocksOf (view c) → (after : List ℕ) → take (lc + la) after ≡ payloadOf (view c)
-        → BegunAs (Begun writes) worker (recording w lc′ la′ bytes c) (recording 0 lc la after c)
-    unfolding begin
-    begin-done h after payload =
-        let room : c .next .block + suc (bodies (view c)) ≤ blocksOf (view c) = rw (lengths .count) at h in
+    begin-done h n z count zeroed after payload =
+        let n-is : n ≡ bodies (view c) = count ∙ bodies-counted c s lc la first second in
         let sound : SoundWriting (recording 0 lc la after c) =
         record {
           consumer = s;
-          valid = record { state = s .valid; room = room; few = omega arith };
+          valid = record { state = s .valid; numbered = h; few = omega arith };
           encoded = record { cursor-len = first; attempt-len = second; payload = payload };
         } in
         record {
-          begun =
-              record {
-                is = rw (its-own, le-ltb (blocksOf (view c)) (c .next .block + suc (bodies (view c))) room);
-                sound = (sound, lengths .count);
-                kept = refl;
-              };
+          begun = record { is = rw (its-own, le-ltb MAX32 (c .next .number) h); sound = (sound, rw (zeroed, n-is, add-one (bodies (view c)))); kept = refl };
           kept = tt;
         }
 

@@ -1,5 +1,7 @@
 pub mod Open
 pub mod Valid
 pub mod Payload
+pub mod Places
+pub mod Placing
 pub mod Encoding
 pub mod Steps

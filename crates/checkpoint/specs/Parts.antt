@@ -1,42 +1,47 @@
 -- The parts of a consumer and of a writing record, as a begin and a step in place are handed them, and what both answer on every
 -- consumer and every record that has them.
-use Prim.Native.Nat.{ℕ}
+use Prim.Native.Nat.{ℕ, suc, _+_, _-_}
 use mathlib.Core.Path.{_≡_}
+use mathlib.Core.Bool.{cond}
 use mathlib.Core.List.{List}
+use lib.Dec.{ltb, leb}
 use lib.ListN.{length}
 use Rattle.types.specs.Table.{Passed, Kept}
 use Rattle.cursor.specs.View as cursor
 use Rattle.cursor.specs.declared.AckCursor.{AckCursor}
 use Rattle.lease.specs.Parts.{gathered, Full}
 use Rattle.lease.specs.declared.LeaseTable.{LeaseTable}
-use Rattle.journal.specs.declared.Block.{Block}
+use Rattle.journal.specs.declared.Header.{Header}
 use Rattle.journal.specs.declared.Block.the-variants as block
 use Rattle.consumer.specs.Rights.{checkpointing}
 use Rattle.consumer.specs.Calls.{callRows}
 use Rattle.consumer.specs.View.{view, Sound}
 use Rattle.consumer.specs.Parts.{permitted}
 use Rattle.consumer.specs.declared.Consumer.{Consumer}
+use Rattle.checkpoint.specs.Checkpoint.{headerPlace, zeroedFor}
 use Rattle.checkpoint.specs.Writing.{SoundWriting, beginOf, BegunIs, SteppedIs}
 use Rattle.checkpoint.specs.declared.Writing.{Writing}
 use Rattle.checkpoint.specs.declared.BeginAnswer.{BeginAnswer}
 use Rattle.checkpoint.specs.declared.in_place.SteppedAt.{SteppedAt}
+use Rattle.checkpoint.specs.declared.in_place.Place.{Place}
+use Rattle.checkpoint.specs.declared.in_place.NextWrite.{NextWrite}
 
 -- ## begin
--- a consumer with these parts: its cursor, what its table counts, the block of its next group and the length of its area
-abbrev pub fitting : AckCursor → (LeaseTable → LeaseTable) → (block areaLen : ℕ) → Consumer → Consumer
-fitting cursor table b size c =
+-- a consumer with these parts: its cursor, what its table counts, its next group and the length of its area
+abbrev pub fitting : AckCursor → (LeaseTable → LeaseTable) → (number block areaLen : ℕ) → Consumer → Consumer
+fitting cursor table n b size c =
     record {
       cursor = cursor;
       table = table (c .table);
       ceiling = c .ceiling;
-      next = record { number = c .next .number; block = b };
+      next = record { number = n; block = b };
       «area_len» = size;
       settings = c .settings;
     }
 
 -- and with these rights
-abbrev pub beginning : List ℕ → AckCursor → (LeaseTable → LeaseTable) → (block areaLen : ℕ) → Consumer → Consumer
-beginning rights cursor table b size = permitted rights (fitting cursor table b size)
+abbrev pub beginning : List ℕ → AckCursor → (LeaseTable → LeaseTable) → (number block areaLen : ℕ) → Consumer → Consumer
+beginning rights cursor table n b size = permitted rights (fitting cursor table n b size)
 
 -- a record of a consumer
 abbrev pub recording : (written cursorLen attemptLen : ℕ) → List ℕ → Consumer → Writing
@@ -63,8 +68,8 @@ abbrev pub BegunIn : BeginAnswer → ℕ → (Consumer → Consumer) → (before
 BegunIn answer w parts before after = (c : Consumer) → Lent (parts c) → BegunAs answer w (before (parts c)) (after (parts c))
 
 -- the same for every worker that may
-abbrev pub FitsIn : BeginAnswer → (Consumer → Consumer) → (before after : Consumer → Writing) → Type 0
-FitsIn answer parts before after =
+abbrev pub PermittedIn : BeginAnswer → (Consumer → Consumer) → (before after : Consumer → Writing) → Type 0
+PermittedIn answer parts before after =
     (c : Consumer) → Lent (parts c) → (w : ℕ) → Passed (callRows (view (parts c)) w checkpointing)
     → BegunAs answer w (before (parts c)) (after (parts c))
 
@@ -136,6 +141,18 @@ SteppedIn p a r a′ =
     (w : Writing) → SoundWriting (withParts p w)
     → SteppedIs (withParts p w) a (record { answer = r .answer; writing = withParts (stepped p r) w }) a′
 
+-- where a group of n bodies goes
+pub record PlaceIs (size from n : ℕ) (r : Place) : Type 0 where
+  pub block : r .block ≡ headerPlace size from n
+  pub zeros : r .zeros ≡ zeroedFor size from n
+
+-- the next block write of a group of n bodies that goes there, after so many: zeros, then bodies, then the header
+pub record NextIs (place : Place) (n written : ℕ) (h : Header) (r : NextWrite) : Type 0 where
+  pub last : r .last ≡ leb (place .zeros + n) written
+  pub at : r .at
+      ≡ cond (ltb written (place .zeros)) (place .block + written) (cond (r .last) (place .block) (place .block + suc (written - place .zeros)))
+  pub block : r .block ≡ cond (ltb written (place .zeros)) block.Zeros (cond (r .last) (block.Header h) (block.Body (h .number) (suc (written - place .zeros))))
+
 -- the header of these numbers
-abbrev pub headerBy : (number ceiling cursorLen attemptLen : ℕ) → Block
-headerBy n c lc la = block.Header (record { number = n; ceiling = c; «cursor_len» = lc; «attempt_len» = la })
+abbrev pub headerBy : (number ceiling cursorLen attemptLen : ℕ) → Header
+headerBy n c lc la = record { number = n; ceiling = c; «cursor_len» = lc; «attempt_len» = la }

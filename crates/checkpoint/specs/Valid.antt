@@ -1,15 +1,15 @@
 -- What holds of every writing record that a begin and a step give, and of what a step leaves: the invariant that the contract of a
 -- step requires.
-use Prim.Native.Nat.{suc, _+_, _≤_}
-use Rattle.consumer.specs.State.{blocksOf}
+use Prim.Native.Nat.{_+_, _≤_}
+use Rattle.types.specs.Limits.{MAX32}
 use Rattle.consumer.specs.Valid.{Valid}
-use Rattle.checkpoint.specs.Checkpoint.{bodies, Writing, Left, going, finished}
+use Rattle.checkpoint.specs.Checkpoint.{bodies, zeros, Writing, Left, going, finished}
 
--- the state's invariant holds, its group fits, and no more bodies are written than it has
+-- the state's invariant holds, its group has a number that a header can hold, and no more is written than stands before the header
 pub record ValidWriting (w : Writing) : Type 0 where
   pub state : Valid (w .state)
-  pub room : w .state .next .block + suc (bodies (w .state)) ≤ blocksOf (w .state)
-  pub few : w .written ≤ bodies (w .state)
+  pub numbered : w .state .next .number ≤ MAX32
+  pub few : w .written ≤ zeros (w .state) + bodies (w .state)
 
 -- and of what a step leaves
 abbrev pub ValidLeft : Left → Type 0

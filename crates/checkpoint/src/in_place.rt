@@ -14,11 +14,11 @@ ghost use Rattle.lease.specs.Parts.{listingAll};
 ghost use Rattle.journal.specs.Area.{outside, writeAt};
 ghost use Rattle.journal.specs.Answers.{blockOf};
 ghost use Rattle.journal.specs.Blocks.{bodiesFor};
-ghost use Rattle.journal.specs.declared.Block.the-variants.{Body};
-ghost use Rattle.checkpoint.specs.Parts.{beginning, fitting, recording, Beginnable, BegunIn, FitsIn, parts, Steppable, SteppedIn, headerBy};
+ghost use Rattle.checkpoint.specs.Parts.{beginning, fitting, recording, Beginnable, BegunIn, PermittedIn, parts, PlaceIs, NextIs, Steppable, SteppedIn, headerBy};
 use crate::BeginAnswer;
 use crate::StepAnswer;
 use attempt::Encode;
+use consumer::halves;
 use consumer::rights;
 use consumer::rights::CHECKPOINT;
 use consumer::rights::Permission;
@@ -27,6 +27,7 @@ use journal::Block;
 use journal::Header;
 use types::limits::CARRIED;
 use types::limits::LEASES;
+use types::limits::MAX32;
 use types::limits::RANGES;
 use types::limits::WORKERS;
 use types::numbers;
@@ -78,6 +79,29 @@ fn put_counts<'a>(
     attempt::encode_columns_v2(&offsets[..n], &attempts[..n], out, at)
 }
 
+// Where a group goes: the block of its header, and how many blocks are zeroed before it, from there on.
+struct Place {
+    block: usize,
+    zeros: usize,
+}
+
+// Where a group of so many bodies goes: behind the last one, or to the other half where it doesn't fit.
+fn place_of(area_len: usize, block: usize, bodies: usize) -> Place
+    requires { ⌜ (block ≤ 128) × (bodies ≤ 8) ⌝ }
+    ensures { λ r. ⌜ PlaceIs «area_len» block bodies r ⌝ }
+{
+    if halves::half_end(area_len, block) < block + (bodies + 1) {
+        return Place {
+            block: halves::other_half(area_len, block),
+            zeros: halves::half_blocks(area_len),
+        };
+    }
+    Place {
+        block: block,
+        zeros: 0,
+    }
+}
+
 // What `begin` does on the parts of a consumer, and of the record that is to hold its payload, for a worker that may: 38 and 39
 // come first.
 pub fn begin_in_place<'a>(
@@ -88,6 +112,7 @@ pub fn begin_in_place<'a>(
     runs: usize,
     len: usize,
     carried_len: usize,
+    number: u64,
     block: usize,
     area_len: usize,
     worker: u64,
@@ -100,8 +125,8 @@ pub fn begin_in_place<'a>(
     carried_counts: &'a [u32; CARRIED],
     payload: &mut [u8; 3606],
 ) -> BegunAt
-    requires { ⌜ Beginnable (beginning (now rights) (ackCursor committed (now starts) (now ends) runs) (listingAll len «carried_len» (now offsets) (now deliveries) (now «carried_offsets») (now «carried_counts»)) block «area_len») (now payload) ⌝ }
-    ensures { λ r. ⌜ BegunIn (r .answer) worker (beginning (now (rights .entry)) (ackCursor committed (now (starts .entry)) (now (ends .entry)) runs) (listingAll len «carried_len» (now (offsets .entry)) (now (deliveries .entry)) (now («carried_offsets» .entry)) (now («carried_counts» .entry))) block «area_len»)
+    requires { ⌜ Beginnable (beginning (now rights) (ackCursor committed (now starts) (now ends) runs) (listingAll len «carried_len» (now offsets) (now deliveries) (now «carried_offsets») (now «carried_counts»)) number block «area_len») (now payload) ⌝ }
+    ensures { λ r. ⌜ BegunIn (r .answer) worker (beginning (now (rights .entry)) (ackCursor committed (now (starts .entry)) (now (ends .entry)) runs) (listingAll len «carried_len» (now (offsets .entry)) (now (deliveries .entry)) (now («carried_offsets» .entry)) (now («carried_counts» .entry))) number block «area_len»)
         (recording written «cursor_len» «attempt_len» (now (payload .entry))) (recording (r .written) (r .«cursor_len») (r .«attempt_len») (now (payload .exit))) ⌝ }
 {
     let permission = rights::permission_of(rights, worker, CHECKPOINT);
@@ -126,6 +151,7 @@ pub fn begin_in_place<'a>(
             runs,
             len,
             carried_len,
+            number,
             block,
             area_len,
             starts,
@@ -139,7 +165,8 @@ pub fn begin_in_place<'a>(
     }
 }
 
-// The same where the worker may: with room for the group both snapshots are encoded there, without it nothing changes (31).
+// The same where the worker may: both snapshots are encoded there, unless the number of the group is above the largest u32; then
+// nothing changes (31).
 fn begin_permitted<'a>(
     written: usize,
     cursor_len: usize,
@@ -148,6 +175,7 @@ fn begin_permitted<'a>(
     runs: usize,
     len: usize,
     carried_len: usize,
+    number: u64,
     block: usize,
     area_len: usize,
     starts: &'a [u64; RANGES],
@@ -158,10 +186,18 @@ fn begin_permitted<'a>(
     carried_counts: &'a [u32; CARRIED],
     payload: &mut [u8; 3606],
 ) -> BegunAt
-    requires { ⌜ Beginnable (fitting (ackCursor committed (now starts) (now ends) runs) (listingAll len «carried_len» (now offsets) (now deliveries) (now «carried_offsets») (now «carried_counts»)) block «area_len») (now payload) ⌝ }
-    ensures { λ r. ⌜ FitsIn (r .answer) (fitting (ackCursor committed (now (starts .entry)) (now (ends .entry)) runs) (listingAll len «carried_len» (now (offsets .entry)) (now (deliveries .entry)) (now («carried_offsets» .entry)) (now («carried_counts» .entry))) block «area_len»)
+    requires { ⌜ Beginnable (fitting (ackCursor committed (now starts) (now ends) runs) (listingAll len «carried_len» (now offsets) (now deliveries) (now «carried_offsets») (now «carried_counts»)) number block «area_len») (now payload) ⌝ }
+    ensures { λ r. ⌜ PermittedIn (r .answer) (fitting (ackCursor committed (now (starts .entry)) (now (ends .entry)) runs) (listingAll len «carried_len» (now (offsets .entry)) (now (deliveries .entry)) (now («carried_offsets» .entry)) (now («carried_counts» .entry))) number block «area_len»)
         (recording written «cursor_len» «attempt_len» (now (payload .entry))) (recording (r .written) (r .«cursor_len») (r .«attempt_len») (now (payload .exit))) ⌝ }
 {
+    if (MAX32 as u64) < number {
+        return BegunAt {
+            answer: BeginAnswer::JournalFull,
+            written,
+            cursor_len,
+            attempt_len,
+        };
+    }
     let counts = lease::in_place::all_counts_in_place(
         len,
         carried_len,
@@ -173,19 +209,14 @@ fn begin_permitted<'a>(
     let count = counts.len;
     let front = AckCursor::snapshot_len(runs);
     let behind = attempt::snapshot_len(count);
-    let writes = bodies_of(front, behind) + 1;
-    if area_len / 512 < block + writes {
-        return BegunAt {
-            answer: BeginAnswer::JournalFull,
-            written,
-            cursor_len,
-            attempt_len,
-        };
-    }
     cursor::in_place::encode_in_place(committed, starts, ends, runs, payload, 0);
     put_counts(&counts.offsets, &counts.attempts, count, payload, front);
+    let bodies = bodies_of(front, behind);
+    let place = place_of(area_len, block, bodies);
     BegunAt {
-        answer: BeginAnswer::Begun { writes: writes },
+        answer: BeginAnswer::Begun {
+            writes: place.zeros + (bodies + 1),
+        },
         written: 0,
         cursor_len: front,
         attempt_len: behind,
@@ -193,26 +224,54 @@ fn begin_permitted<'a>(
 }
 
 // The header of a group.
-fn header_of(number: u64, ceiling: u64, cursor_len: usize, attempt_len: usize) -> Block
-    requires { ⌜ (number ≤ 129) × («cursor_len» ≤ 4000) × («attempt_len» ≤ 4000) ⌝ }
+fn header_of(number: u64, ceiling: u64, cursor_len: usize, attempt_len: usize) -> Header
+    requires { ⌜ (number ≤ 4294967295) × («cursor_len» ≤ 4000) × («attempt_len» ≤ 4000) ⌝ }
     ensures { λ r. ⌜ r ≡ headerBy number ceiling «cursor_len» «attempt_len» ⌝ }
 {
-    Block::Header(Header {
+    Header {
         number: number as u32,
         ceiling: ceiling,
         cursor_len: cursor_len as u16,
         attempt_len: attempt_len as u16,
-    })
+    }
 }
 
-// A body of a group.
-fn body_of(number: u64, index: usize) -> Block
-    requires { ⌜ (number ≤ 129) × (index ≤ 9) ⌝ }
-    ensures { λ r. ⌜ r ≡ Body number index ⌝ }
+// A block write: where, what, and whether it is the checkpoint's last.
+struct NextWrite {
+    at: usize,
+    block: Block,
+    last: bool,
+}
+
+// The next block write of a checkpoint: zeros over the half that the group goes to, if it is another one, then its bodies behind
+// the header's place, then the header.
+fn next_write(place: Place, bodies: usize, written: usize, header: Header) -> NextWrite
+    requires { ⌜ (place .block ≤ 128) × (place .zeros ≤ 128) × (bodies ≤ 8) × (written ≤ 136) ⌝ }
+    ensures { λ r. ⌜ NextIs place bodies written header r ⌝ }
 {
-    Block::Body {
-        number: number as u32,
-        index: index as u8,
+    if written < place.zeros {
+        return NextWrite {
+            at: place.block + written,
+            block: Block::Zeros,
+            last: false,
+        };
+    }
+    if place.zeros + bodies <= written {
+        return NextWrite {
+            at: place.block,
+            block: Block::Header(header),
+            last: true,
+        };
+    }
+    let index = written - place.zeros + 1;
+    let number = header.number;
+    NextWrite {
+        at: place.block + index,
+        block: Block::Body {
+            number: number,
+            index: index as u8,
+        },
+        last: false,
     }
 }
 
@@ -253,26 +312,26 @@ pub fn step_in_place(
     }
     let total = cursor_len + attempt_len;
     let bodies = bodies_of(cursor_len, attempt_len);
-    if bodies <= written {
-        let raised = new_ceiling(next_generation);
-        let header = header_of(number, raised, cursor_len, attempt_len);
-        put_block(area, block, header, payload, total);
+    let place = place_of(area_len, block, bodies);
+    let raised = new_ceiling(next_generation);
+    let header = header_of(number, raised, cursor_len, attempt_len);
+    let next = next_write(place, bodies, written, header);
+    let at = next.at;
+    let content = next.block;
+    put_block(area, at, content, payload, total);
+    if next.last {
         return SteppedAt {
-            answer: StepAnswer::Finished { block: block },
+            answer: StepAnswer::Finished { block: at },
             written,
             ceiling: raised,
             redeliveries: redeliveries::after_flush(redeliveries),
             number: number + 1,
-            block: block + (bodies + 1),
+            block: at + (bodies + 1),
         };
     }
-    let index = written + 1;
-    let at = block + index;
-    let body = body_of(number, index);
-    put_block(area, at, body, payload, total);
     SteppedAt {
         answer: StepAnswer::Wrote { block: at },
-        written: index,
+        written: written + 1,
         ceiling,
         redeliveries,
         number,

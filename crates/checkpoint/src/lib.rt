@@ -46,7 +46,7 @@ pub struct Stepped {
 }
 
 // Takes a consumer into a record of the group to be written; nothing is written yet. Refused where the worker may not do that
-// (38, 39), or where fewer blocks are left than the group needs (31).
+// (38, 39), or where the group would have a number above the largest u32 (31).
 pub fn begin(consumer: Consumer, worker: u64) -> Begun
     requires { ⌜ Sound consumer ⌝ }
     ensures { λ r. ⌜ BegunIs consumer worker r ⌝ }
@@ -60,6 +60,7 @@ pub fn begin(consumer: Consumer, worker: u64) -> Begun
         consumer.cursor.runs,
         consumer.table.len,
         consumer.table.carried_len,
+        consumer.next.number,
         consumer.next.block,
         consumer.area_len,
         worker,
@@ -86,8 +87,8 @@ pub fn begin(consumer: Consumer, worker: u64) -> Begun
 }
 
 impl Writing {
-    // Makes the next block write, and no other: bodies 1 to n behind the header's place, then the header. An area of another
-    // length than the consumer was started on is refused (4).
+    // Makes the next block write, and no other: zeros over the other half, if the group goes there, bodies 1 to n behind the
+    // header's place, then the header. An area of another length than the consumer was started on is refused (4).
     pub fn step(mut self, area: &mut [u8]) -> Stepped
         requires { ⌜ SoundWriting self ⌝ }
         ensures { λ r. ⌜ SteppedIs self (now (area .entry)) r (now (area .exit)) ⌝ }

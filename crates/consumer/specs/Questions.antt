@@ -12,7 +12,7 @@ use Rattle.lease.specs.Operations.{leaseOf}
 use Rattle.lease.specs.Lookup.{leaseValues}
 use Rattle.lease.specs.Rest.{expiredOffsets, inFlight}
 use Rattle.lease.specs.Counts.{allAttemptCounts}
-use Rattle.consumer.specs.State.{State, blocksOf, countOr0}
+use Rattle.consumer.specs.State.{State, halfEnd, countOr0}
 use Rattle.consumer.specs.Calls.{atCeiling, atThreshold, callRows}
 use Rattle.consumer.specs.Rights.{looking}
 
@@ -48,6 +48,7 @@ pub data Question : Type 0 where
   InFlight : Question
   -- whether a checkpoint is due, for the ceiling and for the threshold
   IsDue : Question
+  -- the blocks that are left in the half in use: a group that takes more goes to the other
   BlocksLeft : Question
 
 -- what each question is answered, once it may be asked
@@ -59,7 +60,7 @@ reply s (LeaseOf o) = done (leaseValues (leaseOf (s .table) o))
 reply s (CountOf o) = done (countOf s o ∷ [])
 reply s InFlight = done (inFlight (s .table) ∷ [])
 reply s IsDue = done (bit (atCeiling s) ∷ bit (atThreshold s) ∷ [])
-reply s BlocksLeft = done ((blocksOf s - s .next .block) ∷ [])
+reply s BlocksLeft = done ((halfEnd (s .size) (s .next .block) - s .next .block) ∷ [])
 
 -- a question of worker w: 38, 39 first
 abbrev pub look : State → ℕ → Question → Result (List ℕ)

@@ -1,8 +1,9 @@
 -- The consumer's state, as document 01 lists it under "consumer", and the configuration that it is started with.
-use Prim.Native.Nat.{ℕ, _/_}
-use mathlib.Core.Bool.{Bool}
+use Prim.Native.Nat.{ℕ, _/_, _%_}
+use mathlib.Core.Bool.{Bool, cond, not, _||_}
 use mathlib.Core.List.{List}
 use mathlib.Core.Option.{Option, Option·getD}
+use lib.Dec.{eqb, ltb}
 use Rattle.cursor.specs.Cursor.{Cursor}
 use Rattle.lease.specs.declared.LeaseConfig.{LeaseConfig}
 use Rattle.lease.specs.State.{Table}
@@ -53,10 +54,30 @@ withTable s t = stateOf (s .cursor) t (s .ceiling) (s .next) (s .size) (s .setti
 abbrev pub withBoth : State → Cursor → Table → State
 withBoth s c t = stateOf c t (s .ceiling) (s .next) (s .size) (s .settings)
 
--- no consumer is started on an area of so many bytes: 4
+-- no consumer is started on an area of so many bytes: 4. It has to be two equal halves, of 9 blocks at least
 unfoldable pub badArea : ℕ → Bool
-badArea n = badLength n
+badArea n = badLength n || not (eqb (n / 512 % 2) 0) || ltb (n / 512) 18
 
 -- the blocks of the area
 abbrev pub blocksOf : State → ℕ
 blocksOf s = s .size / 512
+
+-- ## the two halves of an area of so many bytes
+-- the blocks of a half, which are also the first block of the second one
+abbrev pub halfBlocks : ℕ → ℕ
+halfBlocks size = size / 512 / 2
+
+-- the half in use, by the block where the next group would stand. It stands behind a group wherever the second half is in use, so
+-- behind its first block; a first half that is just full shows its end
+abbrev pub inSecond : ℕ → ℕ → Bool
+inSecond size block = ltb (halfBlocks size) block
+
+abbrev pub halfInUse : ℕ → ℕ → ℕ
+halfInUse size block = cond (inSecond size block) 1 0
+
+-- the block behind it, and the first block of the other half
+abbrev pub halfEnd : ℕ → ℕ → ℕ
+halfEnd size block = cond (inSecond size block) (size / 512) (halfBlocks size)
+
+abbrev pub otherHalf : ℕ → ℕ → ℕ
+otherHalf size block = cond (inSecond size block) 0 (halfBlocks size)

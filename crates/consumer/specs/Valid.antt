@@ -46,4 +46,5 @@ pub record Valid (s : State) : Type 0 where
   pub accepted : Accepted (s .settings)
   pub area : badArea (s .size) ≡ false
   pub within : s .next .block ≤ blocksOf s
-  pub numbered : s .next .number ≤ suc (s .next .block)
+  -- behind the last group number that there is
+  pub numbered : s .next .number ≤ suc MAX32

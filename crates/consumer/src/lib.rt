@@ -10,6 +10,7 @@ use types::Generation;
 use types::limits::WORKERS;
 
 pub mod calls;
+pub mod halves;
 pub mod in_place;
 pub mod queries;
 pub mod rights;

@@ -1,8 +1,8 @@
--- The invariant of demand 3's lists, in its parts: the groups on the journal, with nothing behind them that could be taken for
--- a header; the state that a restart would answer now, which is read from the last group and is the book's copy; and who can be
--- called, in agreement with the book's page.
+-- The invariant of demand 3's lists, in its parts: the groups in the half that a restart reads, with nothing behind them there that
+-- could be taken for a header, whatever the other half holds; the state that a restart would answer now, which is read from the last
+-- group and is the book's copy; and who can be called, in agreement with the book's page.
 -- Assumes nothing.
-use Prim.Native.Nat.{ℕ, suc, _+_, _/_, _≤_, _<_}
+use Prim.Native.Nat.{ℕ, suc, _+_, _≤_, _<_}
 use mathlib.Core.Path.{_≡_}
 use mathlib.Core.Bool.{false}
 use mathlib.Core.List.{List}
@@ -17,9 +17,9 @@ use Rattle.journal.specs.Walks.{stop, walk}
 use Rattle.consumer.specs.State.{Configuration, State, NextGroup}
 use Rattle.consumer.specs.Questions.{countOf}
 use Rattle.consumer.specs.Valid.{Valid}
-use Rattle.checkpoint.specs.Checkpoint.{Writing, bodyOf}
+use Rattle.checkpoint.specs.Checkpoint.{groupBlock, zeros, bodyOf, Writing}
 use Rattle.checkpoint.specs.Valid.{ValidWriting}
-use Rattle.starts.specs.Restart.{resumed, origin, lastGroup}
+use Rattle.starts.specs.Restart.{resumed, origin, limit, lastGroup}
 use Rattle.machine.specs.Transitions.{Phase, idle, writing, off}
 use Rattle.crash_safety.specs.Runs.{World}
 use Rattle.crash_safety.specs.Book.{Page}
@@ -47,7 +47,7 @@ restored c n v = resumed c n (v .cursor) (v .counts) (v .ceiling) (v .next)
 pub record Journal (c : Configuration) (n : ℕ) (a : List ℕ) (v : Saved) : Type 0 where
   pub size : length a ≡ n
   pub last : Option ℕ
-  pub groups : Groups a (n / 512) (origin a .number) (origin a .block) last (v .next)
+  pub groups : Groups a (limit a) (origin a .number) (origin a .block) last (v .next)
   pub reads : lastGroup c a last (v .next) ≡ done (restored c n v)
   pub valid : Valid (restored c n v)
 
@@ -68,10 +68,11 @@ pub record Stands (c : Configuration) (n : ℕ) (v : Saved) (l : Ledger) (s : St
   pub redeliveries : s .table .redeliveries ≡ l .redeliveries
   pub floor : l .floor ≤ s .table .nextGeneration
 
--- a record, whose first bodies stand behind the header's place
+-- a record: no block that it zeroed is a header, and its first bodies stand behind the header's place
 pub record Written (a : List ℕ) (w : Writing) : Type 0 where
   pub valid : ValidWriting w
-  pub behind : (j : ℕ) → j < w .written → blockAt a (w .state .next .block + suc j) ≡ bodyOf (w .state) (suc j)
+  pub zeroed : (j : ℕ) → j < w .written → j < zeros (w .state) → hasHeaderKind (blockAt a (groupBlock (w .state) + j)) ≡ false
+  pub behind : (j : ℕ) → zeros (w .state) + j < w .written → blockAt a (groupBlock (w .state) + suc j) ≡ bodyOf (w .state) (suc j)
 
 -- the state, a record, or nobody: then no generation was handed out that a restart's first one is not above
 abbrev pub Callable : Configuration → ℕ → Saved → Ledger → List ℕ → Phase → Type 0

@@ -6,6 +6,7 @@ pub mod Items
 pub mod Restarts
 pub mod Invariant
 pub mod Groups
+pub mod Origins
 pub mod Journals
 pub mod Writes
 pub mod Asks
@@ -23,3 +24,5 @@ pub mod Recovery
 pub mod Worn
 pub mod Useful
 pub mod Ran
+pub mod Numbers
+pub mod Halves

@@ -1,8 +1,8 @@
 -- A fresh consumer on a zeroed journal is within the invariant: there are no groups, no block could be taken for a header, and
 -- the book is empty. Assumes nothing.
-use Prim.Native.Nat.{ℕ, _/_}
+use Prim.Native.Nat.{ℕ}
 use native.Mathlib.Omega.{arith}
-use mathlib.Core.Path.{_≡_, refl}
+use mathlib.Core.Path.{_≡_, refl, _∙_}
 use mathlib.Core.Bool.{false, _||_}
 use mathlib.Core.List.{[]}
 use mathlib.Core.Option.{none}
@@ -17,9 +17,10 @@ use Rattle.journal.proofs.Blocks.{zeros}
 use Rattle.journal.proofs.Walks.{headless-zeros, walk-zeros}
 use Rattle.consumer.specs.State.{Configuration, State, nextGroupAt}
 use Rattle.consumer.specs.Valid.{Fits, Valid}
-use Rattle.starts.specs.Restart.{startTable, fresh, start}
+use Rattle.starts.specs.Restart.{startTable, fresh, start, origin, limit}
 use Rattle.starts.proofs.Open.{start-open}
 use Rattle.starts.proofs.Valid.{fresh-valid}
+use Rattle.starts.proofs.Zeros.{origin-zeros}
 use Rattle.crash_safety.specs.Runs.{freshWorld}
 use Rattle.crash_safety.specs.Book.{blank}
 use Rattle.crash_safety.specs.Demand3.{Finds}
@@ -37,7 +38,7 @@ module _ (c : Configuration) (n : ℕ) (v : Valid (fresh c n)) where
         size = length-replicate n 0;
         last = none;
         groups = record {
-          walks = walk-zeros (replicate n 0) (zeros n) (n / 512) 1 0;
+          walks = walk-zeros (replicate n 0) (zeros n) (limit (replicate n 0)) (origin (replicate n 0) .number) (origin (replicate n 0) .block) ∙ rw (origin-zeros n);
           clear = λ j l h. headless-zeros (replicate n 0) (zeros n) j;
         };
         reads = rw (length-replicate {A = ℕ} n 0);

@@ -1,27 +1,28 @@
 -- Begin, each step, each way in which the power may fail in a step, and a restart keep the invariant and the law. Assumes
 -- nothing.
-use Prim.Native.Nat.{ℕ, suc, _+_, _≤_, _<_}
+use Prim.Native.Nat.{ℕ, suc, _≤_}
 use native.Mathlib.Omega.{arith}
 use mathlib.Core.Path.{_≡_, refl, sym, _∙_}
-use mathlib.Core.Bool.{true, false}
+use mathlib.Core.Bool.{Bool, true, false, cond}
 use mathlib.Core.List.{List}
 use mathlib.Core.Option.{Option}
 use lib.Dec.{eqb}
 use lib.ListN.{length}
-use borrow.Author.Tests.{eqb-false, leb-true, leb-false, eq-eqb, ne-eqb}
+use borrow.Author.Tests.{eqb-false, eq-eqb, ne-eqb}
 use Rattle.types.specs.Refusal.{Result, refused, done}
 use Rattle.types.specs.Table.{Passed}
 use Rattle.types.proofs.Cases.{split}
 use Rattle.lease.specs.Counts.{allAttemptCounts}
 use Rattle.journal.specs.Area.{writeAt}
 use Rattle.consumer.specs.State.{Configuration, State}
-use Rattle.checkpoint.specs.Checkpoint.{bodies, bodyOf, headerOf, flushed, Writing, isLast, nextPlace, step}
+use Rattle.checkpoint.specs.Checkpoint.{flushed, Writing, isLast, nextPlace, nextBlock, going, step}
 use Rattle.checkpoint.specs.Checkpoint as checkpoint
 use Rattle.checkpoint.proofs.Open.{begin-says}
 use Rattle.checkpoint.proofs.Valid.{flushed-valid}
 use Rattle.starts.specs.Restart.{startTable}
 use Rattle.starts.specs.Restart as restarts
-use Rattle.machine.specs.Transitions.{Phase, idle, writing, off, After, beganAs, steppedAs, restartedAs}
+use Rattle.machine.specs.Calls.{stepped, failed}
+use Rattle.machine.specs.Transitions.{Phase, idle, writing, off, After, gives, leftAs, beganAs, steppedAs, restartedAs}
 use Rattle.crash_safety.specs.Book.{Page, renewed}
 use Rattle.power_cut.specs.Cut.{Cut, old, new, torn, isTorn, cutAt, cutOn}
 use Rattle.crash_safety.specs.Runs.{world, keepsJournal}
@@ -30,7 +31,7 @@ use Rattle.crash_safety.proofs.Law.{Ledger, ledger, noted, Law}
 use Rattle.crash_safety.proofs.Runs.{Answered}
 use Rattle.crash_safety.proofs.Invariant.{Saved, restored, Journal, Agrees, Stands, Written, Inv}
 use Rattle.crash_safety.proofs.Journals.{restart-finds, stored}
-use Rattle.crash_safety.proofs.Writes.{none-written, body-journal, body-written, header-journal, torn-journal}
+use Rattle.crash_safety.proofs.Writes.{none-written, more-journal, more-written, header-journal, torn-journal}
 
 -- a state without leases has the counts that it carries
 pub restored-agrees : (c : Configuration) (n : ℕ) (v : Saved) (p : Page) → Finds p (restored c n v) → Agrees p (restored c n v)
@@ -38,7 +39,7 @@ unfolding allAttemptCounts
 restored-agrees c n v p f = record { settles = f .settles; counts = f .counts }
 
 -- what a checkpoint stores of a state is found again
-stored-found : (c : Configuration) (n : ℕ) (s : State) (p : Page) → Agrees p s → Finds p (restored c n (stored s))
+pub stored-found : (c : Configuration) (n : ℕ) (s : State) (p : Page) → Agrees p s → Finds p (restored c n (stored s))
 stored-found c n s p g = record { settles = g .settles; counts = g .counts }
 
 flushed-agrees : (s : State) (p : Page) → Agrees p s → Agrees p (flushed s)
@@ -89,7 +90,7 @@ module _ (c : Configuration) (n : ℕ) (l : Ledger) (a : List ℕ) where
           saved = inv .saved;
           journal = inv .journal;
           finds = inv .finds;
-          callable = rw (← d .1) (inv .callable, none-written s a (inv .callable .valid) (d .0 .room));
+          callable = rw (← d .1) (inv .callable, none-written s a (inv .callable .valid) (d .0 .numbered));
         };
       }
 
@@ -107,39 +108,37 @@ module _ (c : Configuration) (n : ℕ) (l : Ledger) (a : List ℕ) where
     abbrev so-far : Written a w
     so-far = inv .callable .1
 
-    -- the next body
-    module _ (more : w .written < bodies s) where
-      abbrev longer : List ℕ
-      longer = writeAt a (s .next .block + suc (w .written)) (bodyOf s (suc (w .written)))
+    -- the journal with the next block
+    abbrev longer : List ℕ
+    longer = writeAt a (nextPlace w) (nextBlock w)
 
-      body-kept : Journal c n longer (inv .saved)
-      body-kept = body-journal c n (inv .saved) l a w (inv .journal) now so-far more
+    -- zeros or a body
+    module _ (more : isLast w ≡ false) where
+      more-kept : Journal c n longer (inv .saved)
+      more-kept = more-journal c n (inv .saved) l a w (inv .journal) now so-far more
 
-      body-made : Inv c n l (world (writing (checkpoint.writing s (suc (w .written)))) longer)
-      body-made =
+      more-made : Inv c n l (world (writing (checkpoint.writing s (suc (w .written)))) longer)
+      more-made =
           record {
             saved = inv .saved;
-            journal = body-kept;
+            journal = more-kept;
             finds = inv .finds;
-            callable = (now, body-written c n (inv .saved) l a w (inv .journal) now so-far more);
+            callable = (now, more-written c n (inv .saved) l a w (inv .journal) now so-far more);
           }
 
     -- the header
-    module _ (all : bodies s ≤ w .written) where
-      abbrev full : List ℕ
-      full = writeAt a (s .next .block) (headerOf s)
-
-      full-kept : Journal c n full (stored s)
+    module _ (all : isLast w ≡ true) where
+      full-kept : Journal c n longer (stored s)
       full-kept = header-journal c n (inv .saved) l a w (inv .journal) now so-far all
 
-      finished : Inv c n (ledger (renewed (l .book)) 0 (l .floor)) (world (idle (flushed s)) full)
+      finished : Inv c n (ledger (renewed (l .book)) 0 (l .floor)) (world (idle (flushed s)) longer)
       finished =
           record {
             saved = stored s;
             journal = full-kept;
             finds = stored-found c n s (l .book .page) (now .agrees);
             callable = record {
-              valid = flushed-valid s (so-far .valid .room) (now .valid);
+              valid = flushed-valid s (so-far .valid .numbered) (now .valid);
               size = now .size;
               settings = now .settings;
               ceiling = refl;
@@ -150,7 +149,7 @@ module _ (c : Configuration) (n : ℕ) (l : Ledger) (a : List ℕ) where
             };
           }
 
-      left-new : Inv c n (ledger (renewed (l .book)) 0 (l .floor)) (world off full)
+      left-new : Inv c n (ledger (renewed (l .book)) 0 (l .floor)) (world off longer)
       left-new =
           record {
             saved = stored s;
@@ -162,13 +161,16 @@ module _ (c : Configuration) (n : ℕ) (l : Ledger) (a : List ℕ) where
     same-length : eqb (length a) (s .size) ≡ true
     same-length = eq-eqb (length a) (s .size) (inv .journal .size ∙ sym (now .size))
 
+    -- by whether the block is the header
+    made-kept : (last : Bool) → isLast w ≡ last
+        → Kept (gives (stepped (done (record { block = nextPlace w; last = last })))
+        (leftAs (cond last (checkpoint.finished (flushed s)) (going (checkpoint.writing s (suc (w .written)))))) longer)
+    made-kept true t = record { says = (tt, tt, tt); keeps = finished t }
+    made-kept false t = record { says = (tt, tt, tt); keeps = more-made t }
+
     pub step-kept : Kept (steppedAs (step w a))
     unfolding step
-    step-kept =
-        rw same-length
-        (split (isLast w)
-        (λ t. rw t (record { says = (tt, tt, tt); keeps = finished (leb-true (bodies s) (w .written) t) }))
-        (λ t. rw t (record { says = (tt, tt, tt); keeps = body-made (leb-false (bodies s) (w .written) t) })))
+    step-kept = rw same-length (made-kept (isLast w) refl)
 
     -- other memory is refused
     pub elsewhere-kept : (b : List ℕ) → eqb (length b) (length a) ≡ false → Kept (keepsJournal a (steppedAs (step w b)))
@@ -181,14 +183,13 @@ module _ (c : Configuration) (n : ℕ) (l : Ledger) (a : List ℕ) where
     left-off : (a′ : List ℕ) → Journal c n a′ (inv .saved) → Inv c n l (world off a′)
     left-off a′ j = record { saved = inv .saved; journal = j; finds = inv .finds; callable = below-ceiling (writing w) inv }
 
+    new-kept : (last : Bool) → isLast w ≡ last → Kept (gives (failed last) off longer)
+    new-kept true t = record { says = (tt, tt, tt); keeps = left-new t }
+    new-kept false t = record { says = (tt, tt, tt); keeps = left-off longer (more-kept t) }
+
     cut-at-kept : (k : Cut) → Kept (cutAt w a k)
     cut-at-kept old = record { says = (tt, tt, tt); keeps = left-off a (inv .journal) }
-    cut-at-kept new =
-        split (isLast w)
-        (λ t. rw t (record { says = (tt, tt, tt); keeps = left-new (leb-true (bodies s) (w .written) t) }))
-        (λ t.
-        let more : w .written < bodies s = leb-false (bodies s) (w .written) t in
-        rw t (record { says = (tt, tt, tt); keeps = left-off (longer more) (body-kept more) }))
+    cut-at-kept new = new-kept (isLast w) refl
     cut-at-kept (torn b) =
         split (isTorn b)
         (λ t. rw t (record {

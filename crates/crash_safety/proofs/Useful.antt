@@ -1,6 +1,6 @@
--- Not useless: a checkpoint is made where there is room, after it no claim waits for another, and the waiting list is what the
+-- Not useless: a checkpoint is made where there is a number for it, after it no claim waits for another, and the waiting list is what the
 -- book and the leases say. Assumes nothing.
-use Prim.Native.Nat.{ℕ, _+_, _≤_, _<_}
+use Prim.Native.Nat.{ℕ, suc, _≤_, _<_}
 use native.Mathlib.Omega.{arith}
 use mathlib.Core.Path.{_≡_, refl, sym, ap, ap₂, _∙_}
 use mathlib.Core.Bool.{Bool, false, cond, not, _&&_, _||_, and-false}
@@ -29,18 +29,18 @@ use Rattle.consumer.specs.Valid.{Valid}
 use Rattle.consumer.proofs.Counts.{count-is, lease-count, carried-count}
 use Rattle.consumer.proofs.Questions.{waiting-once}
 use Rattle.checkpoint.specs.Checkpoint as checkpoints
-use Rattle.checkpoint.specs.Checkpoint.{bodies, flushed}
+use Rattle.checkpoint.specs.Checkpoint.{writes, flushed}
 use Rattle.machine.specs.Transitions.{Phase, idle, writing}
 use Rattle.machine.specs.Calls.{step}
 use Rattle.crash_safety.specs.Book.{Page}
 use Rattle.crash_safety.specs.Runs.{call, World, world, run, ends, freshWorld}
 use Rattle.crash_safety.specs.Workers.{May}
-use Rattle.crash_safety.specs.Recovery.{begun, HasRoom}
+use Rattle.crash_safety.specs.Recovery.{begun, HasNumber}
 use Rattle.crash_safety.specs.Useful.{steps, AllAccepted, checkpoint, Checkpointed, Claimable, waitsByBook, Useful, NotUseless}
 use Rattle.crash_safety.proofs.Law.{Ledger}
 use Rattle.crash_safety.proofs.Invariant.{Agrees, Inv}
 use Rattle.crash_safety.proofs.Runs.{run-made, ends-made, ends-none}
-use Rattle.crash_safety.proofs.Checkpoints.{has-begun, begun-more, last-step}
+use Rattle.crash_safety.proofs.Checkpoints.{before, has-begun, begun-more, last-step}
 use Rattle.crash_safety.proofs.Reached.{reached}
 
 -- ## claims after a checkpoint
@@ -111,21 +111,22 @@ module _ (s : State) (v : Valid s) (p : Page) (agrees : Agrees p s) (now o : ℕ
   waiting-right = waiting-once s v now o ∙ rw (← agrees .settles o, ← agrees .counts o) (ap (λ (b : Bool). cond b 1 0) waits-right)
 
 -- ## a checkpoint
-none-wrote : (c : Configuration) (w : World) → AllAccepted (run c w [])
+pub none-wrote : (c : Configuration) (w : World) → AllAccepted (run c w [])
 unfolding run AllAccepted
 none-wrote c w = tt
 
 module _ (c : Configuration) (n : ℕ) (l : Ledger) (s : State) (a : List ℕ) (inv : Inv c n l (world (idle s) a)) where
-  checkpointed : (worker : ℕ) → May c worker checkpointing → HasRoom s → Checkpointed c worker (world (idle s) a) s
+  checkpointed : (worker : ℕ) → May c worker checkpointing → HasNumber s → Checkpointed c worker (world (idle s) a) s
   unfolding AllAccepted
-  checkpointed worker may room =
-      let k : ℕ = bodies s in
-      let h : k ≤ bodies s = omega arith in
-      let b = has-begun c n (inv .saved) l s (inv .callable) worker may room a (inv .journal) k h in
+  checkpointed worker may numbered =
+      let k : ℕ = before s in
+      let h : k ≤ before s = omega arith in
+      let b = has-begun c n (inv .saved) l s (inv .callable) worker may numbered a (inv .journal) k h in
       let last = last-step c n (inv .saved) l s (inv .callable) k (b .area) (b .midway) h in
       let w : World = world (idle s) a in
       let mid : World = world (writing (checkpoints.writing s k)) (b .area) in
-      let items : checkpoint worker s ≡ begun worker k ++ call step ∷ [] = sym (append-nil (checkpoint worker s)) ∙ begun-more worker k [] in
+      let all : writes s ≡ suc k = omega arith in
+      let items : checkpoint worker s ≡ begun worker k ++ call step ∷ [] = ap (begun worker) all ∙ sym (append-nil (begun worker (suc k))) ∙ begun-more worker k [] in
       record {
         wrote = rw items (b .leads .wrote (call step ∷ []) (rw (run-made c mid (call step) [] _ last) (steps _, none-wrote c _)));
         leaves = rw items (ap (λ (u : World). u .phase)

@@ -8,4 +8,5 @@ pub mod Settled
 pub mod Recovery
 pub mod Useful
 pub mod Worn
+pub mod Halves
 pub mod Ran

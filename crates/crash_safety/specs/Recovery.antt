@@ -2,16 +2,17 @@
 -- checkpoint counts by its header: with the power failing in any of its steps, unless that leaves the header wholly written, a
 -- restart gives the consumer that a restart would have given in place of the checkpoint; with the header wholly written it gives
 -- the one that a restart gives after the finished checkpoint. And whatever list came before, a step can be cut in each of its ways.
-use Prim.Native.Nat.{ℕ, suc, _+_, _≤_, _<_}
+use Prim.Native.Nat.{ℕ, suc, _≤_, _<_}
 use mathlib.Core.Path.{_≡_}
 use mathlib.Core.Bool.{true}
 use mathlib.Core.List.{List, [], _∷_, _++_}
 use lib.ListN.{replicate}
+use Rattle.types.specs.Limits.{MAX32}
 use Rattle.types.specs.Refusal.{done}
-use Rattle.consumer.specs.State.{Configuration, State, blocksOf}
+use Rattle.consumer.specs.State.{Configuration, State}
 use Rattle.consumer.specs.Valid.{Fits}
 use Rattle.consumer.specs.Rights.{checkpointing}
-use Rattle.checkpoint.specs.Checkpoint.{bodies, writes, Writing}
+use Rattle.checkpoint.specs.Checkpoint.{writes, Writing}
 use Rattle.starts.specs.Restart.{start}
 use Rattle.machine.specs.Calls.{begin, step, restart}
 use Rattle.machine.specs.Transitions.{idle, writing}
@@ -39,9 +40,9 @@ begun v k = call (begin v) ∷ replicate k (call step)
 abbrev pub thenCut : Cut → List Item
 thenCut k = cut k ∷ call restart ∷ []
 
--- the journal has room for one more group
-abbrev pub HasRoom : State → Type 0
-HasRoom s = s .next .block + suc (bodies s) ≤ blocksOf s
+-- a header can hold the number of the next group
+abbrev pub HasNumber : State → Type 0
+HasNumber s = s .next .number ≤ MAX32
 
 pub record WritesCount (c : Configuration) (v : ℕ) (w : World) (s : State) : Type 0 where
   pub left-old : (k : ℕ) → k < writes s → ends c w (begun v k ++ thenCut old) .phase ≡ ends c w (call restart ∷ []) .phase
@@ -51,11 +52,11 @@ pub record WritesCount (c : Configuration) (v : ℕ) (w : World) (s : State) : T
   pub left-new : (k : ℕ) → suc k ≡ writes s
       → ends c w (begun v k ++ thenCut new) .phase ≡ ends c w (begun v (writes s) ++ call restart ∷ []) .phase
 
--- after every list that leaves a state with room for one more group, whichever worker begins that may
+-- after every list that leaves a state with a number for one more group, whichever worker begins that may
 unfoldable pub EveryWriteCounts : Type 0
 EveryWriteCounts =
     (c : Configuration) (size : ℕ) (s : State) (items : List Item) → Fits (c .settings) → start c size ≡ done s
-    → (left : State) → ends c (freshWorld s size) items .phase ≡ idle left → HasRoom left
+    → (left : State) → ends c (freshWorld s size) items .phase ≡ idle left → HasNumber left
     → (v : ℕ) → May c v checkpointing → WritesCount c v (ends c (freshWorld s size) items) left
 
 -- ## cuts

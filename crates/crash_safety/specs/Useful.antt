@@ -1,5 +1,5 @@
--- Not useless. After every list that leaves a state with room for one more group, the begin of a worker who may checkpoint and its steps
--- are not refused; a claim of one who may claim is then granted, but for the last offset, a settled one, one that is held, when
+-- Not useless. After every list that leaves a state with a number for one more group, the begin of a worker who may checkpoint and its
+-- steps are not refused; a claim of one who may claim is then granted, but for the last offset, a settled one, one that is held, when
 -- generations or room for it are used up. And the waiting list of every state holds each offset just once that the book has unsettled
 -- with a count, and that no lease holds.
 use Prim.Native.Nat.{ℕ}
@@ -26,7 +26,7 @@ use Rattle.crash_safety.specs.Book.{Page, emptyBook, bookAfter}
 use Rattle.crash_safety.specs.Runs.{Item, World, run, ends, freshWorld}
 use Rattle.crash_safety.specs.Workers.{May}
 use Rattle.crash_safety.specs.Recovery as recovery
-use Rattle.crash_safety.specs.Recovery.{HasRoom}
+use Rattle.crash_safety.specs.Recovery.{HasNumber}
 
 -- a begin or a step that is not refused
 pub data Accepted : Event → Type 0 where
@@ -59,7 +59,7 @@ abbrev pub waitsByBook : Page → State → ℕ → ℕ → Bool
 waitsByBook p s now o = not (p .settled o) && not (eqb (p .count o) 0) && not (running (leaseOf (s .table) o) now)
 
 pub record Useful (c : Configuration) (w : World) (s : State) (p : Page) : Type 0 where
-  pub checkpoints : (v : ℕ) → May c v checkpointing → HasRoom s → Checkpointed c v w s
+  pub checkpoints : (v : ℕ) → May c v checkpointing → HasNumber s → Checkpointed c v w s
   -- right after a checkpoint
   pub claims : (v o now : ℕ) → May c v claiming → Claimable s o now → claim (flushed s) v o now .outcome ≡ done (handOut (flushed s) o)
   pub not-due : (v o now : ℕ) → claim (flushed s) v o now .outcome ≡ refused CheckpointDue → ⊥

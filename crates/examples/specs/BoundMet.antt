@@ -18,7 +18,7 @@ use Rattle.consumer.specs.State.{badArea}
 use Rattle.consumer.specs.Calls as consumer
 use Rattle.checkpoint.specs.Checkpoint as checkpoint
 use Rattle.starts.specs.Restart as restarts
-use Rattle.starts.specs.Restart.{fresh, fromWalk}
+use Rattle.starts.specs.Restart.{fresh, origin, fromWalk}
 use Rattle.examples.specs.Consumer.{configuration}
 use Rattle.machine.specs.Calls.{claim, ask, begin, step, restart}
 use Rattle.machine.specs.Transitions.{transition}
@@ -39,5 +39,5 @@ items =
 
 pub bound-met : handOuts (delivers 0) (run configuration (freshWorld (fresh configuration 9216) 9216) items)
     ≡ configuration .settings .policy .maxDeliver + restartsIn items * (configuration .settings .policy .flushRedeliveries + 1)
-unfolding handOuts restartsIn run next transition consumer.claim checkpoint.begin checkpoint.step badArea restarts.restart fromWalk allAttemptCounts encodeCursor decodeCursor encodeAttempts decodeAttempts blockAt writeAt headerBlock bodyBlock isKind wellFormed soundHeader soundBody groupAt walkOver walkFrom headerBehind payload isSealed bits unbits polynomial crc xor
+unfolding handOuts restartsIn run next transition consumer.claim checkpoint.begin checkpoint.headerPlace checkpoint.zeroedFor checkpoint.step badArea restarts.restart origin fromWalk allAttemptCounts encodeCursor decodeCursor encodeAttempts decodeAttempts blockAt writeAt headerBlock bodyBlock isKind wellFormed soundHeader soundBody groupAt walkOver walkFrom headerBehind payload isSealed bits unbits polynomial crc xor
 bound-met = refl

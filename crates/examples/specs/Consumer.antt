@@ -1,11 +1,12 @@
 -- The settled examples 13 and 14 of document 01, and a restart on a foreign journal, computed on the definitions that the
 -- contracts cite.
-use Prim.Native.Nat.{ℕ, zero, suc, _+_, _*_, _≤_, _<_}
+use Prim.Native.Nat.{ℕ, zero, suc, _+_, _-_, _*_, _≤_, _<_}
 use native.Mathlib.Omega.{arith}
 use mathlib.Core.Path.{_≡_, refl, sym, ap, _∙_}
 use mathlib.Core.Bool.{false, xor}
 use mathlib.Core.List.{List, [], _∷_, _++_}
-use lib.ListN.{length, take, replicate, drop-of-length-le}
+use lib.ListN.{length, take, drop, replicate}
+use lib.Seq.{drop-append-add}
 use Rattle.types.specs.Limits.{MAX}
 use Rattle.types.specs.Keyed.{entry}
 use Rattle.types.specs.Refusal.{Result, refused, done, CheckpointDue}
@@ -24,8 +25,8 @@ use Rattle.journal.specs.Walks.{groupAt, walkOver, walkFrom, headerBehind, payl
 use Rattle.consumer.specs.State.{Configuration, State, nextGroupAt, badArea}
 use Rattle.consumer.specs.Rights.{claiming, bitOf, workerRows}
 use Rattle.consumer.specs.Calls.{HandOut, claim}
-use Rattle.checkpoint.specs.Checkpoint.{writes, begin, Left, going, finished, Lent, lent, step}
-use Rattle.starts.specs.Restart.{resumed, fresh, start, fromWalk, restart}
+use Rattle.checkpoint.specs.Checkpoint.{headerPlace, zeroedFor, writes, begin, Left, going, finished, Lent, lent, step}
+use Rattle.starts.specs.Restart.{resumed, fresh, start, origin, fromWalk, restart}
 use Rattle.starts.specs.Versions.{Source, Measured, attemptsIn, payloadIn, Stands, OtherVersion}
 
 -- M 2, N 1, visibility 10, cap 25; worker 0 may do everything
@@ -95,23 +96,26 @@ pub record Example14 : Type 0 where
   pub answered : fromStart acts14 ≡ handsOut 0 1 Deliver ∷ handsOut 1 2 Deliver ∷ refused CheckpointDue ∷ handsOut 4098 3 DeadLetter ∷ []
 
 pub example-14 : Example14
-unfolding start claim begin step badArea restart fromWalk allAttemptCounts encodeCursor decodeCursor encodeAttempts decodeAttempts blockAt writeAt headerBlock bodyBlock isKind wellFormed soundHeader soundBody groupAt walkOver walkFrom headerBehind payload isSealed bits unbits polynomial crc xor
+unfolding start claim begin headerPlace zeroedFor step badArea restart origin fromWalk allAttemptCounts encodeCursor decodeCursor encodeAttempts decodeAttempts blockAt writeAt headerBlock bodyBlock isKind wellFormed soundHeader soundBody groupAt walkOver walkFrom headerBehind payload isSealed bits unbits polynomial crc xor
 example-14 = record { answered = refl }
 
--- a foreign journal of one group, with a count of a settled offset, a zero and a count for MAX: a restart drops, drops and
+-- a foreign journal of 18 blocks and one group, with a count of a settled offset, a zero and a count for MAX: a restart drops, drops and
 -- carries them
+abbrev twoBlocks : List ℕ → List ℕ → List ℕ
+twoBlocks b d = headerBlock 1 7 (length b) (length d) ++ bodyBlock 1 1 (b ++ d)
+
 abbrev foreign : List ℕ → List ℕ → List ℕ
-foreign b d = headerBlock 1 7 (length b) (length d) ++ bodyBlock 1 1 (b ++ d)
+foreign b d = twoBlocks b d ++ replicate 8192 0
 
 pub foreign-counts : restart configuration (foreign (encodeCursor (cursor 5 [])) (encodeAttempts1 (entry 3 2 ∷ entry 6 0 ∷ entry 9 1 ∷ entry MAX 4 ∷ [])))
-    ≡ done (resumed configuration 1024 (cursor 5 []) (entry 9 1 ∷ entry MAX 4 ∷ []) 7 (nextGroupAt 2 2))
-unfolding badArea restart fromWalk encodeCursor decodeCursor encodeAttempts decodeAttempts blockAt headerBlock bodyBlock isKind wellFormed soundHeader soundBody groupAt walkOver walkFrom headerBehind payload isSealed bits unbits polynomial crc xor
+    ≡ done (resumed configuration 9216 (cursor 5 []) (entry 9 1 ∷ entry MAX 4 ∷ []) 7 (nextGroupAt 2 2))
+unfolding badArea restart origin fromWalk encodeCursor decodeCursor encodeAttempts decodeAttempts blockAt headerBlock bodyBlock isKind wellFormed soundHeader soundBody groupAt walkOver walkFrom headerBehind payload isSealed bits unbits polynomial crc xor
 foreign-counts = refl
 
 -- the same counts in version 2
 pub foreign-counts-2 : restart configuration (foreign (encodeCursor (cursor 5 [])) (encodeAttempts2 (entry 3 2 ∷ entry 6 0 ∷ entry 9 1 ∷ entry MAX 4 ∷ [])))
-    ≡ done (resumed configuration 1024 (cursor 5 []) (entry 9 1 ∷ entry MAX 4 ∷ []) 7 (nextGroupAt 2 2))
-unfolding badArea restart fromWalk encodeCursor decodeCursor encodeAttempts decodeAttempts blockAt headerBlock bodyBlock isKind wellFormed soundHeader soundBody groupAt walkOver walkFrom headerBehind payload isSealed bits unbits polynomial crc xor
+    ≡ done (resumed configuration 9216 (cursor 5 []) (entry 9 1 ∷ entry MAX 4 ∷ []) 7 (nextGroupAt 2 2))
+unfolding badArea restart origin fromWalk encodeCursor decodeCursor encodeAttempts decodeAttempts blockAt headerBlock bodyBlock isKind wellFormed soundHeader soundBody groupAt walkOver walkFrom headerBehind payload isSealed bits unbits polynomial crc xor
 foreign-counts-2 = refl
 
 -- ## These two journals differ in the version alone: the premise of `version-free-restart` is met
@@ -125,10 +129,13 @@ source =
       counts = entry 3 2 ∷ entry 6 0 ∷ entry 9 1 ∷ entry MAX 4 ∷ [];
     }
 
+abbrev groupIn : ℕ → List ℕ
+groupIn version = twoBlocks (source .cursor) (attemptsIn version source)
+
 abbrev inVersion : ℕ → List ℕ
 inVersion version = foreign (source .cursor) (attemptsIn version source)
 
--- their one body, and no block behind it
+-- their one body, and the same zeros behind it
 abbrev Body : ℕ → ℕ → Type 0
 Body version j =
     blockAt (inVersion version) (source .place + suc j) ≡ bodyBlock (source .number) (suc j) (chunkOf (suc j) (payloadIn version source))
@@ -137,9 +144,11 @@ one-body : (n : ℕ) → n ≡ 1 → (P : ℕ → Type 0) → P 0 → (j : ℕ) 
 one-body n e P p zero h = p
 one-body n e P p (suc j) h = absurd (omega (arith, e))
 
-no-block : (a : List ℕ) (j : ℕ) → length a ≡ 1024 → 2 ≤ j → blockAt a j ≡ []
+zeros-behind : (a : List ℕ) (j : ℕ) → length a ≡ 1024 → 2 ≤ j → blockAt (a ++ replicate 8192 0) j ≡ take 512 (drop (512 * j - 1024) (replicate 8192 0))
 unfolding blockAt
-no-block a j e h = ap (take 512) (drop-of-length-le a {i = 512 * j} (omega (arith, e)))
+zeros-behind a j e h =
+    let at : 512 * j ≡ length a + (512 * j - 1024) = omega (arith, e) in
+    ap (take 512) (ap (λ k. drop k (a ++ replicate 8192 0)) at ∙ drop-append-add a (replicate 8192 0) (512 * j - 1024))
 
 stands-1 : Stands (inVersion 1) 1 source
 unfolding encodeCursor encodeAttempts blockAt headerBlock bodyBlock bits unbits polynomial crc xor
@@ -161,7 +170,7 @@ source-measured =
     }
 
 pub version-free-met : OtherVersion (inVersion 1) (inVersion 2) 1 2 source
-unfolding encodeCursor encodeAttempts blockAt headerBlock bodyBlock isKind wellFormed soundHeader soundBody groupAt walkOver walkFrom isSealed bits unbits polynomial crc xor
+unfolding origin encodeCursor encodeAttempts blockAt headerBlock bodyBlock isKind wellFormed soundHeader soundBody groupAt walkOver walkFrom isSealed bits unbits polynomial crc xor
 version-free-met =
     record {
       size = refl;
@@ -169,5 +178,5 @@ version-free-met =
       one = stands-1;
       other = stands-2;
       before = λ j l h. absurd (omega arith);
-      after = λ j h. no-block (inVersion 2) j refl h ∙ sym (no-block (inVersion 1) j refl h);
+      after = λ j h. zeros-behind (groupIn 2) j refl h ∙ sym (zeros-behind (groupIn 1) j refl h);
     }

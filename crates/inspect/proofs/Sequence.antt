@@ -6,7 +6,7 @@ use mathlib.Core.Path.{_≡_}
 use mathlib.Core.List.{List}
 use lib.ListN.{take, drop}
 use Rattle.journal.specs.Area.{blockAt}
-use Rattle.inspect.specs.Places.{placeAfter, placeAt}
+use Rattle.inspect.specs.Places.{endOf, placeAfter, placeAt}
 use Rattle.inspect.specs.declared.places.Place.{Place}
 
 -- the part of the area that a block is
@@ -16,7 +16,7 @@ part-is-block a i =
     let r : 512 * i + 512 - 512 * i ≡ 512 = omega arith in
     rw r
 
-pub place-next : (a : List ℕ) (hi i : ℕ) (p : Place) → p ≡ placeAt a hi i
-    → placeAfter p hi i (take (512 * i + 512 - 512 * i) (drop (512 * i) a)) ≡ placeAt a hi (i + 1)
+pub place-next : (a : List ℕ) (i m : ℕ) (p : Place) → p ≡ placeAt a i m
+    → placeAfter p (endOf a i) (i + m) (take (512 * (i + m) + 512 - 512 * (i + m)) (drop (512 * (i + m)) a)) ≡ placeAt a i (m + 1)
 unfolding placeAt
-place-next a hi i p e = rw (part-is-block a i, e, add-one i)
+place-next a i m p e = rw (part-is-block a (i + m), e, add-one m)

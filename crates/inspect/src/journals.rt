@@ -1,12 +1,15 @@
 // A journal: its blocks, where the walk ends, and what a restart would find.
 use crate::listing::listed;
 use crate::missed::missed;
+use crate::other::other;
+use crate::other::other_unsound;
 use crate::refusals::refused;
 use crate::said::Said;
 use crate::said::says;
 use answers::Numbers;
 use consumer::Configuration;
 use consumer::Settings;
+use consumer::halves::half_blocks;
 use delivery::DeliveryConfig;
 use journal::LastGroup;
 use journal::Walked;
@@ -44,10 +47,15 @@ fn heading(out: &mut [u8], at: usize, len: usize) -> usize {
     fill(
         out,
         at,
-        b"journal of # bytes, whole blocks #\n|\
-        journal of # bytes, whole blocks #, bytes behind them #\n",
+        b"journal of # bytes, whole blocks #, in halves of #\n|\
+        journal of # bytes, whole blocks #, in halves of #, bytes behind the blocks #\n",
         template,
-        [len as u64, (len / 512) as u64, rest as u64, 0],
+        [
+            len as u64,
+            (len / 512) as u64,
+            half_blocks(len) as u64,
+            rest as u64,
+        ],
     )
 }
 
@@ -74,6 +82,7 @@ fn stop_said(last: LastGroup, number: u64, block: u64) -> Said {
     }
 }
 
+// The walk over the half in use.
 fn walk(out: &mut [u8], at: usize, area: &[u8]) -> usize {
     let hi = starts::limit(area);
     let from = starts::origin(area);
@@ -91,9 +100,38 @@ fn walk(out: &mut [u8], at: usize, area: &[u8]) -> usize {
         numbers,
     );
     match walked {
-        Walked::Stopped { number, block, .. } => missed(out, next, area, hi, number, block),
-        _ => next,
+        Walked::Stopped { number, block, .. } => ended(out, next, area, hi, number, block),
+        Walked::Damaged(_) => other_unsound(out, next, area),
+        Walked::BadArea => next,
     }
+}
+
+// Whether a walk below block `hi` ended at the header of group `number`, sound in all but its fit.
+fn is_unfit(area: &[u8], hi: usize, number: u64, block: usize) -> bool {
+    if hi <= block {
+        return false;
+    }
+    if area.len() / 512 <= block {
+        return false;
+    }
+    let from = 512 * block;
+    let to = from + 512;
+    journal::is_sound_but_fit(&area[from..to], number)
+}
+
+// What else is said of a walk below block `hi` that ended at a block, where group `number` would come next.
+fn ended(out: &mut [u8], at: usize, area: &[u8], hi: usize, number: u64, block: usize) -> usize {
+    if is_unfit(area, hi, number, block) {
+        return fill(
+            out,
+            at,
+            b"it should not end there: group # passes the end of its half, as groups may in a journal from before the halves\n",
+            0,
+            [number, 0, 0, 0],
+        );
+    }
+    let next = missed(out, at, area, hi, number, block);
+    other(out, next, area, number)
 }
 
 // What a restart would find, or its refusal.
@@ -123,7 +161,11 @@ pub fn journal(out: &mut [u8], at: usize, area: &[u8]) -> usize {
 
 // The first blocks of a file that is longer than any journal: a restart on it is 4.
 pub fn oversized(out: &mut [u8], at: usize, area: &[u8]) -> usize {
-    let mut next = put(out, at, b"longer than any journal; its first blocks:\n");
+    let mut next = put(
+        out,
+        at,
+        b"longer than any journal; its first blocks, in halves as if they were all:\n",
+    );
     next = listed(out, next, area);
     no_restart(out, next, answers::of_start(StartAnswer::BadArea))
 }

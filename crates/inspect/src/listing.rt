@@ -2,7 +2,6 @@
 ghost use mathlib.Core.Path.{_≡_};
 ghost use Prim.Native.Nat.{_+_, _*_, _≤_};
 ghost use lib.ListN.{length};
-ghost use Rattle.journal.specs.Area.{blocks};
 ghost use Rattle.inspect.specs.Places.{placeAt};
 use crate::faults::Fault;
 use crate::faults::Seen;
@@ -13,7 +12,9 @@ use crate::places::Place;
 use crate::said::Said;
 use crate::said::byte;
 use crate::said::says;
+use consumer::halves::half_blocks;
 use text::templates::fill;
+use types::numbers::saturating_add;
 
 // The start of a line: which block, and what it is. Behind a header and a body stands a row for each fault.
 fn put_what(out: &mut [u8], at: usize, what: Said) -> usize {
@@ -32,7 +33,7 @@ fn put_what(out: &mut [u8], at: usize, what: Said) -> usize {
         block #: unsound: cursor snapshot length #, not 13 to 2061|\
         block #: unsound: attempt snapshot length #, not 9 to 1545|\
         block #: unsound: body count #, which its lengths don't make|\
-        block #: unsound: its bodies pass the end of the area|\
+        block #: unsound: its bodies pass the end of its half|\
         block #: unsound: body index #|\
         block #: unsound: bytes used #",
         what.template,
@@ -116,6 +117,14 @@ fn behind_rest(number: u64, block: &[u8], seen: Seen) -> Said {
     }
 }
 
+// A block of a half without groups.
+fn free_rest(block: &[u8], seen: Seen) -> Said {
+    if let Seen::Header = seen {
+        return header_rest(1, block);
+    }
+    says(0, 0, 0)
+}
+
 // How a block is what is expected at its place.
 fn rest_said(place: Place, block: &[u8], seen: Seen) -> Said {
     match place {
@@ -132,6 +141,7 @@ fn rest_said(place: Place, block: &[u8], seen: Seen) -> Said {
             says(4, index as u64, number)
         }
         Place::Behind { number } => behind_rest(number, block, seen),
+        Place::Free => free_rest(block, seen),
     }
 }
 
@@ -147,40 +157,89 @@ fn seen_in(block: &[u8], judged: Judged) -> Seen {
     }
 }
 
-// A line for block i of an area, where `place` is what is expected there.
-fn line(out: &mut [u8], at: usize, area: &[u8], i: usize, place: Place) -> usize
-    requires { ⌜ (512 * i + 512 ≤ length (now area)) × (place ≡ placeAt (now area) (blocks (now area)) i) ⌝ }
+// A line for block `m` of the half of an area that begins at block `half`, where `place` is what is expected there.
+fn line(out: &mut [u8], at: usize, area: &[u8], half: usize, m: usize, place: Place) -> usize
+    requires { ⌜ (512 * (half + m) + 512 ≤ length (now area)) × (place ≡ placeAt (now area) half m) ⌝ }
 {
-    let n = area.len() / 512;
+    let i = half + m;
     let from = 512 * i;
     let to = from + 512;
     let block = &area[from..to];
-    let seen = seen_in(block, places::judge(place, block, n, i));
+    let end = half + half_blocks(area.len());
+    let seen = seen_in(block, places::judge(place, block, end, i));
     let next = put_what(out, at, what_said(i as u64, block, seen));
     put_rest(out, next, rest_said(place, block, seen))
 }
 
-// What is expected behind block i.
-fn behind_block(area: &[u8], i: usize, place: Place) -> Place
-    requires { ⌜ (512 * i + 512 ≤ length (now area)) × (place ≡ placeAt (now area) (blocks (now area)) i) ⌝ }
-    ensures { λ r. ⌜ r ≡ placeAt (now (area .entry)) (blocks (now (area .entry))) (i + 1) ⌝ }
+// What is expected behind that block.
+fn behind_block(area: &[u8], half: usize, m: usize, place: Place) -> Place
+    requires { ⌜ (512 * (half + m) + 512 ≤ length (now area)) × (place ≡ placeAt (now area) half m) ⌝ }
+    ensures { λ r. ⌜ r ≡ placeAt (now (area .entry)) half (m + 1) ⌝ }
 {
-    let n = area.len() / 512;
+    let i = half + m;
     let from = 512 * i;
     let to = from + 512;
-    places::after(place, &area[from..to], n, i)
+    let end = half + half_blocks(area.len());
+    places::after(place, &area[from..to], end, i)
 }
 
-// A line for each whole block of an area.
-pub fn listed(out: &mut [u8], at: usize, area: &[u8]) -> usize {
-    let n = area.len() / 512;
+// A line for each of `count` blocks of an area from block `half` on, where a half begins.
+fn lines(out: &mut [u8], at: usize, area: &[u8], half: usize, count: usize) -> usize
+    requires { ⌜ 512 * (half + count) ≤ length (now area) ⌝ }
+{
+    if count == 0 {
+        return at;
+    }
     let mut next = at;
-    let mut place = places::first();
-    let mut i: usize = 0;
-    while i < n {
-        next = line(out, next, area, i, place);
-        place = behind_block(area, i, place);
-        i += 1;
+    let mut place = places::first(area, half);
+    let mut m: usize = 0;
+    while m < count {
+        next = line(out, next, area, half, m, place);
+        place = behind_block(area, half, m, place);
+        m += 1;
     }
     next
+}
+
+// The template for a half that begins at block `half`, where the one in use begins at block `used`.
+fn half_template(half: usize, used: usize) -> usize {
+    if half == 0 {
+        if used == 0 {
+            return 0;
+        }
+        return 1;
+    }
+    if used == half {
+        return 2;
+    }
+    3
+}
+
+// Which half begins at block `half`, whether it is in use, and its blocks.
+fn half_heading(out: &mut [u8], at: usize, area: &[u8], half: usize) -> usize {
+    let blocks = half_blocks(area.len());
+    if blocks == 0 {
+        return at;
+    }
+    let used = starts::origin(area).block;
+    let last = saturating_add(half as u64, (blocks - 1) as u64);
+    fill(
+        out,
+        at,
+        b"the first half, in use: blocks # to #\n|\
+        the first half, not in use: blocks # to #\n|\
+        the second half, in use: blocks # to #\n|\
+        the second half, not in use: blocks # to #\n",
+        half_template(half, used),
+        [half as u64, last, 0, 0],
+    )
+}
+
+// A line for each whole block of an area, half by half. A block more than the halves have stands behind the second.
+pub fn listed(out: &mut [u8], at: usize, area: &[u8]) -> usize {
+    let middle = half_blocks(area.len());
+    let mut next = half_heading(out, at, area, 0);
+    next = lines(out, next, area, 0, middle);
+    next = half_heading(out, next, area, middle);
+    lines(out, next, area, middle, area.len() / 512 - middle)
 }

@@ -8,6 +8,7 @@ mod faults;
 mod journals;
 mod listing;
 mod missed;
+mod other;
 mod places;
 mod refusals;
 mod said;

@@ -12,9 +12,9 @@ use types::numbers::saturating_add;
 use types::numbers::shorter;
 
 // Blocks that have kind 1 and a right check: how many they are, and the greatest group number that they name.
-struct Headers {
-    count: usize,
-    number: u64,
+pub struct Headers {
+    pub count: usize,
+    pub number: u64,
 }
 
 // The first such block, if there is one.
@@ -48,7 +48,7 @@ fn group_of(block: &[u8]) -> u64
 }
 
 // All such blocks from `from` on, below `hi`.
-fn headers_behind(area: &[u8], from: usize, hi: usize) -> Headers
+pub fn headers_behind(area: &[u8], from: usize, hi: usize) -> Headers
     ensures { λ r. ⌜ HeadersAre (named (now (area .entry)) (min hi (blocks (now (area .entry))) - from) from) r ⌝ }
 {
     let end = shorter(hi, area.len() / 512);

@@ -1,16 +1,20 @@
-// What is expected at each block, from block 0 on: the header of group 1, behind a sound header its bodies, behind these the
-// header of the next group. Behind a block that is no sound header where one is expected, nothing is: the groups end there.
+// What is expected at each block of a half: at its first block the header that it is opened with, behind a sound header its bodies,
+// behind these the header of the next group. Behind a block that is no sound header where one is expected, nothing is: the groups
+// end there. In a half that isn't in use and isn't opened by a header, nothing is expected anywhere.
 ghost use mathlib.Core.Path.{_≡_};
+ghost use Prim.Native.Nat.{_+_, _*_, _≤_};
+ghost use lib.ListN.{length};
 ghost use Rattle.journal.specs.Blocks.{usedIn};
-ghost use Rattle.inspect.specs.Places.{first as firstPlace, judged, behindBody, behindHeader, placeAfter};
+ghost use Rattle.inspect.specs.Places.{openedBy, first as firstPlace, judged, behindBody, behindHeader, placeAfter};
 use crate::faults::Seen;
 use crate::faults::Verdict;
 use crate::faults::body_verdict;
 use crate::faults::by_itself;
 use crate::faults::header_verdict;
+use consumer::halves::half_blocks;
 
-// The header of group `number`; body `index`, from 1, of the `bodies` of a group whose snapshots have `total` bytes; or nothing,
-// where the groups ended at the header of group `number`.
+// The header of group `number`; body `index`, from 1, of the `bodies` of a group whose snapshots have `total` bytes; nothing, where
+// the groups ended at the header of group `number`; or nothing, in a half without groups.
 pub enum Place {
     Header {
         number: u64,
@@ -24,6 +28,7 @@ pub enum Place {
     Behind {
         number: u64,
     },
+    Free,
 }
 
 // A block judged as what is expected at its place, or seen by itself where nothing is.
@@ -33,11 +38,31 @@ pub enum Judged {
     Behind(Seen),
 }
 
-// The place of block 0.
-pub fn first() -> Place
-    ensures { λ r. ⌜ r ≡ firstPlace ⌝ }
+// The place of a block that begins a half which isn't in use, by what it opens that half with; no group of it may pass block `hi`.
+fn opened_by(block: &[u8], hi: usize, at: usize) -> Place
+    ensures { λ r. ⌜ r ≡ openedBy hi at (now (block .entry)) ⌝ }
 {
-    Place::Header { number: 1 }
+    if journal::is_sound_but_number(block, hi, at) {
+        let number = raw::read_u32(block, 4) as u64;
+        return Place::Header { number: number };
+    }
+    Place::Free
+}
+
+// The place of block `at`, where a half begins.
+pub fn first(area: &[u8], at: usize) -> Place
+    requires { ⌜ 512 * at + 512 ≤ length (now area) ⌝ }
+    ensures { λ r. ⌜ r ≡ firstPlace (now (area .entry)) at ⌝ }
+{
+    let walked = starts::origin(area);
+    if at == walked.block {
+        return Place::Header {
+            number: walked.number,
+        };
+    }
+    let from = 512 * at;
+    let to = from + 512;
+    opened_by(&area[from..to], at + half_blocks(area.len()), at)
 }
 
 // Bytes that body `index` of `bodies` is to use, of `total`.
@@ -69,6 +94,7 @@ pub fn judge(place: Place, block: &[u8], hi: usize, at: usize) -> Judged
             total,
         } => Judged::Body(body_verdict(block, number, index, used_in(index, bodies, total))),
         Place::Behind { number: _ } => Judged::Behind(by_itself(block, hi, at)),
+        Place::Free => Judged::Behind(by_itself(block, hi, at)),
     }
 }
 
@@ -122,5 +148,6 @@ pub fn after(place: Place, block: &[u8], hi: usize, at: usize) -> Place
             total,
         } => behind_body(number, index, bodies, total),
         Place::Behind { number: _ } => place,
+        Place::Free => place,
     }
 }

@@ -26,7 +26,7 @@ use Rattle.journal.specs.Blocks.{
   indexOf,
   usedOf,
 }
-use Rattle.journal.specs.Sound.{zerosAt, isKind, hasHeaderKind, wellFormed, soundHeader, soundBody}
+use Rattle.journal.specs.Sound.{zerosAt, isKind, hasHeaderKind, wellFormed, soundButFit, soundHeader, soundBody}
 use Rattle.journal.proofs.Blocks.{
   header-length,
   header-kind,
@@ -191,6 +191,12 @@ no-form b n = refuted (wellFormed b) (λ e. n (well-formed-says b e))
 pub count-read : (b : List ℕ) (n lc la : ℕ) → n ≡ bodiesFor (lc + la) → lc ≡ cursorLength b → la ≡ attemptLength b
     → n ≡ bodiesFor (payloadLength b)
 count-read b n lc la e c a = rw (← c, ← a) e
+
+-- a header sound in all but its fit
+pub but-fit-says : (k : ℕ) (b : List ℕ) → soundButFit k b ≡ true → WellFormed b × (groupOf b ≡ k)
+but-fit-says k b e =
+    let n = both (wellFormed b) (eqb (groupOf b) k) e in
+    (well-formed-says b (n .0), eqb-true (groupOf b) k (n .1))
 
 pub record Header (hi k i : ℕ) (b : List ℕ) : Type 0 where
   pub form : WellFormed b

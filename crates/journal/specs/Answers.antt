@@ -15,6 +15,7 @@ use Rattle.journal.specs.Blocks.{
   chunkOf,
   headerBlock,
   bodyBlock,
+  zeroBlock,
   groupOf,
   ceilingOf,
   cursorLength,
@@ -23,7 +24,7 @@ use Rattle.journal.specs.Blocks.{
 }
 use Rattle.journal.specs.declared.Block.{Block}
 use Rattle.journal.specs.declared.Block.the-variants as block
-use Rattle.journal.specs.declared.Block.the-variants.{Body}
+use Rattle.journal.specs.declared.Block.the-variants.{Body, Zeros}
 use Rattle.journal.specs.declared.Filled.{Filled}
 use Rattle.journal.specs.declared.Filled.the-variants as filled
 use Rattle.journal.specs.declared.Filled.the-variants.{Written}
@@ -80,6 +81,7 @@ headerBytes h = headerBlock (h .number) (h .ceiling) (h .«cursor_len») (h .«a
 abbrev pub blockOf : Block → List ℕ → List ℕ
 blockOf (block.Header h) payload = headerBytes h
 blockOf (Body k j) payload = bodyBlock k j (chunkOf j payload)
+blockOf Zeros payload = zeroBlock
 
 abbrev pub filledOf : Filled → Result (Unit {0})
 filledOf Written = done tt

@@ -38,9 +38,17 @@ wellFormed b =
     && leb 13 (cursorLength b) && leb (cursorLength b) 2061 && leb 9 (attemptLength b) && leb (attemptLength b) 1545
     && eqb (bodyCount b) (bodiesFor (payloadLength b))
 
+-- the header of group k, sound in all but its fit
+abbrev pub soundButFit : ℕ → List ℕ → Bool
+soundButFit k b = wellFormed b && eqb (groupOf b) k
+
 -- a sound header at block i, where group k is expected and no group may pass block hi
 unfoldable pub soundHeader : ℕ → ℕ → ℕ → List ℕ → Bool
-soundHeader hi k i b = wellFormed b && eqb (groupOf b) k && leb (i + 1 + bodyCount b) hi
+soundHeader hi k i b = soundButFit k b && leb (i + 1 + bodyCount b) hi
+
+-- a header sound in all but the expected number: it is sound under its own
+abbrev pub soundButNumber : ℕ → ℕ → List ℕ → Bool
+soundButNumber hi i b = soundHeader hi (groupOf b) i b
 
 -- a sound body j of group k, with this many bytes used
 unfoldable pub soundBody : ℕ → ℕ → ℕ → List ℕ → Bool

@@ -7,9 +7,9 @@ ghost use lib.ListN.{length, take, drop, replicate};
 ghost use mathlib.Core.List.{_++_};
 ghost use Rattle.types.specs.Table.{answer};
 ghost use Rattle.crc.specs.Seal.{sealed};
-ghost use Rattle.journal.specs.Blocks.{bodiesFor, Counted, usedIn, chunkOf, opening, bodyBlock};
+ghost use Rattle.journal.specs.Blocks.{bodiesFor, Counted, usedIn, chunkOf, opening, bodyBlock, zeroBlock};
 ghost use Rattle.journal.specs.Area.{badLength, outside};
-ghost use Rattle.journal.specs.Sound.{isKind, hasHeaderKind, wellFormed, soundHeader, soundBody};
+ghost use Rattle.journal.specs.Sound.{isKind, hasHeaderKind, wellFormed, soundButFit, soundButNumber, soundHeader, soundBody};
 ghost use Rattle.journal.specs.Walks.{firstUnsound, orUnsound, groupAt, headerBehind, contents};
 ghost use Rattle.journal.specs.Answers.{fill, writeBlock, walkIn, readPayload, headerIn, headerBytes, blockOf, filledOf, foundOf, walkedOf, payloadRead};
 use types::numbers::shorter;
@@ -24,10 +24,11 @@ pub struct Header {
     pub attempt_len: u16,
 }
 
-// A block to be written: a header, or body `index`, from 1, of the payload.
+// A block to be written: a header, body `index`, from 1, of the payload, or zeros.
 pub enum Block {
     Header(Header),
     Body { number: u32, index: u8 },
+    Zeros,
 }
 
 // What writing a block answers: it is written, or refusal 4.
@@ -152,6 +153,17 @@ fn write_body(block: &mut [u8], number: u32, index: u8, payload: &[u8]) -> Fille
     Filled::Written
 }
 
+// Fills a block with zeros. A part of another length than 512 bytes is refused as 4.
+fn write_zeros(block: &mut [u8]) -> Filled
+    ensures { λ r. ⌜ answer (filledOf r) (now (block .exit)) ≡ fill zeroBlock (now (block .entry)) ⌝ }
+{
+    if block.len() != 512 {
+        return Filled::BadArea;
+    }
+    raw::clear(block);
+    Filled::Written
+}
+
 // Fills block `at` of an area: the writer is handed its 512 bytes and nothing more. An area of a length that is refused,
 // and one that has no such block, is 4.
 pub fn write_block(area: &mut [u8], at: usize, block: Block, payload: &[u8]) -> Filled
@@ -165,6 +177,7 @@ pub fn write_block(area: &mut [u8], at: usize, block: Block, payload: &[u8]) -> 
     match block {
         Block::Header(header) => write_header(&mut area[start..end], header),
         Block::Body { number, index } => write_body(&mut area[start..end], number, index, payload),
+        Block::Zeros => write_zeros(&mut area[start..end]),
     }
 }
 
@@ -222,15 +235,22 @@ pub fn is_well_formed(block: &[u8]) -> bool
     true
 }
 
-// Whether a block is the sound header of group `number` at block `at`, where no group may pass block `hi`.
-pub fn is_sound_header(block: &[u8], hi: usize, number: u64, at: usize) -> bool
-    ensures { λ r. ⌜ r ≡ soundHeader hi number at (now (block .entry)) ⌝ }
+// Whether a block is the header of group `number`, sound in all but its fit.
+pub fn is_sound_but_fit(block: &[u8], number: u64) -> bool
+    ensures { λ r. ⌜ r ≡ soundButFit number (now (block .entry)) ⌝ }
 {
     if !is_well_formed(block) {
         return false;
     }
     let group = raw::read_u32(block, 4) as u64;
-    if group != number {
+    group == number
+}
+
+// Whether a block is the sound header of group `number` at block `at`, where no group may pass block `hi`.
+pub fn is_sound_header(block: &[u8], hi: usize, number: u64, at: usize) -> bool
+    ensures { λ r. ⌜ r ≡ soundHeader hi number at (now (block .entry)) ⌝ }
+{
+    if !is_sound_but_fit(block, number) {
         return false;
     }
     if hi <= at {
@@ -240,6 +260,14 @@ pub fn is_sound_header(block: &[u8], hi: usize, number: u64, at: usize) -> bool
         return false;
     }
     true
+}
+
+// Whether a block at block `at` is a header sound in all but the expected number, where no group may pass block `hi`.
+pub fn is_sound_but_number(block: &[u8], hi: usize, at: usize) -> bool
+    ensures { λ r. ⌜ r ≡ soundButNumber hi at (now (block .entry)) ⌝ }
+{
+    let number = raw::read_u32(block, 4) as u64;
+    is_sound_header(block, hi, number, at)
 }
 
 // Whether a block is the sound body `index` of group `number`, with this many bytes used.

@@ -26,6 +26,7 @@ use crate::calls::LeaseFigures;
 use crate::calls::LeaseReply;
 use crate::calls::Question;
 use crate::calls::Reply;
+use consumer::halves;
 use consumer::queries::Due;
 use consumer::rights;
 use consumer::rights::LOOK;
@@ -438,7 +439,9 @@ fn reply<'a>(
         }
         Question::InFlight => Reply::InFlight(figures.len),
         Question::IsDue => Reply::IsDue(due(fixed, figures)),
-        Question::BlocksLeft => Reply::BlocksLeft(fixed.area_len / 512 - fixed.block),
+        Question::BlocksLeft => {
+            Reply::BlocksLeft(halves::blocks_left(fixed.area_len, fixed.block))
+        }
     }
 }
 

@@ -1,6 +1,6 @@
 -- What each way in which the power may fail owes the contract: the step that was made gives the block's place and what it was to
 -- be, and torn bytes over it are a write of their own. Assumes nothing.
-use Prim.Native.Nat.{ℕ, suc, _+_, _*_, _≤_, _<_}
+use Prim.Native.Nat.{ℕ, _+_, _*_, _≤_}
 use native.Mathlib.Omega.{arith}
 use mathlib.Core.Path.{_≡_, refl, sym, ap, subst, _∙_}
 use mathlib.Core.Bool.{Bool, true, false}
@@ -8,7 +8,7 @@ use mathlib.Core.List.{List}
 use mathlib.Core.Option.{none}
 use lib.Dec.{eqb}
 use lib.ListN.{length}
-use borrow.Author.Tests.{eq-eqb, ne-eqb, leb-false}
+use borrow.Author.Tests.{eq-eqb, ne-eqb}
 use Rattle.types.specs.Refusal.{Result, done}
 use Rattle.types.specs.Table.{Answer, answer}
 use Rattle.types.proofs.Cases.{split}
@@ -20,16 +20,16 @@ use Rattle.journal.specs.Area.{writeAt}
 use Rattle.journal.proofs.Area.{whole-says, inside-says, write-length}
 use Rattle.journal.proofs.Blocks.{header-length, body-length}
 use Rattle.journal.proofs.Group.{chunk-few}
-use Rattle.consumer.specs.State.{blocksOf}
 use Rattle.consumer.specs.View.{view}
 use Rattle.consumer.proofs.Area.{area-taken}
-use Rattle.checkpoint.specs.Checkpoint.{payloadOf, bodies, isLast, nextPlace, nextBlock, leftBy, BlockWritten, Lent, lent, step}
+use Rattle.checkpoint.specs.Checkpoint.{payloadOf, isZeroing, isLast, nextBody, nextPlace, nextBlock, leftBy, BlockWritten, Lent, lent, step}
 use Rattle.checkpoint.specs.Checkpoint as checkpoint
 use Rattle.checkpoint.specs.Writing.{viewWriting, SoundWriting, stepOf, SteppedIs}
 use Rattle.checkpoint.specs.declared.Writing.{Writing}
 use Rattle.checkpoint.specs.declared.Stepped.{Stepped}
 use Rattle.checkpoint.specs.declared.StepAnswer.{StepAnswer}
 use Rattle.checkpoint.specs.declared.StepAnswer.the-variants as steps
+use Rattle.checkpoint.proofs.Places.{next-inside}
 use Rattle.checkpoint.proofs.Steps.{into-inside}
 use Rattle.machine.specs.Calls.{failed}
 use Rattle.machine.specs.Transitions.{off, gives}
@@ -73,22 +73,18 @@ module _ (w : Writing) (a a′ : List ℕ) (same : length a ≡ w .consumer .«a
 
 -- the block being written lies in the area, and is a block
 module _ (w : Writing) (s : SoundWriting w) where
-  place-inside : nextPlace (viewWriting w) < blocksOf (view (w .consumer))
-  place-inside =
-      split (isLast (viewWriting w))
-      (λ t. rw t (omega (arith, s .valid .room)))
-      (λ t. rw t (omega (arith, s .valid .room, leb-false (bodies (view (w .consumer))) (w .written) t)))
-
   place-fits : (a : List ℕ) → length a ≡ w .consumer .«area_len» → 512 * nextPlace (viewWriting w) + 512 ≤ length a
   place-fits a same =
       inside-says (length a) (nextPlace (viewWriting w))
-      (into-inside w a (nextPlace (viewWriting w)) (record { sound = s; area = same; inside = place-inside })) .fits
+      (into-inside w a (nextPlace (viewWriting w)) (record { sound = s; area = same; inside = next-inside (viewWriting w) (s .valid) })) .fits
 
   block-whole : length (nextBlock (viewWriting w)) ≡ 512
   block-whole =
-      split (isLast (viewWriting w))
-      (λ t. rw t (header-length _ _ _ _))
-      (λ t. rw t (body-length _ _ _ (chunk-few (payloadOf (view (w .consumer))) (suc (w .written)))))
+      split (isZeroing (viewWriting w))
+      (λ z. rw z)
+      (λ z. split (isLast (viewWriting w))
+      (λ t. rw (z, t) (header-length _ _ _ _))
+      (λ t. rw (z, t) (body-length _ _ _ (chunk-few (payloadOf (view (w .consumer))) (nextBody (viewWriting w))))))
 
 -- ## bytes over a block
 write-is : (a : List ℕ) (i : ℕ) (b : List ℕ) → length b ≡ 512 → writeAt a i b ≡ overwrite (512 * i) b a
@@ -141,7 +137,7 @@ module _ (m : Machine) (a : List ℕ) where
 
       pub place-small : placeOf (r .answer) ≤ 128
       place-small =
-          omega (arith, made .place, place-inside (m .writing) (i .sound), whole-says (m .writing .consumer .«area_len») (area-taken (m .writing .consumer .«area_len») (i .sound .valid .state .area)) .most)
+          omega (arith, made .place, next-inside (viewWriting (m .writing)) (i .sound .valid), whole-says (m .writing .consumer .«area_len») (area-taken (m .writing .consumer .«area_len») (i .sound .valid .state .area)) .most)
 
       pub cut-torn : (b : List ℕ) → length b ≡ 512 → isSealed b ≡ false → (at : ℕ) → at ≡ placeOf (r .answer) → (a″ : List ℕ) (q : Result ℕ)
           → answer q a″ ≡ write (512 * at) b a′ → (m′ : Machine) → OffIs m m′

@@ -260,6 +260,7 @@ pub fn begin_in_place(
     runs: usize,
     len: usize,
     carried_len: usize,
+    number: u64,
     block: usize,
     area_len: usize,
     written: usize,
@@ -274,9 +275,9 @@ pub fn begin_in_place(
     carried_counts: &mut [u32; CARRIED],
     payload: &mut [u8; 3606],
 ) -> BeginDone
-    requires { ⌜ Beginnable phase (toBegin written «cursor_len» «attempt_len» (now payload) (beginning (now rights) (ackCursor committed (now starts) (now ends) runs) (listingAll len «carried_len» (now offsets) (now deliveries) (now «carried_offsets») (now «carried_counts»)) block «area_len»)) ⌝ }
-    ensures { λ r. ⌜ BegunOn phase (toBegin written «cursor_len» «attempt_len» (now (payload .entry)) (beginning (now (rights .entry)) (ackCursor committed (now (starts .entry)) (now (ends .entry)) runs) (listingAll len «carried_len» (now (offsets .entry)) (now (deliveries .entry)) (now («carried_offsets» .entry)) (now («carried_counts» .entry))) block «area_len»)) worker
-        (r .numbers) (r .phase) (toBegin (r .written) (r .«cursor_len») (r .«attempt_len») (now (payload .exit)) (beginning (now (rights .entry)) (ackCursor committed (now (starts .exit)) (now (ends .exit)) runs) (listingAll len «carried_len» (now (offsets .exit)) (now (deliveries .exit)) (now («carried_offsets» .exit)) (now («carried_counts» .exit))) block «area_len»)) ⌝ }
+    requires { ⌜ Beginnable phase (toBegin written «cursor_len» «attempt_len» (now payload) (beginning (now rights) (ackCursor committed (now starts) (now ends) runs) (listingAll len «carried_len» (now offsets) (now deliveries) (now «carried_offsets») (now «carried_counts»)) number block «area_len»)) ⌝ }
+    ensures { λ r. ⌜ BegunOn phase (toBegin written «cursor_len» «attempt_len» (now (payload .entry)) (beginning (now (rights .entry)) (ackCursor committed (now (starts .entry)) (now (ends .entry)) runs) (listingAll len «carried_len» (now (offsets .entry)) (now (deliveries .entry)) (now («carried_offsets» .entry)) (now («carried_counts» .entry))) number block «area_len»)) worker
+        (r .numbers) (r .phase) (toBegin (r .written) (r .«cursor_len») (r .«attempt_len») (now (payload .exit)) (beginning (now (rights .entry)) (ackCursor committed (now (starts .exit)) (now (ends .exit)) runs) (listingAll len «carried_len» (now (offsets .exit)) (now (deliveries .exit)) (now («carried_offsets» .exit)) (now («carried_counts» .exit))) number block «area_len»)) ⌝ }
 {
     if phase != 0 {
         return BeginDone {
@@ -295,6 +296,7 @@ pub fn begin_in_place(
         runs,
         len,
         carried_len,
+        number,
         block,
         area_len,
         worker,

@@ -9,7 +9,7 @@ use Rattle.cursor.specs.View as cursor
 use Rattle.cursor.specs.declared.AckCursor.{AckCursor}
 use Rattle.cursor.specs.declared.Range.{Range}
 use Rattle.lease.specs.declared.Lease.{Lease}
-use Rattle.consumer.specs.State.{State}
+use Rattle.consumer.specs.State.{State, halfInUse}
 
 -- a number behind a text
 abbrev pub textNumber : List ℕ → ℕ → List (List ℕ)
@@ -59,11 +59,11 @@ carriedText l = listText (ascii " carried") countText l
 abbrev pub aheadOf : AckCursor → List Range
 aheadOf c = cursor.view c .ahead
 
--- generations, the redelivery counter, and where the next group goes
+-- generations, the redelivery counter, where the next group goes, and the half in use
 abbrev pub numbersText : State → List (List ℕ)
 numbersText s =
     filled (ascii " next # ceiling # counter # group #") (s .table .nextGeneration ∷ s .ceiling ∷ s .table .redeliveries ∷ s .next .number ∷ [])
-    ++ filled (ascii " block #\n") (s .next .block ∷ [])
+    ++ filled (ascii " block # half #\n") (s .next .block ∷ halfInUse (s .size) (s .next .block) ∷ [])
 
 abbrev pub stateLine : State → List (List ℕ)
 stateLine s =

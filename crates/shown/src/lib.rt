@@ -6,6 +6,7 @@ ghost use Rattle.consumer.specs.View.{view};
 ghost use Rattle.text.specs.Output.{Says};
 ghost use Rattle.shown.specs.Shown.{textNumber, mark, noneWhere, rangesText, aheadOf, leaseText, leasesText, carriedText, numbersText, stateLine};
 use consumer::Consumer;
+use consumer::halves::half_in_use;
 use cursor::AckCursor;
 use lease::Lease;
 use lease::LeaseTable;
@@ -117,7 +118,7 @@ fn carried(out: &mut [u8], at: usize, table: LeaseTable) -> usize
     next
 }
 
-// Generations, the redelivery counter, and where the next group goes.
+// Generations, the redelivery counter, where the next group goes, and the half in use.
 fn numbers(out: &mut [u8], at: usize, consumer: Consumer) -> usize
     ensures { λ r. ⌜ Says (numbersText (view consumer)) at (now (out .entry)) r (now (out .exit)) ⌝ }
 {
@@ -128,12 +129,14 @@ fn numbers(out: &mut [u8], at: usize, consumer: Consumer) -> usize
         consumer.next.number,
     ];
     let next = fill(out, at, b" next # ceiling # counter # group #", 0, numbers);
+    let block = consumer.next.block;
+    let half = half_in_use(consumer.area_len, block);
     fill(
         out,
         next,
-        b" block #\n",
+        b" block # half #\n",
         0,
-        [consumer.next.block as u64, 0, 0, 0],
+        [block as u64, half as u64, 0, 0],
     )
 }
 

@@ -1,3 +1,4 @@
+pub mod Halves
 pub mod Open
 pub mod Valid
 pub mod Zeros

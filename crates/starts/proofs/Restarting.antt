@@ -33,12 +33,13 @@ use Rattle.consumer.specs.declared.Configuration.{Configuration}
 use Rattle.consumer.specs.declared.NextGroup.{NextGroup}
 use Rattle.consumer.specs.declared.Consumer.{Consumer}
 use Rattle.consumer.proofs.Area.{area-taken}
-use Rattle.starts.specs.Restart.{startTable, readGroup, origin, limit, walkOf, lastGroup, fromWalk, restart}
+use Rattle.starts.specs.Restart.{startTable, readGroup, origin, limit, walkOf, unfitAt, lastGroup, fromWalk, restart}
 use Rattle.starts.specs.Starting.{configurationOf, keptOf, nextGroupOf, startFault, FreshIs, StartedIs, Lies, LastLies, WalkedIs, Parts, ResumedIs}
 use Rattle.starts.specs.declared.Started.{Started}
 use Rattle.starts.specs.declared.StartAnswer.{StartAnswer}
 use Rattle.starts.specs.declared.StartAnswer.the-variants as answers
 use Rattle.starts.proofs.StartAnswer.{the-type}
+use Rattle.starts.proofs.Halves.{limit-within}
 use Rattle.starts.proofs.Valid.{restart-valid}
 use Rattle.starts.proofs.Starting.{same-configuration, kept-open, settings-sound}
 
@@ -46,19 +47,19 @@ use Rattle.starts.proofs.Starting.{same-configuration, kept-open, setti
 module _ (a : List ℕ) where
   -- its header is sound, so its bodies lie in the area, and its lengths are those that 01 allows
   last-lies : (i k e : ℕ) → badLength (length a) ≡ false → walkOf a ≡ stop (some i) k e → Lies a i
-  last-lies i k e area w = go (walk-ended a (blocks a) none (origin a .number) (origin a .block) (some i) k e w .last-is)
+  last-lies i k e area w = go (walk-ended a (limit a) none (origin a .number) (origin a .block) (some i) k e w .last-is)
     where
-      lies : (m : ℕ) → Header (blocks a) m i (blockAt a i) → Lies a i
+      lies : (m : ℕ) → Header (limit a) m i (blockAt a i) → Lies a i
       lies m h =
           record {
             inside =
                 says-inside (length a) (i + bodiesFor (payloadLength (blockAt a i)))
-                (record { area = whole-says (length a) area; fits = omega (arith, h .fits, h .form .count) });
+                (record { area = whole-says (length a) area; fits = omega (arith, h .fits, h .form .count, limit-within a) });
             cursor = h .form .lengths .cursor-high;
             attempts = h .form .lengths .attempt-high;
           }
 
-      go : LastIs a (blocks a) none (origin a .number) (origin a .block) (some i) k e → Lies a i
+      go : LastIs a (limit a) none (origin a .number) (origin a .block) (some i) k e → Lies a i
       go (at-once p q r) = absurd (Option·none-ne-some i (sym p))
       go (behind h m p q r s g) = let same : h ≡ i = cc in lies m (rw same at (g .header))
 
@@ -103,17 +104,26 @@ module _ (a : List ℕ) where
         unfolding fromWalk
         damaged-resumed j p h = rw p h
 
-        -- a walk that ended, and what was found behind that place
-        module _ (l : LastGroup) (k e : ℕ) (p : w ≡ walked.Stopped l k e) (hi : ℕ) (whole : hi ≡ limit a) (found : Bool) (is : found ≡ headerBehind a hi e) where
-          pub worn-resumed : found ≡ true → ResumedIs s (length a) (refused (Damaged e)) r
+        -- a walk that ended, what stands there, and what was found behind that place
+        module _ (l : LastGroup) (k e : ℕ) (p : w ≡ walked.Stopped l k e) (unfit : Bool) (there : unfit ≡ unfitAt a k e) where
+          pub unfit-resumed : unfit ≡ true → ResumedIs s (length a) (refused (Damaged e)) r
               → ResumedIs s (length a) (fromWalk (keptOf s) a (walkedOf w)) r
           unfolding fromWalk
-          worn-resumed t h = rw (p, ← whole, ← is, t) h
+          unfit-resumed t h = rw (p, sym there ∙ t) h
 
-          pub last-resumed : found ≡ false → ResumedIs s (length a) (lastGroup (keptOf s) a (lastOf l) (nextGroupAt k e)) r
-              → ResumedIs s (length a) (fromWalk (keptOf s) a (walkedOf w)) r
-          unfolding fromWalk
-          last-resumed t h = rw (p, ← whole, ← is, t) h
+          module _ (fits : unfit ≡ false) (hi : ℕ) (whole : hi ≡ limit a) (found : Bool) (is : found ≡ headerBehind a hi e) where
+            behind-is : headerBehind a (limit a) e ≡ found
+            behind-is = rw (← whole) (sym is)
+
+            pub worn-resumed : found ≡ true → ResumedIs s (length a) (refused (Damaged e)) r
+                → ResumedIs s (length a) (fromWalk (keptOf s) a (walkedOf w)) r
+            unfolding fromWalk
+            worn-resumed t h = rw (p, sym there ∙ fits, behind-is, t) h
+
+            pub last-resumed : found ≡ false → ResumedIs s (length a) (lastGroup (keptOf s) a (lastOf l) (nextGroupAt k e)) r
+                → ResumedIs s (length a) (fromWalk (keptOf s) a (walkedOf w)) r
+            unfolding fromWalk
+            last-resumed t h = rw (p, sym there ∙ fits, behind-is, t) h
 
 -- ## The tests before
 -- every answer but `Started` is a refusal
@@ -163,7 +173,7 @@ module _ (s : Configuration) (a : List ℕ) (d : StartAnswer) (e : startFault d 
     unfolding walkIn
     walked-whole from begins hi whole w h =
         let area : badLength (length a) ≡ false = area-taken (length a) (kept-open s (length a) full f passed .area) in
-        let all : min hi (blocks a) ≡ blocks a = omega (arith, whole) in
+        let all : min hi (blocks a) ≡ limit a = omega (arith, whole, limit-within a) in
         record { area = area; is = rw (area, all, ap (λ (x : state.NextGroup). x .number) begins, ap (λ (x : state.NextGroup). x .block) begins) at h }
 
     right-is : restart (configurationOf s) a ≡ fromWalk (keptOf s) a (walkOf a)

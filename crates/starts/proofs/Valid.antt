@@ -10,7 +10,7 @@ use mathlib.Core.Option.{Option, none, some}
 use lib.Dec.{eqb}
 use lib.ListN.{length, take, drop}
 use borrow.Author.Tests.{eqb-true, eqb-false}
-use Rattle.types.specs.Limits.{MAX, CARRIED}
+use Rattle.types.specs.Limits.{MAX, MAX32, CARRIED}
 use Rattle.types.specs.Refusal.{Result, refused, done}
 use Rattle.types.specs.Keyed.{Entry, lookup, Rising, All}
 use Rattle.types.proofs.Cases.{split, neither}
@@ -30,10 +30,11 @@ use Rattle.lease.proofs.Valid.{valid-start, valid-carried}
 use Rattle.journal.specs.Area.{blockAt}
 use Rattle.journal.specs.Blocks.{bodiesFor, ceilingOf, cursorLength, attemptLength, payloadLength, contentOf}
 use Rattle.journal.specs.Walks.{Stop, contents, payload}
-use Rattle.journal.proofs.Walks.{walk-ended}
+use Rattle.journal.proofs.Walks.{LastIs, at-once, behind, walk-ended}
 use Rattle.consumer.specs.State.{Configuration, State, NextGroup, nextGroupAt, countOr0}
 use Rattle.consumer.specs.Valid.{Fits, Valid}
 use Rattle.starts.specs.Restart.{startTable, resumed, fresh, start, isDropped, unsettledCounts, fromSnapshots, readGroup, origin, limit, walkOf, endTable, lastGroup, fromWalk, restart}
+use Rattle.starts.proofs.Halves.{limit-within, origin-fits}
 use Rattle.starts.proofs.Open.{StartOpen, start-open, start-says}
 
 -- ## The state that is resumed
@@ -47,7 +48,7 @@ pub record Carries (c : Cursor) (counts : List (Entry ℕ)) : Type 0 where
 -- where the next group goes lies in the area
 pub record NextGroupFits (size : ℕ) (next : NextGroup) : Type 0 where
   pub within : next .block ≤ size / 512
-  pub numbered : next .number ≤ suc (next .block)
+  pub numbered : next .number ≤ suc MAX32
 
 module _ (c : Configuration) (size : ℕ) (p : StartOpen c size) (f : Fits (c .settings)) where
   pub resumed-valid : (cursor : Cursor) (counts : List (Entry ℕ)) (ceiling : ℕ) (next : NextGroup)
@@ -159,6 +160,11 @@ module _ (a : List ℕ) (h : IsBytes a) where
       let t = payloadLength (blockAt a i) in
       bytes-take t (contents a (bodiesFor t) (suc i)) (bytes-contents (bodiesFor t) (suc i))
 
+  -- the number behind the last group: it is the first one expected, or one more than a header's
+  next-fits : (l : Option ℕ) (k e : ℕ) → LastIs a (limit a) none (origin a .number) (origin a .block) l k e → k ≤ suc MAX32
+  next-fits l k e (at-once p q r) = omega (arith, q, origin-fits a bytes-block)
+  next-fits l k e (behind i m p q r t g) = omega (arith, q, g .header .number, number-lt 4 4 (blockAt a i) (bytes-block i))
+
   module _ (c : Configuration) (s : State) (p : StartOpen c (length a)) (f : Fits (c .settings)) where
     snapshots-valid : (x : Result Cursor) (y : Result (List (Entry ℕ))) (ceiling : ℕ) (next : NextGroup)
         → ((cursor : Cursor) → x ≡ done cursor → cursors.Valid cursor)
@@ -195,9 +201,10 @@ module _ (a : List ℕ) (h : IsBytes a) where
     walked-valid (done end) q e =
         let r = walk-ended a (limit a) none (origin a .number) (origin a .block) (end .last) (end .number) (end .block) q in
         let next : NextGroup = nextGroupAt (end .number) (end .block) in
+        let half = limit-within a in
         last-valid (end .last) next
-        (record { within = r .within (omega arith); numbered = omega (arith, r .numbered) })
-        (checked-says (endTable a (end .block)) (lastGroup c a (end .last) next) s e .1)
+        (record { within = omega (arith, r .within (half .0), half .1); numbered = next-fits (end .last) (end .number) (end .block) (r .last-is) })
+        (checked-says (endTable a end) (lastGroup c a (end .last) next) s e .1)
 
 -- every area: whatever its bytes are, the restart is refused or the invariant holds
 pub restart-valid : (c : Configuration) (a : List ℕ) (s : State) → IsBytes a → restart c a ≡ done s → Fits (c .settings) → Valid s

@@ -1,10 +1,10 @@
 -- How a consumer starts, fresh or from a journal (01, "consumer"): the tests of configuration and area, the walk, the test of what
 -- stands behind it (02, d), and the last group read. A restart reads the configuration and the area and writes nothing.
-use Prim.Native.Nat.{ℕ}
-use mathlib.Core.Bool.{Bool, cond, _||_}
+use Prim.Native.Nat.{ℕ, _+_}
+use mathlib.Core.Bool.{Bool, cond, not, _&&_, _||_}
 use mathlib.Core.List.{List, [], _∷_, _++_}
 use mathlib.Core.Option.{Option, none, some}
-use lib.Dec.{eqb}
+use lib.Dec.{eqb, ltb, leb}
 use lib.ListN.{length, take, drop}
 use Rattle.types.specs.Refusal.{Result, refused, done, ZeroThreshold, BadArea, Damaged}
 use Rattle.types.specs.Table.{Row, _⇒_, checked}
@@ -14,10 +14,11 @@ use Rattle.cursor.specs.Snapshot.{decodeCursor}
 use Rattle.attempt.specs.Snapshot.{decodeAttempts}
 use Rattle.delivery.specs.Policy.{policyTable}
 use Rattle.lease.specs.State.{startingAt, withCarried}
-use Rattle.journal.specs.Area.{blocks, blockAt}
-use Rattle.journal.specs.Blocks.{cursorLength, attemptLength, ceilingOf}
+use Rattle.journal.specs.Area.{blockAt}
+use Rattle.journal.specs.Blocks.{groupOf, cursorLength, attemptLength, ceilingOf}
+use Rattle.journal.specs.Sound.{soundButFit, soundButNumber}
 use Rattle.journal.specs.Walks.{Stop, walk, headerBehind, payload}
-use Rattle.consumer.specs.State.{Settings, Configuration, State, stateOf, NextGroup, nextGroupAt, badArea}
+use Rattle.consumer.specs.State.{Settings, Configuration, State, stateOf, NextGroup, nextGroupAt, badArea, halfBlocks}
 
 -- 1 to 3
 abbrev pub settingsTable : Settings → List Row
@@ -67,20 +68,43 @@ readGroup c a i next =
     (decodeAttempts (take (attemptLength (blockAt a i)) (drop (cursorLength (blockAt a i)) (payload a i))))
     (ceilingOf (blockAt a i)) next
 
--- where the walk begins, and the group number that is expected there
-abbrev pub origin : List ℕ → NextGroup
-origin a = nextGroupAt 1 0
+-- the first block of a half is a header sound in all but the expected number, and the number that it has
+abbrev pub opens : List ℕ → ℕ → Bool
+opens a i = soundButNumber (i + halfBlocks (length a)) i (blockAt a i)
 
--- the block that no group may pass, and the walk up to there
+abbrev pub firstNumber : List ℕ → ℕ → ℕ
+firstNumber a i = groupOf (blockAt a i)
+
+-- the second half is read: the first one is no rival, or its number is smaller
+abbrev pub secondWins : List ℕ → Bool
+secondWins a =
+    opens a (halfBlocks (length a))
+    && not (opens a 0 && leb (firstNumber a (halfBlocks (length a))) (firstNumber a 0))
+
+-- where the walk begins, and the group number that is expected there: at the half that is read, the first one if neither opens
+unfoldable pub origin : List ℕ → NextGroup
+origin a =
+    cond (secondWins a) (nextGroupAt (firstNumber a (halfBlocks (length a))) (halfBlocks (length a)))
+    (nextGroupAt (cond (opens a 0) (firstNumber a 0) 1) 0)
+
+-- the block that no group may pass, the end of that half, and the walk up to there
 abbrev pub limit : List ℕ → ℕ
-limit a = blocks a
+limit a = origin a .block + halfBlocks (length a)
 
 abbrev pub walkOf : List ℕ → Result Stop
 walkOf a = walk a (limit a) (origin a .number) (origin a .block)
 
--- 5, with the block where the walk ended: behind it is one of kind 1 with a right check
-abbrev pub endTable : List ℕ → ℕ → List Row
-endTable a end = headerBehind a (limit a) end ⇒ Damaged end ∷ []
+-- a block of the half in use is the header of group k, sound in all but its fit
+abbrev pub unfitAt : List ℕ → ℕ → ℕ → Bool
+unfitAt a k i = ltb i (limit a) && soundButFit k (blockAt a i)
+
+-- 5, with the block where the walk ended: the header there doesn't fit its half, or behind it, in that half, is a block of kind 1
+-- with a right check
+abbrev pub endTable : List ℕ → Stop → List Row
+endTable a end =
+    unfitAt a (end .number) (end .block) ⇒ Damaged (end .block)
+    ∷ headerBehind a (limit a) (end .block) ⇒ Damaged (end .block)
+    ∷ []
 
 -- what the last group says, with where the next one goes, or a fresh consumer where there is none
 abbrev pub lastGroup : Configuration → List ℕ → Option ℕ → NextGroup → Result State
@@ -91,7 +115,7 @@ lastGroup c a (some i) next = readGroup c a i next
 unfoldable pub fromWalk : Configuration → List ℕ → Result Stop → Result State
 fromWalk c a (refused r) = refused r
 fromWalk c a (done stop) =
-    checked (endTable a (stop .block)) (lastGroup c a (stop .last) (nextGroupAt (stop .number) (stop .block)))
+    checked (endTable a stop) (lastGroup c a (stop .last) (nextGroupAt (stop .number) (stop .block)))
 
 unfoldable pub restart : Configuration → List ℕ → Result State
 restart c a = checked (startTable c (length a)) (fromWalk c a (walkOf a))

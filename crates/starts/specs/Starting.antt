@@ -4,7 +4,7 @@ use Prim.Native.Nat.{ℕ, _+_, _-_, _≤_}
 use mathlib.Core.Path.{_≡_}
 use mathlib.Core.List.{List, _++_}
 use mathlib.Core.Option.{Option, none, some}
-use mathlib.Core.Bool.{false}
+use mathlib.Core.Bool.{true, false}
 use lib.ListN.{length, take, replicate}
 use Rattle.journal.specs.Area.{badLength, outside, blockAt}
 use Rattle.journal.specs.Answers.{walkedOf}
@@ -34,8 +34,9 @@ use Rattle.consumer.specs.declared.Settings.{Settings}
 use Rattle.consumer.specs.declared.Configuration.{Configuration}
 use Rattle.consumer.specs.declared.NextGroup.{NextGroup}
 use Rattle.consumer.specs.declared.Consumer.{Consumer}
-use Rattle.starts.specs.Restart.{fresh, walkOf}
+use Rattle.starts.specs.Restart.{fresh, opens, firstNumber, walkOf}
 use Rattle.starts.specs.declared.Carried.{Carried}
+use Rattle.starts.specs.declared.Opening.{Opening}
 use Rattle.starts.specs.declared.Started.{Started}
 use Rattle.starts.specs.declared.StartAnswer.{StartAnswer}
 use Rattle.starts.specs.declared.StartAnswer.the-variants as answers
@@ -93,6 +94,11 @@ pub record StartedIs (s : Configuration) (size : ℕ) (right : Result State) (r 
   pub beside : Beside right s size (r .consumer)
 
 -- ## a restart's parts
+-- the first block of a half, as its opening; the number is of use where it opens
+pub record OpeningIs (a : List ℕ) (i : ℕ) (r : Opening) : Type 0 where
+  pub opens : r .opens ≡ opens a i
+  pub number : r .opens ≡ true → r .number ≡ firstNumber a i
+
 -- the counts that are carried, in two columns
 pub record CarriedIs (counts : List (Entry ℕ)) (r : Carried) : Type 0 where
   pub is : entries (take (r .len) (r .offsets)) (take (r .len) (r .counts)) ≡ counts

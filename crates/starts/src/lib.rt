@@ -1,7 +1,8 @@
 // How a consumer starts: fresh, or from what its journal has.
 ghost use mathlib.Core.Path.{_≡_};
 ghost use Prim.Native.Nat.{_-_, _≤_};
-ghost use mathlib.Core.Bool.{not};
+ghost use mathlib.Core.Bool.{not, _&&_};
+ghost use lib.Dec.{leb};
 ghost use lib.ListN.{length, take, drop};
 ghost use Rattle.types.specs.Refusal.{refused, Damaged};
 ghost use Rattle.types.specs.Table.{first};
@@ -10,14 +11,15 @@ ghost use Rattle.cursor.specs.View as cursors;
 ghost use Rattle.cursor.specs.Snapshot.{decodeCursor};
 ghost use Rattle.attempt.specs.Snapshot.{decodeAttempts};
 ghost use Rattle.journal.specs.Answers.{lastOf, walkedOf};
-ghost use Rattle.consumer.specs.State.{badArea};
-ghost use Rattle.starts.specs.Restart.{startTable, start, isDropped, unsettledCounts, fromSnapshots, readGroup, origin, limit, lastGroup, fromWalk, restart};
-ghost use Rattle.starts.specs.Starting.{configurationOf, startFault, FreshIs, StartedIs, CarriedIs, TableIs, consumerOf, keptOf, nextGroupOf, ResumedIs, Lies, LastLies, WalkedIs};
+ghost use Rattle.consumer.specs.State.{badArea, halfBlocks};
+ghost use Rattle.starts.specs.Restart.{startTable, start, isDropped, unsettledCounts, fromSnapshots, readGroup, origin, limit, unfitAt, lastGroup, fromWalk, restart};
+ghost use Rattle.starts.specs.Starting.{configurationOf, startFault, FreshIs, StartedIs, OpeningIs, CarriedIs, TableIs, consumerOf, keptOf, nextGroupOf, ResumedIs, Lies, LastLies, WalkedIs};
 use attempt::AttemptSnapshotError;
 use attempt::Decode;
 use consumer::Configuration;
 use consumer::Consumer;
 use consumer::NextGroup;
+use consumer::halves;
 use cursor::AckCursor;
 use cursor::Decode as Snapshot;
 use cursor::SnapshotError;
@@ -55,7 +57,14 @@ pub struct Started {
 fn bad_area(area_len: usize) -> bool
     ensures { λ r. ⌜ r ≡ badArea «area_len» ⌝ }
 {
-    journal::bad_length(area_len)
+    if journal::bad_length(area_len) {
+        return true;
+    }
+    let blocks = area_len / 512;
+    if blocks % 2 != 0 {
+        return true;
+    }
+    blocks < 18
 }
 
 // Refusals 1 to 4.
@@ -298,9 +307,21 @@ fn read_last(configuration: Configuration, area: &[u8], last: LastGroup, next: N
     }
 }
 
-// The consumer of the last group that a walk over the whole area met, or a fresh one where there is none: 5 to 19. A block of
-// kind 1 with a right check behind the place where the walk ended is 5. The walk answers no 4, since the area's length was
-// tested before.
+// Whether a walk ended at a header that is sound in all but its fit: its bodies would pass the end of its half.
+fn unfit_at(area: &[u8], number: u64, block: usize) -> bool
+    ensures { λ r. ⌜ r ≡ unfitAt (now (area .entry)) number block ⌝ }
+{
+    if limit(area) <= block {
+        return false;
+    }
+    let from = 512 * block;
+    let to = from + 512;
+    journal::is_sound_but_fit(&area[from..to], number)
+}
+
+// The consumer of the last group that a walk over the half in use met, or a fresh one where there is none: 5 to 19. A header that
+// doesn't fit there, where the walk ended, is 5, and so is a block of kind 1 with a right check behind that place. The walk answers
+// no 4, since the area's length was tested before.
 fn resume_from(configuration: Configuration, area: &[u8], walked: Walked) -> Started
     requires { ⌜ WalkedIs (now area) walked ⌝ }
     ensures { λ r. ⌜ ResumedIs configuration (length (now (area .entry))) (fromWalk (keptOf configuration) (now (area .entry)) (walkedOf walked)) r ⌝ }
@@ -311,6 +332,9 @@ fn resume_from(configuration: Configuration, area: &[u8], walked: Walked) -> Sta
             number,
             block,
         } => {
+            if unfit_at(area, number, block) {
+                return damaged(configuration, area.len(), block);
+            }
             if journal::header_behind(area, limit(area), block) {
                 return damaged(configuration, area.len(), block);
             }
@@ -332,21 +356,77 @@ fn resume_from(configuration: Configuration, area: &[u8], walked: Walked) -> Sta
     }
 }
 
-// Where the walk over an area begins, and the group number that is expected there.
+// The first block of a half as its opening: a header sound in all but the expected number, or none.
+struct Opening {
+    opens: bool,
+    number: u64,
+}
+
+// What the first block of a half, `at`, opens it with.
+fn opened_by(area: &[u8], at: usize) -> Opening
+    requires { ⌜ at ≤ halfBlocks (length (now area)) ⌝ }
+    ensures { λ r. ⌜ OpeningIs (now (area .entry)) at r ⌝ }
+{
+    let from = 512 * at;
+    let to = from + 512;
+    if area.len() < to {
+        return Opening {
+            opens: false,
+            number: 0,
+        };
+    }
+    let block = &area[from..to];
+    let header = journal::read_header(block);
+    Opening {
+        opens: journal::is_sound_but_number(block, at + halves::half_blocks(area.len()), at),
+        number: header.number as u64,
+    }
+}
+
+// Whether the second half is read.
+fn second_wins(first: Opening, second: Opening) -> bool
+    ensures { λ r. ⌜ r ≡ (second .opens && not (first .opens && leb (second .number) (first .number))) ⌝ }
+{
+    if !second.opens {
+        return false;
+    }
+    if !first.opens {
+        return true;
+    }
+    first.number < second.number
+}
+
+// Where the walk over an area begins, and the group number that is expected there: at the half that is opened under the greater
+// number, the first one if they are equal or neither is.
 pub fn origin(area: &[u8]) -> NextGroup
     ensures { λ r. ⌜ nextGroupOf r ≡ origin (now (area .entry)) ⌝ }
 {
+    let middle = halves::half_blocks(area.len());
+    let first = opened_by(area, 0);
+    let second = opened_by(area, middle);
+    if second_wins(first, second) {
+        return NextGroup {
+            number: second.number,
+            block: middle,
+        };
+    }
+    if first.opens {
+        return NextGroup {
+            number: first.number,
+            block: 0,
+        };
+    }
     NextGroup {
         number: 1,
         block: 0,
     }
 }
 
-// The block that no group of an area may pass.
+// The block that no group of the half that is read may pass.
 pub fn limit(area: &[u8]) -> usize
     ensures { λ r. ⌜ r ≡ limit (now (area .entry)) ⌝ }
 {
-    area.len() / 512
+    origin(area).block + halves::half_blocks(area.len())
 }
 
 // A fresh consumer for an area of so many zeroed bytes: 1 to 4.

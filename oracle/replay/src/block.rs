@@ -86,8 +86,8 @@ pub fn is_header(block: &[u8]) -> bool {
     block[0] == HEADER_KIND && checks(block)
 }
 
-/// What the block says, if it is a sound header of the group. `left` is the number of blocks of the area from this one on.
-pub fn sound_header(block: &[u8], group: u32, left: usize) -> Option<Header> {
+/// What the block says, if it is a header sound in all but the expected number and the room that its bodies have.
+pub fn formed_header(block: &[u8]) -> Option<Header> {
     let header = Header {
         bodies: usize::from(block[1]),
         group: u32_at(block, 4),
@@ -96,14 +96,22 @@ pub fn sound_header(block: &[u8], group: u32, left: usize) -> Option<Header> {
         attempts: u16_at(block, 18),
     };
     let sound = is_header(block)
-        && header.group == group
         && zeros(&block[2..4])
         && zeros(&block[20..CHECK])
         && (13..=2061).contains(&header.cursor)
         && (9..=1545).contains(&header.attempts)
-        && header.bodies == bodies_for(header.cursor + header.attempts)
-        && 1 + header.bodies <= left;
+        && header.bodies == bodies_for(header.cursor + header.attempts);
     sound.then_some(header)
+}
+
+/// What the block says, if it is a sound header of the group. `left` is the number of blocks of its half from this one on.
+pub fn sound_header(block: &[u8], group: u64, left: usize) -> Option<Header> {
+    formed_header(block).filter(|header| u64::from(header.group) == group && 1 + header.bodies <= left)
+}
+
+/// Whether the block is a header of the group that is sound in all but its room.
+pub fn unfit_header(block: &[u8], group: u64, left: usize) -> bool {
+    formed_header(block).is_some_and(|header| u64::from(header.group) == group && 1 + header.bodies > left)
 }
 
 /// Whether the block is the sound body `index`, from 1, of the header's group.
@@ -200,6 +208,8 @@ mod tests {
         };
         assert!(sound(13, 9, 2) && !sound(13, 9, 1) && !sound(12, 9, 2) && !sound(13, 8, 2));
         assert!(sound(2_061, 1_545, 9) && !sound(2_061, 1_545, 8) && !sound(2_062, 1_545, 9) && !sound(2_061, 1_546, 9));
+        assert!(!unfit_header(&header_block(&HEADER), 1, 2) && unfit_header(&header_block(&HEADER), 1, 1));
+        assert!(!unfit_header(&header_block(&HEADER), 2, 1));
         assert_eq!(sound_header(&header_block(&HEADER), 2, 2), None);
         assert_eq!(sound_header(&header_block(&Header { bodies: 2, ..HEADER }), 1, 9), None);
     }

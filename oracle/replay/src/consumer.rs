@@ -1,6 +1,6 @@
 //! 01's consumer over the original's cursor, lease table and delivery policy. Each call runs down 01's refusals in their order, then
 //! lets the original act. A lease's worker (02, g) stands beside the original's table, which has no place for it.
-use crate::journal::{read, writes, Stored};
+use crate::journal::{read, writes, zeroing, Half, Stored};
 use crate::rights::{Operation, Rights};
 use ironbus::cursor::{AckCursor, BoundedAck};
 use ironbus::delivery::{DeliveryConfig, Disposition};
@@ -59,13 +59,15 @@ pub struct Consumer {
     /// Who claimed the offset last, for each that has a lease.
     holders: BTreeMap<u64, u64>,
     pub ceiling: u64,
-    pub group: u32,
+    /// The next group's number: 4294967296 where there is none.
+    pub group: u64,
     pub block: usize,
-    blocks: usize,
+    pub half: Half,
     settings: Settings,
 }
 
 /// A checkpoint on its way: the consumer as it will be given back, and the writes still to come.
+#[derive(Clone)]
 pub struct Writing {
     pub after: Consumer,
     pub writes: Vec<(usize, Vec<u8>)>,
@@ -105,7 +107,7 @@ impl Consumer {
             ceiling,
             group: found.group,
             block: found.block,
-            blocks: area.len() / crate::block::BLOCK,
+            half: found.half,
             settings: settings.clone(),
         })
     }
@@ -255,7 +257,8 @@ impl Consumer {
         Ok(offsets)
     }
 
-    /// Refusals 38, 39, 31. The counts are stored in version 2 (02, j).
+    /// Refusals 38, 39, 31. The counts are stored in version 2 (02, j). Where the half in use has no room for the group, the other
+    /// half is zeroed, and the group begins it (02, i).
     pub fn begin(&self, worker: u64) -> Result<Writing, Code> {
         self.settings.rights.ask(worker, Operation::Checkpoint)?;
         let mut stored = Stored {
@@ -264,15 +267,22 @@ impl Consumer {
             attempts: attempt_snapshot_v2(&self.table.all_attempt_counts()),
         };
         self.cursor.encode_snapshot(&mut stored.cursor);
-        let writes = writes(&stored, self.group, self.block);
-        if self.blocks - self.block < writes.len() {
+        let Ok(group) = u32::try_from(self.group) else {
             return Err(vec![31]);
-        }
+        };
+        let here = writes(&stored, group, self.block);
         let mut after = self.clone();
         after.ceiling = stored.ceiling;
         after.table.note_attempts_flushed();
         after.group += 1;
-        after.block += writes.len();
+        after.block = self.block + here.len();
+        if after.block <= self.half.end {
+            return Ok(Writing { after, writes: here });
+        }
+        let other = self.half.other();
+        after.half = other;
+        after.block = other.from + here.len();
+        let writes = [zeroing(other), writes(&stored, group, other.from)].concat();
         Ok(Writing { after, writes })
     }
 }

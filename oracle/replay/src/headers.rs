@@ -1,14 +1,23 @@
 //! Scenes in which headers are changed, in the first group, a middle one and the last, while later ones stand (02, d).
 use crate::block::BLOCK;
+use crate::journal::Half;
 use crate::make::Maker;
 use crate::scenes::checkpoint;
 use crate::wear::shorter;
 
 /// Groups of one body and of two; then a header of theirs is changed, and more behind or before it, and put back; restarts on all of it.
 pub fn headers(maker: &mut Maker) {
-    maker.start("3 0 9", 10, 25, 24, &[]);
-    let headers = groups(maker);
-    let before: Vec<Vec<u8>> = (0..24).filter_map(|block| maker.block(block)).collect();
+    let blocks = maker.random.pick(&[24, 40]);
+    maker.start("3 0 9", 10, 25, blocks, &[]);
+    for _ in 0..maker.random.pick(&[0, 0, blocks / 4]) {
+        checkpoint(maker);
+    }
+    let mut headers = groups(maker);
+    let Some(half) = maker.program.consumer().map(|consumer| consumer.half) else {
+        return;
+    };
+    headers.retain(|header| (half.from..half.end).contains(header));
+    let before: Vec<Vec<u8>> = (0..blocks as usize).filter_map(|block| maker.block(block)).collect();
     for _ in 0..4 {
         let any = maker.random.below(headers.len() as u64) as usize;
         let worn = maker.random.pick(&[0, any, any, headers.len() - 1]);
@@ -18,7 +27,7 @@ pub fn headers(maker: &mut Maker) {
         match maker.random.below(4) {
             0 => behind(maker, &headers[worn + 1..]),
             1 => body(maker, &headers),
-            _ => look_alike(maker, headers[worn]),
+            _ => look_alike(maker, headers[worn], half),
         }
         for (block, bytes) in before.iter().enumerate() {
             maker.make_block(block, bytes);
@@ -79,11 +88,17 @@ fn body(maker: &mut Maker, headers: &[usize]) {
     maker.say("restart");
 }
 
-/// Two blocks behind the header, of a group or of none, get kind 1 and then a right check.
-fn look_alike(maker: &mut Maker, header: usize) {
-    let left = maker.blocks() - header as u64 - 1;
+/// Two blocks behind the header, of a group or of none, get kind 1 and then a right check; some are in the other half.
+fn look_alike(maker: &mut Maker, header: usize, half: Half) {
     for _ in 0..2 {
-        let block = header + 1 + maker.random.below(left) as usize;
+        let left = maker
+            .random
+            .pick(&[half.end, half.end, half.end + 1, maker.blocks() as usize])
+            - header;
+        let block = header + maker.random.below(left as u64) as usize;
+        if block as u64 >= maker.blocks() {
+            continue;
+        }
         maker.poke(block, 0, &[1]);
         maker.say("restart");
         maker.reseal(block);

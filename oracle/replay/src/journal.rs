@@ -1,8 +1,13 @@
-//! The journal: the walk of a restart and the block writes of a checkpoint.
-use crate::block::{bodies_for, body_block, header_block, is_header, sound_body, sound_header, Header, BLOCK, PAYLOAD, ROOM};
+//! The journal: its two halves (02, i), the walk of a restart and the block writes of a checkpoint.
+use crate::block::{
+    bodies_for, body_block, formed_header, header_block, is_header, sound_body, sound_header, unfit_header, Header, BLOCK, PAYLOAD,
+    ROOM,
+};
 use lists::codecs::Code;
 
 pub const AREA: u64 = 65_536;
+/// The fewest blocks: two halves, each with room for the largest group.
+pub const BLOCKS: u64 = 18;
 
 const BAD_AREA: u64 = 4;
 const DAMAGED: u64 = 5;
@@ -14,50 +19,97 @@ pub struct Stored {
     pub attempts: Vec<u8>,
 }
 
-/// What a walk finds: the last group's content, the next group's number and its block.
+/// What a walk finds: the last group's content, the next group's number, which may be one more than a header can have, and its
+/// block, which is the end of the half where that is full.
 pub struct Found {
     pub last: Option<Stored>,
-    pub group: u32,
+    pub group: u64,
     pub block: usize,
+    pub half: Half,
 }
 
 /// Refusal 4 for the area of a start or a restart.
 pub fn area_length(length: u64) -> Result<(), Code> {
-    if length == 0 || length % BLOCK as u64 != 0 || length > AREA {
+    let blocks = length / BLOCK as u64;
+    if length % BLOCK as u64 != 0 || length > AREA || blocks % 2 != 0 || blocks < BLOCKS {
         return Err(vec![BAD_AREA]);
     }
     Ok(())
+}
+
+/// One of the two halves of an area: which one, and its blocks.
+#[derive(Clone, Copy, Debug, PartialEq)]
+pub struct Half {
+    pub number: usize,
+    pub from: usize,
+    pub end: usize,
+}
+
+impl Half {
+    pub fn new(blocks: usize, number: usize) -> Half {
+        let half = blocks / 2;
+        Half {
+            number,
+            from: half * number,
+            end: half * (number + 1),
+        }
+    }
+
+    pub fn other(&self) -> Half {
+        Half::new(2 * (self.end - self.from), 1 - self.number)
+    }
+}
+
+/// The half in use, and the group number that is expected first there: the half whose first block is a header sound in all but its
+/// number; of two, that with the greater number, or the first. Where there is none, the first half and 1.
+pub fn in_use(area: &[u8]) -> (Half, u64) {
+    let halves = [0, 1].map(|number| Half::new(area.len() / BLOCK, number));
+    let numbers = halves.map(|half| formed_header(block_of(area, half.from)).map(|header| u64::from(header.group)));
+    match numbers {
+        [None, None] => (halves[0], 1),
+        [Some(first), None] => (halves[0], first),
+        [None, Some(second)] => (halves[1], second),
+        [Some(first), Some(second)] if first >= second => (halves[0], first),
+        [Some(_), Some(second)] => (halves[1], second),
+    }
 }
 
 pub fn block_of(area: &[u8], block: usize) -> &[u8] {
     &area[BLOCK * block..BLOCK * (block + 1)]
 }
 
-/// What the groups of an area come to. A block behind the one where the walk ended that is a header still is refusal 5, naming
-/// where it ended (02, d); an unsound body on the walk comes first.
+/// What the groups of the half in use come to. A header that is unsound for want of room alone where the walk ended (02, i), and
+/// a block behind that one in the half that is a header still (02, d), are refusal 5, naming where it ended; an unsound body on the
+/// walk comes first.
 pub fn read(area: &[u8]) -> Result<Found, Code> {
     let found = walk(area)?;
-    if header_behind(area, found.block) {
+    if ends_unfit(area, &found) || header_behind(area, found.half, found.block) {
         return Err(vec![DAMAGED, found.block as u64]);
     }
     Ok(found)
 }
 
-/// Whether a header stands behind the block.
-pub fn header_behind(area: &[u8], block: usize) -> bool {
-    area.chunks(BLOCK).skip(block + 1).any(is_header)
+/// Whether the walk ended at a header that is sound in all but its room.
+pub fn ends_unfit(area: &[u8], found: &Found) -> bool {
+    found.block < found.half.end && unfit_header(block_of(area, found.block), found.group, found.half.end - found.block)
 }
 
-/// Walks from block 0 to the first block that is no sound header; the last group counts.
+/// Whether a header stands behind the block in the half.
+pub fn header_behind(area: &[u8], half: Half, block: usize) -> bool {
+    (block + 1..half.end).any(|block| is_header(block_of(area, block)))
+}
+
+/// Walks the half in use from its first block to the first that is no sound header; the last group counts.
 pub fn walk(area: &[u8]) -> Result<Found, Code> {
-    let blocks = area.len() / BLOCK;
+    let (half, first) = in_use(area);
     let mut found = Found {
         last: None,
-        group: 1,
-        block: 0,
+        group: first,
+        block: half.from,
+        half,
     };
-    while found.block < blocks {
-        let Some(header) = sound_header(block_of(area, found.block), found.group, blocks - found.block) else {
+    while found.block < half.end {
+        let Some(header) = sound_header(block_of(area, found.block), found.group, half.end - found.block) else {
             break;
         };
         found.last = Some(read_group(area, found.block, &header)?);
@@ -101,4 +153,9 @@ pub fn writes(stored: &Stored, group: u32, at: usize) -> Vec<(usize, Vec<u8>)> {
     }
     writes.push((at, header_block(&header)));
     writes
+}
+
+/// The writes that zero a half, from its first block on.
+pub fn zeroing(half: Half) -> Vec<(usize, Vec<u8>)> {
+    (half.from..half.end).map(|block| (block, vec![0; BLOCK])).collect()
 }

@@ -2,6 +2,7 @@
 pub mod block;
 pub mod compare;
 pub mod consumer;
+pub mod halves;
 pub mod headers;
 pub mod journal;
 pub mod line;

@@ -2,7 +2,7 @@
 use crate::line::LINE;
 use crate::program::{Phase, Program};
 use crate::workers::Crew;
-use crate::{headers, scenes, versions, wear, workers};
+use crate::{halves, headers, scenes, versions, wear, workers};
 use lists::random::Random;
 use lists::state::Table;
 
@@ -73,7 +73,7 @@ pub fn script(seed: u64, lines: usize) -> Vec<Vec<u8>> {
         scenes::spend(&mut maker);
     }
     while maker.lines.len() < lines {
-        match maker.random.below(28) {
+        match maker.random.below(39) {
             0..=5 => scenes::life(&mut maker),
             6..=7 => scenes::cuts(&mut maker),
             8 => scenes::full(&mut maker),
@@ -83,9 +83,15 @@ pub fn script(seed: u64, lines: usize) -> Vec<Vec<u8>> {
             12 => scenes::filled(&mut maker),
             13..=14 => wear::worn(&mut maker),
             15 => wear::bounds(&mut maker),
-            16..=19 => headers::headers(&mut maker),
-            20..=21 => versions::versions(&mut maker),
-            22..=24 => workers::workers(&mut maker),
+            16..=20 => headers::headers(&mut maker),
+            21..=22 => versions::versions(&mut maker),
+            23..=24 => halves::switches(&mut maker),
+            25..=26 => halves::cut_switches(&mut maker),
+            27..=28 => halves::first_blocks(&mut maker),
+            29..=30 => halves::last_numbers(&mut maker),
+            31 => halves::old_journals(&mut maker),
+            32 => halves::unfit(&mut maker),
+            33..=35 => workers::workers(&mut maker),
             _ => wear::forged(&mut maker),
         }
     }
@@ -130,7 +136,7 @@ impl Maker {
         let threshold = self.random.pick(&[1, 1, 2, 3, 20, u32::MAX]);
         let visibility = self.random.pick(&[0, 1, 10, 30, 30, u64::MAX]);
         let cap = self.random.pick(&[0, 5, 10, 25, 100, 100, u64::MAX]);
-        let blocks = self.random.pick(&[1, 2, 3, 4, 6, 12, 18, 40, 128]);
+        let blocks = self.random.pick(&[18, 18, 20, 26, 40, 128]);
         let count = self.random.pick(&[0, 0, 1, 2, 3, 16]);
         let backoffs: Vec<u64> = (0..count).map(|_| self.random.pick(&[0, 3, 7, 50, u64::MAX])).collect();
         self.now = self.random.pick(&[0, 100, 100, 1 << 40, u64::MAX - 60]);

@@ -7,6 +7,7 @@ use crate::rights::Rights;
 use ironbus::lease::LeaseConfig;
 use lists::codecs::Code;
 
+#[derive(Clone)]
 pub enum Phase {
     Idle(Consumer),
     Writing(Writing),
@@ -15,12 +16,14 @@ pub enum Phase {
 }
 
 /// What a `start` has made: its settings, the area, and who can be called.
+#[derive(Clone)]
 pub struct Started {
     settings: Settings,
     pub area: Vec<u8>,
     pub phase: Phase,
 }
 
+#[derive(Clone)]
 pub struct Program {
     pub started: Option<Started>,
     /// The worker whose number the calls carry.
@@ -74,7 +77,7 @@ fn state(consumer: &Consumer) -> String {
     });
     let carried = table.carried.iter().map(|(offset, count)| format!("{offset}:{count}"));
     format!(
-        "state committed {} ranges {} leases {} carried {} next {} ceiling {} counter {} group {} block {}",
+        "state committed {} ranges {} leases {} carried {} next {} ceiling {} counter {} group {} block {} half {}",
         consumer.cursor.committed().get(),
         listed(ranges.collect()),
         listed(leases.collect()),
@@ -83,7 +86,8 @@ fn state(consumer: &Consumer) -> String {
         consumer.ceiling,
         table.redeliveries,
         consumer.group,
-        consumer.block
+        consumer.block,
+        consumer.half.number
     )
 }
 

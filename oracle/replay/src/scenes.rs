@@ -6,9 +6,9 @@ use crate::workers::Crew;
 /// A checkpoint gives out so many generations.
 pub const GENERATIONS: u64 = 4_096;
 
-const KINDS: [&str; 3] = ["old", "new", "torn"];
+pub const KINDS: [&str; 3] = ["old", "new", "torn"];
 
-/// Begins a checkpoint and makes all its steps. Answers the header's block, or nothing where the journal had no room.
+/// Begins a checkpoint and makes all its steps. Answers the header's block, or nothing where it was refused.
 pub fn checkpoint(maker: &mut Maker) -> Option<usize> {
     if maker.random.below(8) > 0 {
         maker.able(Operation::Checkpoint);
@@ -125,7 +125,7 @@ fn out_of_place(maker: &mut Maker) {
 
 /// Every write of a checkpoint cut in every way, with more and more to store.
 pub fn cuts(maker: &mut Maker) {
-    let blocks = maker.random.pick(&[9, 18, 60, 128]);
+    let blocks = maker.random.pick(&[18, 18, 20, 60, 128]);
     maker.start("2 0 3", 10, 25, blocks, &[5, 9]);
     checkpoint(maker);
     for round in 0..1 + maker.random.below(3) {
@@ -143,9 +143,12 @@ pub fn cuts(maker: &mut Maker) {
     }
 }
 
-fn cut_everywhere(maker: &mut Maker, kind: &str) {
-    for steps in 0..9 {
-        maker.say("begin");
+/// A checkpoint cut at each of its writes in turn, or at some where they are many, with a restart behind each cut.
+pub fn cut_everywhere(maker: &mut Maker, kind: &str) {
+    let mut steps = 0;
+    loop {
+        let begun = maker.say("begin");
+        let writes = begun.strip_prefix("begun ").map_or(0, |count| count.parse().unwrap());
         for _ in 0..steps {
             if maker.writing() {
                 maker.say("step");
@@ -161,6 +164,7 @@ fn cut_everywhere(maker: &mut Maker, kind: &str) {
         maker.say("restart");
         maker.say("state");
         maker.any_call();
+        steps += 1 + maker.random.below(1 + writes / 24 * 8);
     }
 }
 
@@ -209,11 +213,12 @@ pub fn full(maker: &mut Maker) {
     }
 }
 
-/// Checkpoints until there is no room, with more and less to store, and a restart on all of them.
+/// Checkpoints until each half was in use, with more and less to store, and a restart on all of them.
 pub fn filled(maker: &mut Maker) {
-    let blocks = maker.random.pick(&[2, 3, 7, 20, 128]);
+    let blocks = maker.random.pick(&[18, 20, 40, 128]);
     maker.start("3 0 9", 10, 25, blocks, &[]);
-    while checkpoint(maker).is_some() {
+    for _ in 0..maker.random.pick(&[blocks / 4, blocks / 2, blocks]) {
+        checkpoint(maker);
         for _ in 0..maker.random.below(4) {
             maker.any_call();
         }
@@ -252,7 +257,7 @@ pub fn ranges(maker: &mut Maker) {
 /// All generations of one checkpoint, and the nack and the claim after them.
 pub fn spend(maker: &mut Maker) {
     maker.with_guest();
-    maker.start_crew("3 0 4294967295", 0, 25, 6, &[]);
+    maker.start_crew("3 0 4294967295", 0, 25, 18, &[]);
     checkpoint(maker);
     let spare = maker.random.below(3);
     for i in 0..GENERATIONS - spare {
@@ -277,7 +282,8 @@ pub fn spend(maker: &mut Maker) {
 /// A journal whose ceiling is near the last generation.
 pub fn last_generations(maker: &mut Maker) {
     let threshold = maker.random.pick(&[1, 2, 9]);
-    maker.start(&format!("3 0 {threshold}"), 5, 25, 20, &[4]);
+    maker.with_guest();
+    maker.start_crew(&format!("3 0 {threshold}"), 5, 25, 20, &[4]);
     checkpoint(maker);
     maker.say("claim 0 0");
     checkpoint(maker);
@@ -294,8 +300,11 @@ pub fn last_generations(maker: &mut Maker) {
         for _ in 0..12 {
             maker.any_call();
         }
-        let token = maker.token();
-        maker.say_as_anyone(&format!("nack {token} 7"));
+        for i in 0..4 {
+            maker.say(format!("claim {} 0", 70 + i));
+            let token = maker.token();
+            maker.say_as_anyone(&format!("nack {token} 7"));
+        }
         maker.say("state");
     }
 }
@@ -311,7 +320,10 @@ pub fn starts(maker: &mut Maker) {
         let threshold = maker.random.pick(&["0", "1", "1", "4294967295", "4294967296"]);
         let bytes = maker
             .random
-            .pick(&[0, 1, 511, 512, 513, 1_024, 65_024, 65_536, 66_048, u64::MAX - 511, u64::MAX]);
+            .pick(&[0, 511, 512, 1_024, 8_192, 8_704, 9_215, 9_216, 9_216, 9_217, 9_728, 10_240]);
+        let bytes = maker
+            .random
+            .pick(&[bytes, bytes, 65_024, 65_535, 65_536, 66_048, 66_560, u64::MAX - 511, u64::MAX]);
         let backoffs = " 1".repeat(maker.random.pick(&[0, 0, 15, 16, 17, 40]));
         maker.say(format!("start {limit} {opt_in} {threshold} 10 25 {bytes}{backoffs}"));
         for _ in 0..maker.random.below(3) {

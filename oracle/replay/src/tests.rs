@@ -1,14 +1,17 @@
 //! 01's examples and the phases of the program, as scripts with their answers; and that the made scripts meet everything.
-use crate::block::{bodies_for, seal, sound_header};
+use crate::block::{bodies_for, formed_header, seal};
 use crate::compare::{answers, difference};
-use crate::journal::{block_of, header_behind, walk};
+use crate::journal::{block_of, ends_unfit, header_behind, in_use, walk, writes, Half, Stored};
 use crate::line::{read, Call};
 use crate::make::script;
-use crate::program::{ask, Program};
+use crate::program::{ask, Phase, Program};
 use crate::rights::{Rights, WORKERS};
 use crate::versions::rewritten;
 use lists::codecs::as_version_1;
 use std::collections::{BTreeMap, BTreeSet};
+
+/// The scripts that `oracle/run compare` uses.
+const SCRIPTS: u64 = 80;
 
 /// Runs lines written as `LINE => ANSWER`; several steps of a checkpoint are written `checkpoint => BLOCK,..`.
 fn play(text: &str) {
@@ -38,24 +41,24 @@ fn acks_and_commits() {
         claim 1 0 => deliver 1 1 1
         claim 0 0 => deliver 0 2 1
         ack 2 0 => settled
-        state => state committed 0 ranges 2-3 leases 0:2:0:10:1,1:1:0:10:1 carried none next 3 ceiling 4096 counter 0 group 2 block 2
+        state => state committed 0 ranges 2-3 leases 0:2:0:10:1,1:1:0:10:1 carried none next 3 ceiling 4096 counter 0 group 2 block 2 half 0
         ack 2 0 => refused 24
         claim 2 0 => refused 22
         term 1 1 => settled
         commit 0 => unchanged
         commit 1 => refused 30
         ack 0 2 => settled
-        state => state committed 3 ranges none leases none carried none next 3 ceiling 4096 counter 0 group 2 block 2
+        state => state committed 3 ranges none leases none carried none next 3 ceiling 4096 counter 0 group 2 block 2 half 0
         commit 5 => committed
         claim 8 0 => deliver 8 3 1
         ack 8 3 => settled
         claim 9 0 => deliver 9 4 1
         ack 9 4 => settled
         commit 7 => committed
-        state => state committed 7 ranges 8-10 leases none carried none next 5 ceiling 4096 counter 0 group 2 block 2
+        state => state committed 7 ranges 8-10 leases none carried none next 5 ceiling 4096 counter 0 group 2 block 2 half 0
         commit 8 => committed
         commit 10 => unchanged
-        state => state committed 10 ranges none leases none carried none next 5 ceiling 4096 counter 0 group 2 block 2
+        state => state committed 10 ranges none leases none carried none next 5 ceiling 4096 counter 0 group 2 block 2 half 0
         claim 18446744073709551615 0 => refused 21",
     );
 }
@@ -94,31 +97,30 @@ fn dead_letter_after_a_restart() {
         claim 0 10 => deliver 0 1 2
         claim 0 20 => refused 26
         checkpoint => 3,2
-        state => state committed 0 ranges none leases 0:1:10:20:2 carried none next 2 ceiling 4098 counter 0 group 3 block 4
+        state => state committed 0 ranges none leases 0:1:10:20:2 carried none next 2 ceiling 4098 counter 0 group 3 block 4 half 0
         restart => restarted
-        state => state committed 0 ranges none leases none carried 0:2 next 4098 ceiling 4098 counter 0 group 3 block 4
+        state => state committed 0 ranges none leases none carried 0:2 next 4098 ceiling 4098 counter 0 group 3 block 4 half 0
         claim 0 30 => refused 26
         checkpoint => 5,4
         claim 0 30 => deadletter 0 4098 3
-        restart 2048 => restarted
-        state => state committed 0 ranges none leases none carried 0:2 next 4098 ceiling 4098 counter 0 group 3 block 4
-        begin => refused 31
-        restart 9216 => not now
-        restart 2047 => refused 4
-        restart 1024 => restarted
-        state => state committed 0 ranges none leases none carried none next 4096 ceiling 4096 counter 0 group 2 block 2",
+        restart 8704 => refused 4
+        restart 8192 => refused 4
+        restart 9215 => refused 4
+        restart 9217 => not now
+        restart 9216 => restarted
+        state => state committed 0 ranges none leases none carried 0:2 next 8194 ceiling 8194 counter 0 group 4 block 6 half 0",
     );
 }
 
 /// Old, new and torn at a body and at a header.
 #[test]
 fn power_failures() {
-    let before = "start 3 0 9 10 25 3072 => started
+    let before = "start 3 0 9 10 25 9216 => started
         checkpoint => 1,0
         claim 4 0 => deliver 4 0 1
         begin => begun 2\n";
-    let old = "state committed 0 ranges none leases none carried none next 4096 ceiling 4096 counter 0 group 2 block 2";
-    let new = "state committed 0 ranges none leases none carried 4:1 next 4097 ceiling 4097 counter 0 group 3 block 4";
+    let old = "state committed 0 ranges none leases none carried none next 4096 ceiling 4096 counter 0 group 2 block 2 half 0";
+    let new = "state committed 0 ranges none leases none carried 4:1 next 4097 ceiling 4097 counter 0 group 3 block 4 half 0";
     for kind in ["old", "new", "torn"] {
         let right = if kind == "new" { new } else { old };
         play(&format!(
@@ -134,7 +136,7 @@ fn power_failures() {
 #[test]
 fn worn_blocks() {
     play(
-        "start 3 0 9 10 25 3072 => started
+        "start 3 0 9 10 25 9216 => started
         checkpoint => 1,0
         checkpoint => 3,2
         poke 3 100 1 => poked
@@ -145,15 +147,15 @@ fn worn_blocks() {
         poke 1 511 7 => poked
         poke 2 0 2 => poked
         restart => restarted
-        state => state committed 0 ranges none leases none carried none next 4096 ceiling 4096 counter 0 group 2 block 2
+        state => state committed 0 ranges none leases none carried none next 4096 ceiling 4096 counter 0 group 2 block 2 half 0
         poke 0 1 2 => poked
         restart => restarted
-        state => state committed 0 ranges none leases none carried none next 0 ceiling 0 counter 0 group 1 block 0",
+        state => state committed 0 ranges none leases none carried none next 0 ceiling 0 counter 0 group 1 block 0 half 0",
     );
 }
 
-/// 02, d: a worn header of three groups. While a header stands behind it, a restart is refused by its block, behind the bodies
-/// before it; else the group before is taken. What stands behind counts by kind and check alone.
+/// 02, d and i: a worn header of three groups in the first half. While a header stands behind it, a restart is refused by its block, behind the bodies
+/// before it; else the group before is taken. What stands behind in the half counts by kind and check alone.
 #[test]
 fn worn_headers() {
     let before = "start 3 0 9 10 25 9216 => started
@@ -161,10 +163,16 @@ fn worn_headers() {
         checkpoint => 3,2
         claim 0 0 => deliver 0 0 1
         checkpoint => 5,4\n";
-    let [none, first, second] = [(0, 1, 0), (4096, 2, 2), (4096, 3, 4)].map(|(next, group, block)| {
+    let [none, first, second, third] = [
+        ("none", 0, 1, 0),
+        ("none", 4096, 2, 2),
+        ("none", 4096, 3, 4),
+        ("0:1", 4097, 4, 6),
+    ]
+    .map(|(carried, next, group, block)| {
         format!(
             "restart => restarted
-            state => state committed 0 ranges none leases none carried none next {next} ceiling {next} counter 0 group {group} block {block}"
+            state => state committed 0 ranges none leases none carried {carried} next {next} ceiling {next} counter 0 group {group} block {block} half 0"
         )
     });
     for (worn, right) in [
@@ -179,11 +187,13 @@ fn worn_headers() {
             "restart => refused 5 2",
         ),
         (
-            &format!("poke 2 511 0 => poked\npoke 4 511 0 => poked\n{}", head(17)),
+            &format!("poke 2 511 0 => poked\npoke 4 511 0 => poked\n{}", head(8)),
             "restart => refused 5 2",
         ),
-        (&head(17), "restart => refused 5 6"),
+        (&head(8), "restart => refused 5 6"),
         (&head(7), "restart => refused 5 6"),
+        (&head(9), &third[..]),
+        (&head(17), &third[..]),
         (&head(4), &second[..]),
     ] {
         play(&format!("{before}{worn}\n{right}"));
@@ -210,8 +220,13 @@ fn calls_out_of_place() {
         start 1 0 0 1 1 0 => refused 3
         start 1 0 1 1 1 0 => refused 4
         start 1 0 1 1 1 66048 => refused 4
+        start 1 0 1 1 1 66560 => refused 4
+        start 1 0 1 1 1 8192 => refused 4
+        start 1 0 1 1 1 8704 => refused 4
+        start 1 0 1 1 1 9728 => refused 4
+        start 1 0 1 1 1 9217 => refused 4
         state => not now
-        start 1 0 1 1 1 1024 => started
+        start 1 0 1 1 1 10240 => started
         start 1 0 1 1 1 1 => refused 4
         step => not now
         cut old => not now
@@ -219,19 +234,20 @@ fn calls_out_of_place() {
         begin => not now
         claim 0 0 => not now
         state => not now
-        step 1025 => not now
-        step 512 => refused 4
-        step 1024 => wrote 1
+        step 10241 => not now
+        step 9216 => refused 4
+        step 10240 => wrote 1
         restart 0 => refused 4
-        poke 2 0 0 => not now
+        restart 9728 => refused 4
+        poke 20 0 0 => not now
         poke 1 512 0 => not now
         poke 1 0 256 => not now
-        peek 2 => not now
+        peek 20 => not now
         step => done 0
-        begin => refused 31
-        restart 512 => restarted
-        state => state committed 0 ranges none leases none carried none next 0 ceiling 0 counter 0 group 1 block 0
-        begin => refused 31",
+        restart 9216 => restarted
+        restart 10240 => not now
+        peek 18 => not now
+        state => state committed 0 ranges none leases none carried none next 4096 ceiling 4096 counter 0 group 2 block 2 half 0",
     );
 }
 
@@ -278,7 +294,7 @@ fn workers_and_rights() {
         claim 18446744073709551615 0 => refused 38
         commit 0 => refused 38
         waiting 0 => refused 38
-        state => state committed 0 ranges none leases 0:2:10:22:2 carried none next 3 ceiling 4096 counter 1 group 2 block 2
+        state => state committed 0 ranges none leases 0:2:10:22:2 carried none next 3 ceiling 4096 counter 1 group 2 block 2 half 0
         restart => restarted
         worker 0 => worker 0
         begin => begun 2
@@ -330,7 +346,7 @@ fn lines_of_a_text() {
 
 #[test]
 fn a_difference_is_shown() {
-    let text = b"start 1 0 1 1 1 1024\n\nbegin\nstep\n";
+    let text = b"start 1 0 1 1 1 9216\n\nbegin\nstep\n";
     assert_eq!(difference(text, "started\nbegun 2\nwrote 1\n"), Ok(3));
     assert!(difference(text, "started\nbegun 2\nwrote 0\n")
         .unwrap_err()
@@ -339,13 +355,214 @@ fn a_difference_is_shown() {
     assert!(difference(text, "started\nbegun 2\nwrote 1\nmore\n").is_err());
 }
 
+/// 02, i: the second half is zeroed from its first block on, and the group that doesn't fit the first is written there; back again
+/// when that is full. The next block of a full half is its end.
+#[test]
+fn switches() {
+    let state = |ceiling: u64, group, block, half| {
+        format!(
+            "state => state committed 0 ranges none leases none carried none next 0 ceiling {ceiling} counter 0 group {group} block {block} half {half}\n"
+        )
+    };
+    let zeros = |from: usize| (from..from + 9).map(|block| format!("{block},")).collect::<String>();
+    play(&format!(
+        "start 3 0 9 10 25 9216 => started
+        {}checkpoint => 1,0
+        checkpoint => 3,2
+        checkpoint => 5,4
+        checkpoint => 7,6
+        {}checkpoint => {}10,9
+        {}checkpoint => 12,11
+        checkpoint => 14,13
+        checkpoint => 16,15
+        checkpoint => {}1,0
+        {}restart => restarted
+        state => state committed 0 ranges none leases none carried none next 4096 ceiling 4096 counter 0 group 10 block 2 half 0",
+        state(0, 1, 0, 0),
+        state(4096, 5, 8, 0),
+        zeros(9),
+        state(4096, 6, 11, 1),
+        zeros(0),
+        state(4096, 10, 2, 0),
+    ));
+    let full = (0..5)
+        .map(|i| format!("checkpoint => {},{}\n", 2 * i + 1, 2 * i))
+        .collect::<String>();
+    let zeros = (10..20).map(|block| format!("{block},")).collect::<String>();
+    play(&format!(
+        "start 3 0 9 10 25 10240 => started
+        {full}{}checkpoint => {zeros}11,10
+        poke 10 9 0 => poked
+        restart => restarted
+        state => state committed 0 ranges none leases none carried none next 4096 ceiling 4096 counter 0 group 6 block 10 half 0",
+        state(4096, 6, 10, 0)
+    ));
+}
+
+/// Brings a journal of 18 blocks to where the next group goes to the other half: the first, the second, the first again.
+fn before_a_switch(switches: u64) -> Program {
+    let mut program = Program::default();
+    program.answer(b"start 3 0 9 10 25 9216");
+    for i in 0..4 * (switches + 1) {
+        program.answer(format!("claim {i} 0").as_bytes());
+        program.answer(b"begin");
+        while program.consumer().is_none() {
+            program.answer(b"step");
+        }
+    }
+    program.answer(b"claim 77 0");
+    program
+}
+
+/// 02, i: every write of a switch cut in every way. A restart finds what it would have found before, but where the header was left
+/// new; then the checkpoint is made again, and found.
+#[test]
+fn switches_cut_everywhere() {
+    for (switches, kind) in [0, 1, 2]
+        .into_iter()
+        .flat_map(|n| ["old", "new", "torn"].map(|kind| (n, kind)))
+    {
+        for steps in 0..11 {
+            let mut program = before_a_switch(switches);
+            program.answer(b"restart");
+            let old = program.answer(b"state");
+            let mut program = before_a_switch(switches);
+            assert_eq!(program.answer(b"begin").as_deref(), Some("begun 11"));
+            for _ in 0..steps {
+                program.answer(b"step");
+            }
+            let block = [9, 0][switches as usize % 2] + [0, 1, 2, 3, 4, 5, 6, 7, 8, 1, 0][steps];
+            assert_eq!(program.answer(format!("cut {kind}").as_bytes()), Some(format!("cut {block}")));
+            assert_eq!(program.answer(b"restart").as_deref(), Some("restarted"));
+            let found = program.answer(b"state");
+            let made = steps == 10 && kind == "new";
+            assert_eq!(found == old, !made);
+            let begun = if made { "begun 2" } else { "begun 11" };
+            assert_eq!(program.answer(b"begin").as_deref(), Some(begun));
+            while program.consumer().is_none() {
+                program.answer(b"step");
+            }
+            let done = program
+                .consumer()
+                .map(|consumer| (consumer.group, consumer.block, consumer.half));
+            assert_eq!(program.answer(b"restart").as_deref(), Some("restarted"));
+            assert_eq!(
+                program
+                    .consumer()
+                    .map(|consumer| (consumer.group, consumer.block, consumer.half)),
+                done
+            );
+        }
+    }
+}
+
+/// Pokes that write a group with nothing but its number in it.
+fn group(number: u32, at: usize) -> String {
+    let stored = Stored {
+        ceiling: u64::from(number),
+        cursor: vec![1, 0, 0, 0, 0, 0, 0, 0, 0, 235, 190, 219, 79],
+        attempts: vec![2, 0, 0, 0, 0, 109, 169, 80, 53],
+    };
+    let pokes = writes(&stored, number, at).into_iter().flat_map(|(block, bytes)| {
+        let of_byte = |(i, value)| format!("poke {block} {i} {value} => poked\n");
+        bytes.into_iter().enumerate().map(of_byte).collect::<Vec<_>>()
+    });
+    pokes.collect()
+}
+
+/// What a restart finds: the ceiling, which is the number of the last group, and the next one's number, block and half.
+fn finds(last: u64, block: usize, half: usize) -> String {
+    let next = last + 1;
+    format!(
+        "restart => restarted
+        state => state committed 0 ranges none leases none carried none next {last} ceiling {last} counter 0 group {next} block {block} half {half}\n"
+    )
+}
+
+/// 02, i: which half is in use, by what stands in the two first blocks; and what a restart refuses in it.
+#[test]
+fn halves_of_a_journal() {
+    let start = "start 3 0 9 10 25 9216 => started\n".to_string();
+    let many = |numbers: std::ops::Range<u32>, at: usize| {
+        let first = numbers.start;
+        numbers.map(|n| group(n, at + 2 * (n - first) as usize)).collect::<String>()
+    };
+    for right in [
+        // nothing; one half; two, the greater number in the first or in the second; equal numbers
+        finds(0, 0, 0),
+        many(1..4, 0) + &finds(3, 6, 0),
+        many(7..9, 9) + &finds(8, 13, 1),
+        many(7..9, 0) + &many(1..5, 9) + &finds(8, 4, 0),
+        many(1..5, 0) + &many(5..8, 9) + &finds(7, 15, 1),
+        many(5..7, 0) + &many(5..9, 9) + &finds(6, 4, 0),
+        group(0, 0) + &finds(0, 2, 0),
+        // the first block counts, not the last: three groups up to 9 against one of 8
+        many(7..10, 0) + &group(8, 9) + &finds(8, 11, 1),
+        // the first block of the half in use is worn: the other half, whatever stands behind
+        many(1..5, 0) + &many(5..8, 9) + "poke 9 100 1 => poked\n" + &finds(4, 8, 0),
+        many(1..5, 9) + &many(5..8, 0) + "poke 0 0 2 => poked\n" + &finds(4, 17, 1),
+        // both are worn: no group, and headers behind in the first half are refused
+        many(1..3, 0) + &many(5..8, 9) + "poke 9 100 1 => poked\npoke 0 100 1 => poked\nrestart => refused 5 0",
+        group(1, 0) + &many(5..8, 9) + "poke 9 100 1 => poked\npoke 0 100 1 => poked\n" + &finds(0, 0, 0),
+        // a worn header in the half in use; what is worn in the other is not judged
+        many(1..5, 0) + &many(5..8, 9) + "poke 11 100 1 => poked\nrestart => refused 5 11",
+        many(1..5, 0) + &many(5..8, 9) + "poke 14 100 1 => poked\nrestart => refused 5 14",
+        many(1..5, 0) + &many(5..8, 9) + "poke 2 100 1 => poked\npoke 1 100 1 => poked\n" + &finds(7, 15, 1),
+        // a group across the middle, behind a worn body, with another number, with another fault; one that ends in the area
+        many(1..6, 0) + "restart => refused 5 8",
+        many(1..6, 0) + "poke 7 100 1 => poked\nrestart => refused 5 7",
+        many(1..5, 0) + &group(6, 8) + &finds(4, 8, 0),
+        many(1..6, 0) + "poke 8 100 1 => poked\n" + &finds(4, 8, 0),
+        many(1..9, 0) + "restart => refused 5 8",
+    ] {
+        play(&(start.clone() + &right));
+    }
+    // one that begins on the middle
+    let start = "start 3 0 9 10 25 10240 => started\n".to_string();
+    play(&(start.clone() + &many(1..6, 0) + &finds(5, 10, 0)));
+    play(&(start.clone() + &many(1..8, 0) + &finds(7, 14, 1)));
+    // the same on less of the area, whose middle is another
+    play(&(start + &many(1..8, 0) + "restart 9216 => refused 5 8"));
+}
+
+/// 02, i: the last number, and none behind it, whether there is room in the half or not.
+#[test]
+fn the_last_number() {
+    let number = u32::MAX;
+    let zeros = (9..18).map(|block| format!("{block},")).collect::<String>();
+    for (before, right) in [
+        (
+            group(number, 0) + &finds(number.into(), 2, 0),
+            "begin => refused 31".to_string(),
+        ),
+        (
+            group(number - 1, 0) + &finds(u64::from(number) - 1, 2, 0),
+            "checkpoint => 3,2\nbegin => refused 31\nrestart => restarted\nbegin => refused 31".to_string(),
+        ),
+        (
+            (0..4).map(|i| group(number - 4 + i, 2 * i as usize)).collect::<String>() + &finds(u64::from(number) - 1, 8, 0),
+            format!("checkpoint => {zeros}10,9\nbegin => refused 31\nrestart => restarted\nbegin => refused 31"),
+        ),
+        (
+            (0..4).map(|i| group(number - 3 + i, 2 * i as usize)).collect::<String>() + &finds(number.into(), 8, 0),
+            "begin => refused 31".to_string(),
+        ),
+        (
+            group(number, 0) + &group(number, 9) + &finds(number.into(), 2, 0),
+            "begin => refused 31".to_string(),
+        ),
+    ] {
+        play(&format!("start 3 0 9 10 25 9216 => started\n{before}{right}"));
+    }
+}
+
 /// The scripts that `oracle/run compare` uses have every kind of answer, and every refusal that a script can meet: all but 6, 12, 13
 /// and 19, which a sound header's lengths rule out, and 20, as the waiting list always fits.
 #[test]
 fn scripts_have_everything() {
     let mut words = BTreeSet::new();
     let mut refusals = BTreeSet::new();
-    for seed in 1..=40 {
+    for seed in 1..=SCRIPTS {
         for answer in answers(&script(seed, 2_000).join(&b'\n')).lines() {
             let mut parts = answer.split(' ');
             words.insert(parts.next().unwrap().to_string());
@@ -386,7 +603,7 @@ fn without_workers(program: &Program, line: &[u8]) -> Option<String> {
 fn scripts_have_workers() {
     let mut met = BTreeMap::new();
     let mut instead: BTreeMap<&str, BTreeSet<String>> = BTreeMap::new();
-    let scripts = (1..=40)
+    let scripts = (1..=SCRIPTS)
         .map(|seed| script(seed, 2_000))
         .chain([script(1, 9_000), script(2, 9_000)]);
     for lines in scripts {
@@ -462,25 +679,20 @@ enum Worn {
     None,
 }
 
-/// Whether a sound header stands behind the block, of whatever group.
-fn sound_behind(area: &[u8], block: usize) -> bool {
-    let blocks = area.len() / 512;
-    (block + 1..blocks).any(|i| {
-        let header = block_of(area, i);
-        let group = u32::from_le_bytes(header[4..8].try_into().unwrap());
-        sound_header(header, group, blocks - i).is_some()
-    })
+/// Whether a header that is sound, of whatever group, stands behind the block in the half.
+fn formed_behind(area: &[u8], half: Half, block: usize) -> bool {
+    (block + 1..half.end).any(|i| formed_header(block_of(area, i)).is_some())
 }
 
 fn worn(area: &[u8]) -> Worn {
     match walk(area) {
-        Err(code) if header_behind(area, code[1] as usize) => Worn::BodyFirst,
+        Err(code) if header_behind(area, in_use(area).0, code[1] as usize) => Worn::BodyFirst,
         Err(_) => Worn::None,
-        Ok(found) if sound_behind(area, found.block) => match found.last {
+        Ok(found) if formed_behind(area, found.half, found.block) => match found.last {
             None => Worn::First,
             Some(_) => Worn::Middle,
         },
-        Ok(found) if header_behind(area, found.block) => Worn::LookAlike,
+        Ok(found) if header_behind(area, found.half, found.block) => Worn::LookAlike,
         Ok(found) => match area.chunks(512).nth(found.block + 1) {
             Some(block) if block[0] == 2 => Worn::Last,
             _ => Worn::None,
@@ -492,7 +704,7 @@ fn worn(area: &[u8]) -> Worn {
 #[test]
 fn scripts_have_worn_headers() {
     let mut met = BTreeMap::new();
-    for seed in 1..=40 {
+    for seed in 1..=SCRIPTS {
         let mut program = Program::default();
         for line in script(seed, 2_000) {
             if let (b"restart", Some(started)) = (&line[..], &program.started) {
@@ -504,6 +716,165 @@ fn scripts_have_worn_headers() {
     for kind in [Worn::First, Worn::Middle, Worn::LookAlike, Worn::Last, Worn::BodyFirst] {
         assert!(met.get(&kind) >= Some(&100), "{met:?}");
     }
+}
+
+/// What of the halves a restart on an area meets.
+fn halves_met(area: &[u8]) -> Vec<&'static str> {
+    let (half, first) = in_use(area);
+    let firsts = [half, half.other()].map(|half| formed_header(block_of(area, half.from)));
+    let mut met = vec![match firsts {
+        [Some(a), Some(b)] if a.group == b.group => "equal numbers",
+        [Some(_), Some(_)] => "two first blocks",
+        [Some(_), None] => "one first block",
+        _ => "no first block",
+    }];
+    let of = |names: [&'static str; 2]| names[half.number];
+    met.push(of(["the first half", "the second half"]));
+    if firsts[0].is_some() && first == 0 {
+        met.push("group 0");
+    }
+    match walk(area) {
+        Err(_) => met.push(of(["a body of the first half", "a body of the second half"])),
+        Ok(found) if ends_unfit(area, &found) => met.push("no room for a header's bodies"),
+        Ok(found) if header_behind(area, half, found.block) => {
+            met.push(match firsts[0] {
+                Some(_) => of(["a header behind in the first half", "a header behind in the second half"]),
+                None => "a header behind no group",
+            });
+        }
+        Ok(found) => {
+            if found.block == half.end {
+                met.push("a full half");
+            }
+            if found.group > u64::from(u32::MAX) {
+                met.push("no number left");
+            }
+            if header_behind(area, half.other(), half.other().from) {
+                met.push("headers in the other half");
+            }
+        }
+    }
+    met
+}
+
+/// What of the halves a begin or a cut meets.
+fn writes_met(program: &Program, line: &[u8]) -> Option<&'static str> {
+    let phase = &program.started.as_ref()?.phase;
+    match (line, phase) {
+        (b"begin", Phase::Idle(consumer)) => match consumer.with_rights(Rights([127; WORKERS])).begin(0) {
+            Err(_) if consumer.block == consumer.half.end => Some("31 in a full half"),
+            Err(_) => Some("31"),
+            Ok(writing) if writing.after.half != consumer.half => Some("a switch"),
+            Ok(_) => None,
+        },
+        (b"cut old" | b"cut new" | b"cut torn", Phase::Writing(writing)) => {
+            let bodies = writing.after.half.end - writing.after.half.from;
+            let zeroing = writing.writes[0].1.iter().all(|&byte| byte == 0);
+            match (zeroing, &line[4..]) {
+                (true, b"old") => Some("zeros left old"),
+                (true, b"new") => Some("zeros left new"),
+                (true, _) => Some("zeros left torn"),
+                _ if writing.writes.len() > 1 => Some("a body cut"),
+                _ if writing.after.block - writing.after.half.from < bodies => Some("a header cut"),
+                _ => Some("the header cut that fills its half"),
+            }
+        }
+        _ => None,
+    }
+}
+
+/// The scripts that `oracle/run compare` uses meet each of these often.
+#[test]
+fn scripts_have_halves() {
+    let mut met = BTreeMap::new();
+    for seed in 1..=SCRIPTS {
+        let mut program = Program::default();
+        for line in script(seed, 2_000) {
+            let mut now: Vec<&str> = writes_met(&program, &line).into_iter().collect();
+            if let (b"restart", Some(started)) = (&line[..], &program.started) {
+                now.extend(halves_met(&started.area));
+            }
+            for what in now {
+                *met.entry(what).or_insert(0) += 1;
+            }
+            program.answer(&line);
+        }
+    }
+    for (what, least) in [
+        ("equal numbers", 20),
+        ("two first blocks", 200),
+        ("one first block", 1_000),
+        ("no first block", 50),
+        ("the first half", 1_000),
+        ("the second half", 300),
+        ("group 0", 10),
+        ("a body of the first half", 50),
+        ("a body of the second half", 20),
+        ("no room for a header's bodies", 20),
+        ("a header behind in the first half", 100),
+        ("a header behind in the second half", 30),
+        ("a header behind no group", 50),
+        ("a full half", 50),
+        ("no number left", 20),
+        ("headers in the other half", 200),
+        ("31", 20),
+        ("31 in a full half", 5),
+        ("a switch", 200),
+        ("zeros left old", 50),
+        ("zeros left new", 50),
+        ("zeros left torn", 50),
+        ("a body cut", 200),
+        ("a header cut", 200),
+        ("the header cut that fills its half", 5),
+    ] {
+        assert!(met.get(what) >= Some(&least), "{what} {met:?}");
+    }
+}
+
+/// What a restart would find, as its `state` says it, or its refusal.
+fn found_by_restart(program: &Program) -> Option<String> {
+    let mut copy = program.clone();
+    let answer = copy.answer(b"restart");
+    match answer.as_deref() {
+        Some("restarted") => copy.answer(b"state"),
+        _ => answer,
+    }
+}
+
+/// 02, i: where the journal is the consumer's own, whatever write of a checkpoint is cut, and however, the restart finds what it
+/// would have found before, but where the header was left new.
+#[test]
+fn cuts_keep_the_last_checkpoint() {
+    let mut compared = 0;
+    for seed in 1..=SCRIPTS {
+        let mut program = Program::default();
+        let mut before = None;
+        for line in script(seed, 2_000) {
+            let place = |program: &Program| {
+                program
+                    .consumer()
+                    .map(|consumer| (consumer.group, consumer.block, consumer.half))
+            };
+            if line == b"begin" && program.consumer().is_some() {
+                let mut copy = program.clone();
+                let own = copy.answer(b"restart").as_deref() == Some("restarted") && place(&copy) == place(&program);
+                before = own.then(|| found_by_restart(&program));
+            }
+            if line.starts_with(b"poke") {
+                before = None;
+            }
+            let last = match program.started.as_ref().map(|started| &started.phase) {
+                Some(Phase::Writing(writing)) => writing.writes.len() == 1,
+                _ => false,
+            };
+            let answer = program.answer(&line).unwrap_or_default();
+            if let (true, Some(before)) = (answer.starts_with("cut "), &before) {
+                assert_eq!(found_by_restart(&program) == *before, !(last && line == b"cut new"));
+                compared += 1;
+            }
+        }
+    }
+    assert!(compared >= 500, "{compared}");
 }
 
 /// Version 1 in place of version 2, in the last group of an area; nothing where there is none such.
@@ -544,7 +915,7 @@ fn restarts_on_both_versions() {
 #[test]
 fn scripts_have_versions() {
     let mut met = BTreeMap::new();
-    for seed in 1..=40 {
+    for seed in 1..=SCRIPTS {
         let mut program = Program::default();
         for line in script(seed, 2_000) {
             if let (b"restart", Some(started)) = (&line[..], &program.started) {

@@ -1,5 +1,5 @@
 //! Scenes on journals with attempt snapshots of version 1, as those from before have them, of both versions, and of others (02, j).
-use crate::block::{sound_header, BLOCK};
+use crate::block::formed_header;
 use crate::headers::groups;
 use crate::journal::{block_of, read_group, writes, Stored};
 use crate::make::Maker;
@@ -69,12 +69,13 @@ fn rewrite(maker: &mut Maker, at: usize, change: impl Fn(&[u8]) -> Vec<u8>) {
     }
 }
 
-/// The blocks of that group, with another attempt snapshot of the same length.
+/// The blocks of that group, with another attempt snapshot of the same length; none where a switch has zeroed it.
 pub fn rewritten(area: &[u8], at: usize, change: impl Fn(&[u8]) -> Vec<u8>) -> Vec<(usize, Vec<u8>)> {
     let block = block_of(area, at);
-    let group = u32::from_le_bytes(block[4..8].try_into().unwrap());
-    let header = sound_header(block, group, area.len() / BLOCK - at).expect("a sound header");
+    let Some(header) = formed_header(block) else {
+        return Vec::new();
+    };
     let stored = read_group(area, at, &header).expect("sound bodies");
     let attempts = change(&stored.attempts);
-    writes(&Stored { attempts, ..stored }, group, at)
+    writes(&Stored { attempts, ..stored }, header.group, at)
 }

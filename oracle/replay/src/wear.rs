@@ -18,8 +18,11 @@ impl Maker {
         Some(block_of(&started.area, block).to_vec())
     }
 
-    /// Makes a block what is given, by pokes where it differs.
+    /// Makes a block of the area what is given, by pokes where it differs.
     pub fn make_block(&mut self, block: usize, new: &[u8]) {
+        if block as u64 >= self.blocks() {
+            return;
+        }
         let Some(old) = self.block(block) else { return };
         for i in (0..BLOCK).filter(|&i| old[i] != new[i]) {
             self.poke(block, i, &new[i..=i]);
@@ -44,7 +47,7 @@ fn place(maker: &mut Maker) -> usize {
 
 /// Some checkpoints, then wear on a block, with its check as it was or made anew, and restarts.
 pub fn worn(maker: &mut Maker) {
-    maker.start("3 0 9", 10, 25, 12, &[]);
+    maker.start("3 0 9", 10, 25, 24, &[]);
     let groups = 1 + maker.random.below(4);
     for i in 0..groups {
         checkpoint(maker);
@@ -81,7 +84,7 @@ pub fn worn(maker: &mut Maker) {
 pub fn shorter(maker: &mut Maker) {
     let mut blocks = maker.blocks();
     while blocks > 0 && maker.random.below(6) > 0 {
-        blocks -= maker.random.below(3).min(blocks);
+        blocks -= maker.random.pick(&[0, 1, 2, 2, 4]).min(blocks);
         maker.say(format!("restart {}", 512 * blocks));
         maker.say("state");
         checkpoint(maker);
@@ -154,7 +157,7 @@ fn attempt_bytes(maker: &mut Maker, fault: Fault) -> Vec<u8> {
 }
 
 /// Snapshots, at most one of them with a fault.
-fn snapshots(maker: &mut Maker) -> (Vec<u8>, Vec<u8>) {
+pub fn snapshots(maker: &mut Maker) -> (Vec<u8>, Vec<u8>) {
     let fault = maker.random.pick(&FAULTS);
     let (cursor, attempts) = maker.random.pick(&[
         (Fault::None, Fault::None),
@@ -165,17 +168,30 @@ fn snapshots(maker: &mut Maker) -> (Vec<u8>, Vec<u8>) {
     (cursor_bytes(maker, cursor), attempt_bytes(maker, attempts))
 }
 
+/// Where the next group of two blocks goes, and its number.
+fn next_group(maker: &Maker) -> Option<(usize, u32)> {
+    let consumer = maker.program.consumer()?;
+    let half = consumer.half;
+    let at = if consumer.block + 2 > half.end {
+        half.other().from
+    } else {
+        consumer.block
+    };
+    Some((at, consumer.group as u32))
+}
+
 /// Groups of a foreign hand after some checkpoints, a restart on each, and what follows.
 pub fn forged(maker: &mut Maker) {
-    maker.start("3 0 2", 10, 25, 16, &[]);
-    let groups = maker.random.below(3) as usize;
-    for _ in 0..groups {
+    let blocks = maker.random.pick(&[18, 20, 40]);
+    maker.start("3 0 2", 10, 25, blocks, &[]);
+    for _ in 0..maker.random.pick(&[0, 1, 2, 4, 5, 6]) {
         checkpoint(maker);
         maker.say("claim 1 0");
     }
+    let Some((at, group)) = next_group(maker) else { return };
     for _ in 0..3 {
         let (cursor, attempts) = snapshots(maker);
-        forge(maker, 2 * groups, groups as u32 + 1, &cursor, &attempts);
+        forge(maker, at, group, &cursor, &attempts);
         maker.say("restart");
         maker.say("state");
     }
@@ -188,13 +204,14 @@ pub fn forged(maker: &mut Maker) {
     maker.say("state");
 }
 
-/// Groups of zeros whose lengths are at the bounds of a sound header and of a body.
+/// Groups of zeros whose lengths are at the bounds of a sound header and of a body, at the beginning of a half.
 pub fn bounds(maker: &mut Maker) {
-    maker.start("3 0 2", 10, 25, 9, &[]);
+    maker.start("3 0 2", 10, 25, 18, &[]);
     for _ in 0..12 {
+        let at = maker.random.pick(&[0, 0, 9]);
         let cursor = maker.random.pick(&[12, 13, 29, 480, 491, 492, 2_061, 2_062]);
         let attempts = maker.random.pick(&[8, 9, 9, 21, 487, 488, 508, 509, 1_545, 1_546]);
-        forge(maker, 0, 1, &vec![0; cursor], &vec![0; attempts]);
+        forge(maker, at, 1, &vec![0; cursor], &vec![0; attempts]);
         maker.say("restart");
     }
 }

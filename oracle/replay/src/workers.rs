@@ -131,7 +131,7 @@ impl Maker {
 /// Every call by workers of all kinds, and the tokens of one in the hands of another.
 pub fn workers(maker: &mut Maker) {
     maker.several();
-    let blocks = maker.random.pick(&[2, 4, 18, 40]);
+    let blocks = maker.random.pick(&[18, 18, 20, 40]);
     maker.start_crew("3 0 9", 10, 25, blocks, &[5]);
     checkpoint(maker);
     for round in 0..2 + maker.random.below(4) {

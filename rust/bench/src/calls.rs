@@ -158,7 +158,7 @@ fn deliveries<S: Side<Storage = Nowhere>>(leases: u64) -> [f64; 1] {
     [time]
 }
 
-/// A begin, and a step, of consumers with so many leases, until their journals are full.
+/// A begin, and a step, of consumers with so many leases, until the first half of their journals is full.
 fn begin_and_step<S: Side<Storage = Nowhere>>(leases: u64) -> [f64; 2] {
     let mut sides: Vec<S> = (0..BEGUN).map(|_| start()).collect();
     for side in &mut sides {
@@ -167,7 +167,7 @@ fn begin_and_step<S: Side<Storage = Nowhere>>(leases: u64) -> [f64; 2] {
     let mut begun = Vec::with_capacity(sides.len());
     let blocks = blocks_of(leases);
     let (mut begin, mut step) = (f64::INFINITY, f64::INFINITY);
-    for _ in 0..(MAX_BLOCKS as u64 - blocks_of(0)) / blocks {
+    for _ in 0..(MAX_BLOCKS as u64 / 2 - blocks_of(0)) / blocks {
         let start = Instant::now();
         begun.extend(sides.drain(..).map(S::begin));
         begin = begin.min(start.elapsed().as_secs_f64());

@@ -3,6 +3,7 @@
 use std::time::Instant;
 
 use delivery_bench::{Nowhere, Side, Token};
+use ironbus_delivery_state::MIN_BLOCKS;
 
 use crate::{lines, Ours, Theirs};
 
@@ -44,8 +45,8 @@ impl<S: Side<Storage = Nowhere>> Fleet<S> {
     fn new(leases: u64) -> Fleet<S> {
         let mut sides = Vec::with_capacity(CONSUMERS);
         for _ in 0..CONSUMERS {
-            // a journal of two blocks, for the first checkpoint
-            let mut side = S::start(Nowhere { blocks: 2 });
+            // the shortest journal: a first checkpoint is all that it gets
+            let mut side = S::start(Nowhere { blocks: MIN_BLOCKS });
             for offset in 0..leases {
                 side.claim(offset, 0);
             }

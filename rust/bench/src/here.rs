@@ -46,7 +46,11 @@ impl<S: Storage> Side for Here<S> {
     }
 
     fn claim(&mut self, offset: u64, now: u64) -> Token {
-        let token = self.0.claim(WORKER, Offset::new(offset), now).unwrap().token();
+        let token = self
+            .0
+            .claim(WORKER, Offset::new(offset), now)
+            .unwrap()
+            .token();
         Token {
             offset: token.offset.get(),
             generation: token.generation.get(),
@@ -74,7 +78,10 @@ impl<S: Storage> Side for Here<S> {
     }
 
     fn deliveries(&mut self, token: Token) -> Option<u32> {
-        let lease = self.0.lease_of(WORKER, Offset::new(token.offset)).unwrap()?;
+        let lease = self
+            .0
+            .lease_of(WORKER, Offset::new(token.offset))
+            .unwrap()?;
         (lease.generation.get() == token.generation).then_some(lease.deliveries)
     }
 

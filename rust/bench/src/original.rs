@@ -173,7 +173,7 @@ impl<S: Storage> Side for Box<Original<S>> {
 mod tests {
     use std::io;
 
-    use ironbus_delivery_state::{Configuration, Consumer, Journal, Offset};
+    use ironbus_delivery_state::{Configuration, Consumer, Journal, Offset, WorkerId, MIN_BLOCKS};
 
     use super::{Original, Storage, BLOCK};
     use crate::{Side, Token};
@@ -195,7 +195,7 @@ mod tests {
     // The blocks are document 01's, so that both sides write the same amount.
     #[test]
     fn a_restart_reads_its_blocks() {
-        let mut side = Box::<Original<Kept>>::start(Kept(vec![0; BLOCK * 16]));
+        let mut side = Box::<Original<Kept>>::start(Kept(vec![0; BLOCK * MIN_BLOCKS]));
         let tokens: Vec<Token> = (0..60).map(|offset| side.claim(offset, 0)).collect();
         for token in tokens[..9].iter().step_by(2) {
             side.ack(*token);
@@ -204,11 +204,18 @@ mod tests {
         assert_eq!((side.group, side.block), (3, 2 + 3));
         let journal = Journal::on(side.storage).unwrap();
         let mut consumer = Consumer::restart(&Configuration::default(), journal).unwrap();
+        let worker = WorkerId::new(0);
         for offset in 0..61 {
             let settled = offset < 9 && offset % 2 == 0;
             let count = u32::from(offset < 60 && !settled);
-            assert_eq!(consumer.is_settled(Offset::new(offset)), settled);
-            assert_eq!(consumer.count_of(Offset::new(offset)), count);
+            assert_eq!(
+                consumer.is_settled(worker, Offset::new(offset)).unwrap(),
+                settled
+            );
+            assert_eq!(
+                consumer.count_of(worker, Offset::new(offset)).unwrap(),
+                count
+            );
         }
     }
 }

@@ -113,6 +113,7 @@ impl Book {
         self.page.below = self.page.below.max(bound);
         let below = self.page.below;
         self.page.counts.retain(|offset, _| *offset >= below);
+        self.page.ahead.retain(|offset| *offset >= below);
     }
 
     pub fn header_written(&mut self) {
@@ -185,6 +186,9 @@ pub struct Power {
     /// How many writes are left before the cut, and what it leaves.
     pub cut: Option<(usize, Cut)>,
     pub writes: usize,
+    /// Blocks of zeros that were written, and cuts in such a write.
+    pub zeroed: usize,
+    pub cut_zeros: usize,
     /// The block that the last cut left new.
     pub left_new: Option<Vec<u8>>,
 }
@@ -266,6 +270,8 @@ impl Storage for Cuttable {
         let at = (BLOCK * block) as u64;
         let power = &mut *self.power.borrow_mut();
         power.writes += 1;
+        let zeros = usize::from(bytes.iter().all(|byte| *byte == 0));
+        power.zeroed += zeros;
         if let Some((left, cut)) = power.cut {
             if left == 0 {
                 let mut old = vec![0; BLOCK];
@@ -273,6 +279,7 @@ impl Storage for Cuttable {
                 let leaves = cut.leaves(&old, bytes);
                 self.file.write_all_at(&leaves, at)?;
                 power.cut = None;
+                power.cut_zeros += zeros;
                 power.left_new = (leaves == bytes).then_some(leaves);
                 return Err(io::Error::other("the power failed"));
             }

@@ -14,6 +14,9 @@ slice-aggregate-fill c = search needs
 fill-requires : tie.Need-fill-requires
 fill-requires c κs = search needs
 
+half-in-use-requires : tie.Need-half-in-use-requires
+half-in-use-requires c κs = search needs
+
 slice-aggregate-fill-2 : tie.Need-slice-aggregate-fill-2
 slice-aggregate-fill-2 c = search needs
 
@@ -26,7 +29,8 @@ same-length c = search needs
 returns : tie.Need-returns
 unfolding words.lengthTo words.parts
 returns c =
-    says-then (rw (c .before .before .before .before .before .before .before .before .before .before .wide .ensures) at (c .before .before .before .before .before .before .before .fill .ensures)) (c .before .before .fill2 .ensures)
+    says-then (rw (c .before .before .before .before .before .before .before .before .before .before .before .wide .ensures) at (c .before .before .before .before .before .before .before .before .fill .ensures))
+    (rw (c .before .before .before .before .before .half-in-use .ensures) at (c .before .before .fill2 .ensures))
 
 pub numbers-spec : {M : Type 1} → statement M
 numbers-spec =
@@ -35,6 +39,7 @@ numbers-spec =
     wide-requires
     slice-aggregate-fill
     fill-requires
+    half-in-use-requires
     slice-aggregate-fill-2
     fill-requires-2
     same-length

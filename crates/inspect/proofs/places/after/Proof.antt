@@ -1,6 +1,6 @@
 -- `after` meets its contract. Assumes nothing.
-use borrow.Author.Needs.{needs}
 use mathlib.Core.Path.{sym, _∙_}
+use borrow.Author.Needs.{needs}
 use Rattle.inspect.proofs.places.after.Statement.{statement}
 use Rattle.inspect.proofs.places.after.Tie as tie
 
@@ -25,6 +25,9 @@ behind-body-requires c κs = search needs
 enum-told : tie.Need-enum-told
 enum-told c = search needs
 
+enum-told-2 : tie.Need-enum-told-2
+enum-told-2 c = search needs
+
 returns-2 : tie.Need-returns-2
 returns-2 c = let s = c .before in rw (s .before .before .place .given .1, sym (s .is-sound-header .ensures) ∙ c .if1 .left)
 
@@ -33,6 +36,9 @@ returns-3 c = rw (c .before .before .place2 .given .1) (c .behind-body .ensures)
 
 returns-4 : tie.Need-returns-4
 returns-4 c = search needs
+
+returns-5 : tie.Need-returns-5
+returns-5 c = search needs
 
 pub after-spec : {M : Type 1} → statement M
 after-spec =
@@ -45,6 +51,8 @@ after-spec =
     enum-known-place-2
     behind-body-requires
     enum-told
+    enum-told-2
     returns-2
     returns-3
-    returns-4)
+    returns-4
+    returns-5)

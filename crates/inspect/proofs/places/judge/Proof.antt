@@ -24,6 +24,12 @@ enum-told c = search needs
 by-itself-requires : tie.Need-by-itself-requires
 by-itself-requires c κs = search needs
 
+enum-told-2 : tie.Need-enum-told-2
+enum-told-2 c = search needs
+
+by-itself-requires-2 : tie.Need-by-itself-requires-2
+by-itself-requires-2 c κs = search needs
+
 returns : tie.Need-returns
 returns c = rw (c .before .before .place .given .1, c .header-verdict .ensures)
 
@@ -32,6 +38,9 @@ returns-2 c = rw (c .before .before .before .place2 .given .1, c .body-verdict .
 
 returns-3 : tie.Need-returns-3
 returns-3 c = rw (c .before .enum-told .given .1, c .by-itself .ensures)
+
+returns-4 : tie.Need-returns-4
+returns-4 c = rw (c .before .enum-told2 .given .1, c .by-itself2 .ensures)
 
 pub judge-spec : {M : Type 1} → statement M
 judge-spec =
@@ -44,6 +53,9 @@ judge-spec =
     body-verdict-requires
     enum-told
     by-itself-requires
+    enum-told-2
+    by-itself-requires-2
     returns
     returns-2
-    returns-3)
+    returns-3
+    returns-4)

@@ -58,8 +58,8 @@ due-requires c κs = search needs
 enum-told-4 : tie.Need-enum-told-4
 enum-told-4 c = search needs
 
-sub-t30 : tie.Need-sub-t30
-sub-t30 c = search needs
+blocks-left-requires : tie.Need-blocks-left-requires
+blocks-left-requires c κs = search needs
 
 same-length : tie.Need-same-length
 same-length c = search needs
@@ -112,9 +112,9 @@ returns-7 c x w =
 
 returns-8 : tie.Need-returns-8
 returns-8 c x w =
-    let g = c .before .before in
+    let g = c .before in
     let s = g .before .before .before in
-    replied (lent w) (s .args .out .now) _ (ap (questionOf (length (s .args .out .now))) (g .enum-told4 .given .1)) refl refl refl
+    replied (lent w) (s .args .out .now) _ (ap (questionOf (length (s .args .out .now))) (g .enum-told4 .given .1)) refl (ap (λ (n : ℕ). done (n ∷ [])) (c .blocks-left .ensures)) refl
 
 pub reply-spec : {M : Type 1} → statement M
 reply-spec =
@@ -134,7 +134,7 @@ reply-spec =
     enum-told-3
     due-requires
     enum-told-4
-    sub-t30
+    blocks-left-requires
     same-length
     returns
     returns-2

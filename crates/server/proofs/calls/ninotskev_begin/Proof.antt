@@ -1,4 +1,4 @@
--- `ninotskev_begin` meets its contract: a walk of its code, by hand. Ten fields of the machine are copied, and eight columns are lent to
+-- `ninotskev_begin` meets its contract: a walk of its code, by hand. Eleven fields of the machine are copied, and eight columns are lent to
 -- `begin_in_place` in their places; of the call only its contract is known. Four numbers that it returned are stored into their places.
 -- Assumes nothing.
 use mathlib.Core.Path.{refl}
@@ -74,14 +74,14 @@ lent =
 
 -- behind the phase the call is handed the worker's number
 abbrev numbers : List OfMachine
-numbers = at.committed ∷ at.runs ∷ at.len ∷ at.carried-len ∷ at.block ∷ at.area-len ∷ at.written ∷ at.cursor-len ∷ at.attempt-len ∷ []
+numbers = at.committed ∷ at.runs ∷ at.len ∷ at.carried-len ∷ at.next-number ∷ at.block ∷ at.area-len ∷ at.written ∷ at.cursor-len ∷ at.attempt-len ∷ []
 
 abbrev taken : List (Fetch TMachine′.mir)
 taken = fetching (at.phase ∷ numbers) lent
 
 -- the call's arguments, by their locals: what is taken stands from 5 on, the worker's number is 3
 abbrev operands : List ℕ
-operands = 5 ∷ 3 ∷ 6 ∷ 7 ∷ 8 ∷ 9 ∷ 10 ∷ 11 ∷ 12 ∷ 13 ∷ 14 ∷ 15 ∷ 16 ∷ 17 ∷ 18 ∷ 19 ∷ 20 ∷ 21 ∷ 22 ∷ []
+operands = 5 ∷ 3 ∷ 6 ∷ 7 ∷ 8 ∷ 9 ∷ 10 ∷ 11 ∷ 12 ∷ 13 ∷ 14 ∷ 15 ∷ 16 ∷ 17 ∷ 18 ∷ 19 ∷ 20 ∷ 21 ∷ 22 ∷ 23 ∷ []
 
 abbrev put-back : List (Path TDone′.mir × OfMachine)
 put-back = (into {d = 48} 1 refl here, at.phase) ∷ (into {d = 56} 2 refl here, at.written) ∷ (into {d = 64} 3 refl here, at.cursor-len) ∷ (into {d = 72} 4 refl here, at.attempt-len) ∷ []
@@ -146,7 +146,7 @@ module _ {M : Type 1} (𝓤 : URA M) (H : Heap 𝓤) (A : Atoms 𝓤) (W : Given
   abbrev recorded : (written k n : ℕ) → List ℕ → List ℕ → List ℕ → List ℕ → List ℕ → List ℕ → List ℕ → Consumer → Writing
   recorded written k n starts ends ks ns cks cvs payload =
       toBegin written k n payload
-      (beginning (c .settings .rights) (ackCursor (c .cursor .committed) starts ends (c .cursor .runs)) (listingAll (c .table .len) (c .table .«carried_len») ks ns cks cvs) (c .next .block) (c .«area_len»))
+      (beginning (c .settings .rights) (ackCursor (c .cursor .committed) starts ends (c .cursor .runs)) (listingAll (c .table .len) (c .table .«carried_len») ks ns cks cvs) (c .next .number) (c .next .block) (c .«area_len»))
 
   abbrev before : Consumer → Writing
   before =
