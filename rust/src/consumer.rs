@@ -7,7 +7,7 @@ use crate::ffi::{Ask, Machine, Numbers};
 use crate::journal::{Failed, Journal, JournalFile, NewJournal, Storage};
 use crate::refusal::Refusal;
 use crate::snapshot::MAX_PAIRS;
-use crate::types::{Due, Generation, HandOut, Lease, LeaseToken, Offset};
+use crate::types::{Due, Generation, HandOut, Lease, LeaseToken, Offset, Standing, View};
 use crate::workers::WorkerId;
 
 /// The delivery state of one consumer: which messages are settled, who holds which until when, and how often each was handed out.
@@ -110,7 +110,7 @@ impl<S> Consumer<S> {
         let mut reply = Numbers::default();
         self.machine
             .ask(worker, Ask::Claim, [offset.get(), now, 0, 0], &mut reply)?;
-        let [generation, deliveries, dead, _] = reply.values;
+        let [generation, deliveries, dead, ..] = reply.values;
         let token = LeaseToken {
             offset,
             generation: Generation::new(generation),
@@ -246,7 +246,7 @@ impl<S> Consumer<S> {
         if reply.count == 0 {
             return Ok(None);
         }
-        let [generation, attempt_start, deadline, deliveries] = reply.values;
+        let [generation, attempt_start, deadline, deliveries, _] = reply.values;
         Ok(Some(Lease {
             generation: Generation::new(generation),
             attempt_start,
@@ -306,6 +306,30 @@ impl<S> Consumer<S> {
     /// Refusals 38 and 39.
     pub fn blocks_left(&mut self, worker: WorkerId) -> Result<usize, Refusal> {
         self.look_up(worker, Ask::BlocksLeft, 0).map(size)
+    }
+
+    /// How an offset stands at a clock. A worker sees its standing alone; a supervisor, whose [rights](crate::Rights::SUPERVISOR) have
+    /// the mark, sees also how often it was handed out, and its lease.
+    ///
+    /// # Errors
+    /// Refusals 38 and 39: the mark doesn't stand in for the right to look.
+    pub fn view(&mut self, worker: WorkerId, offset: Offset, now: u64) -> Result<View, Refusal> {
+        let mut reply = Numbers::default();
+        self.machine
+            .ask(worker, Ask::ViewOf, [offset.get(), now, 0, 0], &mut reply)?;
+        let [standing, attempts, generation, deadline, holder] = reply.values;
+        let shown = |place: u64, value: u64| (place < reply.count).then_some(value);
+        Ok(View {
+            standing: match standing {
+                0 => Standing::Settled,
+                1 => Standing::Held,
+                _ => Standing::Waiting,
+            },
+            attempts: shown(1, attempts).map(count),
+            generation: shown(2, generation).map(Generation::new),
+            deadline: shown(3, deadline),
+            holder: shown(4, holder).map(WorkerId::new),
+        })
     }
 
     /// Gives the state up. What was not checkpointed is lost, as in a power failure, and only a restart is left.

@@ -74,13 +74,13 @@ pub(crate) struct Machine {
     writing: Writing,
 }
 
-/// What a call answers: document 01's number, 0 where nothing was refused; how many values there are; and the first four.
+/// What a call answers: document 01's number, 0 where nothing was refused; how many values there are; and the first five.
 #[derive(Clone, Copy, Debug, Default, PartialEq, Eq)]
 #[repr(C)]
 pub(crate) struct Numbers {
     number: u64,
     pub(crate) count: u64,
-    pub(crate) values: [u64; 4],
+    pub(crate) values: [u64; 5],
 }
 
 /// The calls on a consumer, by their numbers in `crates/server/specs/Kinds.antt`. Progress, which is 5, has a function of its own.
@@ -101,6 +101,7 @@ pub(crate) enum Ask {
     InFlight = 37,
     IsDue = 38,
     BlocksLeft = 39,
+    ViewOf = 40,
 }
 
 extern "C" {
@@ -509,7 +510,10 @@ mod tests {
         }
     }
 
-    fn code(number: u64, count: u64, values: [u64; 4]) -> Numbers {
+    // The values from the first on; those behind are 0.
+    fn code<const N: usize>(number: u64, count: u64, first: [u64; N]) -> Numbers {
+        let mut values = [0; 5];
+        values[..N].copy_from_slice(&first);
         Numbers {
             number,
             count,
@@ -526,7 +530,7 @@ mod tests {
             16 + 4 * 512 + 2 * 256 + 8 + 1024 + 512 + 8 + 8 + 8
         );
         assert_eq!(offset_of!(Machine, writing), 176 + 8);
-        assert_eq!(size_of::<Numbers>(), 48);
+        assert_eq!(size_of::<Numbers>(), 56);
     }
 
     // Each field that the library fills is read here under its name, and nothing behind the structs is touched: the last field of
@@ -593,6 +597,11 @@ mod tests {
         assert_eq!((table.generations[1], table.attempt_starts[1]), (1, 50));
         assert_eq!((table.deadlines[1], table.deliveries[1]), (150, 1));
         assert_eq!(table.workers[..2], [0, 7]);
+        // What is shown to a supervisor, and to another who looks.
+        guarded.ask_by(7, Ask::ViewOf as u64, [9, 149, 0, 0], &mut []);
+        assert_eq!(guarded.numbers, code(0, 5, [1, 1, 1, 150, 7]));
+        guarded.ask(Ask::ViewOf as u64, [9, 150, 0, 0], &mut []);
+        assert_eq!(guarded.numbers, code(0, 1, [2]));
         // Another's token, and one's own.
         guarded.ask(Ask::Ack as u64, [9, 1, 0, 0], &mut []);
         assert_eq!(guarded.numbers, code(40, 0, [0; 4]));
@@ -628,7 +637,7 @@ mod tests {
     fn a_number_that_is_no_call_is_refused() {
         let mut guarded = Guarded::new();
         guarded.start(&Configuration::default(), 512 * 20);
-        for kind in [7, 15, 16, 17, 18, 19, 31, 40, u64::MAX] {
+        for kind in [7, 15, 16, 17, 18, 19, 31, 41, u64::MAX] {
             guarded.ask(kind, [0; 4], &mut []);
             assert_eq!(guarded.numbers, code(255, 0, [0; 4]));
         }

@@ -122,5 +122,5 @@ pub use refusal::Refusal;
 pub use snapshot::{
     decode_attempt_snapshot, encode_attempt_snapshot, encode_attempt_snapshot_v2, MAX_PAIRS,
 };
-pub use types::{Due, Generation, HandOut, Lease, LeaseToken, Offset};
+pub use types::{Due, Generation, HandOut, Lease, LeaseToken, Offset, Standing, View};
 pub use workers::{Rights, WorkerId, WORKERS};

@@ -2,6 +2,8 @@
 
 use core::fmt;
 
+use crate::workers::WorkerId;
+
 /// A position in the log: it names a message.
 #[derive(Clone, Copy, PartialEq, Eq, PartialOrd, Ord, Hash, Default)]
 #[repr(transparent)]
@@ -136,6 +138,47 @@ pub struct Lease {
     pub deadline: u64,
     /// How often it was handed out.
     pub deliveries: u32,
+}
+
+/// How an offset stands at a clock.
+#[derive(Clone, Copy, Debug, PartialEq, Eq)]
+pub enum Standing {
+    /// Settled.
+    Settled,
+    /// In flight under a lease whose deadline hasn't come, nacked or not.
+    Held,
+    /// All else: never handed out, with a count from before a restart, or with a lease that has run out.
+    Waiting,
+}
+
+/// What is shown of an offset. To a worker that is its standing alone, and of a settled offset nothing else is shown to anybody. What
+/// isn't shown, or isn't there, is `None`.
+#[derive(Clone, Copy, Debug, PartialEq, Eq)]
+pub struct View {
+    /// How it stands.
+    pub standing: Standing,
+    /// How often it was handed out: as its lease says, or else its count from before a restart, or 0.
+    pub attempts: Option<u32>,
+    /// The hand-out or the nack that its lease is under.
+    pub generation: Option<Generation>,
+    /// When it can be claimed again.
+    pub deadline: Option<u64>,
+    /// Who claimed it.
+    pub holder: Option<WorkerId>,
+}
+
+impl View {
+    /// The standing and no more.
+    #[must_use]
+    pub const fn bare(standing: Standing) -> View {
+        View {
+            standing,
+            attempts: None,
+            generation: None,
+            deadline: None,
+            holder: None,
+        }
+    }
 }
 
 /// Whether a checkpoint is due, and why.

@@ -5,7 +5,7 @@ mod common;
 use common::{configuration, fresh_path};
 use ironbus_delivery_state::{
     CheckpointError, Configuration, Consumer, LeaseToken, NewJournal, Offset, Refusal, Rights,
-    WorkerId,
+    Standing, View, WorkerId,
 };
 
 /// A worker with every right, and the one that is tried.
@@ -14,7 +14,7 @@ const OTHER: WorkerId = WorkerId::new(5);
 
 /// Each operation's right, and every call that it covers. A call answers whether it was permitted.
 type Call = fn(&mut Consumer, LeaseToken) -> Result<(), Refusal>;
-const CALLS: [(Rights, Call); 17] = [
+const CALLS: [(Rights, Call); 18] = [
     (Rights::CLAIM, |c, _| {
         c.claim(OTHER, Offset::new(9), 0).map(drop)
     }),
@@ -51,6 +51,9 @@ const CALLS: [(Rights, Call); 17] = [
     (Rights::LOOK, |c, _| c.in_flight(OTHER).map(drop)),
     (Rights::LOOK, |c, _| c.is_due(OTHER).map(drop)),
     (Rights::LOOK, |c, _| c.blocks_left(OTHER).map(drop)),
+    (Rights::LOOK, |c, _| {
+        c.view(OTHER, Offset::new(3), 0).map(drop)
+    }),
 ];
 
 const OPERATIONS: [Rights; 7] = [
@@ -210,4 +213,57 @@ fn a_temporary_worker_can_not_commit_the_batch() {
     let mut consumer = Consumer::restart(&trusted, consumer.into_journal()).unwrap();
     assert_eq!(consumer.commit(OTHER, batch), Ok(true));
     assert_eq!(consumer.is_settled(CHIEF, Offset::new(99)), Ok(true));
+}
+
+#[test]
+fn a_worker_sees_the_standing_and_a_supervisor_who_holds_what() {
+    let supervisor = WorkerId::new(6);
+    let mut configuration = with_rights(OTHER, Rights::CLAIM | Rights::NACK | Rights::LOOK);
+    configuration.settings.rights[6] = Rights::LOOK | Rights::SUPERVISOR;
+    let mut consumer = start("views", &configuration);
+    let offset = Offset::new(3);
+    let token = consumer.claim(OTHER, offset, 0).unwrap().token();
+    let whole = |standing, generation, deadline| View {
+        standing,
+        attempts: Some(1),
+        generation: Some(generation),
+        deadline: Some(deadline),
+        holder: Some(OTHER),
+    };
+    // Held up to the deadline, and waiting from it on, with its lease still shown.
+    for (now, standing) in [(99, Standing::Held), (100, Standing::Waiting)] {
+        assert_eq!(consumer.view(OTHER, offset, now), Ok(View::bare(standing)));
+        let shown = whole(standing, token.generation, 100);
+        assert_eq!(consumer.view(supervisor, offset, now), Ok(shown));
+    }
+    // Nacked, it stays who claimed it, under the next generation.
+    assert_eq!(consumer.nack(OTHER, token, 100, Some(50)), Ok(150));
+    let next = consumer.lease_of(CHIEF, offset).unwrap().unwrap();
+    let shown = whole(Standing::Held, next.generation, 150);
+    assert_eq!(consumer.view(supervisor, offset, 149), Ok(shown));
+    assert_ne!(next.generation, token.generation);
+    // Never handed out, the last offset too.
+    for offset in [4, u64::MAX].map(Offset::new) {
+        let waiting = View::bare(Standing::Waiting);
+        assert_eq!(consumer.view(OTHER, offset, 0), Ok(waiting));
+        let counted = View {
+            attempts: Some(0),
+            ..waiting
+        };
+        assert_eq!(consumer.view(supervisor, offset, 0), Ok(counted));
+    }
+    // After a restart the count is carried, and the lease is gone.
+    let journal = consumer.checkpoint(CHIEF).unwrap().into_journal();
+    let mut consumer = Consumer::restart(&configuration, journal).unwrap();
+    let carried = View {
+        attempts: Some(1),
+        ..View::bare(Standing::Waiting)
+    };
+    assert_eq!(consumer.view(supervisor, offset, 0), Ok(carried));
+    // Settled: nothing but that, for either.
+    consumer.commit(CHIEF, Offset::new(4)).unwrap();
+    for reader in [OTHER, supervisor] {
+        let settled = View::bare(Standing::Settled);
+        assert_eq!(consumer.view(reader, offset, 0), Ok(settled));
+    }
 }

@@ -35,5 +35,6 @@ module _ (n : ℕ) (l : List ℕ) where
     first-behind h = List·getD-eq-default (firstPlaces n l) 0 {n = i} (rw first-length h)
 
 -- numbers that are the same one by one
-pub same-numbers : {n a b c d e a′ b′ c′ d′ e′ : ℕ} → a ≡ a′ → b ≡ b′ → c ≡ c′ → d ≡ d′ → e ≡ e′ → numbers n a b c d e ≡ numbers n a′ b′ c′ d′ e′
-same-numbers p q r s t = cc
+pub same-numbers : {n a b c d e f a′ b′ c′ d′ e′ f′ : ℕ} → a ≡ a′ → b ≡ b′ → c ≡ c′ → d ≡ d′ → e ≡ e′ → f ≡ f′
+    → numbers n a b c d e f ≡ numbers n a′ b′ c′ d′ e′ f′
+same-numbers p q r s t u = cc

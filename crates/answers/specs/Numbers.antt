@@ -1,4 +1,4 @@
--- Answers in numbers: 01's number, how many values there are, and the first four of them.
+-- Answers in numbers: 01's number, how many values there are, and the first five of them, which are all that an answer has but a list.
 use Prim.Native.Nat.{ℕ}
 use mathlib.Core.Bool.{Bool}
 use mathlib.Core.List.{List, [], _∷_}
@@ -13,12 +13,14 @@ use Rattle.machine.specs.Calls.{Event, claimed, acked, termed, nacked, progress
 use Rattle.machine.specs.Transitions.{After}
 use Rattle.answers.specs.declared.Numbers.{Numbers}
 
-abbrev pub numbers : ℕ → ℕ → ℕ → ℕ → ℕ → ℕ → Numbers
-numbers number count first second third fourth = record { 0 = number; 1 = count; 2 = first; 3 = second; 4 = third; 5 = fourth }
+abbrev pub numbers : ℕ → ℕ → ℕ → ℕ → ℕ → ℕ → ℕ → Numbers
+numbers number count first second third fourth fifth =
+    record { 0 = number; 1 = count; 2 = first; 3 = second; 4 = third; 5 = fourth; 6 = fifth }
 
--- 01's number, how many values there are, and the first four of them, 0 where there are fewer
+-- 01's number, how many values there are, and the first five of them, 0 where there are fewer
 abbrev pub numbersOf : Code → Numbers
-numbersOf t = numbers (t .number) (length (t .values)) (getD (t .values) 0 0) (getD (t .values) 1 0) (getD (t .values) 2 0) (getD (t .values) 3 0)
+numbersOf t =
+    numbers (t .number) (length (t .values)) (getD (t .values) 0 0) (getD (t .values) 1 0) (getD (t .values) 2 0) (getD (t .values) 3 0) (getD (t .values) 4 0)
 
 -- a call that can't be made where it stands, or no call
 abbrev pub notNow : Numbers

@@ -4,13 +4,14 @@ ghost use mathlib.Core.Path.{_≡_};
 ghost use Prim.Native.Nat.{ℕ};
 ghost use mathlib.Core.List.{List, [], _∷_};
 ghost use lib.ListN.{getD};
-ghost use Rattle.types.specs.Refusal.{done, numbered, answered};
+ghost use Rattle.types.specs.Refusal.{code, done, numbered, answered};
 ghost use Rattle.types.specs.Table.{unless};
 ghost use Rattle.raw.specs.Bytes.{outcomeOf};
 ghost use Rattle.cursor.specs.Answers.{rangesError, snapshotError, decodeFault};
 ghost use Rattle.attempt.specs.Codec.{attemptError, encodeOf, decodeOf};
 ghost use Rattle.consumer.specs.Questions.{bit};
-ghost use Rattle.consumer.specs.View.{claimOf, settleOf, nackOf, progressOf, commitOf};
+ghost use Rattle.consumer.specs.Standing.{standingNumber, viewValues};
+ghost use Rattle.consumer.specs.View.{claimOf, settleOf, nackOf, progressOf, commitOf, standingIn, viewIn};
 ghost use Rattle.checkpoint.specs.Writing.{stepOf};
 ghost use Rattle.starts.specs.Starting.{startFault};
 ghost use Rattle.machine.specs.Answers.{begunOf, firstPlaces, listOf, leaseTold, replyOf, Arguments, seenOf};
@@ -27,6 +28,8 @@ use consumer::calls::CommitAnswer;
 use consumer::calls::NackAnswer;
 use consumer::calls::ProgressAnswer;
 use consumer::calls::SettleAnswer;
+use consumer::views::Standing;
+use consumer::views::View;
 use cursor::AckCursorError;
 use cursor::SnapshotError;
 use machine::calls::AskAnswer;
@@ -37,9 +40,17 @@ use raw::Write;
 use starts::StartAnswer;
 use types::lent::Listed;
 
-// What a call answers: 01's number, 0 where nothing was refused; how many values there are; and the first four of them.
+// What a call answers: 01's number, 0 where nothing was refused; how many values there are; and the first five of them.
 #[repr(C)]
-pub struct Numbers(pub u64, pub u64, pub u64, pub u64, pub u64, pub u64);
+pub struct Numbers(
+    pub u64,
+    pub u64,
+    pub u64,
+    pub u64,
+    pub u64,
+    pub u64,
+    pub u64,
+);
 
 // A hand-out: its generation, the hand-outs so far, and 1 where it is for the dead letters.
 pub fn of_claim(answer: ClaimAnswer) -> Numbers
@@ -47,19 +58,19 @@ pub fn of_claim(answer: ClaimAnswer) -> Numbers
 {
     match answer {
         ClaimAnswer::Deliver { token, deliveries } => {
-            Numbers(0, 3, token.generation.0, deliveries as u64, 0, 0)
+            Numbers(0, 3, token.generation.0, deliveries as u64, 0, 0, 0)
         }
         ClaimAnswer::DeadLetter { token, deliveries } => {
-            Numbers(0, 3, token.generation.0, deliveries as u64, 1, 0)
+            Numbers(0, 3, token.generation.0, deliveries as u64, 1, 0, 0)
         }
-        ClaimAnswer::UnknownWorker => Numbers(38, 0, 0, 0, 0, 0),
-        ClaimAnswer::NotPermitted => Numbers(39, 0, 0, 0, 0, 0),
-        ClaimAnswer::LastOffset => Numbers(21, 0, 0, 0, 0, 0),
-        ClaimAnswer::Settled => Numbers(22, 0, 0, 0, 0, 0),
-        ClaimAnswer::InFlight => Numbers(23, 0, 0, 0, 0, 0),
-        ClaimAnswer::Exhausted => Numbers(25, 0, 0, 0, 0, 0),
-        ClaimAnswer::CheckpointDue => Numbers(26, 0, 0, 0, 0, 0),
-        ClaimAnswer::Full => Numbers(27, 0, 0, 0, 0, 0),
+        ClaimAnswer::UnknownWorker => Numbers(38, 0, 0, 0, 0, 0, 0),
+        ClaimAnswer::NotPermitted => Numbers(39, 0, 0, 0, 0, 0, 0),
+        ClaimAnswer::LastOffset => Numbers(21, 0, 0, 0, 0, 0, 0),
+        ClaimAnswer::Settled => Numbers(22, 0, 0, 0, 0, 0, 0),
+        ClaimAnswer::InFlight => Numbers(23, 0, 0, 0, 0, 0, 0),
+        ClaimAnswer::Exhausted => Numbers(25, 0, 0, 0, 0, 0, 0),
+        ClaimAnswer::CheckpointDue => Numbers(26, 0, 0, 0, 0, 0, 0),
+        ClaimAnswer::Full => Numbers(27, 0, 0, 0, 0, 0, 0),
     }
 }
 
@@ -68,12 +79,12 @@ pub fn of_settle(answer: SettleAnswer) -> Numbers
     ensures { λ r. ⌜ r ≡ numbersOf (answered noValues (settleOf answer)) ⌝ }
 {
     match answer {
-        SettleAnswer::Settled => Numbers(0, 0, 0, 0, 0, 0),
-        SettleAnswer::UnknownWorker => Numbers(38, 0, 0, 0, 0, 0),
-        SettleAnswer::NotPermitted => Numbers(39, 0, 0, 0, 0, 0),
-        SettleAnswer::Fenced => Numbers(24, 0, 0, 0, 0, 0),
-        SettleAnswer::ForeignToken => Numbers(40, 0, 0, 0, 0, 0),
-        SettleAnswer::Shed => Numbers(29, 0, 0, 0, 0, 0),
+        SettleAnswer::Settled => Numbers(0, 0, 0, 0, 0, 0, 0),
+        SettleAnswer::UnknownWorker => Numbers(38, 0, 0, 0, 0, 0, 0),
+        SettleAnswer::NotPermitted => Numbers(39, 0, 0, 0, 0, 0, 0),
+        SettleAnswer::Fenced => Numbers(24, 0, 0, 0, 0, 0, 0),
+        SettleAnswer::ForeignToken => Numbers(40, 0, 0, 0, 0, 0, 0),
+        SettleAnswer::Shed => Numbers(29, 0, 0, 0, 0, 0, 0),
     }
 }
 
@@ -82,13 +93,13 @@ pub fn of_nack(answer: NackAnswer) -> Numbers
     ensures { λ r. ⌜ r ≡ numbersOf (answered oneValue (nackOf answer)) ⌝ }
 {
     match answer {
-        NackAnswer::Requeued { deadline } => Numbers(0, 1, deadline, 0, 0, 0),
-        NackAnswer::UnknownWorker => Numbers(38, 0, 0, 0, 0, 0),
-        NackAnswer::NotPermitted => Numbers(39, 0, 0, 0, 0, 0),
-        NackAnswer::Fenced => Numbers(24, 0, 0, 0, 0, 0),
-        NackAnswer::ForeignToken => Numbers(40, 0, 0, 0, 0, 0),
-        NackAnswer::Exhausted => Numbers(25, 0, 0, 0, 0, 0),
-        NackAnswer::CheckpointDue => Numbers(26, 0, 0, 0, 0, 0),
+        NackAnswer::Requeued { deadline } => Numbers(0, 1, deadline, 0, 0, 0, 0),
+        NackAnswer::UnknownWorker => Numbers(38, 0, 0, 0, 0, 0, 0),
+        NackAnswer::NotPermitted => Numbers(39, 0, 0, 0, 0, 0, 0),
+        NackAnswer::Fenced => Numbers(24, 0, 0, 0, 0, 0, 0),
+        NackAnswer::ForeignToken => Numbers(40, 0, 0, 0, 0, 0, 0),
+        NackAnswer::Exhausted => Numbers(25, 0, 0, 0, 0, 0, 0),
+        NackAnswer::CheckpointDue => Numbers(26, 0, 0, 0, 0, 0, 0),
     }
 }
 
@@ -97,12 +108,12 @@ pub fn of_progress(answer: ProgressAnswer) -> Numbers
     ensures { λ r. ⌜ r ≡ numbersOf (answered oneValue (progressOf answer)) ⌝ }
 {
     match answer {
-        ProgressAnswer::Extended { deadline } => Numbers(0, 1, deadline, 0, 0, 0),
-        ProgressAnswer::UnknownWorker => Numbers(38, 0, 0, 0, 0, 0),
-        ProgressAnswer::NotPermitted => Numbers(39, 0, 0, 0, 0, 0),
-        ProgressAnswer::Fenced => Numbers(24, 0, 0, 0, 0, 0),
-        ProgressAnswer::ForeignToken => Numbers(40, 0, 0, 0, 0, 0),
-        ProgressAnswer::CapReached => Numbers(28, 0, 0, 0, 0, 0),
+        ProgressAnswer::Extended { deadline } => Numbers(0, 1, deadline, 0, 0, 0, 0),
+        ProgressAnswer::UnknownWorker => Numbers(38, 0, 0, 0, 0, 0, 0),
+        ProgressAnswer::NotPermitted => Numbers(39, 0, 0, 0, 0, 0, 0),
+        ProgressAnswer::Fenced => Numbers(24, 0, 0, 0, 0, 0, 0),
+        ProgressAnswer::ForeignToken => Numbers(40, 0, 0, 0, 0, 0, 0),
+        ProgressAnswer::CapReached => Numbers(28, 0, 0, 0, 0, 0, 0),
     }
 }
 
@@ -111,11 +122,11 @@ pub fn of_commit(answer: CommitAnswer) -> Numbers
     ensures { λ r. ⌜ r ≡ numbersOf (answered bitValue (commitOf answer)) ⌝ }
 {
     match answer {
-        CommitAnswer::Committed => Numbers(0, 1, 1, 0, 0, 0),
-        CommitAnswer::Unchanged => Numbers(0, 1, 0, 0, 0, 0),
-        CommitAnswer::UnknownWorker => Numbers(38, 0, 0, 0, 0, 0),
-        CommitAnswer::NotPermitted => Numbers(39, 0, 0, 0, 0, 0),
-        CommitAnswer::Held => Numbers(30, 0, 0, 0, 0, 0),
+        CommitAnswer::Committed => Numbers(0, 1, 1, 0, 0, 0, 0),
+        CommitAnswer::Unchanged => Numbers(0, 1, 0, 0, 0, 0, 0),
+        CommitAnswer::UnknownWorker => Numbers(38, 0, 0, 0, 0, 0, 0),
+        CommitAnswer::NotPermitted => Numbers(39, 0, 0, 0, 0, 0, 0),
+        CommitAnswer::Held => Numbers(30, 0, 0, 0, 0, 0, 0),
     }
 }
 
@@ -124,10 +135,10 @@ pub fn of_begin(answer: BeginAnswer) -> Numbers
     ensures { λ r. ⌜ r ≡ numbersOf (answered oneValue (begunOf answer)) ⌝ }
 {
     match answer {
-        BeginAnswer::Begun { writes } => Numbers(0, 1, writes as u64, 0, 0, 0),
-        BeginAnswer::UnknownWorker => Numbers(38, 0, 0, 0, 0, 0),
-        BeginAnswer::NotPermitted => Numbers(39, 0, 0, 0, 0, 0),
-        BeginAnswer::JournalFull => Numbers(31, 0, 0, 0, 0, 0),
+        BeginAnswer::Begun { writes } => Numbers(0, 1, writes as u64, 0, 0, 0, 0),
+        BeginAnswer::UnknownWorker => Numbers(38, 0, 0, 0, 0, 0, 0),
+        BeginAnswer::NotPermitted => Numbers(39, 0, 0, 0, 0, 0, 0),
+        BeginAnswer::JournalFull => Numbers(31, 0, 0, 0, 0, 0, 0),
     }
 }
 
@@ -136,9 +147,9 @@ pub fn of_step(answer: StepAnswer) -> Numbers
     ensures { λ r. ⌜ r ≡ numbersOf (answered wroteValues (stepOf answer)) ⌝ }
 {
     match answer {
-        StepAnswer::Wrote { block } => Numbers(0, 2, block as u64, 0, 0, 0),
-        StepAnswer::Finished { block } => Numbers(0, 2, block as u64, 1, 0, 0),
-        StepAnswer::BadArea => Numbers(4, 0, 0, 0, 0, 0),
+        StepAnswer::Wrote { block } => Numbers(0, 2, block as u64, 0, 0, 0, 0),
+        StepAnswer::Finished { block } => Numbers(0, 2, block as u64, 1, 0, 0, 0),
+        StepAnswer::BadArea => Numbers(4, 0, 0, 0, 0, 0, 0),
     }
 }
 
@@ -147,11 +158,11 @@ pub fn of_ranges(error: AckCursorError) -> Numbers
     ensures { λ r. ⌜ r ≡ numbersOf (numbered (rangesError error)) ⌝ }
 {
     match error {
-        AckCursorError::EmptyRange { start, end } => Numbers(10, 2, start, end, 0, 0),
+        AckCursorError::EmptyRange { start, end } => Numbers(10, 2, start, end, 0, 0, 0),
         AckCursorError::NotSortedDisjointAndAboveCommitted { start, prev_end } => {
-            Numbers(11, 2, start, prev_end, 0, 0)
+            Numbers(11, 2, start, prev_end, 0, 0, 0)
         }
-        AckCursorError::TooManyRuns => Numbers(12, 0, 0, 0, 0, 0),
+        AckCursorError::TooManyRuns => Numbers(12, 0, 0, 0, 0, 0, 0),
     }
 }
 
@@ -160,10 +171,10 @@ pub fn of_cursor(error: SnapshotError) -> Numbers
     ensures { λ r. ⌜ r ≡ numbersOf (numbered (snapshotError error)) ⌝ }
 {
     match error {
-        SnapshotError::Truncated => Numbers(6, 0, 0, 0, 0, 0),
-        SnapshotError::BadLength { len } => Numbers(7, 1, len as u64, 0, 0, 0),
-        SnapshotError::UnsupportedVersion(version) => Numbers(8, 1, version as u64, 0, 0, 0),
-        SnapshotError::BadCrc => Numbers(9, 0, 0, 0, 0, 0),
+        SnapshotError::Truncated => Numbers(6, 0, 0, 0, 0, 0, 0),
+        SnapshotError::BadLength { len } => Numbers(7, 1, len as u64, 0, 0, 0, 0),
+        SnapshotError::UnsupportedVersion(version) => Numbers(8, 1, version as u64, 0, 0, 0, 0),
+        SnapshotError::BadCrc => Numbers(9, 0, 0, 0, 0, 0, 0),
         SnapshotError::Ranges(error) => of_ranges(error),
     }
 }
@@ -173,7 +184,7 @@ pub fn of_attempts(error: AttemptSnapshotError) -> Numbers
     ensures { λ r. ⌜ r ≡ numbersOf (numbered (attemptError error)) ⌝ }
 {
     match error {
-        AttemptSnapshotError::Truncated => Numbers(13, 0, 0, 0, 0, 0),
+        AttemptSnapshotError::Truncated => Numbers(13, 0, 0, 0, 0, 0, 0),
         AttemptSnapshotError::UnsupportedVersion(version) => Numbers(
             14,
             1,
@@ -181,8 +192,9 @@ pub fn of_attempts(error: AttemptSnapshotError) -> Numbers
             0,
             0,
             0,
+            0,
         ),
-        AttemptSnapshotError::BadLength { len } => Numbers(15, 1, len as u64, 0, 0, 0),
+        AttemptSnapshotError::BadLength { len } => Numbers(15, 1, len as u64, 0, 0, 0, 0),
         AttemptSnapshotError::CountMismatch { declared, actual } => Numbers(
             16,
             2,
@@ -190,13 +202,14 @@ pub fn of_attempts(error: AttemptSnapshotError) -> Numbers
             actual,
             0,
             0,
+            0,
         ),
-        AttemptSnapshotError::BadCrc => Numbers(17, 0, 0, 0, 0, 0),
+        AttemptSnapshotError::BadCrc => Numbers(17, 0, 0, 0, 0, 0, 0),
         AttemptSnapshotError::NotSorted {
             offset,
             prev_offset,
-        } => Numbers(18, 2, offset, prev_offset, 0, 0),
-        AttemptSnapshotError::TooManyPairs => Numbers(19, 0, 0, 0, 0, 0),
+        } => Numbers(18, 2, offset, prev_offset, 0, 0, 0),
+        AttemptSnapshotError::TooManyPairs => Numbers(19, 0, 0, 0, 0, 0, 0),
     }
 }
 
@@ -205,8 +218,8 @@ pub fn of_write(outcome: Write) -> Numbers
     ensures { λ r. ⌜ r ≡ numbersOf (answered oneValue (outcomeOf outcome)) ⌝ }
 {
     match outcome {
-        Write::Next(pos) => Numbers(0, 1, pos as u64, 0, 0, 0),
-        Write::OutTooShort => Numbers(20, 0, 0, 0, 0, 0),
+        Write::Next(pos) => Numbers(0, 1, pos as u64, 0, 0, 0, 0),
+        Write::OutTooShort => Numbers(20, 0, 0, 0, 0, 0, 0),
     }
 }
 
@@ -215,9 +228,9 @@ pub fn of_encode(outcome: Encode) -> Numbers
     ensures { λ r. ⌜ r ≡ numbersOf (answered oneValue (encodeOf outcome)) ⌝ }
 {
     match outcome {
-        Encode::Next(pos) => Numbers(0, 1, pos as u64, 0, 0, 0),
-        Encode::TooManyPairs => Numbers(19, 0, 0, 0, 0, 0),
-        Encode::OutTooShort => Numbers(20, 0, 0, 0, 0, 0),
+        Encode::Next(pos) => Numbers(0, 1, pos as u64, 0, 0, 0, 0),
+        Encode::TooManyPairs => Numbers(19, 0, 0, 0, 0, 0, 0),
+        Encode::OutTooShort => Numbers(20, 0, 0, 0, 0, 0, 0),
     }
 }
 
@@ -226,7 +239,7 @@ pub fn of_decode_cursor(outcome: cursor::Decode, committed: u64, runs: usize) ->
     ensures { λ r. ⌜ r ≡ numbersOf (answered values (unless (decodeFault outcome) (done (committed ∷ runs ∷ [])))) ⌝ }
 {
     match outcome {
-        cursor::Decode::Restored => Numbers(0, 2, committed, runs as u64, 0, 0),
+        cursor::Decode::Restored => Numbers(0, 2, committed, runs as u64, 0, 0, 0),
         cursor::Decode::Refused(error) => of_cursor(error),
     }
 }
@@ -236,7 +249,7 @@ pub fn of_decode_attempts(outcome: attempt::Decode) -> Numbers
     ensures { λ r. ⌜ r ≡ numbersOf (answered oneValue (decodeOf outcome)) ⌝ }
 {
     match outcome {
-        attempt::Decode::Pairs(count) => Numbers(0, 1, count as u64, 0, 0, 0),
+        attempt::Decode::Pairs(count) => Numbers(0, 1, count as u64, 0, 0, 0, 0),
         attempt::Decode::Refused(error) => of_attempts(error),
     }
 }
@@ -246,12 +259,12 @@ pub fn of_start(answer: StartAnswer) -> Numbers
     ensures { λ r. ⌜ r ≡ numbersOf (answered noValues (unless (startFault answer) (done (tt {0})))) ⌝ }
 {
     match answer {
-        StartAnswer::Started => Numbers(0, 0, 0, 0, 0, 0),
-        StartAnswer::UnlimitedDeliverNotAllowed => Numbers(1, 0, 0, 0, 0, 0),
-        StartAnswer::TooManySteps => Numbers(2, 0, 0, 0, 0, 0),
-        StartAnswer::ZeroThreshold => Numbers(3, 0, 0, 0, 0, 0),
-        StartAnswer::BadArea => Numbers(4, 0, 0, 0, 0, 0),
-        StartAnswer::Damaged { block } => Numbers(5, 1, block as u64, 0, 0, 0),
+        StartAnswer::Started => Numbers(0, 0, 0, 0, 0, 0, 0),
+        StartAnswer::UnlimitedDeliverNotAllowed => Numbers(1, 0, 0, 0, 0, 0, 0),
+        StartAnswer::TooManySteps => Numbers(2, 0, 0, 0, 0, 0, 0),
+        StartAnswer::ZeroThreshold => Numbers(3, 0, 0, 0, 0, 0, 0),
+        StartAnswer::BadArea => Numbers(4, 0, 0, 0, 0, 0, 0),
+        StartAnswer::Damaged { block } => Numbers(5, 1, block as u64, 0, 0, 0, 0),
         StartAnswer::Cursor(error) => of_cursor(error),
         StartAnswer::Attempts(error) => of_attempts(error),
     }
@@ -274,7 +287,7 @@ fn of_list(listed: Listed, out: &[u64]) -> Numbers
     ensures { λ r. ⌜ r ≡ numbersOf (answered values (listOf listed (now (out .entry)))) ⌝ }
 {
     let Listed::Filled(n) = listed else {
-        return Numbers(20, 0, 0, 0, 0, 0);
+        return Numbers(20, 0, 0, 0, 0, 0, 0);
     };
     Numbers(
         0,
@@ -283,6 +296,7 @@ fn of_list(listed: Listed, out: &[u64]) -> Numbers
         place(out, n, 1),
         place(out, n, 2),
         place(out, n, 3),
+        place(out, n, 4),
     )
 }
 
@@ -298,8 +312,9 @@ fn of_lease(lease: LeaseReply) -> Numbers
             lease.attempt_start,
             lease.deadline,
             lease.deliveries as u64,
+            0,
         ),
-        LeaseReply::None => Numbers(0, 0, 0, 0, 0, 0),
+        LeaseReply::None => Numbers(0, 0, 0, 0, 0, 0, 0),
     }
 }
 
@@ -313,21 +328,51 @@ fn bit_of(test: bool) -> u64
     0
 }
 
+fn number_of(standing: Standing) -> u64
+    ensures { λ r. ⌜ r ≡ standingNumber (standingIn standing) ⌝ }
+{
+    match standing {
+        Standing::Settled => 0,
+        Standing::Held => 1,
+        Standing::Waiting => 2,
+    }
+}
+
+// What is shown of an offset: its standing, and then what is not absent.
+fn of_view(view: View) -> Numbers
+    ensures { λ r. ⌜ r ≡ numbersOf (code 0 (viewValues (viewIn view))) ⌝ }
+{
+    match view {
+        View::Plain(standing) => Numbers(0, 1, number_of(standing), 0, 0, 0, 0),
+        View::Unleased { attempts } => Numbers(0, 2, 2, attempts as u64, 0, 0, 0),
+        View::Leased { standing, lease } => Numbers(
+            0,
+            5,
+            number_of(standing),
+            lease.attempts as u64,
+            lease.generation.0,
+            lease.deadline,
+            lease.holder as u64,
+        ),
+    }
+}
+
 // A question: what it is answered.
 pub fn of_reply(reply: Reply, out: &[u64]) -> Numbers
     ensures { λ r. ⌜ r ≡ numbersOf (answered values (replyOf reply (now (out .entry)))) ⌝ }
 {
     match reply {
         Reply::Waiting(listed) => of_list(listed, out),
-        Reply::Committed(offset) => Numbers(0, 1, offset.0, 0, 0, 0),
-        Reply::IsSettled(settled) => Numbers(0, 1, bit_of(settled), 0, 0, 0),
+        Reply::Committed(offset) => Numbers(0, 1, offset.0, 0, 0, 0, 0),
+        Reply::IsSettled(settled) => Numbers(0, 1, bit_of(settled), 0, 0, 0, 0),
         Reply::LeaseOf(lease) => of_lease(lease),
-        Reply::CountOf(count) => Numbers(0, 1, count as u64, 0, 0, 0),
-        Reply::InFlight(count) => Numbers(0, 1, count as u64, 0, 0, 0),
-        Reply::IsDue(due) => Numbers(0, 2, bit_of(due.ceiling), bit_of(due.threshold), 0, 0),
-        Reply::BlocksLeft(count) => Numbers(0, 1, count as u64, 0, 0, 0),
-        Reply::UnknownWorker => Numbers(38, 0, 0, 0, 0, 0),
-        Reply::NotPermitted => Numbers(39, 0, 0, 0, 0, 0),
+        Reply::CountOf(count) => Numbers(0, 1, count as u64, 0, 0, 0, 0),
+        Reply::InFlight(count) => Numbers(0, 1, count as u64, 0, 0, 0, 0),
+        Reply::IsDue(due) => Numbers(0, 2, bit_of(due.ceiling), bit_of(due.threshold), 0, 0, 0),
+        Reply::BlocksLeft(count) => Numbers(0, 1, count as u64, 0, 0, 0, 0),
+        Reply::ViewOf(view) => of_view(view),
+        Reply::UnknownWorker => Numbers(38, 0, 0, 0, 0, 0, 0),
+        Reply::NotPermitted => Numbers(39, 0, 0, 0, 0, 0, 0),
     }
 }
 
@@ -355,6 +400,6 @@ pub fn of_call(answer: CallAnswer, out: &[u64]) -> Numbers
         CallAnswer::Begun(answer) => of_begin(answer),
         CallAnswer::Stepped(answer) => of_step(answer),
         CallAnswer::Restarted(answer) => of_start(answer),
-        CallAnswer::NotNow => Numbers(255, 0, 0, 0, 0, 0),
+        CallAnswer::NotNow => Numbers(255, 0, 0, 0, 0, 0, 0),
     }
 }

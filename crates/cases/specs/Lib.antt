@@ -6,3 +6,4 @@ pub mod Delivery
 pub mod Consumer
 pub mod Journal
 pub mod Workers
+pub mod Views

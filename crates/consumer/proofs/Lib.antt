@@ -5,6 +5,7 @@ pub mod Valid
 pub mod Counts
 pub mod Effects
 pub mod Permission
+pub mod Standing
 pub mod Arrays
 pub mod CallsReturns
 pub mod CallsClaim

@@ -1,5 +1,6 @@
 pub mod State
 pub mod Rights
+pub mod Standing
 pub mod Calls
 pub mod Questions
 pub mod Valid

@@ -23,8 +23,10 @@ use Rattle.consumer.specs.State.{State}
 use Rattle.consumer.specs.Rights.{Operation, bitOf}
 use Rattle.consumer.specs.Calls.{HandOut, claimRows, claimTable, tokenRows, attemptOf, withCommitted, commit}
 use Rattle.consumer.specs.Questions.{Question, reply, waitingAt}
-use Rattle.consumer.specs.View.{view, Sound, Answers, Commits, holding, holdingBoth, commitOf, testOf, asResult}
+use Rattle.consumer.specs.Standing.{viewOf}
+use Rattle.consumer.specs.View.{view, Sound, Answers, Commits, holding, holdingBoth, commitOf, testOf, asResult, viewIn}
 use Rattle.consumer.specs.declared.Consumer.{Consumer}
+use Rattle.consumer.specs.declared.views.View as code
 use Rattle.consumer.specs.declared.steps.ClaimTest.{ClaimTest}
 use Rattle.consumer.specs.declared.steps.TokenRefusal.{TokenRefusal}
 use Rattle.consumer.specs.declared.steps.TokenRefusal.the-variants as token
@@ -134,6 +136,10 @@ counting n m ks ns cks cvs c = holding c (listingAll n m ks ns cks cvs (c .table
 abbrev pub awaiting : ℕ → ℕ → List ℕ → List ℕ → List ℕ → Consumer → Consumer
 awaiting n m ks ds cks c = holding c (carrying m cks (c .table .«carried_counts») (timing n ks ds (c .table)))
 
+-- what is shown of an offset: the same that a commit looks at
+abbrev pub showing : List ℕ → AckCursor → ℕ → ℕ → List ℕ → List ℕ → List ℕ → List ℕ → List ℕ → List ℕ → List ℕ → List ℕ → Consumer → Consumer
+showing rights cursor n m ks gs ss ds ns ws cks cvs = committing rights cursor n m ks gs ss ds ns ws cks cvs
+
 -- ## what a call in place says of every consumer that has these parts
 -- a lent array does not show its length
 pub record Whole (c : Consumer) : Type 0 where
@@ -148,8 +154,13 @@ abbrev pub CommitsIn : Result Bool → (Consumer → Consumer) → (Consumer →
 CommitsIn outcome before after right =
     (c : Consumer) → Whole (before c) → Commits outcome (before c) (after c) (right (view (before c)))
 
+-- a question that every worker is answered alike
 abbrev pub RepliesIn : Result (List ℕ) → (Consumer → Consumer) → Question → Type 0
-RepliesIn r with q = (c : Consumer) → Whole (with c) → r ≡ reply (view (with c)) q
+RepliesIn r with q = (c : Consumer) → Whole (with c) → (w : ℕ) → r ≡ reply (view (with c)) w q
+
+-- what a worker is shown of an offset at a clock
+abbrev pub ShowsIn : code.View → (Consumer → Consumer) → ℕ → ℕ → ℕ → Type 0
+ShowsIn r with w o now = (c : Consumer) → Whole (with c) → viewIn r ≡ viewOf (view (with c)) w o now
 
 -- the waiting list at a clock, into a lent list
 abbrev pub ListsIn : Result ℕ → (Consumer → Consumer) → ℕ → List ℕ → List ℕ → Type 0

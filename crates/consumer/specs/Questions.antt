@@ -15,6 +15,7 @@ use Rattle.lease.specs.Counts.{allAttemptCounts}
 use Rattle.consumer.specs.State.{State, halfEnd, countOr0}
 use Rattle.consumer.specs.Calls.{atCeiling, atThreshold, callRows}
 use Rattle.consumer.specs.Rights.{looking}
+use Rattle.consumer.specs.Standing.{viewOf, viewValues}
 
 -- the keys of entries, in their order
 abbrev pub keysOf : List (Entry ℕ) → List ℕ
@@ -50,18 +51,21 @@ pub data Question : Type 0 where
   IsDue : Question
   -- the blocks that are left in the half in use: a group that takes more goes to the other
   BlocksLeft : Question
+  -- of an offset, at a clock
+  ViewOf : ℕ → ℕ → Question
 
--- what each question is answered, once it may be asked
-abbrev pub reply : State → Question → Result (List ℕ)
-reply s (Waiting now room) = waiting s now room
-reply s Committed = done (s .cursor .committed ∷ [])
-reply s (IsSettled o) = done (bit (settled (s .cursor) o) ∷ [])
-reply s (LeaseOf o) = done (leaseValues (leaseOf (s .table) o))
-reply s (CountOf o) = done (countOf s o ∷ [])
-reply s InFlight = done (inFlight (s .table) ∷ [])
-reply s IsDue = done (bit (atCeiling s) ∷ bit (atThreshold s) ∷ [])
-reply s BlocksLeft = done ((halfEnd (s .size) (s .next .block) - s .next .block) ∷ [])
+-- what worker w is answered to each question, once it may ask
+abbrev pub reply : State → ℕ → Question → Result (List ℕ)
+reply s w (Waiting now room) = waiting s now room
+reply s w Committed = done (s .cursor .committed ∷ [])
+reply s w (IsSettled o) = done (bit (settled (s .cursor) o) ∷ [])
+reply s w (LeaseOf o) = done (leaseValues (leaseOf (s .table) o))
+reply s w (CountOf o) = done (countOf s o ∷ [])
+reply s w InFlight = done (inFlight (s .table) ∷ [])
+reply s w IsDue = done (bit (atCeiling s) ∷ bit (atThreshold s) ∷ [])
+reply s w BlocksLeft = done ((halfEnd (s .size) (s .next .block) - s .next .block) ∷ [])
+reply s w (ViewOf o now) = done (viewValues (viewOf s w o now))
 
 -- a question of worker w: 38, 39 first
 abbrev pub look : State → ℕ → Question → Result (List ℕ)
-look s w q = checked (callRows s w looking) (reply s q)
+look s w q = checked (callRows s w looking) (reply s w q)

@@ -16,6 +16,8 @@ use Rattle.lease.specs.declared.LeaseToken.{LeaseToken}
 use Rattle.consumer.specs.State.{State, stateOf, nextGroupAt}
 use Rattle.consumer.specs.State as state
 use Rattle.consumer.specs.Calls.{HandOut}
+use Rattle.consumer.specs.Standing.{Standing, View, bare}
+use Rattle.consumer.specs.Standing as standing
 use Rattle.consumer.specs.Valid.{Valid}
 use Rattle.consumer.specs.declared.Settings.{Settings}
 use Rattle.consumer.specs.declared.Consumer.{Consumer}
@@ -33,6 +35,10 @@ use Rattle.consumer.specs.declared.calls.CommitAnswer.{CommitAnswer}
 use Rattle.consumer.specs.declared.calls.CommitAnswer.the-variants as commit
 use Rattle.consumer.specs.declared.queries.WaitingAnswer.{WaitingAnswer}
 use Rattle.consumer.specs.declared.queries.WaitingAnswer.the-variants as waiting
+use Rattle.consumer.specs.declared.views.Standing as code-standing
+use Rattle.consumer.specs.declared.views.Standing.the-variants as standings
+use Rattle.consumer.specs.declared.views.View as code-view
+use Rattle.consumer.specs.declared.views.View.the-variants as views
 use Rattle.consumer.specs.declared.rights.Permission.{Permission}
 use Rattle.consumer.specs.declared.rights.Permission.the-variants as permission
 
@@ -156,3 +162,22 @@ waitingOf (waiting.Filled n) = done n
 waitingOf waiting.OutTooShort = refused refusal.OutTooShort
 waitingOf waiting.UnknownWorker = refused refusal.UnknownWorker
 waitingOf waiting.NotPermitted = refused refusal.NotPermitted
+
+-- what is shown of an offset
+abbrev pub standingIn : code-standing.Standing → Standing
+standingIn standings.Settled = standing.Settled
+standingIn standings.Held = standing.Held
+standingIn standings.Waiting = standing.Waiting
+
+abbrev pub viewIn : code-view.View → View
+viewIn (views.Plain x) = bare (standingIn x)
+viewIn (views.Unleased n) =
+    record { standing = standing.Waiting; attempts = some n; generation = none; deadline = none; holder = none }
+viewIn (views.Leased x l) =
+    record {
+      standing = standingIn x;
+      attempts = some (l .attempts);
+      generation = some (l .generation .0);
+      deadline = some (l .deadline);
+      holder = some (l .holder);
+    }

@@ -14,6 +14,7 @@ pub mod halves;
 pub mod in_place;
 pub mod queries;
 pub mod rights;
+pub mod views;
 // The steps of the calls in place.
 mod steps;
 

@@ -2,6 +2,7 @@
 ghost use mathlib.Core.Path.{_≡_};
 ghost use Rattle.types.specs.Table.{first};
 ghost use Rattle.consumer.specs.Rights.{workerRows};
+ghost use Rattle.consumer.specs.Standing.{supervises};
 ghost use Rattle.consumer.specs.View.{permissionOf};
 use types::limits::WORKERS;
 
@@ -44,4 +45,16 @@ pub fn permission_of(rights: &[u8; WORKERS], worker: u64, bit: u8) -> Permission
         return Permission::Granted;
     }
     Permission::NotPermitted
+}
+
+// Whether a worker is marked as a supervisor.
+pub fn is_supervisor(rights: &[u8; WORKERS], worker: u64) -> bool
+    ensures { λ r. ⌜ r ≡ supervises (rights .entry .now) worker ⌝ }
+{
+    let permission = permission_of(rights, worker, SUPERVISOR);
+    match permission {
+        Permission::Granted => true,
+        Permission::UnknownWorker => false,
+        Permission::NotPermitted => false,
+    }
 }

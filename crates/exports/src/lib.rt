@@ -101,10 +101,10 @@ pub extern "C" fn ninotskev_decode_cursor(
     let cursor = decoded.cursor;
     let n = cursor.runs;
     if starts.len() < n {
-        return Numbers(20, 0, 0, 0, 0, 0);
+        return Numbers(20, 0, 0, 0, 0, 0, 0);
     }
     if ends.len() < n {
-        return Numbers(20, 0, 0, 0, 0, 0);
+        return Numbers(20, 0, 0, 0, 0, 0, 0);
     }
     list_column(&cursor.starts, n, starts);
     list_column(&cursor.ends, n, ends);
@@ -152,10 +152,10 @@ pub extern "C" fn ninotskev_decode_attempts(
     let decoded = attempt::decode_pairs(input);
     let n = decoded.count;
     if offsets.len() < n {
-        return Numbers(20, 0, 0, 0, 0, 0);
+        return Numbers(20, 0, 0, 0, 0, 0, 0);
     }
     if attempts.len() < n {
-        return Numbers(20, 0, 0, 0, 0, 0);
+        return Numbers(20, 0, 0, 0, 0, 0, 0);
     }
     let pairs = decoded.pairs;
     list_offsets(pairs, n, offsets);

@@ -66,6 +66,9 @@ question-fits room (questions.CountOf o) vs p =
 question-fits room questions.InFlight vs p = refl
 question-fits room questions.IsDue vs p = refl
 question-fits room questions.BlocksLeft vs p = refl
+question-fits room (questions.ViewOf o now) vs p =
+    let h = enums.owed question.the-type question-laws.the-laws (questions.ViewOf o now) vs p in
+    rw (offset-fits o _ (h .0), number-fits now (h .1 .0 .1))
 
 pub ask-fits : (room : ℕ) (q : Ask) (vs : List Val) → Is ask.the-row q vs → fits (askOf room q) ≡ true
 ask-fits room (asks.Claim o now) vs p =

@@ -1,3 +1,4 @@
 pub mod Fits
 pub mod Replies
 pub mod Transitions
+pub mod SameView

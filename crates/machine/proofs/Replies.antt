@@ -17,7 +17,7 @@ use Rattle.types.specs.declared.lent.Listed.{Listed}
 use Rattle.types.specs.declared.lent.Listed.the-variants as lists
 use Rattle.consumer.specs.Rights.{looking}
 use Rattle.consumer.specs.Calls.{callRows}
-use Rattle.consumer.specs.Questions.{Question, Waiting, Committed, IsSettled, LeaseOf, CountOf, InFlight, IsDue, BlocksLeft, waitingAt, reply}
+use Rattle.consumer.specs.Questions.{Question, Waiting, Committed, IsSettled, LeaseOf, CountOf, InFlight, IsDue, BlocksLeft, ViewOf, waitingAt, reply}
 use Rattle.consumer.specs.Questions as questions
 use Rattle.consumer.specs.View.{view, Sound, permissionOf}
 use Rattle.consumer.specs.Parts.{Whole}
@@ -40,10 +40,10 @@ lent {c} w = c
 
 -- ## questions
 -- a reply that fills no list
-pub replied : (c : Consumer) {q q′ : Question} (out : List ℕ) (r : Reply) → q ≡ q′ → askedBy (argumentsIn q′) r ≡ q′ → replyOf r out ≡ reply (view c) q′
-    → listIn q′ (reply (view c) q′) ≡ []
-    → LookedIs (reply (view c) q) q out r out
-replied c {q} {q′} out r e k h l = subst (λ (x : Question). LookedIs (reply (view c) x) x out r out) (sym e) (record { kind = k; is = h; lists = rw l })
+pub replied : (c : Consumer) (w : ℕ) {q q′ : Question} (out : List ℕ) (r : Reply) → q ≡ q′ → askedBy (argumentsIn q′) r ≡ q′ → replyOf r out ≡ reply (view c) w q′
+    → listIn q′ (reply (view c) w q′) ≡ []
+    → LookedIs (reply (view c) w q) q out r out
+replied c w {q} {q′} out r e k h l = subst (λ (x : Question). LookedIs (reply (view c) w x) x out r out) (sym e) (record { kind = k; is = h; lists = rw l })
 
 -- a list that was put into lent memory, or had no room there
 module _ (list out out′ : List ℕ) where
@@ -77,11 +77,11 @@ module _ (list out out′ : List ℕ) where
       let m : length list ≡ n = sym (done-inj (ap (λ (a : Answer ℕ (List ℕ)). a .outcome) (room (done n) t e))) in
       record { is = rw (t, whole) (ap done (at-front n m)); fills = rw t whole })
 
-pub waiting-replied : (c : Consumer) {q : Question} (now : ℕ) (out out′ : List ℕ) (r : Listed) → q ≡ Waiting now (length out)
-    → answer (listedOf r) out′ ≡ listed (waitingAt (view c) now) out → LookedIs (reply (view c) q) q out (replies.Waiting r) out′
-waiting-replied c now out out′ r e h =
+pub waiting-replied : (c : Consumer) (w : ℕ) {q : Question} (now : ℕ) (out out′ : List ℕ) (r : Listed) → q ≡ Waiting now (length out)
+    → answer (listedOf r) out′ ≡ listed (waitingAt (view c) now) out → LookedIs (reply (view c) w q) q out (replies.Waiting r) out′
+waiting-replied c w now out out′ r e h =
     let p = listed-puts (waitingAt (view c) now) out out′ r h in
-    subst (λ (x : Question). LookedIs (reply (view c) x) x out (replies.Waiting r) out′) (sym e) (record { kind = refl; is = p .is; lists = p .fills })
+    subst (λ (x : Question). LookedIs (reply (view c) w x) x out (replies.Waiting r) out′) (sym e) (record { kind = refl; is = p .is; lists = p .fills })
 
 -- ## who may look
 -- a refused question fills no list, and is the one that was asked
@@ -94,6 +94,7 @@ no-list (CountOf o) f = refl
 no-list InFlight f = refl
 no-list IsDue f = refl
 no-list BlocksLeft f = refl
+no-list (ViewOf o now) f = refl
 
 asked-itself : (q : Question) → argumentsIn q .question ≡ q
 asked-itself (Waiting now room) = refl
@@ -104,6 +105,7 @@ asked-itself (CountOf o) = refl
 asked-itself InFlight = refl
 asked-itself IsDue = refl
 asked-itself BlocksLeft = refl
+asked-itself (ViewOf o now) = refl
 
 module _ (c : Consumer) (w : ℕ) (q : Question) (out : List ℕ) (p : Permission) (says : permissionOf p ≡ first (callRows (view c) w looking)) where
   refused-look : (f : Refusal) (r : Reply) → permissionOf p ≡ some f → replyOf r out ≡ refused f → askedBy (argumentsIn q) r ≡ argumentsIn q .question
@@ -118,7 +120,7 @@ module _ (c : Consumer) (w : ℕ) (q : Question) (out : List ℕ) (p : Permissio
   pub look-not-permitted : p ≡ permission.NotPermitted → LookedIs (questions.look (view c) w q) q out replies.NotPermitted out
   look-not-permitted e = refused-look NotPermitted replies.NotPermitted (ap permissionOf e) refl refl
 
-  pub look-answered : p ≡ permission.Granted → (r : Reply) (out′ : List ℕ) → LookedIs (reply (view c) q) q out r out′ → LookedIs (questions.look (view c) w q) q out r out′
+  pub look-answered : p ≡ permission.Granted → (r : Reply) (out′ : List ℕ) → LookedIs (reply (view c) w q) q out r out′ → LookedIs (questions.look (view c) w q) q out r out′
   look-answered e r out′ h = let met : first (callRows (view c) w looking) ≡ none = sym says ∙ ap permissionOf e in rw met h
 
 -- ## calls

@@ -10,8 +10,9 @@ use Rattle.types.specs.Table.{Kept}
 use Rattle.delivery.specs.Config.{delayOf}
 use Rattle.types.specs.declared.lent.Listed.{Listed}
 use Rattle.types.specs.declared.lent.Listed.the-variants as listed
-use Rattle.consumer.specs.Questions.{Question, Waiting, Committed, IsSettled, LeaseOf, CountOf, InFlight, IsDue, BlocksLeft, bit}
-use Rattle.consumer.specs.View.{claimOf, settleOf, nackOf, progressOf, commitOf, Unmoved}
+use Rattle.consumer.specs.Questions.{Question, Waiting, Committed, IsSettled, LeaseOf, CountOf, InFlight, IsDue, BlocksLeft, ViewOf, bit}
+use Rattle.consumer.specs.Standing.{viewValues}
+use Rattle.consumer.specs.View.{claimOf, settleOf, nackOf, progressOf, commitOf, viewIn, Unmoved}
 use Rattle.checkpoint.specs.declared.BeginAnswer.{BeginAnswer}
 use Rattle.checkpoint.specs.declared.BeginAnswer.the-variants as begins
 use Rattle.machine.specs.Calls.{Ask, claim, ack, term, nack, progress, commit, look, Call, ask, begin, step, restart, Event, claimed, acked, termed, nacked, progressed, committed, looked, begun, stepped, restarted, failed}
@@ -40,6 +41,7 @@ questionOf room (question.CountOf o) = CountOf (o .0)
 questionOf room question.InFlight = InFlight
 questionOf room question.IsDue = IsDue
 questionOf room question.BlocksLeft = BlocksLeft
+questionOf room (question.ViewOf o now) = ViewOf (o .0) now
 
 abbrev pub askOf : ℕ → code-ask.Ask → Ask
 askOf room (asks.Claim o now) = claim (o .0) now
@@ -80,6 +82,7 @@ replyOf (reply.CountOf n) out = done (n ∷ [])
 replyOf (reply.InFlight n) out = done (n ∷ [])
 replyOf (reply.IsDue d) out = done (bit (d .ceiling) ∷ bit (d .threshold) ∷ [])
 replyOf (reply.BlocksLeft n) out = done (n ∷ [])
+replyOf (reply.ViewOf v) out = done (viewValues (viewIn v))
 replyOf reply.UnknownWorker out = refused refusal.UnknownWorker
 replyOf reply.NotPermitted out = refused refusal.NotPermitted
 
@@ -112,6 +115,7 @@ argumentsIn (CountOf o) = asking (CountOf o) o 0 0
 argumentsIn InFlight = asking InFlight 0 0 0
 argumentsIn IsDue = asking IsDue 0 0 0
 argumentsIn BlocksLeft = asking BlocksLeft 0 0 0
+argumentsIn (ViewOf o now) = asking (ViewOf o now) o now 0
 
 abbrev pub argumentsOf : Ask → Arguments
 argumentsOf (claim o now) = arguments o 0 now none
@@ -132,6 +136,7 @@ askedBy g (reply.CountOf n) = CountOf (g .offset)
 askedBy g (reply.InFlight n) = InFlight
 askedBy g (reply.IsDue d) = IsDue
 askedBy g (reply.BlocksLeft n) = BlocksLeft
+askedBy g (reply.ViewOf v) = ViewOf (g .offset) (g .clock)
 askedBy g reply.UnknownWorker = g .question
 askedBy g reply.NotPermitted = g .question
 
@@ -178,6 +183,7 @@ listIn (CountOf o) a = []
 listIn InFlight a = []
 listIn IsDue a = []
 listIn BlocksLeft a = []
+listIn (ViewOf o now) a = []
 
 abbrev pub listSeen : Event → List ℕ
 listSeen (claimed o now a) = []

@@ -8,7 +8,7 @@ use Rattle.types.specs.Limits.{MAX}
 use Rattle.types.specs.Refusal.{Result}
 use Rattle.consumer.specs.State.{State}
 use Rattle.consumer.specs.Calls.{HandOut}
-use Rattle.consumer.specs.Questions.{Question, Waiting, IsSettled, LeaseOf, CountOf, Committed, InFlight, IsDue, BlocksLeft}
+use Rattle.consumer.specs.Questions.{Question, Waiting, IsSettled, LeaseOf, CountOf, Committed, InFlight, IsDue, BlocksLeft, ViewOf}
 use Rattle.checkpoint.specs.Checkpoint.{BlockWritten}
 
 -- what the state answers
@@ -45,6 +45,7 @@ questionFits (CountOf o) = u64 o
 questionFits InFlight = true
 questionFits IsDue = true
 questionFits BlocksLeft = true
+questionFits (ViewOf o now) = u64 o && u64 now
 
 abbrev pub delayFits : Option ℕ → Bool
 delayFits none = true

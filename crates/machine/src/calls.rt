@@ -8,6 +8,7 @@ use consumer::calls::NackAnswer;
 use consumer::calls::ProgressAnswer;
 use consumer::calls::SettleAnswer;
 use consumer::queries::Due;
+use consumer::views::View;
 use delivery::Delay;
 use lease::LeaseToken;
 use starts::StartAnswer;
@@ -26,6 +27,7 @@ pub enum Question {
     InFlight,
     IsDue,
     BlocksLeft,
+    ViewOf { offset: Offset, now: u64 },
 }
 
 // A call on the consumer's state.
@@ -80,6 +82,7 @@ pub enum Reply {
     InFlight(usize),
     IsDue(Due),
     BlocksLeft(usize),
+    ViewOf(View),
     UnknownWorker,
     NotPermitted,
 }

@@ -371,8 +371,9 @@ fn ask_commit<'a>(
     }
 }
 
-// Answers a question that may be asked; the waiting list goes into `out`.
+// Answers a worker's question that it may ask; the waiting list goes into `out`.
 fn reply<'a>(
+    worker: u64,
     fixed: Fixed,
     figures: Figures,
     question: Question,
@@ -386,10 +387,11 @@ fn reply<'a>(
     workers: &'a [u32; LEASES],
     carried_offsets: &'a [u64; CARRIED],
     carried_counts: &'a [u32; CARRIED],
+    rights: &'a [u8; WORKERS],
     out: &mut [u64],
 ) -> Reply
     requires { ⌜ cursor.Whole (ackCursor (figures .committed) (starts .now) (ends .now) (figures .runs)) × (figures .len ≤ LEASES) × (figures .«carried_len» ≤ CARRIED) × (fixed .block ≤ fixed .«area_len» / 512) ⌝ }
-    ensures { λ r. ⌜ ((x : Consumer) → Whole (consumerOf fixed figures (starts .entry .now) (ends .entry .now) (offsets .entry .now) (generations .entry .now) («attempt_starts» .entry .now) (deadlines .entry .now) (deliveries .entry .now) (workers .entry .now) («carried_offsets» .entry .now) («carried_counts» .entry .now) (x .settings .delivery .«backoff_nanos») (x .settings .rights) x) → LookedIs (questions.reply (view (consumerOf fixed figures (starts .entry .now) (ends .entry .now) (offsets .entry .now) (generations .entry .now) («attempt_starts» .entry .now) (deadlines .entry .now) (deliveries .entry .now) (workers .entry .now) («carried_offsets» .entry .now) («carried_counts» .entry .now) (x .settings .delivery .«backoff_nanos») (x .settings .rights) x)) (questionOf (length (now (out .entry))) question)) (questionOf (length (now (out .entry))) question) (now (out .entry)) r (now (out .exit))) ⌝ }
+    ensures { λ r. ⌜ ((x : Consumer) → Whole (consumerOf fixed figures (starts .entry .now) (ends .entry .now) (offsets .entry .now) (generations .entry .now) («attempt_starts» .entry .now) (deadlines .entry .now) (deliveries .entry .now) (workers .entry .now) («carried_offsets» .entry .now) («carried_counts» .entry .now) (x .settings .delivery .«backoff_nanos») (rights .entry .now) x) → LookedIs (questions.reply (view (consumerOf fixed figures (starts .entry .now) (ends .entry .now) (offsets .entry .now) (generations .entry .now) («attempt_starts» .entry .now) (deadlines .entry .now) (deliveries .entry .now) (workers .entry .now) («carried_offsets» .entry .now) («carried_counts» .entry .now) (x .settings .delivery .«backoff_nanos») (rights .entry .now) x)) worker (questionOf (length (now (out .entry))) question)) (questionOf (length (now (out .entry))) question) (now (out .entry)) r (now (out .exit))) ⌝ }
 {
     match question {
         Question::Waiting { now } => {
@@ -442,6 +444,28 @@ fn reply<'a>(
         Question::BlocksLeft => {
             Reply::BlocksLeft(halves::blocks_left(fixed.area_len, fixed.block))
         }
+        Question::ViewOf { offset, now } => {
+            Reply::ViewOf(consumer::views::view_in_place(
+                figures.committed,
+                figures.runs,
+                figures.len,
+                figures.carried_len,
+                worker,
+                offset.0,
+                now,
+                rights,
+                starts,
+                ends,
+                offsets,
+                generations,
+                attempt_starts,
+                deadlines,
+                deliveries,
+                workers,
+                carried_offsets,
+                carried_counts,
+            ))
+        }
     }
 }
 
@@ -470,6 +494,7 @@ fn look<'a>(
     let permission = rights::permission_of(rights, worker, LOOK);
     match permission {
         Permission::Granted => reply(
+            worker,
             fixed,
             figures,
             question,
@@ -483,6 +508,7 @@ fn look<'a>(
             workers,
             carried_offsets,
             carried_counts,
+            rights,
             out,
         ),
         Permission::UnknownWorker => Reply::UnknownWorker,

@@ -48,9 +48,24 @@ pub const WORKER: usize = 21;
 
 pub const RIGHTS: usize = 22;
 
-pub const BLOCK: usize = 23;
+// What is shown of an offset, to a worker and to a supervisor.
+const VIEW_SETTLED: usize = 23;
 
-pub const STATE: usize = 24;
+const VIEW_HELD: usize = 24;
+
+const VIEW_WAITING: usize = 25;
+
+const WHOLE_SETTLED: usize = 26;
+
+const WHOLE_UNLEASED: usize = 27;
+
+const WHOLE_HELD: usize = 28;
+
+const WHOLE_WAITING: usize = 29;
+
+pub const BLOCK: usize = 30;
+
+pub const STATE: usize = 31;
 
 // An answer: a template and its numbers. Behind those of a waiting list, a block and the state stand their entries.
 pub struct Said {
@@ -92,6 +107,38 @@ fn either(bit: u64, zero: usize, one: usize) -> usize {
         return zero;
     }
     one
+}
+
+// The template of a view by how many numbers it has. A supervisor is also told what is absent of a settled offset.
+fn view_template(count: u64, standing: u64, supervisor: bool) -> usize {
+    if count == 5 {
+        if standing == 1 {
+            return WHOLE_HELD;
+        }
+        return WHOLE_WAITING;
+    }
+    if count == 2 {
+        return WHOLE_UNLEASED;
+    }
+    if supervisor {
+        return WHOLE_SETTLED;
+    }
+    match standing {
+        0 => VIEW_SETTLED,
+        1 => VIEW_HELD,
+        _ => VIEW_WAITING,
+    }
+}
+
+// What is shown of an offset.
+pub fn view_said(code: Numbers, supervisor: bool) -> Said {
+    if code.0 != 0 {
+        return refusal(code);
+    }
+    Said {
+        template: view_template(code.1, code.2, supervisor),
+        numbers: [code.3, code.4, code.5, code.6],
+    }
 }
 
 // What a call of a form answered, in numbers; `offset` is the one that was claimed.
@@ -159,7 +206,7 @@ pub fn print<'a>(
     let next = templates::fill(
         out,
         at,
-        b"|bad line\n|not now\n|refused #\n|refused # #\n|refused # # #\n|started\n|deliver # # #\n|deadletter # # #\n|settled\n|requeued #\n|extended #\n|committed\n|unchanged\n|waiting|begun #\n|wrote #\n|done #\n|restarted\n|cut #\n|poked\n|worker #\n|rights\n|block |",
+        b"|bad line\n|not now\n|refused #\n|refused # #\n|refused # # #\n|started\n|deliver # # #\n|deadletter # # #\n|settled\n|requeued #\n|extended #\n|committed\n|unchanged\n|waiting|begun #\n|wrote #\n|done #\n|restarted\n|cut #\n|poked\n|worker #\n|rights\n|view settled\n|view held\n|view waiting\n|view settled none none none none\n|view waiting # none none none\n|view held # # # #\n|view waiting # # # #\n|block |",
         template,
         numbers,
     );

@@ -11,6 +11,7 @@ use crate::script::Line;
 use answers::Numbers;
 use consumer::Configuration;
 use consumer::Settings;
+use consumer::rights;
 use delivery::DeliveryConfig;
 use lease::LeaseConfig;
 use machine::Machine;
@@ -48,6 +49,7 @@ fn kind_of(form: usize) -> u64 {
     match form {
         script::CLAIM..=script::COMMIT => form as u64,
         script::WAITING => 32,
+        script::VIEW => 40,
         script::BEGIN => 16,
         script::STEP | script::STEP_ON => 17,
         script::RESTART | script::RESTART_ON => 18,
@@ -218,6 +220,14 @@ fn len_after(form: usize, code: Numbers, len: usize, lent: usize) -> usize
     }
 }
 
+// The answer to a call.
+fn call_said(form: usize, offset: u64, code: Numbers, supervisor: bool) -> Said {
+    if form == script::VIEW {
+        return printing::view_said(code, supervisor);
+    }
+    printing::answer_said(form, offset, code)
+}
+
 // What a call leaves that was lent so much, with its answer in numbers.
 fn after_call(
     machine: Machine,
@@ -231,13 +241,15 @@ fn after_call(
     ensures { λ r. ⌜ Ready len (r .session) ⌝ }
 {
     let form = line.form;
+    let rights = machine.writing.consumer.settings.rights;
+    let supervisor = rights::is_supervisor(&rights, worker);
     Acted {
         session: Session {
             machine: machine,
             len: len_after(form, code, len, lent),
             worker: worker,
         },
-        said: printing::answer_said(form, line.numbers[0], code),
+        said: call_said(form, line.numbers[0], code, supervisor),
     }
 }
 

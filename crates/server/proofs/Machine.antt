@@ -251,7 +251,7 @@ machine-told x t =
 
 pub numbers-told : (x : Numbers) → Typed TNumbers′.mir (TNumbers′.lowered x) → Is TNumbers.the-row x (TNumbers′.lowered x ∷ [])
 numbers-told x t =
-    told-struct TNumbers.struct TNumbers.propositions TNumbers′.the-laws (number w64, (number w64, (number w64, (number w64, (number w64, (number w64, tt)))))) x
+    told-struct TNumbers.struct TNumbers.propositions TNumbers′.the-laws (number w64, (number w64, (number w64, (number w64, (number w64, (number w64, (number w64, tt))))))) x
     (all-typed (fieldTys TNumbers′.mir) (fieldsIn (TNumbers′.lowered x)) t)
 
 -- ## the lengths of its columns

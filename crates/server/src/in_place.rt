@@ -57,14 +57,14 @@ fn ask_on(
 {
     if phase != 0 {
         return AskDone {
-            numbers: Numbers(255, 0, 0, 0, 0, 0),
+            numbers: Numbers(255, 0, 0, 0, 0, 0, 0),
             figures,
         };
     }
     let asking = kinds::ask_of(kind, a, b, c, d);
     let Asking::Ask(ask) = asking else {
         return AskDone {
-            numbers: Numbers(255, 0, 0, 0, 0, 0),
+            numbers: Numbers(255, 0, 0, 0, 0, 0, 0),
             figures,
         };
     };
@@ -200,7 +200,7 @@ pub fn progress_in_place(
         r (progressing (rights .entry .now) config len (offsets .exit .now) (generations .exit .now) («attempt_starts» .exit .now) (deadlines .exit .now) (deliveries .exit .now) (workers .exit .now)) ⌝ }
 {
     if phase != 0 {
-        return Numbers(255, 0, 0, 0, 0, 0);
+        return Numbers(255, 0, 0, 0, 0, 0, 0);
     }
     let answer = consumer::in_place::progress_in_place(
         config,
@@ -281,7 +281,7 @@ pub fn begin_in_place(
 {
     if phase != 0 {
         return BeginDone {
-            numbers: Numbers(255, 0, 0, 0, 0, 0),
+            numbers: Numbers(255, 0, 0, 0, 0, 0, 0),
             phase,
             written,
             cursor_len,
@@ -340,7 +340,7 @@ pub fn step_in_place(
 {
     if phase != 1 {
         return StepDone {
-            numbers: Numbers(255, 0, 0, 0, 0, 0),
+            numbers: Numbers(255, 0, 0, 0, 0, 0, 0),
             phase,
             written,
             ceiling,

@@ -55,6 +55,7 @@ pub fn ask_of(kind: u64, a: u64, b: u64, c: u64, d: u64) -> Asking
         37 => Asking::Ask(Ask::Look(Question::InFlight)),
         38 => Asking::Ask(Ask::Look(Question::IsDue)),
         39 => Asking::Ask(Ask::Look(Question::BlocksLeft)),
+        40 => Asking::Ask(Ask::Look(Question::ViewOf { offset, now: b })),
         _ => Asking::None,
     }
 }

@@ -37,10 +37,10 @@ fn restarted(answer: CallAnswer) -> Numbers
 {
     match answer {
         CallAnswer::Restarted(answer) => answers::of_start(answer),
-        CallAnswer::Asked(_answer) => Numbers(255, 0, 0, 0, 0, 0),
-        CallAnswer::Begun(_answer) => Numbers(255, 0, 0, 0, 0, 0),
-        CallAnswer::Stepped(_answer) => Numbers(255, 0, 0, 0, 0, 0),
-        CallAnswer::NotNow => Numbers(255, 0, 0, 0, 0, 0),
+        CallAnswer::Asked(_answer) => Numbers(255, 0, 0, 0, 0, 0, 0),
+        CallAnswer::Begun(_answer) => Numbers(255, 0, 0, 0, 0, 0, 0),
+        CallAnswer::Stepped(_answer) => Numbers(255, 0, 0, 0, 0, 0, 0),
+        CallAnswer::NotNow => Numbers(255, 0, 0, 0, 0, 0, 0),
     }
 }
 

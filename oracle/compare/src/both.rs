@@ -50,7 +50,7 @@ struct Answer<M> {
 
 /// A number and its values.
 fn code(numbers: &[u64]) -> Numbers {
-    let mut values = [0; 4];
+    let mut values = [0; 5];
     values[..numbers.len() - 1].copy_from_slice(&numbers[1..]);
     Numbers {
         number: numbers[0],

@@ -2,6 +2,7 @@
 //! lets the original act. A lease's worker (02, g) stands beside the original's table, which has no place for it.
 use crate::journal::{read, writes, zeroing, Half, Stored};
 use crate::rights::{Operation, Rights};
+use crate::views::{Details, View};
 use ironbus::cursor::{AckCursor, BoundedAck};
 use ironbus::delivery::{DeliveryConfig, Disposition};
 use ironbus::lease::{AckOutcome, Claim, ExtendOutcome, LeaseConfig, LeaseTable, LeaseToken, NackOutcome};
@@ -143,6 +144,41 @@ impl Consumer {
     /// Who claimed the offset's lease.
     pub fn holder(&self, offset: u64) -> Option<u64> {
         self.holders.get(&offset).copied()
+    }
+
+    /// Refusals 38, 39. Held is what has a lease whose deadline hasn't come.
+    pub fn view(&self, worker: u64, offset: u64, now: u64) -> Result<View, Code> {
+        self.settings.rights.ask(worker, Operation::Look)?;
+        let supervisor = self.settings.rights.marks(worker);
+        if self.cursor.is_acked(Offset::new(offset)) {
+            return Ok(View {
+                standing: "settled",
+                details: supervisor.then(Details::default),
+            });
+        }
+        let table = self.table();
+        let lease = table.leases.iter().find(|lease| lease.offset == offset);
+        let carried = table.carried.iter().find(|&&(carried, _)| carried == offset);
+        let details = match lease {
+            Some(lease) => Details {
+                attempts: Some(lease.deliveries.into()),
+                generation: Some(lease.generation),
+                deadline: Some(lease.deadline),
+                holder: self.holder(offset),
+            },
+            None => Details {
+                attempts: Some(carried.map_or(0, |&(_, count)| count.into())),
+                ..Details::default()
+            },
+        };
+        Ok(View {
+            standing: if lease.is_some_and(|lease| now < lease.deadline) {
+                "held"
+            } else {
+                "waiting"
+            },
+            details: supervisor.then_some(details),
+        })
     }
 
     /// Refusals 38, 39, 21, 22, 23, 25, 26, 27.

@@ -11,6 +11,7 @@ pub mod program;
 pub mod rights;
 pub mod scenes;
 pub mod versions;
+pub mod views;
 pub mod wear;
 pub mod workers;
 

@@ -2,7 +2,7 @@
 use crate::line::LINE;
 use crate::program::{Phase, Program};
 use crate::workers::Crew;
-use crate::{halves, headers, scenes, versions, wear, workers};
+use crate::{halves, headers, scenes, versions, views, wear, workers};
 use lists::random::Random;
 use lists::state::Table;
 
@@ -19,9 +19,10 @@ pub struct Maker {
 }
 
 /// What can't be called before a start.
-const NEEDS_A_START: [&str; 8] = [
+const NEEDS_A_START: [&str; 9] = [
     "restart",
     "claim 0 0",
+    "view 0 0",
     "poke 0 0 0",
     "peek 0",
     "step",
@@ -31,7 +32,7 @@ const NEEDS_A_START: [&str; 8] = [
 ];
 
 /// Lines that look like calls.
-const NO_CALLS: [&str; 18] = [
+const NO_CALLS: [&str; 21] = [
     "cut",
     "cut half",
     "cut old ",
@@ -50,6 +51,9 @@ const NO_CALLS: [&str; 18] = [
     "rights 8 0",
     "rights 0 256",
     "rights 0 0 0",
+    "view",
+    "view 0",
+    "view 0 0 0",
 ];
 
 /// A script of so many lines.
@@ -73,7 +77,7 @@ pub fn script(seed: u64, lines: usize) -> Vec<Vec<u8>> {
         scenes::spend(&mut maker);
     }
     while maker.lines.len() < lines {
-        match maker.random.below(39) {
+        match maker.random.below(41) {
             0..=5 => scenes::life(&mut maker),
             6..=7 => scenes::cuts(&mut maker),
             8 => scenes::full(&mut maker),
@@ -92,6 +96,7 @@ pub fn script(seed: u64, lines: usize) -> Vec<Vec<u8>> {
             31 => halves::old_journals(&mut maker),
             32 => halves::unfit(&mut maker),
             33..=35 => workers::workers(&mut maker),
+            36..=37 => views::views(&mut maker),
             _ => wear::forged(&mut maker),
         }
     }
@@ -223,7 +228,7 @@ impl Maker {
     /// One call that isn't a checkpoint's.
     pub fn call(&mut self) -> String {
         let time = self.time();
-        match self.random.below(24) {
+        match self.random.below(25) {
             0..=8 => format!("claim {} {time}", self.offset()),
             9..=11 => format!("ack {}", self.token()),
             12 => format!("term {}", self.token()),
@@ -232,6 +237,7 @@ impl Maker {
             16..=17 => format!("progress {} {time}", self.token()),
             18..=19 => format!("commit {}", self.offset()),
             20..=21 => format!("waiting {time}"),
+            22 => format!("view {} {time}", self.offset()),
             _ => "state".to_string(),
         }
     }

@@ -118,6 +118,7 @@ pub fn ask(consumer: &mut Consumer, worker: u64, call: &Call) -> Result<String, 
                 .collect();
             format!("waiting{offsets}")
         }
+        Call::View(offset, now) => consumer.view(worker, offset, now)?.line(),
         Call::State => state(consumer),
         _ => NOT_NOW.to_string(),
     })

@@ -44,6 +44,11 @@ impl Rights {
         }
         Ok(())
     }
+
+    /// Whether a worker is marked as a supervisor.
+    pub fn marks(&self, worker: u64) -> bool {
+        worker < WORKERS as u64 && self.0[worker as usize] >> 7 == 1
+    }
 }
 
 #[cfg(test)]
@@ -71,5 +76,7 @@ mod tests {
             assert_eq!(Rights([128; WORKERS]).ask(1, operation), Err(vec![39]));
             assert_eq!(Rights([127; WORKERS]).ask(1, operation), Ok(()));
         }
+        assert!(Rights([128; WORKERS]).marks(7) && !Rights([128; WORKERS]).marks(8));
+        assert!(!Rights([127; WORKERS]).marks(0));
     }
 }

@@ -336,6 +336,92 @@ fn rights_of_a_restart() {
     );
 }
 
+/// 02, h: what a worker and a supervisor are shown. Worker 1 is a supervisor, worker 2 a worker, worker 3 has the mark alone.
+#[test]
+fn views() {
+    play(
+        "view 0 0 => not now
+        rights 1 192 => rights
+        rights 2 64 => rights
+        rights 3 128 => rights
+        start 3 0 9 10 25 9216 => started
+        checkpoint => 1,0
+        claim 4 100 => deliver 4 0 1
+        view 4 109 => view held
+        view 4 110 => view waiting
+        view 5 0 => view waiting
+        view 18446744073709551615 0 => view waiting
+        worker 1 => worker 1
+        view 4 109 => view held 1 0 110 0
+        view 4 110 => view waiting 1 0 110 0
+        view 5 0 => view waiting 0 none none none
+        view 18446744073709551615 0 => view waiting 0 none none none
+        worker 3 => worker 3
+        view 4 109 => refused 39
+        worker 8 => worker 8
+        view 4 109 => refused 38
+        worker 0 => worker 0
+        nack 4 0 100 20 => requeued 120
+        worker 1 => worker 1
+        view 4 119 => view held 1 1 120 0
+        view 4 120 => view waiting 1 1 120 0
+        worker 2 => worker 2
+        view 4 119 => view held
+        worker 0 => worker 0
+        begin => begun 2
+        view 4 0 => not now
+        step => wrote 3
+        step => done 2
+        restart => restarted
+        view 4 0 => view waiting
+        worker 1 => worker 1
+        view 4 0 => view waiting 1 none none none
+        worker 0 => worker 0
+        commit 5 => committed
+        view 4 0 => view settled
+        worker 1 => worker 1
+        view 4 0 => view settled none none none none
+        view 5 0 => view waiting 0 none none none
+        worker 2 => worker 2
+        view 4 0 => view settled",
+    );
+}
+
+/// The scripts that `oracle/run compare` uses show every kind of view.
+#[test]
+fn scripts_have_views() {
+    let mut met = BTreeMap::new();
+    for seed in 1..=40 {
+        for answer in answers(&script(seed, 2_000).join(&b'\n')).lines() {
+            if let Some(view) = answer.strip_prefix("view ") {
+                let words = view.split(' ');
+                let shape: Vec<&str> = words
+                    .map(|word| {
+                        if word.starts_with(|c: char| c.is_ascii_digit()) {
+                            "#"
+                        } else {
+                            word
+                        }
+                    })
+                    .collect();
+                *met.entry(shape.join(" ")).or_insert(0) += 1;
+            }
+        }
+    }
+    for shape in [
+        "settled",
+        "held",
+        "waiting",
+        "settled none none none none",
+        "waiting # none none none",
+        "held # # # #",
+        "waiting # # # #",
+    ] {
+        assert!(met.get(shape) >= Some(&20), "{met:?}");
+    }
+    assert_eq!(met.len(), 7, "{met:?}");
+}
+
 /// Lines that get no answer, and a last line without a line end.
 #[test]
 fn lines_of_a_text() {
@@ -571,7 +657,7 @@ fn scripts_have_everything() {
             }
         }
     }
-    assert_eq!(words.len(), 22, "{words:?}");
+    assert_eq!(words.len(), 23, "{words:?}");
     assert_eq!(
         refusals,
         (1..=5).chain(7..=11).chain(14..=18).chain(21..=31).chain(38..=40).collect()
@@ -619,7 +705,9 @@ fn scripts_have_workers() {
             instead.entry(refusal).or_default().extend(other);
         }
     }
-    for word in ["claim", "ack", "term", "nack", "progress", "commit", "begin", "waiting"] {
+    for word in [
+        "claim", "ack", "term", "nack", "progress", "commit", "begin", "waiting", "view",
+    ] {
         assert!(met.get(&("38", word.to_string())) >= Some(&20), "{word} {met:?}");
         assert!(met.get(&("39", word.to_string())) >= Some(&40), "{word} {met:?}");
     }

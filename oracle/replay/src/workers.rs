@@ -22,7 +22,8 @@ impl Maker {
         }
     }
 
-    fn rights(&mut self, worker: usize, mask: u8) {
+    /// Gives the worker these rights at the next start or restart.
+    pub fn rights(&mut self, worker: usize, mask: u8) {
         if self.program.rights.0[worker] != mask {
             self.say(format!("rights {worker} {mask}"));
         }
@@ -89,7 +90,7 @@ impl Maker {
             "nack" => Operation::Nack,
             "progress" => Operation::Extend,
             "commit" => Operation::Commit,
-            "waiting" => Operation::Look,
+            "waiting" | "view" => Operation::Look,
             _ => return,
         };
         let offset = words[1].parse().unwrap();
@@ -172,6 +173,7 @@ fn everything(maker: &mut Maker, base: u64) {
         maker.say(format!("{call} {token}{time}"));
     }
     maker.say("waiting 10");
+    maker.say(format!("view {base} 9"));
     maker.say("begin");
     if maker.writing() {
         unattended(maker);

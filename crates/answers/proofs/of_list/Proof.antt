@@ -36,12 +36,15 @@ place-requires-3 c κs = search needs
 place-requires-4 : tie.Need-place-requires-4
 place-requires-4 c κs = search needs
 
+place-requires-5 : tie.Need-place-requires-5
+place-requires-5 c κs = search needs
+
 returns-2 : tie.Need-returns-2
 returns-2 c =
-    let d = c .before .before .before .before in
+    let d = c .before .before .before .before .before in
     let out = d .before .before .before .before .args .out .now in
-    same-numbers (sym (first-length (d .before .listed .given .0 .0) out)) (c .before .before .before .place .ensures)
-    (c .before .before .place2 .ensures) (c .before .place3 .ensures) (c .place4 .ensures)
+    same-numbers (sym (first-length (d .before .listed .given .0 .0) out)) (c .before .before .before .before .place .ensures)
+    (c .before .before .before .place2 .ensures) (c .before .before .place3 .ensures) (c .before .place4 .ensures) (c .place5 .ensures)
     ∙ ap (as-numbers out) (sym (d .before .listed .given .1))
 
 pub of-list-spec : {M : Type 1} → statement M
@@ -55,4 +58,5 @@ of-list-spec =
     place-requires-2
     place-requires-3
     place-requires-4
+    place-requires-5
     returns-2)

@@ -39,8 +39,8 @@ of-lease-requires c κs = search needs
 enum-known-reply-5 : tie.Need-enum-known-reply-5
 enum-known-reply-5 c = search needs
 
-cast-t13 : tie.Need-cast-t13
-cast-t13 c = search needs
+cast-t14 : tie.Need-cast-t14
+cast-t14 c = search needs
 
 enum-known-reply-6 : tie.Need-enum-known-reply-6
 enum-known-reply-6 c = search needs
@@ -57,6 +57,12 @@ bit-of-requires-3 c κs = search needs
 enum-known-reply-8 : tie.Need-enum-known-reply-8
 enum-known-reply-8 c = search needs
 
+enum-known-reply-9 : tie.Need-enum-known-reply-9
+enum-known-reply-9 c = search needs
+
+of-view-requires : tie.Need-of-view-requires
+of-view-requires c κs = search needs
+
 enum-told : tie.Need-enum-told
 enum-told c = search needs
 
@@ -70,7 +76,7 @@ returns-2 : tie.Need-returns-2
 returns-2 c = ap (as-numbers (c .before .before .before .before .args .out .now)) (sym (c .before .reply2 .given .1))
 
 returns-3 : tie.Need-returns-3
-returns-3 c = same-numbers refl (c .bit-of .ensures) refl refl refl ∙ ap (as-numbers (c .before .before .before .before .before .args .out .now)) (sym (c .before .before .reply3 .given .1))
+returns-3 c = same-numbers refl (c .bit-of .ensures) refl refl refl refl ∙ ap (as-numbers (c .before .before .before .before .before .args .out .now)) (sym (c .before .before .reply3 .given .1))
 
 returns-4 : tie.Need-returns-4
 returns-4 c = c .of-lease .ensures ∙ ap (as-numbers (c .before .before .before .before .before .args .out .now)) (sym (c .before .before .reply4 .given .1))
@@ -82,16 +88,19 @@ returns-6 : tie.Need-returns-6
 returns-6 c = ap (as-numbers (c .before .before .before .before .args .out .now)) (sym (c .before .reply6 .given .1))
 
 returns-7 : tie.Need-returns-7
-returns-7 c = same-numbers refl (c .before .bit-of2 .ensures) (c .bit-of3 .ensures) refl refl ∙ ap (as-numbers (c .before .before .before .before .before .before .args .out .now)) (sym (c .before .before .before .reply7 .given .1))
+returns-7 c = same-numbers refl (c .before .bit-of2 .ensures) (c .bit-of3 .ensures) refl refl refl ∙ ap (as-numbers (c .before .before .before .before .before .before .args .out .now)) (sym (c .before .before .before .reply7 .given .1))
 
 returns-8 : tie.Need-returns-8
 returns-8 c = ap (as-numbers (c .before .before .before .before .args .out .now)) (sym (c .before .reply8 .given .1))
 
 returns-9 : tie.Need-returns-9
-returns-9 c = ap (as-numbers (c .before .before .before .args .out .now)) (sym (c .enum-told .given .1))
+returns-9 c = c .of-view .ensures ∙ ap (as-numbers (c .before .before .before .before .before .args .out .now)) (sym (c .before .before .reply9 .given .1))
 
 returns-10 : tie.Need-returns-10
-returns-10 c = ap (as-numbers (c .before .before .before .args .out .now)) (sym (c .enum-told2 .given .1))
+returns-10 c = ap (as-numbers (c .before .before .before .args .out .now)) (sym (c .enum-told .given .1))
+
+returns-11 : tie.Need-returns-11
+returns-11 c = ap (as-numbers (c .before .before .before .args .out .now)) (sym (c .enum-told2 .given .1))
 
 pub of-reply-spec : {M : Type 1} → statement M
 of-reply-spec =
@@ -105,12 +114,14 @@ of-reply-spec =
     enum-known-reply-4
     of-lease-requires
     enum-known-reply-5
-    cast-t13
+    cast-t14
     enum-known-reply-6
     enum-known-reply-7
     bit-of-requires-2
     bit-of-requires-3
     enum-known-reply-8
+    enum-known-reply-9
+    of-view-requires
     enum-told
     enum-told-2
     returns
@@ -122,4 +133,5 @@ of-reply-spec =
     returns-7
     returns-8
     returns-9
-    returns-10)
+    returns-10
+    returns-11)

@@ -30,7 +30,7 @@ enum-known-leased : tie.Need-enum-known-leased
 enum-known-leased c = search needs
 
 returns : tie.Need-returns
-returns c x w =
+returns c x w _ =
     let k = c .before in
     let l = k .before .before in
     let s = l .before in
@@ -51,7 +51,7 @@ enum-told-2 : tie.Need-enum-told-2
 enum-told-2 c = search needs
 
 returns-2 : tie.Need-returns-2
-returns-2 c x w =
+returns-2 c x w _ =
     let n = c .before .before in
     let t = n .before in
     let l = t .before .before in
@@ -61,7 +61,7 @@ returns-2 c x w =
     (found.no-count _ (n .carried-in-place .ensures (made s x .table) (table-whole w)) (c .enum-told2 .given .1)))
 
 returns-3 : tie.Need-returns-3
-returns-3 c x w =
+returns-3 c x w _ =
     let k = c .before in
     let n = k .before .before in
     let s = n .before .before .before .before in

@@ -9,6 +9,7 @@ use Rattle.types.specs.Refusal.{done}
 use Rattle.lease.specs.Lookup.{leaseValues}
 use Rattle.lease.proofs.Slots.{in-flight}
 use Rattle.consumer.specs.Questions.{bit}
+use Rattle.consumer.specs.Standing.{View, viewValues}
 use Rattle.consumer.specs.declared.queries.Due.{Due}
 use Rattle.consumer.proofs.CallsReturns.{table-whole}
 use Rattle.machine.specs.Answers.{questionOf}
@@ -61,6 +62,12 @@ enum-told-4 c = search needs
 blocks-left-requires : tie.Need-blocks-left-requires
 blocks-left-requires c κs = search needs
 
+enum-known-question-5 : tie.Need-enum-known-question-5
+enum-known-question-5 c = search needs
+
+view-in-place-requires : tie.Need-view-in-place-requires
+view-in-place-requires c κs = search needs
+
 same-length : tie.Need-same-length
 same-length c = search needs
 
@@ -69,52 +76,59 @@ returns c x w =
     let k = c .before .before in
     let g = k .before .before .before in
     let s = g .before .before .before in
-    waiting-replied (lent w) _ (s .args .out .now) (k .waiting-in-place .last .1 .1 .1 .1 .1 .1 .0) (k .waiting-in-place .result)
+    waiting-replied (lent w) (s .args .worker) _ (s .args .out .now) (k .waiting-in-place .last .1 .1 .1 .1 .1 .1 .0) (k .waiting-in-place .result)
     (ap (questionOf (length (s .args .out .now))) (g .question .given .1)) (k .waiting-in-place .ensures (lent w) w)
 
 returns-2 : tie.Need-returns-2
 returns-2 c x w =
     let g = c in
     let s = g .before .before .before in
-    replied (lent w) (s .args .out .now) _ (ap (questionOf (length (s .args .out .now))) (g .enum-told .given .1)) refl refl refl
+    replied (lent w) (s .args .worker) (s .args .out .now) _ (ap (questionOf (length (s .args .out .now))) (g .enum-told .given .1)) refl refl refl
 
 returns-3 : tie.Need-returns-3
 returns-3 c x w =
     let g = c .before .before in
     let s = g .before .before .before in
-    replied (lent w) (s .args .out .now) _ (ap (questionOf (length (s .args .out .now))) (g .question2 .given .1)) refl (ap (λ (b : Bool). done (bit b ∷ [])) (c .is-acked-in-place .ensures)) refl
+    replied (lent w) (s .args .worker) (s .args .out .now) _ (ap (questionOf (length (s .args .out .now))) (g .question2 .given .1)) refl (ap (λ (b : Bool). done (bit b ∷ [])) (c .is-acked-in-place .ensures)) refl
 
 returns-4 : tie.Need-returns-4
 returns-4 c x w =
     let k = c .before in
     let g = k .before .before in
     let s = g .before .before .before in
-    replied (lent w) (s .args .out .now) _ (ap (questionOf (length (s .args .out .now))) (g .question3 .given .1)) refl
+    replied (lent w) (s .args .worker) (s .args .out .now) _ (ap (questionOf (length (s .args .out .now))) (g .question3 .given .1)) refl
     (ap done (c .told-of .ensures ∙ ap leaseValues (k .lease-in-place .ensures (lent w .table) (table-whole w)))) refl
 
 returns-5 : tie.Need-returns-5
 returns-5 c x w =
     let g = c .before .before in
     let s = g .before .before .before in
-    replied (lent w) (s .args .out .now) _ (ap (questionOf (length (s .args .out .now))) (g .question4 .given .1)) refl (c .count-in-place .ensures (lent w) w) refl
+    replied (lent w) (s .args .worker) (s .args .out .now) _ (ap (questionOf (length (s .args .out .now))) (g .question4 .given .1)) refl (c .count-in-place .ensures (lent w) w (s .args .worker)) refl
 
 returns-6 : tie.Need-returns-6
 returns-6 c x w =
     let g = c in
     let s = g .before .before .before in
-    replied (lent w) (s .args .out .now) _ (ap (questionOf (length (s .args .out .now))) (g .enum-told2 .given .1)) refl (ap (λ (n : ℕ). done (n ∷ [])) (sym (in-flight (lent w .table) (w .full) (w .sound .table)))) refl
+    replied (lent w) (s .args .worker) (s .args .out .now) _ (ap (questionOf (length (s .args .out .now))) (g .enum-told2 .given .1)) refl (ap (λ (n : ℕ). done (n ∷ [])) (sym (in-flight (lent w .table) (w .full) (w .sound .table)))) refl
 
 returns-7 : tie.Need-returns-7
 returns-7 c x w =
     let g = c .before in
     let s = g .before .before .before in
-    replied (lent w) (s .args .out .now) _ (ap (questionOf (length (s .args .out .now))) (g .enum-told3 .given .1)) refl (ap (λ (d : Due). done (bit (d .ceiling) ∷ bit (d .threshold) ∷ [])) (c .due .ensures)) refl
+    replied (lent w) (s .args .worker) (s .args .out .now) _ (ap (questionOf (length (s .args .out .now))) (g .enum-told3 .given .1)) refl (ap (λ (d : Due). done (bit (d .ceiling) ∷ bit (d .threshold) ∷ [])) (c .due .ensures)) refl
 
 returns-8 : tie.Need-returns-8
 returns-8 c x w =
     let g = c .before in
     let s = g .before .before .before in
-    replied (lent w) (s .args .out .now) _ (ap (questionOf (length (s .args .out .now))) (g .enum-told4 .given .1)) refl (ap (λ (n : ℕ). done (n ∷ [])) (c .blocks-left .ensures)) refl
+    replied (lent w) (s .args .worker) (s .args .out .now) _ (ap (questionOf (length (s .args .out .now))) (g .enum-told4 .given .1)) refl (ap (λ (n : ℕ). done (n ∷ [])) (c .blocks-left .ensures)) refl
+
+returns-9 : tie.Need-returns-9
+returns-9 c x w =
+    let g = c .before .before in
+    let s = g .before .before .before in
+    replied (lent w) (s .args .worker) (s .args .out .now) _ (ap (questionOf (length (s .args .out .now))) (g .question5 .given .1)) refl
+    (ap (λ (v : View). done (viewValues v)) (c .view-in-place .ensures (lent w) w)) refl
 
 pub reply-spec : {M : Type 1} → statement M
 reply-spec =
@@ -135,6 +149,8 @@ reply-spec =
     due-requires
     enum-told-4
     blocks-left-requires
+    enum-known-question-5
+    view-in-place-requires
     same-length
     returns
     returns-2
@@ -143,4 +159,5 @@ reply-spec =
     returns-5
     returns-6
     returns-7
-    returns-8)
+    returns-8
+    returns-9)

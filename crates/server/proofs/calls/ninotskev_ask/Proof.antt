@@ -95,7 +95,7 @@ operands =
     11 ∷ 3 ∷ 4 ∷ 5 ∷ 6 ∷ 7 ∷ 8 ∷ 12 ∷ 13 ∷ 14 ∷ 15 ∷ 16 ∷ 17 ∷ 18 ∷ 19 ∷ 20 ∷ 21 ∷ 22 ∷ 23 ∷ 24 ∷ 25 ∷ 26 ∷ 27 ∷ 28 ∷ 29 ∷ 30 ∷ 31 ∷ 32 ∷ 33 ∷ 34 ∷ 35 ∷ 36 ∷ 38 ∷ []
 
 abbrev in-figures : Path TFigures′.mir → Path TDone′.mir
-in-figures p = into {τ = TFigures′.mir} {d = 48} 1 refl p
+in-figures p = into {τ = TFigures′.mir} {d = 56} 1 refl p
 
 abbrev put-back : List (Path TDone′.mir × OfMachine)
 put-back =

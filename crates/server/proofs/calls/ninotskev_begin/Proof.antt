@@ -84,7 +84,7 @@ abbrev operands : List ℕ
 operands = 5 ∷ 3 ∷ 6 ∷ 7 ∷ 8 ∷ 9 ∷ 10 ∷ 11 ∷ 12 ∷ 13 ∷ 14 ∷ 15 ∷ 16 ∷ 17 ∷ 18 ∷ 19 ∷ 20 ∷ 21 ∷ 22 ∷ 23 ∷ []
 
 abbrev put-back : List (Path TDone′.mir × OfMachine)
-put-back = (into {d = 48} 1 refl here, at.phase) ∷ (into {d = 56} 2 refl here, at.written) ∷ (into {d = 64} 3 refl here, at.cursor-len) ∷ (into {d = 72} 4 refl here, at.attempt-len) ∷ []
+put-back = (into {d = 56} 1 refl here, at.phase) ∷ (into {d = 64} 2 refl here, at.written) ∷ (into {d = 72} 3 refl here, at.cursor-len) ∷ (into {d = 80} 4 refl here, at.attempt-len) ∷ []
 
 abbrev answer : List (Path TDone′.mir × Path TNumbers′.mir)
 answer = (into {τ = TNumbers′.mir} {d = 0} 0 refl here, here) ∷ []

@@ -77,8 +77,8 @@ operands = 5 ∷ 6 ∷ 7 ∷ 8 ∷ 9 ∷ 10 ∷ 11 ∷ 12 ∷ 13 ∷ 14 ∷ 15 �
 
 abbrev put-back : List (Path TDone′.mir × OfMachine)
 put-back =
-    (into {d = 48} 1 refl here, at.phase) ∷ (into {d = 56} 2 refl here, at.written) ∷ (into {d = 64} 3 refl here, at.ceiling) ∷ (into {d = 72} 4 refl here, at.next-number) ∷ (into {d = 80} 5 refl here, at.block) ∷
-    (into {d = 88} 6 refl here, at.redeliveries) ∷ []
+    (into {d = 56} 1 refl here, at.phase) ∷ (into {d = 64} 2 refl here, at.written) ∷ (into {d = 72} 3 refl here, at.ceiling) ∷ (into {d = 80} 4 refl here, at.next-number) ∷ (into {d = 88} 5 refl here, at.block) ∷
+    (into {d = 96} 6 refl here, at.redeliveries) ∷ []
 
 abbrev answer : List (Path TDone′.mir × Path TNumbers′.mir)
 answer = (into {τ = TNumbers′.mir} {d = 0} 0 refl here, here) ∷ []
