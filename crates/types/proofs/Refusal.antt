@@ -3,7 +3,7 @@ use Prim.Native.Nat.{ℕ, _-_}
 use mathlib.Core.Path.{_≡_, refl, sym, _∙_}
 use mathlib.Core.List.{List, [], _∷_}
 use lib.ListN.{length, getD}
-use Rattle.types.specs.Refusal.{Refusal, UnlimitedDeliverNotAllowed, TooManySteps, ZeroThreshold, BadArea, Damaged, CursorTruncated, CursorBadLength, CursorUnsupportedVersion, CursorBadCrc, EmptyRange, NotSortedDisjointAndAboveCommitted, TooManyRuns, AttemptTruncated, AttemptUnsupportedVersion, AttemptBadLength, CountMismatch, AttemptBadCrc, NotSorted, TooManyPairs, OutTooShort, LastOffset, Settled, InFlight, Fenced, Exhausted, CheckpointDue, Full, CapReached, Shed, Held, JournalFull, UnknownWorker, NotPermitted, ForeignToken, numbered, NumberedApart}
+use Rattle.types.specs.Refusal.{Refusal, UnlimitedDeliverNotAllowed, TooManySteps, ZeroThreshold, BadArea, Damaged, CursorTruncated, CursorBadLength, CursorUnsupportedVersion, CursorBadCrc, EmptyRange, NotSortedDisjointAndAboveCommitted, TooManyRuns, AttemptTruncated, AttemptUnsupportedVersion, AttemptBadLength, CountMismatch, AttemptBadCrc, NotSorted, TooManyPairs, OutTooShort, LastOffset, Settled, InFlight, Fenced, Exhausted, CheckpointDue, Full, CapReached, Shed, Held, JournalFull, BoundsReversed, BadHours, NeverOpen, Closed, UnequalLengths, Falling, UnknownWorker, NotPermitted, ForeignToken, numbered, NumberedApart}
 
 -- a refusal without values, with one and with two
 abbrev plain : Refusal → List ℕ → Refusal
@@ -15,7 +15,7 @@ one f vs = f (getD vs 0 0)
 abbrev two : (ℕ → ℕ → Refusal) → List ℕ → Refusal
 two f vs = f (getD vs 0 0) (getD vs 1 0)
 
--- a number that no refusal has
+-- what stands for a number that no refusal has
 abbrev unused : List ℕ → Refusal
 unused = plain JournalFull
 
@@ -29,7 +29,8 @@ inOrder =
     ∷ two NotSorted ∷ plain TooManyPairs ∷ plain OutTooShort
     ∷ plain LastOffset ∷ plain Settled ∷ plain InFlight ∷ plain Fenced ∷ plain Exhausted ∷ plain CheckpointDue ∷ plain Full
     ∷ plain CapReached ∷ plain Shed ∷ plain Held ∷ plain JournalFull
-    ∷ unused ∷ unused ∷ unused ∷ unused ∷ unused ∷ unused ∷ plain UnknownWorker ∷ plain NotPermitted ∷ plain ForeignToken ∷ []
+    ∷ plain BoundsReversed ∷ plain BadHours ∷ plain NeverOpen ∷ one Closed ∷ plain UnequalLengths ∷ one Falling
+    ∷ plain UnknownWorker ∷ plain NotPermitted ∷ plain ForeignToken ∷ []
 
 abbrev made : ℕ → List ℕ → Refusal
 made n vs = getD inOrder (n - 1) unused vs
@@ -72,6 +73,12 @@ again CapReached = (refl, refl)
 again Shed = (refl, refl)
 again Held = (refl, refl)
 again JournalFull = (refl, refl)
+again BoundsReversed = (refl, refl)
+again BadHours = (refl, refl)
+again NeverOpen = (refl, refl)
+again (Closed x) = (refl, refl)
+again UnequalLengths = (refl, refl)
+again (Falling x) = (refl, refl)
 again UnknownWorker = (refl, refl)
 again NotPermitted = (refl, refl)
 again ForeignToken = (refl, refl)

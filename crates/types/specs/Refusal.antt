@@ -47,7 +47,16 @@ pub data Refusal : Type 0 where
   Shed : Refusal
   Held : Refusal
   JournalFull : Refusal
-  -- of document 02: there is no worker of that number; the worker may not do that; the token is another worker's
+  -- of document 02: an interval whose first bound is above its second
+  BoundsReversed : Refusal
+  -- bits above 47 or a shift of a week or more; a week with no open half hour; the clock of the next opening
+  BadHours : Refusal
+  NeverOpen : Refusal
+  Closed : ℕ → Refusal
+  -- lists of unequal length; the place of the second member of the first falling pair, from 0
+  UnequalLengths : Refusal
+  Falling : ℕ → Refusal
+  -- there is no worker of that number; the worker may not do that; the token is another worker's
   UnknownWorker : Refusal
   NotPermitted : Refusal
   ForeignToken : Refusal
@@ -92,6 +101,12 @@ numbered CapReached = code 28 []
 numbered Shed = code 29 []
 numbered Held = code 30 []
 numbered JournalFull = code 31 []
+numbered BoundsReversed = code 32 []
+numbered BadHours = code 33 []
+numbered NeverOpen = code 34 []
+numbered (Closed opening) = code 35 (opening ∷ [])
+numbered UnequalLengths = code 36 []
+numbered (Falling place) = code 37 (place ∷ [])
 numbered UnknownWorker = code 38 []
 numbered NotPermitted = code 39 []
 numbered ForeignToken = code 40 []
