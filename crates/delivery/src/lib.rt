@@ -123,12 +123,7 @@ fn backoff_in_place(backoff_nanos: &[u64; 16], backoff_len: usize, attempt: u32)
 }
 
 // The delay that a nack asks for, its own or the schedule's.
-fn asked_delay(
-    backoff_nanos: &[u64; 16],
-    backoff_len: usize,
-    attempt: u32,
-    delay: Delay,
-) -> u64
+fn asked_delay(backoff_nanos: &[u64; 16], backoff_len: usize, attempt: u32, delay: Delay) -> u64
     requires { ⌜ LentBackoffs (now «backoff_nanos») «backoff_len» ⌝ }
     ensures { λ r. ⌜ r ≡ delayed (take «backoff_len» (now («backoff_nanos» .entry))) attempt (delayOf delay) ⌝ }
 {
@@ -250,7 +245,7 @@ impl DeliveryConfig {
         backoff_in_place(&self.backoff_nanos, self.backoff_len, attempt)
     }
 
-    // The delay that a nack gets: an explicit one wins over the schedule, and neither outlasts the hard cap, which the Rust doesn't ask for.
+    // The delay that a nack gets: an explicit one wins over the schedule, and neither outlasts the hard cap.
     pub fn effective_nack_delay(
         self,
         attempt: u32,
