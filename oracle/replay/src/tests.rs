@@ -10,6 +10,8 @@ use crate::versions::rewritten;
 use lists::codecs::as_version_1;
 use std::collections::{BTreeMap, BTreeSet};
 
+mod nacks;
+
 /// The scripts that `oracle/run compare` uses.
 const SCRIPTS: u64 = 80;
 
