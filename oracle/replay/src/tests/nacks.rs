@@ -1,7 +1,6 @@
 //! 02, b: a nack puts off the next delivery by the hard cap at most.
-use super::{play, SCRIPTS};
+use super::{play, scripts};
 use crate::line::{read, Call, Start};
-use crate::make::script;
 use crate::program::Program;
 use std::collections::BTreeMap;
 
@@ -70,13 +69,13 @@ fn kind(asked: u64, cap: u64, now: u64) -> (&'static str, bool) {
 #[test]
 fn scripts_have_nacks() {
     let mut met = BTreeMap::new();
-    for seed in 1..=SCRIPTS {
+    for lines in scripts() {
         let mut program = Program::default();
         let mut started = None;
-        for line in script(seed, 2_000) {
+        for line in lines {
             let table = program.consumer().map(|consumer| consumer.table());
-            let answer = program.answer(&line).unwrap_or_default();
-            match (read(&line), answer.strip_prefix("requeued ")) {
+            let answer = program.answer(line).unwrap_or_default();
+            match (read(line), answer.strip_prefix("requeued ")) {
                 (Some(Call::Start(start)), _) if answer == "started" => started = Some(start),
                 (Some(Call::Nack(offset, _, now, delay)), Some(deadline)) => {
                     let (start, table) = (started.as_ref().unwrap(), table.unwrap());
