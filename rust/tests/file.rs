@@ -155,10 +155,7 @@ fn the_hard_cap_bounds_the_schedule_too() {
     assert_eq!(server.nack(WORKER, second, 3, None), Ok(8));
     // At the end of the clock the deadline stays at the largest number.
     let third = server.claim(WORKER, recipe, u64::MAX - 4).unwrap().token();
-    assert_eq!(
-        server.nack(WORKER, third, u64::MAX - 4, None),
-        Ok(u64::MAX)
-    );
+    assert_eq!(server.nack(WORKER, third, u64::MAX - 4, None), Ok(u64::MAX));
 }
 
 #[test]
