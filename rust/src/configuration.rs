@@ -8,7 +8,8 @@ use crate::workers::{Rights, WORKERS};
 pub struct LeaseConfig {
     /// How long a message that was handed out stays in flight.
     pub visibility_nanos: u64,
-    /// How long it may stay so in all, from the start of the attempt, however often its holder extends it.
+    /// How long it may stay so in all, from the start of the attempt, however often its holder extends it; and the longest that a
+    /// nack may put it off, from the nack on.
     pub hard_cap_nanos: u64,
 }
 

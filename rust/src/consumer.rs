@@ -153,8 +153,8 @@ impl<S> Consumer<S> {
         self.under(worker, Ask::Term, token, 0, 0).map(drop)
     }
 
-    /// Failed: the offset can be claimed again after the delay, the one given or else the schedule's for so many hand-outs. It
-    /// answers from when on.
+    /// Failed: the offset can be claimed again after the delay, the one given or else the schedule's for so many hand-outs, but no
+    /// later than the hard cap from now. It answers from when on.
     ///
     /// # Errors
     /// Refusals 38, 39, 24, 40, 25 and 26.

@@ -110,6 +110,55 @@ fn the_fourteenth_example() {
 }
 
 #[test]
+fn a_nack_of_years_comes_back_after_the_hard_cap() {
+    const YEAR: u64 = 365 * 24 * 3600 * SECOND;
+    let path = fresh_path("years");
+    let configuration = configuration(9, 9, 30 * SECOND, 300 * SECOND);
+    let recipe = Offset::new(0);
+    let consumer = Consumer::start(&configuration, NewJournal::create(&path, 18).unwrap()).unwrap();
+    let mut server = consumer.checkpoint(WORKER).unwrap();
+    for (now, delay) in [(SECOND, 4 * YEAR), (400 * SECOND, u64::MAX)] {
+        let token = server.claim(WORKER, recipe, now).unwrap().token();
+        let back = now + 300 * SECOND;
+        assert_eq!(server.nack(WORKER, token, now, Some(delay)), Ok(back));
+        let lease = server.lease_of(WORKER, recipe).unwrap().unwrap();
+        assert_eq!(lease.deadline, back);
+        let early = server.claim(WORKER, recipe, back - 1);
+        assert_eq!(early, Err(Refusal::InFlight));
+    }
+    // A delay of just the cap, and one below it, are as they were asked for; so is the schedule's, 7 from the second hand-out on.
+    let mut now = 700 * SECOND;
+    for (delay, waits) in [
+        (Some(300 * SECOND), 300 * SECOND),
+        (Some(300 * SECOND - 1), 300 * SECOND - 1),
+        (Some(0), 0),
+        (None, 7),
+    ] {
+        let token = server.claim(WORKER, recipe, now).unwrap().token();
+        let back = server.nack(WORKER, token, now, delay);
+        assert_eq!(back, Ok(now + waits));
+        now += waits;
+    }
+}
+
+#[test]
+fn the_hard_cap_bounds_the_schedule_too() {
+    let path = fresh_path("schedule");
+    // The schedule is 3, 7.
+    let configuration = configuration(9, 9, 2, 5);
+    let recipe = Offset::new(0);
+    let consumer = Consumer::start(&configuration, NewJournal::create(&path, 18).unwrap()).unwrap();
+    let mut server = consumer.checkpoint(WORKER).unwrap();
+    let first = server.claim(WORKER, recipe, 0).unwrap().token();
+    assert_eq!(server.nack(WORKER, first, 0, None), Ok(3));
+    let second = server.claim(WORKER, recipe, 3).unwrap().token();
+    assert_eq!(server.nack(WORKER, second, 3, None), Ok(8));
+    // At the end of the clock the deadline stays at the largest number.
+    let third = server.claim(WORKER, recipe, u64::MAX - 4).unwrap().token();
+    assert_eq!(server.nack(WORKER, third, u64::MAX - 4, None), Ok(u64::MAX));
+}
+
+#[test]
 fn calls_give_01s_answers() {
     let path = fresh_path("answers");
     let configuration = configuration(3, 9, 10, 25);

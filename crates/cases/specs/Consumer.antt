@@ -4,7 +4,7 @@ use Prim.Native.Nat.{ℕ, _-_}
 use mathlib.Core.Path.{_≡_, refl}
 use mathlib.Core.Bool.{true, false}
 use mathlib.Core.List.{List, [], _∷_}
-use mathlib.Core.Option.{none}
+use mathlib.Core.Option.{none, some}
 use Rattle.types.specs.Limits.{MAX}
 use Rattle.types.specs.Refusal.{Result, refused, done, OutTooShort, LastOffset, Settled, InFlight, Fenced}
 use Rattle.types.specs.Refusal.{Exhausted, CheckpointDue, Full, CapReached, Shed, Held}
@@ -215,6 +215,36 @@ nack-below-the-ceiling = refl
 pub nack-at-the-threshold : nack (with (held 1 3)) 0 5 0 101 none .outcome ≡ done 108
 unfolding nack
 nack-at-the-threshold = refl
+
+-- the delay below the hard cap, which is 25, just it, above it, and the largest
+pub nack-below-the-cap : nack (with (held 1 0)) 0 5 0 101 (some 24) .outcome ≡ done 125
+unfolding nack
+nack-below-the-cap = refl
+
+pub nack-at-the-cap : nack (with (held 1 0)) 0 5 0 101 (some 25) .outcome ≡ done 126
+unfolding nack
+nack-at-the-cap = refl
+
+pub nack-above-the-cap : nack (with (held 1 0)) 0 5 0 101 (some 26) .outcome ≡ done 126
+unfolding nack
+nack-above-the-cap = refl
+
+pub nack-for-years : nack (with (held 1 0)) 0 5 0 101 (some MAX) .outcome ≡ done 126
+unfolding nack
+nack-for-years = refl
+
+-- near the largest clock the deadline stays at MAX, from a delay that the cap bounded too
+pub nack-up-to-the-last-clock : nack (with (held 1 0)) 0 5 0 (MAX - 25) (some MAX) .outcome ≡ done MAX
+unfolding nack
+nack-up-to-the-last-clock = refl
+
+pub nack-past-the-last-clock : nack (with (held 1 0)) 0 5 0 (MAX - 24) (some MAX) .outcome ≡ done MAX
+unfolding nack
+nack-past-the-last-clock = refl
+
+pub nack-before-the-last-clock : nack (with (held 1 0)) 0 5 0 (MAX - 26) (some MAX) .outcome ≡ done (MAX - 1)
+unfolding nack
+nack-before-the-last-clock = refl
 
 -- ## Progress
 -- 24 before 28

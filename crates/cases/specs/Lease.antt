@@ -102,6 +102,7 @@ pub lease-nack-exhausted : nack (held MAX) 5 0 101 1000 .outcome ≡ refused Exh
 unfolding nack
 lease-nack-exhausted = refl
 
+-- the table takes the delay that it is handed, above its hard cap too
 pub lease-nacked : nack (held (MAX - 1)) 5 0 101 1000 .outcome ≡ done 1101
 unfolding nack
 lease-nacked = refl

@@ -178,7 +178,7 @@ module _ (c : Consumer) (ok : Sound c) (w o g now : ℕ) (explicit : Option ℕ)
           (ne-eqb (view c .table .nextGeneration) MAX left, (lt-leb (view c .ceiling) (view c .table .nextGeneration) h, tt))
 
 module _ (c : Consumer) (ok : Sound c) (w o g now attempt : ℕ) (explicit : Option ℕ) (p : Passed (nackTable (view c) w o g)) (count : attempt ≡ attemptOf (view c) o)
-    (delay : ℕ) (waits : delay ≡ effectiveNackDelay (view c .settings .policy) attempt explicit) where
+    (delay : ℕ) (waits : delay ≡ effectiveNackDelay (view c .settings .policy) attempt explicit (c .table .config .«hard_cap_nanos»)) where
   -- the table's own tests failed too
   table-nacked : leases.nack (view c .table) o g now delay ≡ answer (done (sat64 now delay)) (requeue (view c .table) o (sat64 now delay))
   unfolding leases.nack
@@ -187,7 +187,8 @@ module _ (c : Consumer) (ok : Sound c) (w o g now attempt : ℕ) (explicit : Opt
       guarded-passed (leases.nackRows (view c .table) o g) (view c .table) _ (token-open (view c) w nacking o g (rows .0) .not-fenced, (rows .1 .0, tt))
 
   deadline-is : sat64 now delay ≡ nackDeadline (view c) o now explicit
-  deadline-is = ap (sat64 now) (waits ∙ ap (λ (n : ℕ). effectiveNackDelay (view c .settings .policy) n explicit) count)
+  deadline-is =
+      ap (sat64 now) (waits ∙ ap (λ (n : ℕ). effectiveNackDelay (view c .settings .policy) n explicit (c .table .config .«hard_cap_nanos»)) count)
 
   -- what the table did is what the nack does
   pub nack-requeued : (outcome : Result ℕ) (after : LeaseTable) → answers.Answers outcome (c .table) after (leases.nack (view c .table) o g now delay)

@@ -113,9 +113,13 @@ ack s w o g = guarded (ackTable s w o g) s (answer (done tt) (acked s o))
 abbrev pub attemptOf : State → ℕ → ℕ
 attemptOf s o = countOr0 (deliveriesOf (leaseOf (s .table) o))
 
--- when a nacked offset can be claimed again
+-- how long a nacked offset waits, at most the hard cap (02, b)
+abbrev pub nackDelay : State → ℕ → Option ℕ → ℕ
+nackDelay s o explicit = effectiveNackDelay (s .settings .policy) (attemptOf s o) explicit (s .table .config .«hard_cap_nanos»)
+
+-- when it can be claimed again
 abbrev pub nackDeadline : State → ℕ → ℕ → Option ℕ → ℕ
-nackDeadline s o now explicit = sat64 now (effectiveNackDelay (s .settings .policy) (attemptOf s o) explicit)
+nackDeadline s o now explicit = sat64 now (nackDelay s o explicit)
 
 -- 25, 26 for the ceiling alone
 abbrev pub nackRows : State → List Row

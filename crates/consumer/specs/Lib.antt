@@ -2,6 +2,7 @@ pub mod State
 pub mod Rights
 pub mod Standing
 pub mod Calls
+pub mod Waits
 pub mod Questions
 pub mod Valid
 pub mod View

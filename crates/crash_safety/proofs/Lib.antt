@@ -16,6 +16,7 @@ pub mod Start
 pub mod Demand3
 pub mod Reached
 pub mod Workers
+pub mod Waits
 pub mod Tokens
 pub mod Holders
 pub mod Settled

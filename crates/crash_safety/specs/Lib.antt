@@ -3,6 +3,7 @@ pub mod Effects
 pub mod Book
 pub mod Demand3
 pub mod Workers
+pub mod Waits
 pub mod Tokens
 pub mod Settled
 pub mod Recovery

@@ -1,4 +1,4 @@
--- The delivery policy of document 01, "Modules", delivery: refusals 1 and 2, dead letters, and the delay of a nack.
+-- The delivery policy of document 01, "Modules", delivery: refusals 1 and 2, dead letters, and the delay of a nack, which 02, b bounds.
 use Prim.Native.Nat.{ℕ, _-_, min, max}
 use mathlib.Core.Bool.{Bool, cond, not, _&&_, _||_}
 use mathlib.Core.List.{List, [], _∷_}
@@ -69,5 +69,9 @@ abbrev pub delayed : List ℕ → ℕ → Option ℕ → ℕ
 delayed backoff attempt (some nanos) = nanos
 delayed backoff attempt none = scheduled backoff attempt
 
-abbrev pub effectiveNackDelay : Policy → ℕ → Option ℕ → ℕ
-effectiveNackDelay p attempt delay = delayed (p .backoff) attempt delay
+-- and neither outlasts the hard cap
+abbrev pub cappedDelay : List ℕ → ℕ → Option ℕ → ℕ → ℕ
+cappedDelay backoff attempt explicit cap = min (delayed backoff attempt explicit) cap
+
+abbrev pub effectiveNackDelay : Policy → ℕ → Option ℕ → ℕ → ℕ
+effectiveNackDelay p attempt explicit cap = cappedDelay (p .backoff) attempt explicit cap

@@ -4,7 +4,7 @@ ghost use mathlib.Core.Bool.{not, _&&_};
 ghost use Prim.Native.Nat.{_-_, _≤_, min, max};
 ghost use lib.ListN.{length, take};
 ghost use Rattle.types.specs.Refusal.{done};
-ghost use Rattle.delivery.specs.Policy.{unlimited, destination, disposition, scheduled, delayed, nackBackoff, effectiveNackDelay};
+ghost use Rattle.delivery.specs.Policy.{unlimited, destination, disposition, scheduled, delayed, cappedDelay, nackBackoff, effectiveNackDelay};
 ghost use Rattle.delivery.specs.Config.{view, Sound, LentBackoffs, dispositionOf, delayOf, ConfiguredIs, RefusedIs, FlushingIs};
 use types::limits::MAX32;
 
@@ -122,13 +122,8 @@ fn backoff_in_place(backoff_nanos: &[u64; 16], backoff_len: usize, attempt: u32)
     backoff_nanos[i]
 }
 
-// The delay that a nack gets, of the backoffs alone, which are lent.
-pub fn nack_delay_in_place(
-    backoff_nanos: &[u64; 16],
-    backoff_len: usize,
-    attempt: u32,
-    delay: Delay,
-) -> u64
+// The delay that a nack asks for, its own or the schedule's.
+fn asked_delay(backoff_nanos: &[u64; 16], backoff_len: usize, attempt: u32, delay: Delay) -> u64
     requires { ⌜ LentBackoffs (now «backoff_nanos») «backoff_len» ⌝ }
     ensures { λ r. ⌜ r ≡ delayed (take «backoff_len» (now («backoff_nanos» .entry))) attempt (delayOf delay) ⌝ }
 {
@@ -136,6 +131,24 @@ pub fn nack_delay_in_place(
         Delay::Explicit(nanos) => nanos,
         Delay::Schedule => backoff_in_place(backoff_nanos, backoff_len, attempt),
     }
+}
+
+// The delay that a nack gets, of the backoffs alone, which are lent: what it asks for, but at most the hard cap.
+pub fn nack_delay_in_place(
+    backoff_nanos: &[u64; 16],
+    backoff_len: usize,
+    attempt: u32,
+    delay: Delay,
+    hard_cap_nanos: u64,
+) -> u64
+    requires { ⌜ LentBackoffs (now «backoff_nanos») «backoff_len» ⌝ }
+    ensures { λ r. ⌜ r ≡ cappedDelay (take «backoff_len» (now («backoff_nanos» .entry))) attempt (delayOf delay) «hard_cap_nanos» ⌝ }
+{
+    let asked = asked_delay(backoff_nanos, backoff_len, attempt, delay);
+    if hard_cap_nanos < asked {
+        return hard_cap_nanos;
+    }
+    asked
 }
 
 impl DeliveryConfig {
@@ -232,16 +245,22 @@ impl DeliveryConfig {
         backoff_in_place(&self.backoff_nanos, self.backoff_len, attempt)
     }
 
-    // The delay that a nack gets: an explicit one wins over the schedule.
-    pub fn effective_nack_delay(self, attempt: u32, explicit_delay: Delay) -> u64
+    // The delay that a nack gets: an explicit one wins over the schedule, and neither outlasts the hard cap.
+    pub fn effective_nack_delay(
+        self,
+        attempt: u32,
+        explicit_delay: Delay,
+        hard_cap_nanos: u64,
+    ) -> u64
         requires { ⌜ Sound self ⌝ }
-        ensures { λ r. ⌜ r ≡ effectiveNackDelay (view self) attempt (delayOf «explicit_delay») ⌝ }
+        ensures { λ r. ⌜ r ≡ effectiveNackDelay (view self) attempt (delayOf «explicit_delay») «hard_cap_nanos» ⌝ }
     {
         nack_delay_in_place(
             &self.backoff_nanos,
             self.backoff_len,
             attempt,
             explicit_delay,
+            hard_cap_nanos,
         )
     }
 }

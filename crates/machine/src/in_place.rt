@@ -248,6 +248,7 @@ fn ask_nack<'a>(
     ensures { λ r. ⌜ ((x : Consumer) (out : List ℕ) → Whole (consumerOf fixed figures (x .cursor .starts) (x .cursor .ends) (offsets .entry .now) (generations .entry .now) (x .table .«attempt_starts») (deadlines .entry .now) (deliveries .entry .now) (workers .entry .now) (x .table .«carried_offsets») (x .table .«carried_counts») («backoff_nanos» .entry .now) (rights .entry .now) x) → AskedIs (consumerOf fixed figures (x .cursor .starts) (x .cursor .ends) (offsets .entry .now) (generations .entry .now) (x .table .«attempt_starts») (deadlines .entry .now) (deliveries .entry .now) (workers .entry .now) (x .table .«carried_offsets») (x .table .«carried_counts») («backoff_nanos» .entry .now) (rights .entry .now) x) worker (nack (token .offset .0) (token .generation .0) now (delayOf delay)) out (left (r .answer) (consumerOf fixed (r .figures) (x .cursor .starts) (x .cursor .ends) (offsets .entry .now) (generations .exit .now) (x .table .«attempt_starts») (deadlines .exit .now) (deliveries .entry .now) (workers .entry .now) (x .table .«carried_offsets») (x .table .«carried_counts») («backoff_nanos» .entry .now) (rights .entry .now) x)) out) ⌝ }
 {
     let done = consumer::in_place::nack_in_place(
+        fixed.config,
         fixed.ceiling,
         fixed.backoff_len,
         figures.len,

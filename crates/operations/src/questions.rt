@@ -92,7 +92,7 @@ fn disposition(k: u32, config: DeliveryConfig) -> Answer {
     }
 }
 
-// delivery disposition K, backoff K, delay K, explicit K D
+// delivery disposition K, backoff K, delay K CAP, explicit K D CAP
 fn of_count(op: Op, config: DeliveryConfig) -> Answer
     requires { ⌜ configs.Sound config ⌝ }
 {
@@ -104,8 +104,8 @@ fn of_count(op: Op, config: DeliveryConfig) -> Answer
     match number {
         76 => disposition(k, config),
         77 => answer::value(config.nack_backoff(k)),
-        78 => answer::value(config.effective_nack_delay(k, Delay::Schedule)),
-        _ => answer::value(config.effective_nack_delay(k, Delay::Explicit(op.x))),
+        78 => answer::value(config.effective_nack_delay(k, Delay::Schedule, op.x)),
+        _ => answer::value(config.effective_nack_delay(k, Delay::Explicit(op.x), op.y)),
     }
 }
 

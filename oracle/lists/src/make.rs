@@ -603,12 +603,14 @@ impl Maker {
             say!(self, "delivery backoff {k}");
             say!(self, "delivery disposition {k}");
         }
-        say!(self, "delivery delay {}", self.random.below(20));
-        say!(
-            self,
-            "delivery explicit {} {}",
-            self.random.below(20),
-            self.random.pick(&[0, 6, MAX])
-        );
+        for cap in [0, 5, 6, 7, 8, MAX] {
+            say!(self, "delivery delay {} {cap}", self.random.below(20));
+            say!(
+                self,
+                "delivery explicit {} {} {cap}",
+                self.random.below(20),
+                self.random.pick(&[0, 6, 7, MAX])
+            );
+        }
     }
 }

@@ -314,8 +314,11 @@ impl State {
             ("unlimited", &[]) => yes(self.config.allows_unlimited()),
             ("disposition", &[k]) => yes(self.config.disposition(small(k)?) == Disposition::DeadLetter),
             ("backoff", &[k]) => vec![0, self.config.nack_backoff(small(k)?)],
-            ("delay", &[k]) => vec![0, self.config.effective_nack_delay(small(k)?, None)],
-            ("explicit", &[k, delay]) => vec![0, self.config.effective_nack_delay(small(k)?, Some(delay))],
+            // the original has no cap: its delay is compared with 02's minimum applied
+            ("delay", &[k, cap]) => vec![0, self.config.effective_nack_delay(small(k)?, None).min(cap)],
+            ("explicit", &[k, delay, cap]) => {
+                vec![0, self.config.effective_nack_delay(small(k)?, Some(delay)).min(cap)]
+            }
             _ => return None,
         })
     }

@@ -47,6 +47,12 @@ impl Settings {
         })
     }
 
+    /// By how much a nack puts off the next delivery: the delay that it was given or the backoff, and at most the hard cap (02, b).
+    fn nack_delay(&self, attempt: u32, explicit: Option<u64>) -> u64 {
+        let delay = self.delivery.effective_nack_delay(attempt, explicit);
+        delay.min(self.lease.hard_cap_nanos)
+    }
+
     /// The same, with the rights that a restart is handed.
     pub fn with_rights(&self, rights: Rights) -> Settings {
         Settings { rights, ..self.clone() }
@@ -252,7 +258,7 @@ impl Consumer {
         if next >= self.ceiling {
             return Err(vec![26]);
         }
-        let delay = self.settings.delivery.effective_nack_delay(attempt, delay);
+        let delay = self.settings.nack_delay(attempt, delay);
         match self.table.nack(&token, now, delay) {
             NackOutcome::Requeued { deadline } => Ok(deadline),
             NackOutcome::Fenced => Err(vec![24]),

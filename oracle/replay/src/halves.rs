@@ -53,7 +53,7 @@ fn more(maker: &mut Maker) {
         .consumer()
         .map_or(0, |consumer| consumer.cursor.committed().get());
     for i in 0..maker.random.pick(&[0, 1, 3, 45, 64]) {
-        maker.say(format!("claim {} 0", committed + 3 * i + 1));
+        maker.say(format!("claim {} 0", committed.saturating_add(3 * i + 1)));
     }
     for _ in 0..maker.random.below(6) {
         let token = maker.token();

@@ -7,6 +7,7 @@ pub mod headers;
 pub mod journal;
 pub mod line;
 pub mod make;
+pub mod nacks;
 pub mod program;
 pub mod rights;
 pub mod scenes;

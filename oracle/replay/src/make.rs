@@ -2,7 +2,7 @@
 use crate::line::LINE;
 use crate::program::{Phase, Program};
 use crate::workers::Crew;
-use crate::{halves, headers, scenes, versions, views, wear, workers};
+use crate::{halves, headers, nacks, scenes, versions, views, wear, workers};
 use lists::random::Random;
 use lists::state::Table;
 
@@ -77,7 +77,7 @@ pub fn script(seed: u64, lines: usize) -> Vec<Vec<u8>> {
         scenes::spend(&mut maker);
     }
     while maker.lines.len() < lines {
-        match maker.random.below(41) {
+        match maker.random.below(43) {
             0..=5 => scenes::life(&mut maker),
             6..=7 => scenes::cuts(&mut maker),
             8 => scenes::full(&mut maker),
@@ -97,6 +97,7 @@ pub fn script(seed: u64, lines: usize) -> Vec<Vec<u8>> {
             32 => halves::unfit(&mut maker),
             33..=35 => workers::workers(&mut maker),
             36..=37 => views::views(&mut maker),
+            38..=39 => nacks::nacks(&mut maker),
             _ => wear::forged(&mut maker),
         }
     }
@@ -225,6 +226,12 @@ impl Maker {
         }
     }
 
+    /// A delay, often at or beside the hard cap.
+    pub fn delay(&mut self) -> u64 {
+        let cap = self.random.near(self.cap);
+        self.random.pick(&[0, 1, 9, 200, cap, cap, u64::MAX])
+    }
+
     /// One call that isn't a checkpoint's.
     pub fn call(&mut self) -> String {
         let time = self.time();
@@ -233,7 +240,7 @@ impl Maker {
             9..=11 => format!("ack {}", self.token()),
             12 => format!("term {}", self.token()),
             13..=14 => format!("nack {} {time}", self.token()),
-            15 => format!("nack {} {time} {}", self.token(), self.random.pick(&[0, 1, 9, 200, u64::MAX])),
+            15 => format!("nack {} {time} {}", self.token(), self.delay()),
             16..=17 => format!("progress {} {time}", self.token()),
             18..=19 => format!("commit {}", self.offset()),
             20..=21 => format!("waiting {time}"),

@@ -9,9 +9,15 @@ use crate::rights::{Rights, WORKERS};
 use crate::versions::rewritten;
 use lists::codecs::as_version_1;
 use std::collections::{BTreeMap, BTreeSet};
+use std::sync::OnceLock;
 
-/// The scripts that `oracle/run compare` uses.
-const SCRIPTS: u64 = 80;
+mod nacks;
+
+/// The scripts that `oracle/run compare` uses, made once for all tests.
+fn scripts() -> &'static [Vec<Vec<u8>>] {
+    static MADE: OnceLock<Vec<Vec<Vec<u8>>>> = OnceLock::new();
+    MADE.get_or_init(|| (1..=80).map(|seed| script(seed, 2_000)).collect())
+}
 
 /// Runs lines written as `LINE => ANSWER`; several steps of a checkpoint are written `checkpoint => BLOCK,..`.
 fn play(text: &str) {
@@ -391,8 +397,8 @@ fn views() {
 #[test]
 fn scripts_have_views() {
     let mut met = BTreeMap::new();
-    for seed in 1..=40 {
-        for answer in answers(&script(seed, 2_000).join(&b'\n')).lines() {
+    for lines in scripts() {
+        for answer in answers(&lines.join(&b'\n')).lines() {
             if let Some(view) = answer.strip_prefix("view ") {
                 let words = view.split(' ');
                 let shape: Vec<&str> = words
@@ -648,8 +654,8 @@ fn the_last_number() {
 fn scripts_have_everything() {
     let mut words = BTreeSet::new();
     let mut refusals = BTreeSet::new();
-    for seed in 1..=SCRIPTS {
-        for answer in answers(&script(seed, 2_000).join(&b'\n')).lines() {
+    for lines in scripts() {
+        for answer in answers(&lines.join(&b'\n')).lines() {
             let mut parts = answer.split(' ');
             words.insert(parts.next().unwrap().to_string());
             if answer.starts_with("refused") {
@@ -689,18 +695,16 @@ fn without_workers(program: &Program, line: &[u8]) -> Option<String> {
 fn scripts_have_workers() {
     let mut met = BTreeMap::new();
     let mut instead: BTreeMap<&str, BTreeSet<String>> = BTreeMap::new();
-    let scripts = (1..=SCRIPTS)
-        .map(|seed| script(seed, 2_000))
-        .chain([script(1, 9_000), script(2, 9_000)]);
-    for lines in scripts {
+    let long = [script(1, 9_000), script(2, 9_000)];
+    for lines in scripts().iter().chain(&long) {
         let mut program = Program::default();
         for line in lines {
-            let other = without_workers(&program, &line);
-            let answer = program.answer(&line).unwrap_or_default();
+            let other = without_workers(&program, line);
+            let answer = program.answer(line).unwrap_or_default();
             let Some(refusal) = ["38", "39", "40"].into_iter().find(|n| answer == format!("refused {n}")) else {
                 continue;
             };
-            let word = String::from_utf8_lossy(&line).split(' ').next().unwrap().to_string();
+            let word = String::from_utf8_lossy(line).split(' ').next().unwrap().to_string();
             *met.entry((refusal, word)).or_insert(0) += 1;
             instead.entry(refusal).or_default().extend(other);
         }
@@ -732,19 +736,19 @@ fn scripts_have_workers() {
 #[test]
 fn refused_calls_left_out() {
     let mut left_out = 0;
-    for seed in 1..=10 {
+    for lines in &scripts()[..10] {
         let mut whole = Program::default();
         let mut less: Vec<Program> = (0..WORKERS).map(|_| Program::default()).collect();
-        for line in script(seed, 2_000) {
+        for line in lines {
             let worker = whole.worker;
-            let answer = whole.answer(&line);
+            let answer = whole.answer(line);
             let refused = answer.as_deref().is_some_and(|answer| answer.starts_with("refused"));
-            let a_call = !matches!(read(&line), Some(Call::Start(_) | Call::Step(_) | Call::Restart(_)));
+            let a_call = !matches!(read(line), Some(Call::Start(_) | Call::Step(_) | Call::Restart(_)));
             for (i, program) in less.iter_mut().enumerate() {
                 if refused && a_call && worker == i as u64 {
                     left_out += 1;
                 } else {
-                    assert_eq!(program.answer(&line), answer);
+                    assert_eq!(program.answer(line), answer);
                 }
             }
         }
@@ -792,13 +796,13 @@ fn worn(area: &[u8]) -> Worn {
 #[test]
 fn scripts_have_worn_headers() {
     let mut met = BTreeMap::new();
-    for seed in 1..=SCRIPTS {
+    for lines in scripts() {
         let mut program = Program::default();
-        for line in script(seed, 2_000) {
+        for line in lines {
             if let (b"restart", Some(started)) = (&line[..], &program.started) {
                 *met.entry(worn(&started.area)).or_insert(0) += 1;
             }
-            program.answer(&line);
+            program.answer(line);
         }
     }
     for kind in [Worn::First, Worn::Middle, Worn::LookAlike, Worn::Last, Worn::BodyFirst] {
@@ -875,17 +879,17 @@ fn writes_met(program: &Program, line: &[u8]) -> Option<&'static str> {
 #[test]
 fn scripts_have_halves() {
     let mut met = BTreeMap::new();
-    for seed in 1..=SCRIPTS {
+    for lines in scripts() {
         let mut program = Program::default();
-        for line in script(seed, 2_000) {
-            let mut now: Vec<&str> = writes_met(&program, &line).into_iter().collect();
+        for line in lines {
+            let mut now: Vec<&str> = writes_met(&program, line).into_iter().collect();
             if let (b"restart", Some(started)) = (&line[..], &program.started) {
                 now.extend(halves_met(&started.area));
             }
             for what in now {
                 *met.entry(what).or_insert(0) += 1;
             }
-            program.answer(&line);
+            program.answer(line);
         }
     }
     for (what, least) in [
@@ -934,10 +938,10 @@ fn found_by_restart(program: &Program) -> Option<String> {
 #[test]
 fn cuts_keep_the_last_checkpoint() {
     let mut compared = 0;
-    for seed in 1..=SCRIPTS {
+    for lines in scripts() {
         let mut program = Program::default();
         let mut before = None;
-        for line in script(seed, 2_000) {
+        for line in lines {
             let place = |program: &Program| {
                 program
                     .consumer()
@@ -955,7 +959,7 @@ fn cuts_keep_the_last_checkpoint() {
                 Some(Phase::Writing(writing)) => writing.writes.len() == 1,
                 _ => false,
             };
-            let answer = program.answer(&line).unwrap_or_default();
+            let answer = program.answer(line).unwrap_or_default();
             if let (true, Some(before)) = (answer.starts_with("cut "), &before) {
                 assert_eq!(found_by_restart(&program) == *before, !(last && line == b"cut new"));
                 compared += 1;
@@ -981,16 +985,16 @@ fn older(area: &[u8]) -> Option<Vec<u8>> {
 #[test]
 fn restarts_on_both_versions() {
     let mut compared = 0;
-    for seed in 1..=10 {
+    for lines in &scripts()[..10] {
         let mut program = Program::default();
-        for line in script(seed, 2_000) {
+        for line in lines {
             let old = program.started.as_ref().and_then(|started| older(&started.area));
-            let answer = program.answer(&line);
+            let answer = program.answer(line);
             let (b"restart", Some(old)) = (&line[..], old) else { continue };
             let started = program.started.as_mut().unwrap();
             let area = std::mem::replace(&mut started.area, old);
             let found = program.answer(b"state");
-            assert_eq!(program.answer(&line), answer);
+            assert_eq!(program.answer(line), answer);
             assert_eq!(program.answer(b"state"), found);
             program.started.as_mut().unwrap().area = area;
             compared += 1;
@@ -1003,16 +1007,16 @@ fn restarts_on_both_versions() {
 #[test]
 fn scripts_have_versions() {
     let mut met = BTreeMap::new();
-    for seed in 1..=SCRIPTS {
+    for lines in scripts() {
         let mut program = Program::default();
-        for line in script(seed, 2_000) {
+        for line in lines {
             if let (b"restart", Some(started)) = (&line[..], &program.started) {
                 let last = walk(&started.area).ok().and_then(|found| found.last);
                 if let Some(stored) = last {
                     *met.entry(stored.attempts[0]).or_insert(0) += 1;
                 }
             }
-            program.answer(&line);
+            program.answer(line);
         }
     }
     for (version, least) in [(0, 20), (1, 100), (2, 1_000), (3, 20), (255, 20)] {

@@ -20,7 +20,7 @@ use Rattle.consumer.proofs.in_place.nack_in_place.Tie as tie
 -- a consumer with the parts that the arguments are
 abbrev made : tie.Start → Consumer → Consumer
 made s =
-    nacking (s .args .rights .now) (s .args .ceiling) (s .args .backoff-nanos .now) (s .args .backoff-len) (s .args .len) (s .args .next-generation) (s .args .offsets .now)
+    nacking (s .args .rights .now) (s .args .ceiling) (s .args .backoff-nanos .now) (s .args .backoff-len) (s .args .config) (s .args .len) (s .args .next-generation) (s .args .offsets .now)
     (s .args .generations .now) (s .args .deadlines .now) (s .args .deliveries .now) (s .args .workers .now)
 
 abbrev start : tie.After-known-told → tie.Start

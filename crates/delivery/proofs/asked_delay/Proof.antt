@@ -1,7 +1,7 @@
--- `nack_delay_in_place` meets its contract. Assumes nothing.
+-- `asked_delay` meets its contract. Assumes nothing.
 use borrow.Author.Needs.{needs}
-use Rattle.delivery.proofs.nack_delay_in_place.Statement.{statement}
-use Rattle.delivery.proofs.nack_delay_in_place.Tie as tie
+use Rattle.delivery.proofs.asked_delay.Statement.{statement}
+use Rattle.delivery.proofs.asked_delay.Tie as tie
 
 enum-known-delay : tie.Need-enum-known-delay
 enum-known-delay c = search needs
@@ -18,6 +18,6 @@ returns c = search needs
 returns-2 : tie.Need-returns-2
 returns-2 c = rw (c .before .enum-told .given .1) (c .backoff-in-place .ensures)
 
-pub nack-delay-in-place-spec : {M : Type 1} → statement M
-nack-delay-in-place-spec =
+pub asked-delay-spec : {M : Type 1} → statement M
+asked-delay-spec =
     tie.close (tie.spec enum-known-delay enum-told backoff-in-place-requires returns returns-2)
