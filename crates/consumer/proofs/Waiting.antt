@@ -106,29 +106,35 @@ module _ (x y : Entry ℕ) where
 abbrev pub First : Entry ℕ → List (Entry ℕ) → Type 0
 First x = All (λ k v. waitsLonger x (entry k v) ≡ true)
 
-abbrev pub InOrder : List (Entry ℕ) → Type 0
-InOrder [] = Unit {0}
-InOrder (x ∷ l) = First x l × InOrder l
+abbrev pub Ordered : List (Entry ℕ) → Type 0
+Ordered [] = Unit {0}
+Ordered (x ∷ l) = First x l × Ordered l
 
 module _ (x : Entry ℕ) where
   first-through : (y : Entry ℕ) (l : List (Entry ℕ)) → x .value ≤ y .value → All (λ k v. x .key < k) l → First y l → First x l
   first-through y [] h a f = tt
   first-through y (z ∷ l) h a f = (lower x z (a .0) (omega (arith, no-later y z (f .0))), first-through y l h (a .1) (f .1))
 
-  placed-in-order : (l : List (Entry ℕ)) → All (λ k v. x .key < k) l → InOrder l → InOrder (takesPlace x l)
+  placed-in-order : (l : List (Entry ℕ)) → All (λ k v. x .key < k) l → Ordered l → Ordered (takesPlace x l)
   placed-in-order [] a o = (tt, tt)
   placed-in-order (y ∷ l) a o =
       split (waitsLonger x y)
       (λ q. rw q ((q, first-through y l (no-later x y q) (a .1) (o .0)), o))
       (λ q. rw q (all-placed (λ k v. waitsLonger y (entry k v) ≡ true) x l (earlier y x (not-longer x y (a .0) q)) (o .0), placed-in-order l (a .1) (o .1)))
 
-ordered-in-order : (lo : ℕ) (l : List (Entry ℕ)) → Rising lo l → InOrder (longestFirst l)
+ordered-in-order : (lo : ℕ) (l : List (Entry ℕ)) → Rising lo l → Ordered (longestFirst l)
 ordered-in-order lo [] r = tt
 ordered-in-order lo (x ∷ l) r =
     placed-in-order x (longestFirst l) (all-ordered (λ k v. x .key < k) l (rising-all (suc (x .key)) l (r .1))) (ordered-in-order (suc (x .key)) l (r .1))
 
-pub in-order : (now lo : ℕ) (l : List (Entry Lease)) → Rising lo l → InOrder (longestFirst (expiredDeadlines now l))
+pub in-order : (now lo : ℕ) (l : List (Entry Lease)) → Rising lo l → Ordered (longestFirst (expiredDeadlines now l))
 in-order now lo l r = ordered-in-order lo (expiredDeadlines now l) (expired-rising now lo l r)
+
+-- what holds of every lease by its deadline holds of those that are expired
+pub all-expired : (P : ℕ → ℕ → Type 0) (now : ℕ) (l : List (Entry Lease)) → All (λ o x. P o (x .deadline)) l → All P (expiredDeadlines now l)
+all-expired P now [] a = tt
+all-expired P now (e ∷ l) a =
+    split (ltb now (e .value .deadline)) (λ q. rw q (all-expired P now l (a .1))) (λ q. rw q (a .0, all-expired P now l (a .1)))
 
 -- ## where one comes in
 -- the deadlines in their order
@@ -168,7 +174,7 @@ before-boundary d (suc at) y l f b =
     omega (arith, first-deadline y l at f (omega (arith, b .inside)))
 
 -- one of a lower offset than all comes in at the boundary of its deadline
-placed-at : (x : Entry ℕ) (at : ℕ) (l : List (Entry ℕ)) → All (λ k v. x .key < k) l → InOrder l → Boundary (x .value) (deadlinesOf l) at
+placed-at : (x : Entry ℕ) (at : ℕ) (l : List (Entry ℕ)) → All (λ k v. x .key < k) l → Ordered l → Boundary (x .value) (deadlinesOf l) at
     → takesPlace x l ≡ inserted at x l
 placed-at x zero [] a o b = refl
 placed-at x (suc at) [] a o b = absurd (omega (arith, b .inside))
