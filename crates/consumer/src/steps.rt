@@ -359,9 +359,9 @@ pub fn commit_test<'a, 'b>(
     }
 }
 
-// The waiting list in an array: the carried offsets, and behind them those of expired leases, the longest waiting first. The leases
-// are gone through from the last, so that of equal deadlines the lower offset comes in front. They have room there, since each is of
-// a lease.
+// The waiting list in an array: the carried offsets, then those of expired leases, the longest waiting first. Each lease is put in at
+// the place of its deadline. The last lease comes first, so that of equal deadlines the lower offset stands in front. There is room for
+// all, since leases and carried offsets are at most 128 together.
 pub fn waiting_list<'a>(
     len: usize,
     carried_len: usize,
