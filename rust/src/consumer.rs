@@ -197,8 +197,9 @@ impl<S> Consumer<S> {
         Ok(reply.values[0] != 0)
     }
 
-    /// What waits to be claimed again at a clock: the offsets whose counts a restart carried over, and those whose lease has run
-    /// out. They fill the list from its first place on, and their number is answered. 128 places are always enough.
+    /// What waits to be claimed again at a clock: first the offsets whose counts a restart carried over, by offset; then those whose
+    /// lease has run out, the longest waiting first, that is by deadline and those of equal deadlines by offset. They fill the list from
+    /// its first place on, and their number is answered. 128 places are always enough.
     ///
     /// # Errors
     /// Refusals 38 and 39, and 20 where they don't fit; then the list is as it was.
@@ -268,7 +269,8 @@ impl<S> Consumer<S> {
     /// # Errors
     /// Refusals 38 and 39.
     pub fn all_attempt_counts(&mut self, worker: WorkerId) -> Result<Vec<(Offset, u32)>, Refusal> {
-        // At the last clock every deadline has come, so that the waiting list has every lease and every carried count: at most 128.
+        // At the last clock every deadline has come, so that the waiting list has every lease and every carried count: at most 128,
+        // in the order in which they wait.
         let mut list = [Offset::ZERO; MAX_PAIRS];
         let n = self.waiting(worker, u64::MAX, &mut list)?;
         let offsets = &mut list[..n];

@@ -208,6 +208,69 @@ fn calls_give_01s_answers() {
     assert_eq!(consumer.waiting(WORKER, 203, &mut list), Ok(64));
 }
 
+// Carried offsets by offset, then leases by deadline, equal deadlines by offset; all counts are by offset still.
+#[test]
+fn the_longest_waiting_comes_first() {
+    let path = fresh_path("waiting");
+    let configuration = configuration(3, 9, 10, 25);
+    let consumer = Consumer::start(&configuration, NewJournal::create(&path, 18).unwrap()).unwrap();
+    let mut consumer = consumer.checkpoint(WORKER).unwrap();
+    for (offset, now) in [(40, 0), (30, 1)] {
+        consumer.claim(WORKER, Offset::new(offset), now).unwrap();
+    }
+    let journal = consumer.checkpoint(WORKER).unwrap().into_journal();
+    let consumer = Consumer::restart(&configuration, journal).unwrap();
+    let mut consumer = consumer.checkpoint(WORKER).unwrap();
+    for (offset, now) in [(7, 20), (9, 10), (2, 30), (8, 10), (5, 31)] {
+        consumer.claim(WORKER, Offset::new(offset), now).unwrap();
+    }
+    let all = [30, 40, 8, 9, 7, 2, 5].map(Offset::new);
+    for (now, n) in [(0, 2), (19, 2), (20, 4), (30, 5), (40, 6), (41, 7)] {
+        let mut list = [Offset::ZERO; 7];
+        assert_eq!(consumer.waiting(WORKER, now, &mut list), Ok(n));
+        assert_eq!(list[..n], all[..n], "at {now}");
+    }
+    let counts = consumer.all_attempt_counts(WORKER).unwrap();
+    let rising = [2, 5, 7, 8, 9, 30, 40].map(|offset| (Offset::new(offset), 1));
+    assert_eq!(counts, rising);
+}
+
+// As long as it gets: 64 offsets carried, and 64 leases whose deadlines rise, fall, are equal or lie anyhow.
+#[test]
+fn a_full_waiting_list_is_in_order() {
+    let path = fresh_path("waiting_full");
+    let configuration = configuration(3, 99, 10, 25);
+    let consumer = Consumer::start(&configuration, NewJournal::create(&path, 18).unwrap()).unwrap();
+    let mut consumer = consumer.checkpoint(WORKER).unwrap();
+    for offset in 64..128 {
+        consumer.claim(WORKER, Offset::new(offset), 0).unwrap();
+    }
+    let journal = consumer.checkpoint(WORKER).unwrap().into_journal();
+    let consumer = Consumer::restart(&configuration, journal).unwrap();
+    let mut consumer = consumer.checkpoint(WORKER).unwrap();
+    let clocks: [fn(u64) -> u64; 4] = [
+        |offset| offset,
+        |offset| 63 - offset,
+        |_| 0,
+        |offset| offset * 37 % 11,
+    ];
+    for (turn, clock) in (1..).zip(clocks) {
+        let clock = |offset| turn * 1000 + clock(offset);
+        let mut leases: Vec<u64> = (0..64).collect();
+        for &offset in &leases {
+            consumer
+                .claim(WORKER, Offset::new(offset), clock(offset))
+                .unwrap();
+        }
+        leases.sort_by_key(|&offset| (clock(offset), offset));
+        let mut list = [Offset::ZERO; 128];
+        assert_eq!(consumer.waiting(WORKER, u64::MAX, &mut list), Ok(128));
+        let expected = (64..128).chain(leases).map(Offset::new);
+        assert!(list.into_iter().eq(expected), "turn {turn}");
+        consumer = consumer.checkpoint(WORKER).unwrap();
+    }
+}
+
 #[test]
 fn a_checkpoint_goes_block_by_block() {
     let path = fresh_path("steps");

@@ -1,5 +1,5 @@
 -- Cases of the consumer's refusals: claim 21, 22, 23, 25, 26, 27; Ack and Term 24, 29; Nack 24, 25, 26; Progress 24, 28; Commit 30;
--- the waiting list 20.
+-- the waiting list 20, and its order.
 use Prim.Native.Nat.{ℕ, _-_}
 use mathlib.Core.Path.{_≡_, refl}
 use mathlib.Core.Bool.{true, false}
@@ -16,7 +16,7 @@ use Rattle.lease.specs.Operations.{extend}
 use Rattle.consumer.specs.State.{State, stateOf, nextGroupAt}
 use Rattle.consumer.specs.Calls.{HandOut, claim, ack, nack, progress, commit}
 use Rattle.consumer.specs.Questions.{waiting}
-use Rattle.cases.specs.States.{countsFrom, leasesFrom, rangesFrom, rights, tableOf}
+use Rattle.cases.specs.States.{countsFrom, leasesFrom, leaseUntil, rangesFrom, rights, tableOf}
 
 -- limit 2, threshold 3, backoff 7, one group written, the workers having these rights
 abbrev pub consumerOf : List ℕ → Cursor → Table → ℕ → State
@@ -287,6 +287,16 @@ waiting-too-short = refl
 
 pub waiting-fits : waiting (crowd 1 1) 110 2 ≡ done (100 ∷ 10 ∷ [])
 waiting-fits = refl
+
+-- request m: the carried offsets first, by offset; then the leases by deadline, equal deadlines by offset, a deadline of 0 too
+abbrev pub queue : State
+queue = with (tableOf (leaseUntil 11 130 ∷ leaseUntil 12 120 ∷ leaseUntil 13 0 ∷ leaseUntil 14 120 ∷ leaseUntil 15 131 ∷ []) (countsFrom 2 100) 1 0)
+
+pub waiting-longest-first : waiting queue 130 6 ≡ done (100 ∷ 101 ∷ 13 ∷ 12 ∷ 14 ∷ 11 ∷ [])
+waiting-longest-first = refl
+
+pub waiting-ties-by-offset : waiting queue 120 5 ≡ done (100 ∷ 101 ∷ 13 ∷ 12 ∷ 14 ∷ [])
+waiting-ties-by-offset = refl
 
 -- a lease that still runs needs no place
 pub running-waits-not : waiting (crowd 1 1) 109 1 ≡ done (100 ∷ [])

@@ -19,6 +19,10 @@ abbrev pub leasesFrom : ℕ → ℕ → List (Entry Lease)
 leasesFrom zero o = []
 leasesFrom (suc n) o = entry o (lease 0 100 110 1 0) ∷ leasesFrom n (suc o)
 
+-- one until another clock
+abbrev pub leaseUntil : ℕ → ℕ → Entry Lease
+leaseUntil o deadline = entry o (lease 0 100 deadline 1 0)
+
 -- n ranges of one offset each, with an offset between two of them
 abbrev pub rangesFrom : ℕ → ℕ → List Range
 rangesFrom zero start = []

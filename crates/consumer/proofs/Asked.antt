@@ -1,28 +1,41 @@
 -- What the questions owe their contracts: the count of an offset by its lease and its carried count, and the waiting list by the
--- carried offsets with the expired ones behind them.
+-- carried offsets with the expired leases behind them.
 -- Assumes nothing.
-use Prim.Native.Nat.{ℕ, suc, _+_, _≤_, _<_}
+use Prim.Native.Nat.{ℕ, zero, suc, _+_, _-_, _≤_, _<_}
 use native.Mathlib.Omega.{arith}
-use native.Mathlib.Nat.{le-antisymm}
-use native.Mathlib.Numerals.{add-one}
 use mathlib.Core.Path.{_≡_, refl, sym, ap, _∙_}
 use mathlib.Core.List.{List, [], _∷_, _++_, append-assoc, append-nil}
 use mathlib.Core.Option.{Option, none, some, Option·none-ne-some}
-use lib.Dec.{ltb}
-use lib.ListN.{length, take, getD, set, length-set, length-take}
-use lib.Seq.{take-take, take-suc, take-suc-set}
-use Rattle.types.specs.Limits.{CARRIED}
-use Rattle.types.specs.Keyed.{Entry, entries, lookup}
-use Rattle.types.proofs.Cases.{split}
+use lib.ListN.{length, take, drop, getD, length-append, length-take, length-drop}
+use lib.Seq.{take-take, length-take-le, take-append-add, drop-append-add}
+use borrow.Author.Tests.{lt-ltb, le-ltb}
+use Rattle.types.specs.Limits.{LEASES, CARRIED}
+use Rattle.types.specs.Keyed.{Entry, entry, entries, lookup, Rising}
+use Rattle.types.specs.Zipped.{inserted}
+use Rattle.types.proofs.Keyed.{rising-weaken}
+use Rattle.types.proofs.Columns.{drop-used, drop-unused}
+use Rattle.tables.specs.Columns.{putIn}
+use Rattle.tables.specs.Search.{Boundary}
+use Rattle.tables.proofs.Columns.{put-in, put-in-front}
+use Rattle.tables.proofs.Search.{boundary-inside}
 use Rattle.lease.specs.declared.Lease.{Lease}
 use Rattle.lease.specs.declared.LeaseTable.{LeaseTable}
-use Rattle.lease.specs.State.{carriedOf}
+use Rattle.lease.specs.State.{carriedOf, leasesOf, leasesIn}
 use Rattle.lease.specs.Operations.{leaseOf, timesHandedOut}
-use Rattle.lease.specs.Rest.{expiredOffsets, deliveriesOf}
+use Rattle.lease.specs.Rest.{deliveriesOf}
+use Rattle.lease.specs.Parts as lease
+use Rattle.lease.proofs.Leases.{nil, column-length, column-at}
+use Rattle.lease.proofs.Slots.{in-flight, carried-length}
 use Rattle.consumer.specs.State.{State}
-use Rattle.consumer.specs.Questions.{keysOf, countOf}
+use Rattle.consumer.specs.Questions.{keysOf, waitingAt, countOf}
+use Rattle.consumer.specs.Waiting.{expiredDeadlines, longestFirst}
 use Rattle.consumer.specs.Valid.{Valid}
+use Rattle.consumer.specs.Parts.{Whole, awaiting}
+use Rattle.consumer.specs.View.{view}
+use Rattle.consumer.specs.declared.Consumer.{Consumer}
 use Rattle.consumer.proofs.Counts.{no-lease, count-is}
+use Rattle.consumer.proofs.CallsReturns.{table-whole}
+use Rattle.consumer.proofs.Waiting.{deadlinesOf, keys-inserted, deadlines-inserted, takes-place}
 
 -- ## the count of an offset
 module _ (s : State) (v : Valid s) (o : ℕ) where
@@ -56,40 +69,136 @@ module _ (t : LeaseTable) (n : ℕ) (size : n ≡ length (carriedOf t)) where
       ∙ ap (λ (k : ℕ). take k (t .«carried_offsets»)) (sym size)
 
   -- the list of both, from what stands in the array
-  pub both-listed : (k m : ℕ) (more right out : List ℕ) → m ≡ k → take k more ≡ right → take (n + m) out ≡ take n (t .«carried_offsets») ++ take m more
-      → take (n + m) out ≡ keysOf (carriedOf t) ++ right
-  both-listed k m more right out e f h = h ∙ rw (e, f, carried-keys)
+  pub both-listed : (m : ℕ) (right out : List ℕ) → take (n + m) out ≡ take n (t .«carried_offsets») ++ right → take (n + m) out ≡ keysOf (carriedOf t) ++ right
+  both-listed m right out h = h ∙ rw carried-keys
 
--- ## the expired offsets behind them
-expired-few : (now : ℕ) (l : List (Entry Lease)) → length (expiredOffsets now l) ≤ length l
-expired-few now [] = omega arith
-expired-few now (e ∷ l) = split (ltb now (e .value .deadline)) (λ q. rw q (omega (arith, expired-few now l))) (λ q. rw q (omega (arith, expired-few now l)))
+-- ## the expired leases behind them, from the last on
+rising-drop : (lo i : ℕ) (l : List (Entry Lease)) → Rising lo l → Rising lo (drop i l)
+rising-drop lo zero l r = r
+rising-drop lo (suc i) [] r = tt
+rising-drop lo (suc i) (e ∷ l) r = rising-weaken lo (suc (e .key)) (drop i l) (omega (arith, r .0)) (rising-drop (suc (e .key)) i l (r .1))
 
--- both fit one array
-pub both-fit : (s : State) → Valid s → (now n m : ℕ) → n ≡ length (s .table .carried) → m ≡ length (expiredOffsets now (s .table .leases)) → n + m ≤ CARRIED
-both-fit s v now n m e f = omega (arith, expired-few now (s .table .leases), v .together)
+put-in-length : (n at a : ℕ) (l : List ℕ) → at ≤ n → n < length l → {l′ : List ℕ} → l′ ≡ putIn n at a l → length l′ ≡ length l
+put-in-length n at a l h k e = ap length (e ∙ put-in n at a l h k) ∙ simp (length-append, length-take, length-drop) (omega arith)
 
--- the first i of the second list stand behind the n of the first
-pub record Behind (first more out : List ℕ) (n m i : ℕ) : Type 0 where
-  pub inside : i ≤ m
-  pub full : length out ≡ length first
-  pub is : take (n + i) out ≡ take n first ++ take i more
+inserted-behind : (n at a : ℕ) (xs ys : List ℕ) → length xs ≡ n → inserted (n + at) a (xs ++ ys) ≡ xs ++ inserted at a ys
+inserted-behind n at a xs ys e =
+    rw (← e, take-append-add xs ys at, drop-append-add xs ys at) (append-assoc xs (take at ys) (a ∷ drop at ys))
 
-module _ (first more : List ℕ) (n m : ℕ) where
-  pub behind : Behind first more first n m 0
-  behind = record { inside = omega arith; full = refl; is = let e : n + 0 ≡ n = omega arith in rw e (sym (append-nil (take n first))) }
+-- those from place i on, in their order
+abbrev pub orderedFrom : LeaseTable → ℕ → ℕ → List (Entry ℕ)
+orderedFrom t now i = longestFirst (expiredDeadlines now (drop i (leasesOf t)))
 
-  pub behind-more : {out : List ℕ} {i : ℕ} → i < m → m ≤ length more → n + m ≤ length first → Behind first more out n m i
-      → Behind first more (set out (n + i) (getD more i 0)) n m (i + 1)
-  behind-more {out} {i} h fits room inv =
-      let e : n + (i + 1) ≡ suc (n + i) = omega arith in
-      record {
-        inside = omega arith;
-        full = length-set out (n + i) (getD more i 0) ∙ inv .full;
-        is =
-            rw (e, take-suc-set out (n + i) (getD more i 0) (omega (arith, inv .full)), inv .is, add-one i, take-suc more i 0 (omega arith))
-            (append-assoc (take n first) (take i more) (getD more i 0 ∷ []));
-      }
+-- they stand behind the carried offsets, and their deadlines in a column
+pub record Behind (t : LeaseTable) (now : ℕ) (listed times : List ℕ) (n i : ℕ) : Type 0 where
+  pub full : length listed ≡ CARRIED
+  pub is : take (t .«carried_len» + n) listed ≡ take (t .«carried_len») (t .«carried_offsets») ++ keysOf (orderedFrom t now i)
+  pub deadlines : take n times ≡ deadlinesOf (orderedFrom t now i)
 
-  pub both : {out : List ℕ} {i : ℕ} → m ≤ i → Behind first more out n m i → take (n + m) out ≡ take n first ++ take m more
-  both h inv = let e = le-antisymm (inv .inside) h in rw (← e) (inv .is)
+module _ (t : LeaseTable) (w : lease.Whole t) (now : ℕ) where
+  fits : t .len ≤ length (t .offsets)
+  fits = omega (arith, w .full .offsets, w .sound .len)
+
+  fits′ : t .len ≤ length (leasesIn t)
+  fits′ = omega (arith, column-length (w .full .leases), w .sound .len)
+
+  module _ (i : ℕ) (h : i < t .len) where
+    from : drop i (leasesOf t) ≡ entry (getD (t .offsets) i 0) (getD (leasesIn t) i nil) ∷ drop (i + 1) (leasesOf t)
+    from = drop-used nil (t .len) (t .offsets) (leasesIn t) fits fits′ i h
+
+    due : getD (leasesIn t) i nil .deadline ≡ getD (t .deadlines) i 0
+    due = ap (λ (l : Lease). l .deadline) (column-at (w .full .leases) i)
+
+    -- one more comes in at the boundary of its deadline
+    comes-in : (at : ℕ) → getD (t .deadlines) i 0 ≤ now → Boundary (getD (t .deadlines) i 0) (deadlinesOf (orderedFrom t now (i + 1))) at
+        → orderedFrom t now i ≡ inserted at (entry (getD (t .offsets) i 0) (getD (t .deadlines) i 0)) (orderedFrom t now (i + 1))
+    comes-in at d b =
+        let r = rw from at (rising-drop 0 i (leasesOf t) (w .sound .valid .rising)) in
+        rw (from, due, le-ltb now (getD (t .deadlines) i 0) d)
+        (takes-place now (entry (getD (t .offsets) i 0) (getD (t .deadlines) i 0)) at (drop (i + 1) (leasesOf t)) (r .1) b)
+
+  pub behind-none : (times : List ℕ) → Behind t now (t .«carried_offsets») times 0 (t .len)
+  behind-none times =
+      let none-left = drop-unused nil (t .len) (t .offsets) (leasesIn t) fits fits′ (t .len) (omega arith) in
+      let e : t .«carried_len» + 0 ≡ t .«carried_len» = omega arith in
+      record { full = w .full .carried-offsets; is = rw (none-left, e) (sym (append-nil (take (t .«carried_len») (t .«carried_offsets»)))); deadlines = rw none-left }
+
+  module _ {listed times : List ℕ} {n i : ℕ} (h : i < t .len) (inv : Behind t now listed times n (i + 1)) where
+    pub behind-running : now < getD (t .deadlines) i 0 → Behind t now listed times n i
+    behind-running d =
+        record {
+          full = inv .full;
+          is = rw (from i h, due i h, lt-ltb now (getD (t .deadlines) i 0) d) (inv .is);
+          deadlines = rw (from i h, due i h, lt-ltb now (getD (t .deadlines) i 0) d) (inv .deadlines);
+        }
+
+    pub behind-expired : (at : ℕ) {listed′ times′ : List ℕ} → getD (t .deadlines) i 0 ≤ now → Boundary (getD (t .deadlines) i 0) (take n times) at
+        → n < length times → t .«carried_len» + n < length listed
+        → times′ ≡ putIn n at (getD (t .deadlines) i 0) times → listed′ ≡ putIn (t .«carried_len» + n) (t .«carried_len» + at) (getD (t .offsets) i 0) listed
+        → Behind t now listed′ times′ (n + 1) i
+    behind-expired at d b room room′ p q =
+        let m = t .«carried_len» in
+        let k = getD (t .offsets) i 0 in
+        let v = getD (t .deadlines) i 0 in
+        let l = orderedFrom t now (i + 1) in
+        let in-use : at ≤ n = boundary-inside v n times b in
+        let step = comes-in i h at d (rw (inv .deadlines) at b) in
+        let e : m + (n + 1) ≡ m + n + 1 = omega arith in
+        let long : length (take m (t .«carried_offsets»)) ≡ m = length-take-le m (t .«carried_offsets») (omega (arith, w .full .carried-offsets, w .sound .carried-len)) in
+        record {
+          full = put-in-length (m + n) (m + at) k listed (omega arith) room′ q ∙ inv .full;
+          is =
+              rw (step, keys-inserted at (entry k v) l, e)
+              (put-in-front (m + n) (m + at) k listed (omega arith) room′ q
+              ∙ ap (inserted (m + at) k) (inv .is)
+              ∙ inserted-behind m at k (take m (t .«carried_offsets»)) (keysOf l) long);
+          deadlines = rw (step, deadlines-inserted at (entry k v) l) (put-in-front n at v times in-use room p ∙ ap (inserted at v) (inv .deadlines));
+        }
+
+-- ## the loop: on every consumer with these parts, they stand there from place i on
+pub record Waits (len m now : ℕ) (ks ds cks listed times : List ℕ) (n i : ℕ) : Type 0 where
+  pub inside : n + i ≤ len
+  pub full : length times ≡ LEASES
+  pub behind : (c : Consumer) → Whole (awaiting len m ks ds cks c) → Behind (awaiting len m ks ds cks c .table) now listed times n i
+
+-- there is room for one more
+room-behind : (c : Consumer) → Whole c → (n i : ℕ) → n + i ≤ c .table .len → 0 < i → c .table .«carried_len» + n < CARRIED
+room-behind c w n i h k =
+    omega (arith, in-flight (c .table) (w .full) (w .sound .table), carried-length (c .table) (w .full) (w .sound .table), w .sound .valid .together)
+
+module _ (len m now : ℕ) (ks ds cks : List ℕ) where
+  pub waits-none : (times : List ℕ) → length times ≡ LEASES → Waits len m now ks ds cks cks times 0 len
+  waits-none times e =
+      record { inside = omega arith; full = e; behind = λ c w. behind-none (awaiting len m ks ds cks c .table) (table-whole w) now times }
+
+  module _ {listed times : List ℕ} {n i : ℕ} (inv : Waits len m now ks ds cks listed times n i) where
+    module _ (few : len ≤ LEASES) (some-left : 0 < i) where
+      from-next : (c : Consumer) → Whole (awaiting len m ks ds cks c) → Behind (awaiting len m ks ds cks c .table) now listed times n (i - 1 + 1)
+      from-next c w = let e : i - 1 + 1 ≡ i = omega arith in rw e (inv .behind c w)
+
+      pub waits-running : now < getD ds (i - 1) 0 → Waits len m now ks ds cks listed times n (i - 1)
+      waits-running d =
+          record {
+            inside = omega (arith, inv .inside);
+            full = inv .full;
+            behind = λ c w. behind-running (awaiting len m ks ds cks c .table) (table-whole w) now (omega (arith, inv .inside)) (from-next c w) d;
+          }
+
+      pub waits-expired : (at : ℕ) {listed′ times′ : List ℕ} → getD ds (i - 1) 0 ≤ now → Boundary (getD ds (i - 1) 0) (take n times) at
+          → times′ ≡ putIn n at (getD ds (i - 1) 0) times → listed′ ≡ putIn (m + n) (m + at) (getD ks (i - 1) 0) listed
+          → Waits len m now ks ds cks listed′ times′ (n + 1) (i - 1)
+      waits-expired at d b p q =
+          let room : n < length times = omega (arith, inv .inside, inv .full) in
+          record {
+            inside = omega (arith, inv .inside);
+            full = put-in-length n at (getD ds (i - 1) 0) times (boundary-inside (getD ds (i - 1) 0) n times b) room p ∙ inv .full;
+            behind = λ c w.
+                let room′ : m + n < length listed = omega (arith, room-behind (awaiting len m ks ds cks c) w n i (inv .inside) some-left, inv .behind c w .full) in
+                behind-expired (awaiting len m ks ds cks c .table) (table-whole w) now (omega (arith, inv .inside)) (from-next c w) at d b room room′ p q;
+          }
+
+    pub all-wait : i ≤ 0 → (c : Consumer) → Whole (awaiting len m ks ds cks c) → take (m + n) listed ≡ waitingAt (view (awaiting len m ks ds cks c)) now
+    all-wait h c w =
+        let e : i ≡ 0 = omega arith in
+        let t = awaiting len m ks ds cks c .table in
+        both-listed t m (sym (carried-length t (w .full) (w .sound .table))) n _ listed (rw e at (inv .behind c w .is))

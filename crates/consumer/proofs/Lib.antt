@@ -12,6 +12,7 @@ pub mod CallsReturns
 pub mod CallsClaim
 pub mod CallsToken
 pub mod CallsCommit
+pub mod Waiting
 pub mod Questions
 pub mod Asked
 pub mod WaitingHanded

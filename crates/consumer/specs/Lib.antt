@@ -3,6 +3,7 @@ pub mod Rights
 pub mod Standing
 pub mod Calls
 pub mod Waits
+pub mod Waiting
 pub mod Questions
 pub mod Valid
 pub mod View

@@ -10,21 +10,26 @@ use Rattle.types.specs.Keyed.{Entry, lookup}
 use Rattle.cursor.specs.Cursor.{settled}
 use Rattle.lease.specs.Operations.{leaseOf}
 use Rattle.lease.specs.Lookup.{leaseValues}
-use Rattle.lease.specs.Rest.{expiredOffsets, inFlight}
+use Rattle.lease.specs.Rest.{expired, inFlight}
 use Rattle.lease.specs.Counts.{allAttemptCounts}
 use Rattle.consumer.specs.State.{State, halfEnd, countOr0}
 use Rattle.consumer.specs.Calls.{atCeiling, atThreshold, callRows}
 use Rattle.consumer.specs.Rights.{looking}
 use Rattle.consumer.specs.Standing.{viewOf, viewValues}
+use Rattle.consumer.specs.Waiting.{expiredDeadlines, longestFirst}
 
 -- the keys of entries, in their order
 abbrev pub keysOf : List (Entry ℕ) → List ℕ
 keysOf [] = []
 keysOf (e ∷ l) = e .key ∷ keysOf l
 
--- carried offsets, and those whose lease's deadline has come
+-- the offsets that wait: those carried, and those whose lease's deadline has come
+abbrev pub waitingOffsets : State → ℕ → List ℕ
+waitingOffsets s now = keysOf (s .table .carried) ++ expired (s .table) now
+
+-- the same in 02's order: the carried ones by offset, as they are kept, and behind them the longest waiting first
 abbrev pub waitingAt : State → ℕ → List ℕ
-waitingAt s now = keysOf (s .table .carried) ++ expiredOffsets now (s .table .leases)
+waitingAt s now = keysOf (s .table .carried) ++ keysOf (longestFirst (expiredDeadlines now (s .table .leases)))
 
 -- the waiting list at a clock, into a list of so many places: 20
 abbrev pub waiting : State → ℕ → ℕ → Result (List ℕ)

@@ -460,7 +460,7 @@ pub fn count_in_place<'a>(
 }
 
 // The waiting list at a clock, into a lent list from its first place on: the carried offsets, then those whose lease's deadline has
-// come. 20 where they don't fit, and then nothing is changed.
+// come, by deadline and then by offset. 20 where they don't fit, and then nothing is changed.
 pub fn waiting_in_place<'a>(
     len: usize,
     carried_len: usize,

@@ -34,7 +34,7 @@ pub enum WaitingAnswer {
 
 impl Consumer {
     // The waiting list at a clock, into a lent list from its first place on: the carried offsets, then those whose lease's deadline
-    // has come. 20 where they don't fit. A refusal changes nothing.
+    // has come, by deadline and then by offset. 20 where they don't fit. A refusal changes nothing.
     pub fn waiting(self, worker: u64, now: u64, out: &mut [Offset]) -> WaitingAnswer
         requires { ⌜ Sound self ⌝ }
         ensures { λ r. ⌜ answer (waitingOf r) (numbersOf (out .exit .now)) ≡ guarded (callRows (view self) worker looking) (numbersOf (out .entry .now)) (listed (waitingAt (view self) now) (numbersOf (out .entry .now))) ⌝ }

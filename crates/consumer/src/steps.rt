@@ -36,7 +36,6 @@ use types::limits::LEASES;
 use types::limits::MAX;
 use types::limits::RANGES;
 use types::limits::WORKERS;
-use types::numbers::shorter;
 
 // Whether a claim is open, or what it is refused with.
 pub enum ClaimTest {
@@ -360,7 +359,9 @@ pub fn commit_test<'a, 'b>(
     }
 }
 
-// The waiting list in an array. The expired offsets behind the carried ones have room there, since each is of a lease.
+// The waiting list in an array: the carried offsets, then those of expired leases, the longest waiting first. Each lease is put in at
+// the place of its deadline. The last lease comes first, so that of equal deadlines the lower offset stands in front. There is room for
+// all, since leases and carried offsets are at most 128 together.
 pub fn waiting_list<'a>(
     len: usize,
     carried_len: usize,
@@ -372,18 +373,23 @@ pub fn waiting_list<'a>(
     requires { ⌜ (len ≤ LEASES) × («carried_len» ≤ CARRIED) ⌝ }
     ensures { λ r. ⌜ WaitsIn r (awaiting len «carried_len» (offsets .entry .now) (deadlines .entry .now) («carried_offsets» .entry .now)) now ⌝ }
 {
-    let expired = lease::in_place::expired_in_place(len, now, offsets, deadlines);
-    let more = expired.offsets;
-    let count = shorter(expired.len, CARRIED - carried_len);
     let mut listed = *carried_offsets;
-    let mut i: usize = 0;
-    while i < count {
-        listed[carried_len + i] = more[i];
-        i += 1;
+    let mut by_deadline = [0u64; LEASES];
+    let mut n: usize = 0;
+    let mut i = len;
+    while 0 < i {
+        i -= 1;
+        let deadline = deadlines[i];
+        if deadline <= now {
+            let at = tables::position(&by_deadline, n, deadline);
+            tables::insert_64(&mut by_deadline, n, at, deadline);
+            tables::insert_128(&mut listed, carried_len + n, carried_len + at, offsets[i]);
+            n += 1;
+        }
     }
     OffsetList {
         offsets: listed,
-        len: carried_len + count,
+        len: carried_len + n,
     }
 }
 

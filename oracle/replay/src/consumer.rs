@@ -291,12 +291,18 @@ impl Consumer {
         Ok(true)
     }
 
-    /// Refusals 38, 39. Carried offsets, then those whose deadline has come; 01 leaves the order free.
+    /// Refusals 38, 39. Carried offsets, by offset; then those whose deadline has come, by deadline, equal deadlines by offset (02, m).
     pub fn waiting(&self, worker: u64, now: u64) -> Result<Vec<u64>, Code> {
         self.settings.rights.ask(worker, Operation::Look)?;
-        let mut offsets: Vec<u64> = self.table().carried.iter().map(|&(offset, _)| offset).collect();
-        offsets.extend(self.table.expired(now).into_iter().map(Offset::get));
-        Ok(offsets)
+        let table = self.table();
+        let mut carried: Vec<u64> = table.carried.iter().map(|&(offset, _)| offset).collect();
+        carried.sort();
+        let come = self.table.expired(now);
+        let mut leases = table.leases;
+        leases.retain(|lease| come.contains(&Offset::new(lease.offset)));
+        leases.sort_by_key(|lease| (lease.deadline, lease.offset));
+        carried.extend(leases.iter().map(|lease| lease.offset));
+        Ok(carried)
     }
 
     /// Refusals 38, 39, 31. The counts are stored in version 2 (02, j). Where the half in use has no room for the group, the other

@@ -13,6 +13,7 @@ pub mod rights;
 pub mod scenes;
 pub mod versions;
 pub mod views;
+pub mod waiting;
 pub mod wear;
 pub mod workers;
 

@@ -190,6 +190,8 @@ pub fn full(maker: &mut Maker) {
             maker.say(format!("claim {} {now}", base + i));
         }
         maker.say("state");
+        let now = 10 + maker.random.below(3);
+        maker.say(format!("waiting {now}"));
         for _ in 0..6 {
             maker.any_call();
         }

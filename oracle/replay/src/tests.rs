@@ -12,11 +12,12 @@ use std::collections::{BTreeMap, BTreeSet};
 use std::sync::OnceLock;
 
 mod nacks;
+mod waiting;
 
 /// The scripts that `oracle/run compare` uses, made once for all tests.
 fn scripts() -> &'static [Vec<Vec<u8>>] {
     static MADE: OnceLock<Vec<Vec<Vec<u8>>>> = OnceLock::new();
-    MADE.get_or_init(|| (1..=80).map(|seed| script(seed, 2_000)).collect())
+    MADE.get_or_init(|| (1..=100).map(|seed| script(seed, 2_000)).collect())
 }
 
 /// Runs lines written as `LINE => ANSWER`; several steps of a checkpoint are written `checkpoint => BLOCK,..`.

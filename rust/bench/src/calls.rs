@@ -158,6 +158,20 @@ fn deliveries<S: Side<Storage = Nowhere>>(leases: u64) -> [f64; 1] {
     [time]
 }
 
+/// The waiting list of 64 leases that have all run out, claimed at these clocks.
+fn waiting<S: Side<Storage = Nowhere>>(clock: fn(u64) -> u64) -> [f64; 1] {
+    let mut side = start::<S>();
+    for offset in 0..64 {
+        side.claim(offset, clock(offset));
+    }
+    let time = per_call(CALLS, TIMES, || {
+        for _ in 0..CALLS {
+            assert_eq!(side.waiting(black_box(u64::MAX)), 64);
+        }
+    });
+    [time]
+}
+
 /// A begin, and a step, of consumers with so many leases, until the first half of their journals is full.
 fn begin_and_step<S: Side<Storage = Nowhere>>(leases: u64) -> [f64; 2] {
     let mut sides: Vec<S> = (0..BEGUN).map(|_| start()).collect();
@@ -260,6 +274,24 @@ fn questions() {
     }
 }
 
+fn waiting_lists() {
+    let clocks: [(&str, fn(u64) -> u64); 3] = [
+        ("rising", |offset| offset),
+        ("falling", |offset| 63 - offset),
+        ("equal", |_| 0),
+    ];
+    for (deadlines, clock) in clocks {
+        lines(
+            [&format!(
+                "waiting, 64 leases run out, deadlines {deadlines}"
+            )],
+            ROUNDS,
+            || waiting::<Theirs>(clock),
+            || waiting::<Ours>(clock),
+        );
+    }
+}
+
 fn checkpoints() {
     for leases in [1, 50] {
         let blocks = blocks_of(leases);
@@ -281,5 +313,6 @@ pub fn table() {
     under_a_token();
     commits();
     questions();
+    waiting_lists();
     checkpoints();
 }

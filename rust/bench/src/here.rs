@@ -1,5 +1,6 @@
 //! A consumer of this crate.
 
+use std::hint::black_box;
 use std::ops::{ControlFlow, Range};
 
 use ironbus_delivery_state::{
@@ -85,12 +86,19 @@ impl<S: Storage> Side for Here<S> {
         (lease.generation.get() == token.generation).then_some(lease.deliveries)
     }
 
+    fn waiting(&mut self, now: u64) -> usize {
+        let mut list = [Offset::ZERO; 128];
+        let n = self.0.waiting(WORKER, now, &mut list).unwrap();
+        black_box(list);
+        n
+    }
+
     fn committed(&mut self) -> u64 {
         self.0.committed(WORKER).unwrap().get()
     }
 
     fn held(&mut self) -> (usize, usize) {
-        let waiting = self.0.waiting(WORKER, 0, &mut [Offset::ZERO; 128]).unwrap();
+        let waiting = self.waiting(0);
         (self.0.in_flight(WORKER).unwrap(), waiting)
     }
 

@@ -46,6 +46,8 @@ pub trait Side: Sized {
     fn is_settled(&mut self, offset: u64) -> bool;
     /// How often an offset was handed out, where the token has its lease.
     fn deliveries(&mut self, token: Token) -> Option<u32>;
+    /// How many offsets wait at a clock, once they are listed: by deadline here, by offset in the original.
+    fn waiting(&mut self, now: u64) -> usize;
     /// The offset below which all are settled.
     fn committed(&mut self) -> u64;
     /// How many leases and how many carried counts are held, where no lease has run out at 0.

@@ -1,5 +1,6 @@
 //! The original's lease table, cursor and delivery limits. It has no journal: its snapshots are laid out here in document 01's blocks.
 
+use std::hint::black_box;
 use std::ops::{ControlFlow, Range};
 
 use ironbus::attempt::encode_attempt_snapshot;
@@ -133,6 +134,10 @@ impl<S: Storage> Side for Box<Original<S>> {
 
     fn deliveries(&mut self, token: Token) -> Option<u32> {
         self.table.deliveries(&original(token))
+    }
+
+    fn waiting(&mut self, now: u64) -> usize {
+        black_box(self.table.expired(now)).len()
     }
 
     fn committed(&mut self) -> u64 {

@@ -90,7 +90,7 @@ fn scripts_have_nacks() {
     }
     for explicit in [false, true] {
         for to_cap in ["below", "at", "above"] {
-            assert!(met.get(&(explicit, (to_cap, false))) >= Some(&50), "{met:?}");
+            assert!(met.get(&(explicit, (to_cap, false))) >= Some(&30), "{met:?}");
             assert!(met.get(&(explicit, (to_cap, true))) >= Some(&10), "{met:?}");
         }
     }

@@ -1,99 +1,105 @@
--- `waiting_list` meets its contract. The loop's invariant: behind the carried offsets stand the first i expired ones.
+-- `waiting_list` meets its contract. The loop's invariant: the expired leases from place i on stand in order behind the carried offsets.
 -- Assumes nothing.
-use Prim.Native.Nat.{_+_, _-_, _≤_}
+use Prim.Native.Nat.{_+_, _≤_}
 use native.Mathlib.Omega.{arith}
-use mathlib.Core.Path.{_≡_, sym, ap, _∙_}
-use lib.ListN.{length}
-use lib.Seq.{length-take-le}
+use mathlib.Core.Path.{refl, sym}
 use borrow.Author.Needs.{needs}
-use Rattle.types.specs.Limits.{CARRIED}
-use Rattle.lease.proofs.Slots.{carried-length}
-use Rattle.consumer.specs.Parts.{awaiting}
-use Rattle.consumer.specs.View.{view}
-use Rattle.consumer.specs.declared.Consumer.{Consumer}
-use Rattle.consumer.proofs.CallsReturns.{table-whole}
-use Rattle.consumer.proofs.Asked.{both-listed, both-fit, Behind, behind, behind-more, both}
+use Rattle.types.specs.Limits.{LEASES}
+use Rattle.tables.proofs.Search.{boundary-inside}
+use Rattle.consumer.proofs.Asked.{Waits, waits-none, waits-running, waits-expired, all-wait}
 use Rattle.consumer.proofs.steps.waiting_list.Statement.{statement}
 use Rattle.consumer.proofs.steps.waiting_list.Tie as tie
 
--- the lengths of the arrays are asked for where they are known
 abbrev Inv-loop : tie.InvT-loop
-Inv-loop len carried-len now offsets deadlines carried-offsets more count listed₀ i₀ listed i =
-    length listed₀ ≡ CARRIED → length more ≡ CARRIED → Behind listed₀ more listed carried-len count i
+Inv-loop len carried-len now offsets deadlines carried-offsets listed₀ by-deadline₀ n₀ i₀ listed by-deadline n i =
+    Waits len carried-len now offsets deadlines carried-offsets listed by-deadline n i
 
 abbrev μ-loop : tie.MeasureT-loop
-μ-loop len carried-len now offsets deadlines carried-offsets more count listed₀ i₀ listed i = count - i
-
--- a consumer with the parts that the arguments are
-abbrev made : tie.Start Inv-loop μ-loop → Consumer → Consumer
-made s = awaiting (s .args .len) (s .args .carried-len) (s .args .offsets .now) (s .args .deadlines .now) (s .args .carried-offsets .now)
-
-expired-full : (e : tie.After-expired-in-place Inv-loop μ-loop) → length (e .expired-in-place .result .offsets) ≡ CARRIED
-expired-full e = search needs
-
--- both lists fit one array
-room : (h : tie.After-shorter Inv-loop μ-loop) → h .before .before .before .args .carried-len + h .shorter .result ≤ CARRIED
-room h = omega (arith, h .shorter .ensures, h .before .before .before .pre .1)
-
-expired-in-place-requires : tie.Need-expired-in-place-requires Inv-loop μ-loop
-expired-in-place-requires c κs = search needs
-
-sub-shorter : tie.Need-sub-shorter Inv-loop μ-loop
-sub-shorter c = search needs
-
-shorter-requires : tie.Need-shorter-requires Inv-loop μ-loop
-shorter-requires c κs = search needs
+μ-loop len carried-len now offsets deadlines carried-offsets listed₀ by-deadline₀ n₀ i₀ listed by-deadline n i = i
 
 loop-holds : tie.Need-loop-holds Inv-loop μ-loop
-loop-holds c p q = behind _ _ _ _
+loop-holds c =
+    let s = c .before in
+    waits-none (s .args .len) (s .args .carried-len) (s .args .now) (s .args .offsets .now) (s .args .deadlines .now) (s .args .carried-offsets .now) _ refl
 
-mul-listed : tie.Need-mul-listed Inv-loop μ-loop
-mul-listed c = omega (arith, room (c .before .before .before), c .loop-test .taken)
+few : (a : tie.At-loop Inv-loop μ-loop) → a .loop .n + a .loop .i ≤ LEASES
+few a = omega (arith, a .loop .inv .inside, a .before .before .pre .0)
 
-array-read-listed : tie.Need-array-read-listed Inv-loop μ-loop
-array-read-listed c = omega (arith, room (c .before .before .before), c .loop-test .taken)
+sub-i : tie.Need-sub-i Inv-loop μ-loop
+sub-i c = c .loop-test .taken
 
-add-listed : tie.Need-add-listed Inv-loop μ-loop
-add-listed c = omega (arith, room (c .before .before .before), c .loop-test .taken)
+mul-deadline : tie.Need-mul-deadline Inv-loop μ-loop
+mul-deadline c = omega (arith, few (c .before))
 
-mul-listed-2 : tie.Need-mul-listed-2 Inv-loop μ-loop
-mul-listed-2 c = omega (arith, room (c .before .before .before), c .loop-test .taken)
+element-copy-out-deadline : tie.Need-element-copy-out-deadline Inv-loop μ-loop
+element-copy-out-deadline c = omega (arith, few (c .before), c .loop-test .taken)
 
-array-write-listed : tie.Need-array-write-listed Inv-loop μ-loop
-array-write-listed c = omega (arith, room (c .before .before .before), c .loop-test .taken)
+slice-aggregate-position : tie.Need-slice-aggregate-position Inv-loop μ-loop
+slice-aggregate-position c = sym (c .before .before .before .before .loop .inv .full)
 
-add-i : tie.Need-add-i Inv-loop μ-loop
-add-i c = omega (arith, room (c .before .before .before), c .loop-test .taken)
+position-requires : tie.Need-position-requires Inv-loop μ-loop
+position-requires c κs = search needs
+
+insert-64-requires : tie.Need-insert-64-requires Inv-loop μ-loop
+insert-64-requires c κs = search needs
+
+-- where the one that is expired comes in, and the loop's state
+abbrev placed : tie.After-listed2 Inv-loop μ-loop → tie.After-position Inv-loop μ-loop
+placed c = c .before .before .before
+
+abbrev tested : tie.After-position Inv-loop μ-loop → tie.In-loop Inv-loop μ-loop
+tested c = c .before .before .before .before
+
+add-insert-128 : tie.Need-add-insert-128 Inv-loop μ-loop
+add-insert-128 c = let a = tested (placed c) .before in omega (arith, few a, a .before .before .pre .1)
+
+add-insert-128-2 : tie.Need-add-insert-128-2 Inv-loop μ-loop
+add-insert-128-2 c =
+    let a = tested (placed c) .before in
+    omega (arith, few a, a .before .before .pre .1, boundary-inside _ (a .loop .n) (a .loop .by-deadline) (placed c .position .ensures))
+
+mul-insert-128 : tie.Need-mul-insert-128 Inv-loop μ-loop
+mul-insert-128 c = omega (arith, few (tested (placed c) .before))
+
+element-copy-out-insert-128 : tie.Need-element-copy-out-insert-128 Inv-loop μ-loop
+element-copy-out-insert-128 c = omega (arith, few (tested (placed c) .before), tested (placed c) .loop-test .taken)
+
+insert-128-requires : tie.Need-insert-128-requires Inv-loop μ-loop
+insert-128-requires c κs = search needs
+
+add-n : tie.Need-add-n Inv-loop μ-loop
+add-n c = omega (arith, few (tested (placed (c .before .before)) .before))
 
 loop-less : tie.Need-loop-less Inv-loop μ-loop
-loop-less c = omega (arith, c .loop-test .taken)
+loop-less c = omega (arith, tested (placed (c .before .before)) .loop-test .taken)
 
 loop-again : tie.Need-loop-again Inv-loop μ-loop
-loop-again c p q =
-    let l = c .before in
-    let r = room (l .before .before) in
-    behind-more _ _ _ _ (c .loop-test .taken) (omega (arith, r, q)) (omega (arith, r, p)) (l .loop .inv p q)
+loop-again c =
+    let f = placed (c .before .before) in
+    let a = tested f .before in
+    let s = a .before .before in
+    waits-expired (s .args .len) (s .args .carried-len) (s .args .now) (s .args .offsets .now) (s .args .deadlines .now) (s .args .carried-offsets .now)
+    (a .loop .inv) (s .pre .0) (tested f .loop-test .taken) (f .position .result) (f .before .before .if1 .taken) (f .position .ensures)
+    (c .before .before .before .insert-64 .ensures) (c .insert-128 .ensures)
 
-add-t12 : tie.Need-add-t12 Inv-loop μ-loop
-add-t12 c = omega (arith, room (c .before .before .before))
+loop-less-2 : tie.Need-loop-less-2 Inv-loop μ-loop
+loop-less-2 c = omega (arith, c .before .before .loop-test .taken)
+
+loop-again-2 : tie.Need-loop-again-2 Inv-loop μ-loop
+loop-again-2 c =
+    let a = c .before .before .before in
+    let s = a .before .before in
+    waits-running (s .args .len) (s .args .carried-len) (s .args .now) (s .args .offsets .now) (s .args .deadlines .now) (s .args .carried-offsets .now)
+    (a .loop .inv) (s .pre .0) (c .before .before .loop-test .taken) (c .if1 .left)
+
+add-t30 : tie.Need-add-t30 Inv-loop μ-loop
+add-t30 c = omega (arith, few (c .before), c .before .before .before .pre .1)
 
 returns : tie.Need-returns Inv-loop μ-loop
-returns c x w =
-    let l = c .before in
-    let h = l .before .before in
-    let e = h .before .before in
-    let s = e .before in
-    let t = made s x .table in
-    let n = s .args .carried-len in
-    let m = e .expired-in-place .result .len in
-    let lists = e .expired-in-place .ensures t (table-whole w) in
-    let size : n ≡ length (view (made s x) .table .carried) = sym (carried-length t (w .full) (w .sound .table)) in
-    let few : length (e .expired-in-place .result .offsets) ≡ CARRIED = expired-full e in
-    let long = length-take-le m (e .expired-in-place .result .offsets) (omega (arith, few, lists .few)) in
-    let fit : n + m ≤ CARRIED = both-fit (view (made s x)) (w .sound .valid) (s .args .now) n m size (sym long ∙ ap length (lists .is)) in
-    let all : h .shorter .result ≡ m = omega (arith, h .shorter .ensures, fit) in
-    both-listed t n size m (h .shorter .result) (e .expired-in-place .result .offsets) _ _ all (lists .is)
-    (both _ _ _ _ (c .loop-test .left) (l .loop .inv (w .full .carried-offsets) few))
+returns c =
+    let s = c .before .before .before in
+    all-wait (s .args .len) (s .args .carried-len) (s .args .now) (s .args .offsets .now) (s .args .deadlines .now) (s .args .carried-offsets .now)
+    (c .before .loop .inv) (c .loop-test .left)
 
 pub waiting-list-spec : {M : Type 1} → statement M
 waiting-list-spec =
@@ -101,17 +107,22 @@ waiting-list-spec =
     (tie.spec
     Inv-loop
     μ-loop
-    expired-in-place-requires
-    sub-shorter
-    shorter-requires
     loop-holds
-    mul-listed
-    array-read-listed
-    add-listed
-    mul-listed-2
-    array-write-listed
-    add-i
+    sub-i
+    mul-deadline
+    element-copy-out-deadline
+    slice-aggregate-position
+    position-requires
+    insert-64-requires
+    add-insert-128
+    add-insert-128-2
+    mul-insert-128
+    element-copy-out-insert-128
+    insert-128-requires
+    add-n
     loop-less
     loop-again
-    add-t12
+    loop-less-2
+    loop-again-2
+    add-t30
     returns)
