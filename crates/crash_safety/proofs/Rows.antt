@@ -1,28 +1,30 @@
 -- No call is answered 30: the refusals of every table are another's, on whatever state, record and area. Assumes nothing.
 use Prim.Native.Nat.{ℕ, zero, suc}
-use mathlib.Core.Path.{_≡_, refl, sym, _∙_}
+use mathlib.Core.Path.{_≡_, refl, sym}
 use mathlib.Core.Bool.{Bool, true, false, cond, true≢false}
 use mathlib.Core.List.{List, [], _∷_, _++_}
-use mathlib.Core.Option.{Option, none, some, Option·none-ne-some}
-use lib.Dec.{eqb, leb}
-use lib.ListN.{length}
+use mathlib.Core.Option.{Option, none, some}
+use lib.Dec.{eqb, ltb, leb}
+use lib.ListN.{length, take, drop}
 use borrow.Author.Tests.{eqb-false}
-use Rattle.types.specs.Refusal.{Refusal, Result, refused, done, numbered}
-use Rattle.types.specs.Table.{Row, first, unless, checked, Answer, unlessKept, guarded}
+use Rattle.types.specs.Refusal.{Refusal, Result, refused, done, OutTooShort, numbered}
+use Rattle.types.specs.Table.{Row, _⇒_, first, unless, checked, Answer, unlessKept, guarded}
 use Rattle.types.specs.Keyed.{Entry}
 use Rattle.types.proofs.Cases.{split}
-use Rattle.cursor.specs.Ranges.{Range}
-use Rattle.cursor.specs.Cursor.{rangesTable}
+use Rattle.cursor.specs.declared.Range.{Range}
+use Rattle.cursor.specs.Cursor.{Cursor, rangesTable}
 use Rattle.cursor.specs.Snapshot as cursors
 use Rattle.cursor.specs.Snapshot.{decodeCursor}
 use Rattle.attempt.specs.Snapshot as attempts
 use Rattle.attempt.specs.Snapshot.{orderAfter, decodeAttempts}
-use Rattle.journal.specs.Walks.{Found, nothing, unsound, group, after, Stop, stop, groupAt, walkOver, walkFrom}
+use Rattle.journal.specs.Area.{blockAt}
+use Rattle.journal.specs.Blocks.{cursorLength, attemptLength, ceilingOf}
+use Rattle.journal.specs.Walks.{Found, nothing, unsound, group, after, Stop, stop, groupAt, walkOver, walkFrom, payload}
 use Rattle.consumer.specs.State.{Configuration, State, NextGroup}
 use Rattle.consumer.specs.Rights.{committing, looking}
 use Rattle.consumer.specs.Calls as consumer
 use Rattle.consumer.specs.Calls.{callRows, claimTable, ackTable, nackTable, progressTable}
-use Rattle.consumer.specs.Questions.{Question, Waiting, Committed, IsSettled, LeaseOf, CountOf, InFlight, IsDue, BlocksLeft, ViewOf, reply}
+use Rattle.consumer.specs.Questions.{Question, Waiting, Committed, IsSettled, LeaseOf, CountOf, InFlight, IsDue, BlocksLeft, ViewOf, waitingAt, reply}
 use Rattle.checkpoint.specs.Checkpoint as checkpoint
 use Rattle.checkpoint.specs.Checkpoint.{Writing, beginTable, stepTable}
 use Rattle.starts.specs.Restart as restarts
@@ -103,7 +105,7 @@ module _ (s : State) (w : ℕ) where
       (split (leb bound (s .cursor .committed)) (λ e. rw e tt) (λ e. rw e tt))
 
   reply-not : (q : Question) → Other (reply s w q)
-  reply-not (Waiting now room) = checked-not _ _ refl tt
+  reply-not (Waiting now room) = checked-not (ltb room (length (waitingAt s now)) ⇒ OutTooShort ∷ []) (done (waitingAt s now)) refl tt
   reply-not Committed = tt
   reply-not (IsSettled o) = tt
   reply-not (LeaseOf o) = tt
@@ -172,23 +174,23 @@ attempts-not : (b : List ℕ) → Other (decodeAttempts b)
 unfolding decodeAttempts
 attempts-not b = checked-not (attempts.decodeTable b) _ (pairs-without (attempts.pairsIn b)) tt
 
+found-not : (f : Found) (here : Result Stop) (on : ℕ → Result Stop) → Other here → ((e : ℕ) → Other (on e)) → Other (after f here on)
+found-not nothing here on h k = h
+found-not (unsound j) here on h k = eqb-false 5 30 refl
+found-not (group e) here on h k = k e
+
 module _ (a : List ℕ) where
   walked-not : (m hi : ℕ) (last : Option ℕ) (k i : ℕ) → Other (walkOver m a hi last k i)
   unfolding walkOver
   walked-not zero hi last k i = tt
-  walked-not (suc m) hi last k i = go (groupAt a hi k i)
-    where
-      go : (f : Found) → Other (after f (stop last k i) (λ e. walkOver m a hi (some i) (suc k) e))
-      go nothing = tt
-      go (unsound j) = eqb-false 5 30 refl
-      go (group e) = walked-not m hi (some i) (suc k) e
+  walked-not (suc m) hi last k i = found-not (groupAt a hi k i) (stop last k i) _ tt (λ e. walked-not m hi (some i) (suc k) e)
 
   walk-not : Other (walkOf a)
   unfolding walkFrom
   walk-not = walked-not _ _ none _ _
 
   module _ (c : Configuration) where
-    snapshots-not : (size ceiling : ℕ) (n : NextGroup) (x : Result _) (y : Result (List (Entry ℕ))) → Other x → Other y
+    snapshots-not : (size ceiling : ℕ) (n : NextGroup) (x : Result Cursor) (y : Result (List (Entry ℕ))) → Other x → Other y
         → Other (fromSnapshots c size x y ceiling n)
     snapshots-not size ceiling n (refused r) y h k = h
     snapshots-not size ceiling n (done x) (refused r) h k = k
@@ -196,7 +198,10 @@ module _ (a : List ℕ) where
 
     last-not : (last : Option ℕ) (n : NextGroup) → Other (lastGroup c a last n)
     last-not none n = tt
-    last-not (some i) n = snapshots-not _ _ n _ _ (cursor-not _) (attempts-not _)
+    last-not (some i) n =
+        let first : List ℕ = take (cursorLength (blockAt a i)) (payload a i) in
+        let second : List ℕ = take (attemptLength (blockAt a i)) (drop (cursorLength (blockAt a i)) (payload a i)) in
+        snapshots-not (length a) (ceilingOf (blockAt a i)) n (decodeCursor first) (decodeAttempts second) (cursor-not first) (attempts-not second)
 
     from-not : (x : Result Stop) → Other x → Other (fromWalk c a x)
     unfolding fromWalk
