@@ -332,12 +332,7 @@ pub enum CommitTest {
 }
 
 // What a commit answers before it takes effect: 38, 39, Unchanged where the bound is not above committed.
-pub fn commit_test(
-    committed: u64,
-    worker: u64,
-    bound: u64,
-    rights: &[u8; WORKERS],
-) -> CommitTest
+pub fn commit_test(committed: u64, worker: u64, bound: u64, rights: &[u8; WORKERS]) -> CommitTest
     ensures { λ r. ⌜ DecidesIn r (deciding (rights .entry .now) committed) worker bound ⌝ }
 {
     let permission = rights::permission_of(rights, worker, COMMIT);
