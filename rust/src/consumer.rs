@@ -186,10 +186,12 @@ impl<S> Consumer<S> {
             .progress(worker, token.offset.get(), token.generation.get(), now)
     }
 
-    /// Settles every offset below a bound and drops their counts; `false` where that was so before.
+    /// Settles every offset below a bound, held or not, and drops their leases and counts; `false` where that was so before. Whoever held
+    /// one of them is refused (24) from then on. A restart that goes back to a checkpoint from before finds them open again, with the
+    /// counts of that checkpoint.
     ///
     /// # Errors
-    /// Refusals 38, 39 and 30.
+    /// Refusals 38 and 39.
     pub fn commit(&mut self, worker: WorkerId, up_to: Offset) -> Result<bool, Refusal> {
         let mut reply = Numbers::default();
         self.machine

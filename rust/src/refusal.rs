@@ -111,7 +111,7 @@ pub enum Refusal {
     CapReached,
     /// 29: there is no room for another range of settled offsets. The lease stays, and runs out.
     Shed,
-    /// 30: an offset below the bound is in flight.
+    /// 30, which no call is answered any more: a commit settles what is in flight too.
     Held,
     /// 31: the numbers of groups are used up: the last is 4294967295. It is never met for want of blocks.
     JournalFull,

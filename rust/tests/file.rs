@@ -175,7 +175,6 @@ fn calls_give_01s_answers() {
         consumer.progress(WORKER, token, 125),
         Err(Refusal::CapReached)
     );
-    assert_eq!(consumer.commit(WORKER, Offset::new(4)), Err(Refusal::Held));
     assert_eq!(consumer.commit(WORKER, Offset::new(3)), Ok(true));
     assert_eq!(consumer.commit(WORKER, Offset::new(3)), Ok(false));
     assert_eq!(
@@ -269,6 +268,44 @@ fn a_full_waiting_list_is_in_order() {
         assert!(list.into_iter().eq(expected), "turn {turn}");
         consumer = consumer.checkpoint(WORKER).unwrap();
     }
+}
+
+#[test]
+fn a_batch_is_closed_though_a_job_of_it_is_held() {
+    let path = fresh_path("superseded");
+    let configuration = configuration(5, 9, 10, 25);
+    let job = Offset::new(2);
+    let consumer = Consumer::start(&configuration, NewJournal::create(&path, 18).unwrap()).unwrap();
+    let mut consumer = consumer.checkpoint(WORKER).unwrap();
+    let held = consumer.claim(WORKER, job, 0).unwrap().token();
+    let other = consumer.claim(WORKER, Offset::new(3), 0).unwrap().token();
+    let mut consumer = consumer.checkpoint(WORKER).unwrap();
+    assert_eq!(consumer.commit(WORKER, Offset::new(3)), Ok(true));
+    assert_eq!(consumer.commit(WORKER, Offset::new(3)), Ok(false));
+    // Its holder comes too late; the job at the bound goes on.
+    assert_eq!(consumer.ack(WORKER, held), Err(Refusal::Fenced));
+    assert_eq!(consumer.term(WORKER, held), Err(Refusal::Fenced));
+    assert_eq!(consumer.nack(WORKER, held, 1, None), Err(Refusal::Fenced));
+    assert_eq!(consumer.progress(WORKER, held, 1), Err(Refusal::Fenced));
+    assert_eq!(consumer.progress(WORKER, other, 1), Ok(11));
+    assert_eq!(consumer.is_settled(WORKER, job), Ok(true));
+    assert_eq!(consumer.count_of(WORKER, job), Ok(0));
+    assert_eq!(consumer.in_flight(WORKER), Ok(1));
+    // A restart goes back to the checkpoint before: the job is open with its count, and the token is fenced still.
+    drop(consumer);
+    let mut consumer = restart(&path, &configuration);
+    assert_eq!(consumer.is_settled(WORKER, job), Ok(false));
+    assert_eq!(consumer.count_of(WORKER, job), Ok(1));
+    assert_eq!(consumer.ack(WORKER, held), Err(Refusal::Fenced));
+    // With a checkpoint behind it the commit stays.
+    assert_eq!(consumer.commit(WORKER, Offset::new(3)), Ok(true));
+    drop(consumer.checkpoint(WORKER).unwrap());
+    let mut consumer = restart(&path, &configuration);
+    assert_eq!(consumer.committed(WORKER), Ok(Offset::new(3)));
+    assert_eq!(
+        consumer.all_attempt_counts(WORKER),
+        Ok(vec![(Offset::new(3), 1)])
+    );
 }
 
 #[test]

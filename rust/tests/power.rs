@@ -22,7 +22,7 @@ struct Run {
     cuts: u64,
     now: u64,
     tokens: Vec<LeaseToken>,
-    /// Tokens from before a restart: refused ever after.
+    /// Tokens from before a restart, or of jobs that a commit closed: refused ever after.
     stale: Vec<LeaseToken>,
     refused: u64,
 }
@@ -123,7 +123,7 @@ impl Run {
             assert_eq!(
                 result,
                 Err(Refusal::Fenced),
-                "a token from before a restart"
+                "a token from before a restart or a commit"
             );
         }
         self.refused += u64::from(result.is_err());
@@ -131,10 +131,17 @@ impl Run {
 
     fn commit(&mut self, consumer: &mut Consumer<Cuttable>) {
         let bound = self.random.below(6);
-        match consumer.commit(WORKER, Offset::new(bound)) {
-            Ok(_) => self.book.committed(bound),
-            Err(refusal) => assert_eq!(refusal, Refusal::Held),
-        }
+        consumer
+            .commit(WORKER, Offset::new(bound))
+            .expect("no commit is refused to who may");
+        self.book.committed(bound);
+        // Whoever holds a job below the bound comes too late from now on.
+        let tokens = std::mem::take(&mut self.tokens);
+        let (late, kept): (Vec<_>, Vec<_>) = tokens
+            .into_iter()
+            .partition(|token| token.offset.get() < bound);
+        self.stale.extend(late);
+        self.tokens = kept;
     }
 
     /// One call of the list.

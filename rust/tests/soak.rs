@@ -16,8 +16,7 @@ use std::time::Duration;
 
 use common::{configuration, fresh_path, Book, Cut, Cuttable, Power, Random, WORKER};
 use ironbus_delivery_state::{
-    Configuration, Consumer, Generation, HandOut, Journal, LeaseToken, NewJournal, Offset, Refusal,
-    Storage,
+    Configuration, Consumer, Generation, HandOut, Journal, LeaseToken, NewJournal, Offset, Storage,
 };
 
 fn settings() -> Configuration {
@@ -70,10 +69,10 @@ impl Caller {
             4..=6 => self.under_a_token(consumer, say),
             _ => {
                 let bound = base + self.random.below(3);
-                match consumer.commit(WORKER, Offset::new(bound)) {
-                    Ok(_) => say(Event::Committed(bound)),
-                    Err(refusal) => assert_eq!(refusal, Refusal::Held),
-                }
+                consumer
+                    .commit(WORKER, Offset::new(bound))
+                    .expect("no commit is refused to who may");
+                say(Event::Committed(bound));
             }
         }
     }

@@ -126,7 +126,6 @@ pub fn of_commit(answer: CommitAnswer) -> Numbers
         CommitAnswer::Unchanged => Numbers(0, 1, 0, 0, 0, 0, 0),
         CommitAnswer::UnknownWorker => Numbers(38, 0, 0, 0, 0, 0, 0),
         CommitAnswer::NotPermitted => Numbers(39, 0, 0, 0, 0, 0, 0),
-        CommitAnswer::Held => Numbers(30, 0, 0, 0, 0, 0, 0),
     }
 }
 

@@ -1,5 +1,5 @@
--- Cases of the consumer's refusals: claim 21, 22, 23, 25, 26, 27; Ack and Term 24, 29; Nack 24, 25, 26; Progress 24, 28; Commit 30;
--- the waiting list 20, and its order.
+-- Cases of the consumer's refusals: claim 21, 22, 23, 25, 26, 27; Ack and Term 24, 29; Nack 24, 25, 26; Progress 24, 28; the waiting list
+-- 20, and its order; and commits over leases and counts.
 use Prim.Native.Nat.{ℕ, _-_}
 use mathlib.Core.Path.{_≡_, refl}
 use mathlib.Core.Bool.{true, false}
@@ -7,8 +7,9 @@ use mathlib.Core.List.{List, [], _∷_}
 use mathlib.Core.Option.{none, some}
 use Rattle.types.specs.Limits.{MAX}
 use Rattle.types.specs.Refusal.{Result, refused, done, OutTooShort, LastOffset, Settled, InFlight, Fenced}
-use Rattle.types.specs.Refusal.{Exhausted, CheckpointDue, Full, CapReached, Shed, Held}
-use Rattle.cursor.specs.Cursor.{Cursor, cursor, ackBounded}
+use Rattle.types.specs.Refusal.{Exhausted, CheckpointDue, Full, CapReached, Shed}
+use Rattle.types.specs.Table.{answer}
+use Rattle.cursor.specs.Cursor.{Cursor, cursor, ackBounded, commitUpTo}
 use Rattle.cursor.specs.Ranges.{range}
 use Rattle.delivery.specs.Policy.{policy, Destination, Deliver}
 use Rattle.lease.specs.State.{Table}
@@ -262,23 +263,42 @@ unfolding progress extend
 progress-to-the-cap = refl
 
 -- ## Commit
--- 30 where a lease lies below the bound, be it expired or not; a lease at the bound is none below it
-pub commit-held : commit (with (tableOf (leasesFrom 1 6) [] 1 0)) 0 7 .outcome ≡ refused Held
-unfolding commit
-commit-held = refl
+-- offsets 6 and 7 are held, 9 and 10 carried
+abbrev busy : State
+busy = with (tableOf (leasesFrom 2 6) (countsFrom 2 9) 1 0)
 
-pub commit-up-to-a-lease : commit (with (tableOf (leasesFrom 1 6) [] 1 0)) 0 6 .outcome ≡ done true
-unfolding commit
+-- the lease below the bound goes, that at the bound stays; so do the counts, and next generation, counter and ceiling stay
+pub commit-over-a-lease : commit busy 0 7
+    ≡ answer (done true) (consumer (cursor 7 (range 8 9 ∷ [])) (tableOf (leasesFrom 1 7) (countsFrom 2 9) 1 0) 4096)
+unfolding commit commitUpTo
+commit-over-a-lease = refl
+
+pub commit-over-a-count : commit busy 0 10 ≡ answer (done true) (consumer (cursor 10 []) (tableOf [] (countsFrom 1 10) 1 0) 4096)
+unfolding commit commitUpTo
+commit-over-a-count = refl
+
+pub commit-up-to-a-lease : commit busy 0 6
+    ≡ answer (done true) (consumer (cursor 6 (range 8 9 ∷ [])) (tableOf (leasesFrom 2 6) (countsFrom 2 9) 1 0) 4096)
+unfolding commit commitUpTo
 commit-up-to-a-lease = refl
 
--- Unchanged at committed and below; it comes before 30, on a state that no call makes: the settled offset 2 is held
-pub commit-unchanged : commit (with (held 1 0)) 0 5 .outcome ≡ done false
+-- then the lease's token is fenced, and its offset settled
+pub ack-after-the-commit : ack (commit busy 0 7 .state) 0 6 0 .outcome ≡ refused Fenced
+unfolding commit commitUpTo ack
+ack-after-the-commit = refl
+
+pub claim-after-the-commit : claim (commit busy 0 7 .state) 0 6 110 .outcome ≡ refused Settled
+unfolding commit commitUpTo claim
+claim-after-the-commit = refl
+
+-- Unchanged at committed and below: nothing changes, on a state that no call makes, where the settled offset 2 is held, neither
+pub commit-unchanged : commit (with (held 1 0)) 0 5 ≡ answer (done false) (with (held 1 0))
 unfolding commit
 commit-unchanged = refl
 
-pub commit-unchanged-before-held : commit (with (tableOf (leasesFrom 1 2) [] 1 0)) 0 4 .outcome ≡ done false
+pub commit-unchanged-over-a-lease : commit (with (tableOf (leasesFrom 1 2) [] 1 0)) 0 4 ≡ answer (done false) (with (tableOf (leasesFrom 1 2) [] 1 0))
 unfolding commit
-commit-unchanged-before-held = refl
+commit-unchanged-over-a-lease = refl
 
 -- ## the waiting list
 -- 20 with a place less than there are; the carried offsets wait, and the leases that are expired

@@ -60,7 +60,7 @@ unfolding claim
 claim-by-a-ninth = refl
 
 -- ## 39
--- before anything else that a call could be answered or refused: 21, 24, 30 and Unchanged, 31, 20
+-- before anything else that a call could be answered or refused: 21, 24, a commit and Unchanged, 31, 20
 pub claim-not-permitted-before-last-offset : claim (with (held 1 0)) 2 MAX 100 .outcome ≡ refused NotPermitted
 unfolding claim
 claim-not-permitted-before-last-offset = refl
@@ -77,9 +77,9 @@ pub progress-not-permitted-before-fenced : progress (with (held 1 0)) 2 5 1 125 
 unfolding progress extend
 progress-not-permitted-before-fenced = refl
 
-pub commit-not-permitted-before-held : commit (with (tableOf (leasesFrom 1 6) [] 1 0)) 2 7 .outcome ≡ refused NotPermitted
+pub commit-not-permitted-over-a-lease : commit (with (tableOf (leasesFrom 1 6) [] 1 0)) 2 7 .outcome ≡ refused NotPermitted
 unfolding commit
-commit-not-permitted-before-held = refl
+commit-not-permitted-over-a-lease = refl
 
 pub commit-not-permitted-before-unchanged : commit (with (held 1 0)) 2 5 .outcome ≡ refused NotPermitted
 unfolding commit

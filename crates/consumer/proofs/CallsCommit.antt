@@ -1,4 +1,4 @@
--- What a commit owes its contract: 38, 39, Unchanged, then 30, and after these what the cursor and the table do.
+-- What a commit owes its contract: 38, 39, Unchanged, and after these what the cursor and the table do.
 -- Assumes nothing.
 use Prim.Native.Nat.{ℕ, _≤_, _<_}
 use mathlib.Core.Path.{_≡_, refl, sym, ap, _∙_}
@@ -6,10 +6,9 @@ use mathlib.Core.Bool.{Bool, true, false}
 use mathlib.Core.Option.{none, some}
 use borrow.Author.Tests.{le-leb, lt-leb}
 use Rattle.types.specs.Limits.{MAX}
-use Rattle.types.specs.Refusal.{Refusal, Result, refused, done, Held}
+use Rattle.types.specs.Refusal.{Refusal, Result, refused, done}
 use Rattle.types.specs.Table.{first, Answer, answer, guarded}
 use Rattle.types.proofs.Table.{guarded-passed, guarded-refused, first-none}
-use Rattle.types.specs.Keyed.{anyBelow}
 use Rattle.cursor.specs.Cursor.{Cursor, commitUpTo}
 use Rattle.cursor.specs.Answers as cursor
 use Rattle.cursor.specs.declared.AckCursor.{AckCursor}
@@ -40,14 +39,9 @@ module _ (s : State) (w bound : ℕ) where
     unfolding commit
     is-unchanged h = rw (in-front _, le-leb bound (s .cursor .committed) h)
 
-    module _ (above : s .cursor .committed < bound) where
-      pub is-held : anyBelow bound (s .table .leases) ≡ true → answer (refused Held) s ≡ commit s w bound
-      unfolding commit
-      is-held h = rw (in-front _, lt-leb bound (s .cursor .committed) above, h)
-
-      pub is-open : anyBelow bound (s .table .leases) ≡ false → answer (done true) (withCommitted s bound) ≡ commit s w bound
-      unfolding commit
-      is-open h = rw (in-front _, lt-leb bound (s .cursor .committed) above, h)
+    pub is-open : s .cursor .committed < bound → answer (done true) (withCommitted s bound) ≡ commit s w bound
+    unfolding commit
+    is-open h = rw (in-front _, lt-leb bound (s .cursor .committed) h)
 
 -- ## the answer
 -- whatever is answered, the very struct may be given back

@@ -11,7 +11,7 @@ use borrow.Author.Tests.{leb-true, leb-false, lt-leb, eqb-true, eqb-false, not-f
 use Rattle.types.specs.Limits.{MAX, LEASES, CARRIED, RANGES, WORKERS}
 use Rattle.types.specs.Refusal.{Refusal, refused, done, Fenced, ForeignToken}
 use Rattle.types.specs.Table.{Row, _⇒_, first, Passed, Answer, answer}
-use Rattle.types.specs.Keyed.{lookup, anyBelow}
+use Rattle.types.specs.Keyed.{lookup}
 use Rattle.types.proofs.Cases.{split, neither}
 use Rattle.types.proofs.Table.{first-met, first-none-before, passed-none, guarded-cases, passed-append, append-passed}
 use Rattle.cursor.specs.Cursor.{settled, ackBounded}
@@ -20,7 +20,7 @@ use Rattle.lease.specs.State.{Table}
 use Rattle.lease.specs.Operations.{leaseOf, isNone, running, owns, tokenRow, capFrom, startOf, extended}
 use Rattle.consumer.specs.State.{State}
 use Rattle.consumer.specs.Rights.{Operation, claiming, settling, nacking, extending, committing, bitOf, permits}
-use Rattle.consumer.specs.Calls.{callRows, heldBy, tokenRows, HandOut, handOut, atCeiling, atThreshold, isFull, claimRows, claimTable, claimed, claim, isShed, ackRows, ackTable, acked, ack, nackDeadline, nackRows, nackTable, nacked, nack, progressRows, progressTable, progressed, progress, commitTable, withCommitted, commit}
+use Rattle.consumer.specs.Calls.{callRows, heldBy, tokenRows, HandOut, handOut, atCeiling, atThreshold, isFull, claimRows, claimTable, claimed, claim, isShed, ackRows, ackTable, acked, ack, nackDeadline, nackRows, nackTable, nacked, nack, progressRows, progressTable, progressed, progress, withCommitted, commit}
 
 -- ## rows in front of every call
 -- the worker is one of the eight, and has the right
@@ -205,15 +205,13 @@ progress-cases s w o g now P refusal effect =
 pub record CommitOpen (s : State) (w bound : ℕ) : Type 0 where
   pub allowed : Allowed s w committing
   pub above : s .cursor .committed < bound
-  pub none-held : anyBelow bound (s .table .leases) ≡ false
 
 pub commit-open : (s : State) (w bound : ℕ) → Passed (callRows s w committing) → leb bound (s .cursor .committed) ≡ false
-    → Passed (commitTable s bound) → CommitOpen s w bound
-commit-open s w bound front e p =
+    → CommitOpen s w bound
+commit-open s w bound front e =
     record {
       allowed = call-open s w committing front;
       above = leb-false bound (s .cursor .committed) e;
-      none-held = p .0;
     }
 
 pub commit-cases : (s : State) (w bound : ℕ) (P : Answer Bool State → Type 0)
@@ -227,4 +225,4 @@ commit-cases s w bound P refusal unchanged effect =
     (λ front.
     split (leb bound (s .cursor .committed))
     (λ e. rw e (unchanged (call-open s w committing front) (leb-true bound (s .cursor .committed) e)))
-    (λ e. rw e (guarded-cases (commitTable s bound) s _ P (λ r q. refusal r) (λ p. effect (commit-open s w bound front e p)))))
+    (λ e. rw e (effect (commit-open s w bound front e))))

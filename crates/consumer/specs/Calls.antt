@@ -7,9 +7,9 @@ use mathlib.Core.Option.{Option, none, some}
 use lib.Dec.{leb, eqb}
 use lib.ListN.{length}
 use Rattle.types.specs.Limits.{MAX, LEASES, CARRIED, RANGES, sat64}
-use Rattle.types.specs.Refusal.{Result, refused, done, LastOffset, Settled, InFlight, Exhausted, CheckpointDue, Full, CapReached, Shed, Held, ForeignToken}
+use Rattle.types.specs.Refusal.{Result, refused, done, LastOffset, Settled, InFlight, Exhausted, CheckpointDue, Full, CapReached, Shed, ForeignToken}
 use Rattle.types.specs.Table.{Row, _⇒_, Answer, answer, guarded}
-use Rattle.types.specs.Keyed.{lookup, update, delete, anyBelow}
+use Rattle.types.specs.Keyed.{lookup, update, delete}
 use Rattle.cursor.specs.Cursor.{settled, ackBounded, commitUpTo}
 use Rattle.delivery.specs.Policy.{Destination, disposition, effectiveNackDelay}
 use Rattle.lease.specs.State.{Table, withLeases}
@@ -158,17 +158,12 @@ progress s w o g now =
     (answer (done (extended (s .table) o now)) (progressed s o (extended (s .table) o now)))
 
 -- ## commit
--- 30
-abbrev pub commitTable : State → ℕ → List Row
-commitTable s bound = anyBelow bound (s .table .leases) ⇒ Held ∷ []
-
--- everything below the bound is settled, and no count stays there
+-- everything below the bound is settled, and no lease and no count stays there
 abbrev pub withCommitted : State → ℕ → State
 withCommitted s bound = withBoth s (commitUpTo (s .cursor) bound .state) (releaseBelow (s .table) bound)
 
--- after the rows of every call: false, which is Unchanged, where the bound is not above committed; then 30
+-- after the rows of every call: false, which is Unchanged, where the bound is not above committed
 unfoldable pub commit : State → ℕ → ℕ → Answer Bool State
 commit s w bound =
     guarded (callRows s w committing) s
-    (cond (leb bound (s .cursor .committed)) (answer (done false) s)
-    (guarded (commitTable s bound) s (answer (done true) (withCommitted s bound))))
+    (cond (leb bound (s .cursor .committed)) (answer (done false) s) (answer (done true) (withCommitted s bound)))

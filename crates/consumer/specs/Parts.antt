@@ -17,7 +17,7 @@ use Rattle.delivery.specs.declared.DeliveryConfig.{DeliveryConfig}
 use Rattle.lease.specs.declared.LeaseConfig.{LeaseConfig}
 use Rattle.lease.specs.declared.LeaseTable.{LeaseTable}
 use Rattle.lease.specs.Operations.{Grant}
-use Rattle.lease.specs.Parts.{Full, gathered, leasing, extending, requeuing, releasing, keeping, listingAll, timing, carrying}
+use Rattle.lease.specs.Parts.{Full, gathered, leasing, extending, requeuing, releasing, listingAll, timing, carrying}
 use Rattle.lease.specs.Parts as lease
 use Rattle.consumer.specs.State.{State}
 use Rattle.consumer.specs.Rights.{Operation, bitOf}
@@ -119,11 +119,11 @@ abbrev pub progressing : List ℕ → LeaseConfig → ℕ → List ℕ → List 
 progressing rights config n ks gs ss ds ns ws =
     permitted rights (λ c. holding c (extending config n ks gs ss ds (leasing n ks gs ss ds ns ws (c .table))))
 
--- the test of a commit: the rights, committed, and the number and the offsets of the leases
-abbrev pub deciding : List ℕ → ℕ → ℕ → List ℕ → Consumer → Consumer
-deciding rights committed n ks =
+-- the test of a commit: the rights and committed
+abbrev pub deciding : List ℕ → ℕ → Consumer → Consumer
+deciding rights committed =
     permitted rights
-    (λ c. holdingBoth c (ackCursor committed (c .cursor .starts) (c .cursor .ends) (c .cursor .runs)) (keeping n ks (c .table)))
+    (λ c. holdingBoth c (ackCursor committed (c .cursor .starts) (c .cursor .ends) (c .cursor .runs)) (c .table))
 
 -- Commit: the rights, the cursor, and the numbers and the columns of the leases and of the carried counts
 abbrev pub committing : List ℕ → AckCursor → ℕ → ℕ → List ℕ → List ℕ → List ℕ → List ℕ → List ℕ → List ℕ → List ℕ → List ℕ → Consumer → Consumer

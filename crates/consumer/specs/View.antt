@@ -152,7 +152,6 @@ progressOf progress.ForeignToken = refused refusal.ForeignToken
 abbrev pub commitOf : CommitAnswer → Result Bool
 commitOf commit.Committed = done true
 commitOf commit.Unchanged = done false
-commitOf commit.Held = refused refusal.Held
 commitOf commit.UnknownWorker = refused refusal.UnknownWorker
 commitOf commit.NotPermitted = refused refusal.NotPermitted
 

@@ -59,11 +59,10 @@ pub enum ProgressAnswer {
     ForeignToken,
 }
 
-// What Commit answers: everything below the bound is settled, it was before, or refusal 38, 39 or 30.
+// What Commit answers: everything below the bound is settled, it was before, or refusal 38 or 39.
 pub enum CommitAnswer {
     Committed,
     Unchanged,
-    Held,
     UnknownWorker,
     NotPermitted,
 }
@@ -319,8 +318,7 @@ impl Consumer {
         }
     }
 
-    // Settles every offset below the bound and drops their counts. Nothing changes where that was so before, or where an
-    // offset below the bound is in flight.
+    // Settles every offset below the bound, held or not, and drops their leases and counts. Nothing changes where that was so before.
     pub fn commit(self, worker: u64, bound: Offset) -> Committed
         requires { ⌜ Sound self ⌝ }
         ensures { λ r. ⌜ Commits (commitOf (r .answer)) self (r .consumer) (commit (view self) worker (bound .0)) ⌝ }

@@ -397,7 +397,7 @@ pub fn commit_in_place<'a>(
         (committing (rights .entry .now) (ackCursor (r .committed) (starts .exit .now) (ends .exit .now) (r .runs)) (r .len) (r .«carried_len») (offsets .exit .now) (generations .exit .now) («attempt_starts» .exit .now) (deadlines .exit .now) (deliveries .exit .now) (workers .exit .now) («carried_offsets» .exit .now) («carried_counts» .exit .now))
         (λ s. commit s worker bound) ⌝ }
 {
-    let test = steps::commit_test(committed, len, worker, bound, rights, offsets);
+    let test = steps::commit_test(committed, worker, bound, rights);
     if let CommitTest::Answered(answer) = test {
         return CommittedAt {
             answer,

@@ -331,17 +331,9 @@ pub enum CommitTest {
     Answered(CommitAnswer),
 }
 
-// What a commit answers before it takes effect: 38, 39, Unchanged where the bound is not above committed, then 30.
-pub fn commit_test<'a, 'b>(
-    committed: u64,
-    len: usize,
-    worker: u64,
-    bound: u64,
-    rights: &'a [u8; WORKERS],
-    offsets: &'b [u64; LEASES],
-) -> CommitTest
-    requires { ⌜ len ≤ LEASES ⌝ }
-    ensures { λ r. ⌜ DecidesIn r (deciding (rights .entry .now) committed len (offsets .entry .now)) worker bound ⌝ }
+// What a commit answers before it takes effect: 38, 39, Unchanged where the bound is not above committed.
+pub fn commit_test(committed: u64, worker: u64, bound: u64, rights: &[u8; WORKERS]) -> CommitTest
+    ensures { λ r. ⌜ DecidesIn r (deciding (rights .entry .now) committed) worker bound ⌝ }
 {
     let permission = rights::permission_of(rights, worker, COMMIT);
     match permission {
@@ -350,9 +342,6 @@ pub fn commit_test<'a, 'b>(
         Permission::Granted => {
             if bound <= committed {
                 return CommitTest::Answered(CommitAnswer::Unchanged);
-            }
-            if lease::in_place::holds_below_in_place(len, bound, offsets) {
-                return CommitTest::Answered(CommitAnswer::Held);
             }
             CommitTest::Open
         }

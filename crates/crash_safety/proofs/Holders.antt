@@ -3,7 +3,7 @@
 -- of at least the floor. Assumes nothing.
 use Prim.Native.Nat.{ℕ, suc, _≤_, _<_}
 use native.Mathlib.Omega.{arith}
-use mathlib.Core.Path.{_≡_, refl, sym, ap, _∙_}
+use mathlib.Core.Path.{_≡_, refl, sym, ap, subst, _∙_}
 use mathlib.Core.List.{List, []}
 use mathlib.Core.Option.{Option, none, some, Option·none-ne-some}
 use lib.Dec.{ltb, eqb}
@@ -179,11 +179,11 @@ floor-rises : (g : ℕ) (x : Option HandOut) → AtLeast g x → g ≤ above g x
 floor-rises g none h = omega arith
 floor-rises g (some k) h = omega arith
 
--- ## the token of worker v
-module _ (v o g : ℕ) where
-  record Own (floor : ℕ) (leases : List (Entry Lease)) : Type 0 where
-    below : g < floor
-    own : (l : Lease) → lookup o leases ≡ some l → l .generation .0 ≡ g → l .worker ≡ v
+-- ## a token, and what holds of the worker of each lease that has it
+module _ (P : ℕ → Type 0) (o g : ℕ) where
+  pub record Own (floor : ℕ) (leases : List (Entry Lease)) : Type 0 where
+    pub below : g < floor
+    pub own : (l : Lease) → lookup o leases ≡ some l → l .generation .0 ≡ g → P (l .worker)
 
   own-kept : (floor higher : ℕ) (before now : List (Entry Lease)) → floor ≤ higher → Origins floor before now → Own floor before → Own higher now
   own-kept floor higher before now h from k =
@@ -192,12 +192,12 @@ module _ (v o g : ℕ) where
         own = λ l e s. go l e s (from o l e);
       }
     where
-      go : (l : Lease) → lookup o now ≡ some l → l .generation .0 ≡ g → Origin floor (lookup o before) l → l .worker ≡ v
+      go : (l : Lease) → lookup o now ≡ some l → l .generation .0 ≡ g → Origin floor (lookup o before) l → P (l .worker)
       go l e s (fresh f) = absurd (omega (arith, k .below))
-      go l e s (kept m q x y) = sym y ∙ k .own m q (x ∙ s)
+      go l e s (kept m q x y) = subst P y (k .own m q (x ∙ s))
 
   module _ (c : Configuration) (n : ℕ) (accepted : Passed (startTable c n)) where
-    abbrev Holds : Ledger → World → Type 0
+    abbrev pub Holds : Ledger → World → Type 0
     Holds l w = Inv c n l w × Own (l .floor) (leasesOf (w .phase))
 
     each : (l : Ledger) (w : World) (i : Item) → Holds l w → Answered noted (Law (c .settings .policy)) Holds l (next c w i)
@@ -217,13 +217,13 @@ module _ (v o g : ℕ) where
             }
 
     -- whatever comes after
-    held-after : (items : List Item) (l : Ledger) (w : World) → Holds l w → Holds (folded noted l (run c w items)) (ends c w items)
+    pub held-after : (items : List Item) (l : Ledger) (w : World) → Holds l w → Holds (folded noted l (run c w items)) (ends c w items)
     held-after = at-end noted (Law (c .settings .policy)) Holds c each
 
 -- a claim that hands out makes the token its worker's
 module _ (s : State) (a : List ℕ) (v o now : ℕ) (t : After) (h : HandOut) where
   abbrev Its : Type 0
-  Its = Own v (h .offset) (h .generation) (suc (h .generation)) (leasesOf (t .phase))
+  Its = Own (λ w. w ≡ v) (h .offset) (h .generation) (suc (h .generation)) (leasesOf (t .phase))
 
   handed-out : asked s a v (claim o now) ≡ some t → t .event ≡ claimed o now (done h) → Its
   handed-out =
@@ -239,13 +239,13 @@ module _ (s : State) (a : List ℕ) (v o now : ℕ) (t : After) (h : HandOut) wh
       }))
 
 -- a call of another worker, with the state that it finds
-others-call : (c : Configuration) (n : ℕ) (l : Ledger) (p : Phase) (a : List ℕ) (v o g : ℕ) → Inv c n l (world p a) → Own v o g (l .floor) (leasesOf p)
+others-call : (c : Configuration) (n : ℕ) (l : Ledger) (p : Phase) (a : List ℕ) (v o g : ℕ) → Inv c n l (world p a) → Own (λ u. u ≡ v) o g (l .floor) (leasesOf p)
     → (w : ℕ) (q : Ask) → (w ≡ v → ⊥) → tokenIn q ≡ some (o, g) → (u : After) → Asked p a w q u
     → NotOwn (rowsFor c w (operationOf q)) (refusalOf (u .event))
 others-call c n l p a v o g inv k w q other e u x =
     let s : State = x .state in
     let here : Inv c n l (world (idle s) a) = rw (x .there) at inv in
-    let own : Own v o g (l .floor) (s .table .leases) = rw (x .there) at k in
+    let own : Own (λ u. u ≡ v) o g (l .floor) (s .table .leases) = rw (x .there) at k in
     let away : NotOwn (callRows s w (operationOf q)) (refusalOf (u .event)) =
     rw (token-answer s a w u q o g e (x .says))
     (not-own s w (operationOf q) o g (ownRows s q) (λ m y z d. other (sym d ∙ own .own m y z))) in
@@ -260,9 +260,9 @@ token-of-one c n s before between f e v o now h t made is w q other token u asks
     let kept : Made noted (Law (c .settings .policy)) (Inv c n) (r .ledger) t =
     rw made at (item-kept c n (r .accepted) (r .ledger) first (call (ask v (claim o now))) (r .inv)) in
     let floor : noted (r .ledger) (t .event) .floor ≡ suc (h .generation) = ap (λ (y : Event). noted (r .ledger) y .floor) is in
-    let own : Own v (h .offset) (h .generation) (noted (r .ledger) (t .event) .floor) (leasesOf (t .phase)) =
+    let own : Own (λ u. u ≡ v) (h .offset) (h .generation) (noted (r .ledger) (t .event) .floor) (leasesOf (t .phase)) =
     rw floor (handed-out (x .state) (first .journal) v o now t h (x .says) is) in
-    let k = held-after v (h .offset) (h .generation) c n (r .accepted) between (noted (r .ledger) (t .event)) (after t) (kept .keeps, own) in
+    let k = held-after (λ u. u ≡ v) (h .offset) (h .generation) c n (r .accepted) between (noted (r .ledger) (t .event)) (after t) (kept .keeps, own) in
     let left : World = ends c (after t) between in
     others-call c n (folded noted (noted (r .ledger) (t .event)) (run c (after t) between)) (left .phase) (left .journal) v (h .offset) (h .generation)
     (k .0) (k .1) w q other token u (ask-made c (left .phase) (left .journal) w u q asks)

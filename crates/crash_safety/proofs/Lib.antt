@@ -19,6 +19,8 @@ pub mod Workers
 pub mod Waits
 pub mod Tokens
 pub mod Holders
+pub mod Rows
+pub mod Commits
 pub mod Settled
 pub mod Checkpoints
 pub mod Recovery

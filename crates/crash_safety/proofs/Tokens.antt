@@ -3,7 +3,7 @@
 -- nack's is so too and was given to nobody. Assumes nothing.
 use Prim.Native.Nat.{ℕ, suc, _≤_, _<_}
 use native.Mathlib.Omega.{arith}
-use mathlib.Core.Path.{_≡_, refl, sym, ap, _∙_}
+use mathlib.Core.Path.{_≡_, refl, sym, _∙_}
 use mathlib.Core.Bool.{Bool, true, false, _&&_, true≢false, or-true}
 use mathlib.Core.List.{List, [], _∷_}
 use mathlib.Core.Option.{Option, none, some, Option·none-ne-some}
@@ -20,10 +20,10 @@ use Rattle.cursor.specs.Cursor.{settled}
 use Rattle.lease.specs.declared.Lease.{Lease}
 use Rattle.lease.specs.Operations as lease
 use Rattle.lease.specs.Operations.{owns, withDeadline, requeuedAs}
-use Rattle.consumer.specs.State.{Settings, Configuration, State}
-use Rattle.consumer.specs.Rights.{bitOf, workerRows}
+use Rattle.consumer.specs.State.{Configuration, State}
 use Rattle.consumer.specs.Calls as consumer
 use Rattle.consumer.specs.Calls.{HandOut, handOut, nackDeadline}
+use Rattle.consumer.specs.Valid.{Valid}
 use Rattle.consumer.proofs.Open.{claim-cases, ack-cases, Owned, nack-cases, progress-cases, commit-cases}
 use Rattle.checkpoint.specs.Checkpoint as checkpoint
 use Rattle.checkpoint.specs.Checkpoint.{Writing, isLast}
@@ -44,7 +44,7 @@ use Rattle.crash_safety.proofs.Journals.{restart-finds}
 use Rattle.crash_safety.proofs.Items.{Shown, next-cases}
 use Rattle.crash_safety.proofs.Kept.{item-kept}
 use Rattle.crash_safety.proofs.Start.{begins-well}
-use Rattle.crash_safety.proofs.Workers.{some-inj, Asked, ask-made, ownRows, token-answer, fenced-first}
+use Rattle.crash_safety.proofs.Workers.{some-inj, Asked, ask-made, fenced-answer}
 
 -- ## what is known of tokens
 pub record Known (t : Tokens) (floor : ℕ) (leases : List (Entry Lease)) : Type 0 where
@@ -150,7 +150,17 @@ module _ (t : Tokens) (floor : ℕ) (leases : List (Entry Lease)) (k : Known t f
         held-lease = λ o l q d. absurd (Option·none-ne-some l q);
       }
 
-nothing-given : (floor : ℕ) (leases : List (Entry Lease)) → Known noTokens floor leases
+-- no lease lies below committed
+pub none-below : (s : State) → Valid s → (bound x : ℕ) → bound ≤ s .cursor .committed → ltb x bound ≡ true → lookup x (s .table .leases) ≡ none
+none-below s valid bound x h e = go (lookup x (s .table .leases)) refl
+  where
+    go : (y : Option Lease) → lookup x (s .table .leases) ≡ y → y ≡ none
+    go none q = refl
+    go (some v) q =
+        let u : settled (s .cursor) x ≡ false = valid .leased x v q .unsettled in
+        absurd (true≢false (sym (rw (lt-ltb x (s .cursor .committed) (omega (arith, ltb-true x bound e)))) ∙ u))
+
+pub nothing-given : (floor : ℕ) (leases : List (Entry Lease)) → Known noTokens floor leases
 nothing-given floor leases =
     record {
       given-below = λ o g d. absurd (true≢false (sym d));
@@ -160,7 +170,7 @@ nothing-given floor leases =
     }
 
 -- what an event tells of tokens
-abbrev tokensSeen : Tokens → Event → Tokens
+abbrev pub tokensSeen : Tokens → Event → Tokens
 tokensSeen t e = tokensAfter t (effectOf e)
 
 -- nothing is said of the events themselves
@@ -168,7 +178,7 @@ abbrev Quiet : Tokens → Event → Type 0
 Quiet t e = Unit {0}
 
 -- ## each call
-abbrev Knows : Ledger → Tokens → World → Type 0
+abbrev pub Knows : Ledger → Tokens → World → Type 0
 Knows l t w = Known t (l .floor) (leasesOf (w .phase))
 
 module _ (c : Configuration) (n : ℕ) (l : Ledger) (t : Tokens) where
@@ -229,23 +239,13 @@ module _ (c : Configuration) (n : ℕ) (l : Ledger) (t : Tokens) where
               (λ p. keeps-generation t (l .floor) here k o (p .token .lease) (withDeadline (lease.extended (s .table) o clock)) (p .token .held) refl);
         }
 
-    -- no lease lies below committed
-    none-below : (bound x : ℕ) → bound ≤ s .cursor .committed → ltb x bound ≡ true → lookup x here ≡ none
-    none-below bound x h e = go (lookup x here) refl
-      where
-        go : (y : Option Lease) → lookup x here ≡ y → y ≡ none
-        go none q = refl
-        go (some v) q =
-            let u : settled (s .cursor) x ≡ false = inv .callable .valid .leased x v q .unsettled in
-            absurd (true≢false (sym (rw (lt-ltb x (s .cursor .committed) (omega (arith, ltb-true x bound e)))) ∙ u))
-
     commit-knows : (w bound : ℕ) → Kept (committed bound) (consumer.commit s w bound)
     commit-knows w bound =
         record {
           says = tt;
           keeps = commit-cases s w bound (Afterwards (committed bound)) (λ r. k)
               (λ f h. gives-up t (l .floor) here k (below bound) here
-              (λ x v e q d. Option·none-ne-some v (sym (none-below bound x h e) ∙ q))
+              (λ x v e q d. Option·none-ne-some v (sym (none-below s (inv .callable .valid) bound x h e) ∙ q))
               (λ x e. refl))
               (λ p. gives-up t (l .floor) here k (below bound) (dropBelow bound here)
               (λ x v e q d. Option·none-ne-some v (sym (lookup-drop-below x bound here e) ∙ q))
@@ -318,13 +318,13 @@ tokens-folded [] l t = refl
 tokens-folded (e ∷ es) l t = tokens-folded es (noted l e) (tokensSeen t e)
 
 module _ (c : Configuration) (n : ℕ) (accepted : Passed (startTable c n)) where
-  abbrev fold : Ledger × Tokens → Event → Ledger × Tokens
+  abbrev pub fold : Ledger × Tokens → Event → Ledger × Tokens
   fold = foldBoth noted tokensSeen
 
   abbrev Says : Ledger × Tokens → Event → Type 0
   Says = SaysBoth (Law (c .settings .policy)) Quiet
 
-  abbrev Keeps : Ledger × Tokens → World → Type 0
+  abbrev pub Keeps : Ledger × Tokens → World → Type 0
   Keeps = KeepsBoth (Inv c n) Knows
 
   each : (b : Ledger × Tokens) (w : World) (i : Item) → Keeps b w → Answered fold Says Keeps b (next c w i)
@@ -333,7 +333,7 @@ module _ (c : Configuration) (n : ℕ) (accepted : Passed (startTable c n)) wher
       (item-kept c n accepted (b .0) w i (h .0))
       (item-knows c n (b .0) (b .1) accepted w i (h .0) (h .1))
 
-  known-after : (items : List Item) (w : World) → Keeps (emptyLedger, noTokens) w
+  pub known-after : (items : List Item) (w : World) → Keeps (emptyLedger, noTokens) w
       → Keeps (folded fold (emptyLedger, noTokens) (run c w items)) (ends c w items)
   known-after items w h = at-end fold Says Keeps c each items (emptyLedger, noTokens) w h
 
@@ -343,12 +343,8 @@ next-right : (c : Configuration) (n : ℕ) (b : Ledger × Tokens) (p : Phase) (a
     → StaleRefused (b .1) o g (rowsFor c w (operationOf q)) (refusalOf (t .event))
 next-right c n b p a w q o g e t x inv k =
     let s : State = x .state in
-    let here : Inv c n (b .0) (world (idle s) a) = rw (x .there) at inv in
     let known : Known (b .1) (b .0 .floor) (s .table .leases) = rw (x .there) at k in
-    stale-refused (b .1) (b .0 .floor) (s .table .leases) known o g _ _ (λ m.
-    token-answer s a w t q o g e (x .says)
-    ∙ fenced-first s w (operationOf q) o g (ownRows s q) m
-    ∙ ap (λ (u : Settings). orElse (workerRows (u .rights) w (bitOf (operationOf q))) Fenced) (here .callable .settings))
+    stale-refused (b .1) (b .0 .floor) (s .table .leases) known o g _ _ (fenced-answer c n (b .0) p a inv w q o g e t x)
 
 pub no-stale-token : NoStaleToken
 unfolding NoStaleToken

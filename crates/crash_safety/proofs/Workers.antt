@@ -13,8 +13,8 @@ use Rattle.types.proofs.Cases.{split, both}
 use Rattle.types.proofs.Table.{first-met-before, first-cut, first-skip, guarded-refused}
 use Rattle.lease.specs.declared.Lease.{Lease}
 use Rattle.lease.specs.Operations.{leaseOf, isNone, owns, tokenRow}
-use Rattle.consumer.specs.State.{Configuration, State}
-use Rattle.consumer.specs.Rights.{Operation, claiming, settling, nacking, extending, checkpointing}
+use Rattle.consumer.specs.State.{Settings, Configuration, State}
+use Rattle.consumer.specs.Rights.{Operation, claiming, settling, nacking, extending, checkpointing, bitOf, workerRows}
 use Rattle.consumer.specs.Calls as consumer
 use Rattle.consumer.specs.Calls.{callRows, heldBy, tokenRows, claimRows, ackRows, ackTable, nackRows, nackTable, progressRows, progressTable}
 use Rattle.consumer.proofs.Open.{claim-cases, ack-cases, nack-cases, progress-cases, commit-cases}
@@ -123,6 +123,17 @@ module _ (s : State) (w : ℕ) (op : Operation) (o g : ℕ) (rest : List Row) wh
           split (eqb (l .generation .0) g)
           (λ t. foreign (foreign-first (rw (e, t)) (rw (e, ne-eqb (l .worker) w (other l e (eqb-true (l .generation .0) g t))))))
           (λ t. fenced (fenced-first (rw (e, t))))
+
+-- a call with a token that no lease has, where the state's rights are the configuration's
+pub fenced-answer : (c : Configuration) (n : ℕ) (l : Ledger) (p : Phase) (a : List ℕ) → Inv c n l (world p a)
+    → (w : ℕ) (q : Ask) (o g : ℕ) → tokenIn q ≡ some (o, g) → (t : After) (x : Asked p a w q t) → owns (leaseOf (x .state .table) o) g ≡ false
+    → refusalOf (t .event) ≡ orElse (rowsFor c w (operationOf q)) Fenced
+fenced-answer c n l p a inv w q o g e t x m =
+    let s : State = x .state in
+    let here : Inv c n l (world (idle s) a) = rw (x .there) at inv in
+    token-answer s a w t q o g e (x .says)
+    ∙ fenced-first s w (operationOf q) o g (ownRows s q) m
+    ∙ ap (λ (u : Settings). orElse (workerRows (u .rights) w (bitOf (operationOf q))) Fenced) (here .callable .settings)
 
 -- ## calls without the right
 module _ (s : State) (a : List ℕ) (w : ℕ) (r : Refusal) (t : After) where

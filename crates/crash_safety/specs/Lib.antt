@@ -10,4 +10,5 @@ pub mod Recovery
 pub mod Useful
 pub mod Worn
 pub mod Halves
+pub mod Commits
 pub mod Ran

@@ -3,3 +3,4 @@ pub mod Consumer
 pub mod BoundMet
 pub mod Workers
 pub mod SettledExamples
+pub mod Commits

@@ -18,4 +18,3 @@ mod Changes
 mod Lists
 mod Merge
 mod Carried
-mod Searches

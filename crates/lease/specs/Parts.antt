@@ -48,15 +48,12 @@ abbrev pub releasing : ℕ → ℕ → List ℕ → List ℕ → List ℕ → Li
 releasing n m ks gs ss ds ns ws cks cvs t =
     gathered (t .config) n m (t .«next_generation» .0) (t .«redeliveries_since_flush») ks gs ss ds ns ws cks cvs
 
--- those that a question looks at: the count and the worker of a token, the deadlines, the offsets alone, the leases' counts, the carried ones, both
+-- those that a question looks at: the count and the worker of a token, the deadlines, the leases' counts, the carried ones, both
 abbrev pub counting : ℕ → List ℕ → List ℕ → List ℕ → List ℕ → LeaseTable → LeaseTable
 counting n ks gs ns ws t = leasing n ks gs (t .«attempt_starts») (t .deadlines) ns ws t
 
 abbrev pub timing : ℕ → List ℕ → List ℕ → LeaseTable → LeaseTable
 timing n ks ds t = leasing n ks (t .generations) (t .«attempt_starts») ds (t .deliveries) (t .workers) t
-
-abbrev pub keeping : ℕ → List ℕ → LeaseTable → LeaseTable
-keeping n ks t = timing n ks (t .deadlines) t
 
 abbrev pub listing : ℕ → List ℕ → List ℕ → LeaseTable → LeaseTable
 listing n ks ns t = counting n ks (t .generations) ns (t .workers) t

@@ -5,7 +5,7 @@ ghost use Prim.Native.Nat.{_≤_, _<_};
 ghost use lib.ListN.{take, getD};
 ghost use Rattle.types.specs.Limits.{MAX, LEASES, CARRIED};
 ghost use Rattle.types.specs.Refusal.{done, optional};
-ghost use Rattle.types.specs.Keyed.{lookup, anyBelow};
+ghost use Rattle.types.specs.Keyed.{lookup};
 ghost use Rattle.types.specs.Lists.{ListsOffsets, ListsCounts};
 ghost use Rattle.tables.specs.Search.{Placed};
 ghost use Rattle.tables.specs.declared.Place.the-variants.{Missing};
@@ -16,7 +16,7 @@ ghost use Rattle.lease.specs.Counts.{attemptCounts, allAttemptCounts};
 ghost use Rattle.lease.specs.Answers.{claimOf, ackOf, extendOf, nackOf, attemptsOf, Answers};
 ghost use Rattle.lease.specs.Lookup.{leaseIn, holdIn};
 ghost use Rattle.lease.specs.Helpers.{grantedAt, regranting, AnswersAt, Owned};
-ghost use Rattle.lease.specs.Parts.{gathered, Whole, AnswersIn, BecomesIn, HoldsIn, leasing, extending, requeuing, releasing, counting, timing, keeping, listing, listingAll, carrying};
+ghost use Rattle.lease.specs.Parts.{gathered, Whole, AnswersIn, BecomesIn, HoldsIn, leasing, extending, requeuing, releasing, counting, timing, listing, listingAll, carrying};
 use crate::AckOutcome;
 use crate::Attempts;
 use crate::Claim;
@@ -535,16 +535,6 @@ pub fn is_claimable_in_place<'a>(
         return true;
     };
     deadlines[at] <= now
-}
-
-// What `LeaseTable::holds_below` answers: the leases are sorted, so the first one tells.
-pub fn holds_below_in_place(len: usize, bound: u64, offsets: &[u64; LEASES]) -> bool
-    ensures { λ r. ⌜ HoldsIn (keeping len (offsets .entry .now)) (λ s. r ≡ anyBelow bound (s .leases)) ⌝ }
-{
-    if len == 0 {
-        return false;
-    }
-    offsets[0] < bound
 }
 
 // What `LeaseTable::carried_count` answers.

@@ -1,8 +1,8 @@
-// What a table says of one offset, and whether anything is in flight below a bound.
+// What a table says of one offset, and how many counts it carries.
 ghost use mathlib.Core.Path.{_≡_};
 ghost use lib.ListN.{length};
 ghost use Rattle.types.specs.Refusal.{done, optional};
-ghost use Rattle.types.specs.Keyed.{lookup, anyBelow};
+ghost use Rattle.types.specs.Keyed.{lookup};
 ghost use Rattle.lease.specs.State.{Sound, view};
 ghost use Rattle.lease.specs.Operations.{leaseOf};
 ghost use Rattle.lease.specs.Answers.{attemptsOf};
@@ -56,13 +56,5 @@ impl LeaseTable {
         ensures { λ r. ⌜ r ≡ length (view self .carried) ⌝ }
     {
         self.carried_len
-    }
-
-    // Whether an offset below the bound is in flight.
-    pub fn holds_below(self, bound: Offset) -> bool
-        requires { ⌜ Sound self ⌝ }
-        ensures { λ r. ⌜ r ≡ anyBelow (bound .0) (view self .leases) ⌝ }
-    {
-        in_place::holds_below_in_place(self.len, bound.0, &self.offsets)
     }
 }

@@ -277,17 +277,15 @@ impl Consumer {
         }
     }
 
-    /// Refusals 38, 39, 30. The answer is false where nothing changes.
+    /// Refusals 38, 39; none for what is held below the bound, which is dropped (02, l). The answer is false where nothing changes.
     pub fn commit(&mut self, worker: u64, bound: u64) -> Result<bool, Code> {
         self.settings.rights.ask(worker, Operation::Commit)?;
         if bound <= self.cursor.committed().get() {
             return Ok(false);
         }
-        if self.table().leases.iter().any(|lease| lease.offset < bound) {
-            return Err(vec![30]);
-        }
         self.cursor.commit_up_to(Offset::new(bound));
         self.table.release_below(Offset::new(bound));
+        self.holders.retain(|&offset, _| offset >= bound);
         Ok(true)
     }
 

@@ -2,7 +2,7 @@
 use crate::line::LINE;
 use crate::program::{Phase, Program};
 use crate::workers::Crew;
-use crate::{halves, headers, nacks, scenes, versions, views, waiting, wear, workers};
+use crate::{commits, halves, headers, nacks, scenes, versions, views, waiting, wear, workers};
 use lists::random::Random;
 use lists::state::Table;
 
@@ -77,7 +77,7 @@ pub fn script(seed: u64, lines: usize) -> Vec<Vec<u8>> {
         scenes::spend(&mut maker);
     }
     while maker.lines.len() < lines {
-        match maker.random.below(45) {
+        match maker.random.below(47) {
             0..=5 => scenes::life(&mut maker),
             6..=7 => scenes::cuts(&mut maker),
             8 => scenes::full(&mut maker),
@@ -99,6 +99,7 @@ pub fn script(seed: u64, lines: usize) -> Vec<Vec<u8>> {
             36..=37 => views::views(&mut maker),
             38..=39 => nacks::nacks(&mut maker),
             40..=41 => waiting::waiting(&mut maker),
+            42..=43 => commits::commits(&mut maker),
             _ => wear::forged(&mut maker),
         }
     }

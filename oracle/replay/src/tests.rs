@@ -11,6 +11,7 @@ use lists::codecs::as_version_1;
 use std::collections::{BTreeMap, BTreeSet};
 use std::sync::OnceLock;
 
+mod commits;
 mod nacks;
 mod waiting;
 
@@ -53,8 +54,8 @@ fn acks_and_commits() {
         claim 2 0 => refused 22
         term 1 1 => settled
         commit 0 => unchanged
-        commit 1 => refused 30
-        ack 0 2 => settled
+        commit 1 => committed
+        ack 0 2 => refused 24
         state => state committed 3 ranges none leases none carried none next 3 ceiling 4096 counter 0 group 2 block 2 half 0
         commit 5 => committed
         claim 8 0 => deliver 8 3 1
@@ -650,7 +651,7 @@ fn the_last_number() {
 }
 
 /// The scripts that `oracle/run compare` uses have every kind of answer, and every refusal that a script can meet: all but 6, 12, 13
-/// and 19, which a sound header's lengths rule out, and 20, as the waiting list always fits.
+/// and 19, which a sound header's lengths rule out, 20, as the waiting list always fits, and 30, which nothing meets since 02, l.
 #[test]
 fn scripts_have_everything() {
     let mut words = BTreeSet::new();
@@ -667,7 +668,13 @@ fn scripts_have_everything() {
     assert_eq!(words.len(), 23, "{words:?}");
     assert_eq!(
         refusals,
-        (1..=5).chain(7..=11).chain(14..=18).chain(21..=31).chain(38..=40).collect()
+        (1..=5)
+            .chain(7..=11)
+            .chain(14..=18)
+            .chain(21..=29)
+            .chain(31..=31)
+            .chain(38..=40)
+            .collect()
     );
 }
 
@@ -726,7 +733,7 @@ fn scripts_have_workers() {
     for refusal in ["38", "39"] {
         has(
             refusal,
-            &["21", "22", "23", "24", "26", "27", "28", "30", "31", "unchanged", "committed"],
+            &["21", "22", "23", "24", "26", "27", "28", "31", "unchanged", "committed"],
         );
         has(refusal, &["begun", "deliver", "settled", "requeued", "extended", "waiting"]);
     }

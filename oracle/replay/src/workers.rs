@@ -106,13 +106,18 @@ impl Maker {
         }
     }
 
-    /// A call by anyone, between those of the worker who calls.
-    pub fn say_as_anyone(&mut self, call: &str) {
+    /// A call by another, between those of the worker who calls.
+    pub fn say_as(&mut self, other: u64, call: &str) {
         let worker = self.program.worker;
-        let other = self.anyone();
         self.worker(other);
         self.say(call);
         self.worker(worker);
+    }
+
+    /// The same by anyone.
+    pub fn say_as_anyone(&mut self, call: &str) {
+        let other = self.anyone();
+        self.say_as(other, call);
     }
 
     /// A call that isn't a checkpoint's, by any worker where there are several. A guest makes one call at a time.

@@ -24,9 +24,6 @@ enum-told-3 c = search needs
 enum-told-4 : tie.Need-enum-told-4
 enum-told-4 c = search needs
 
-enum-told-5 : tie.Need-enum-told-5
-enum-told-5 c = search needs
-
 returns : tie.Need-returns
 returns c = ap as-numbers (sym (c .enum-told .given .1))
 
@@ -39,9 +36,6 @@ returns-3 c = ap as-numbers (sym (c .enum-told3 .given .1))
 returns-4 : tie.Need-returns-4
 returns-4 c = ap as-numbers (sym (c .enum-told4 .given .1))
 
-returns-5 : tie.Need-returns-5
-returns-5 c = ap as-numbers (sym (c .enum-told5 .given .1))
-
 pub of-commit-spec : {M : Type 1} → statement M
 of-commit-spec =
     tie.close
@@ -50,9 +44,7 @@ of-commit-spec =
     enum-told-2
     enum-told-3
     enum-told-4
-    enum-told-5
     returns
     returns-2
     returns-3
-    returns-4
-    returns-5)
+    returns-4)

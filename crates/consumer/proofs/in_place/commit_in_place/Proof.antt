@@ -34,7 +34,7 @@ returns : tie.Need-returns
 returns c x w =
     let o = c .before in
     let k = o .before .before in
-    let s = k .before .before in
+    let s = k .before in
     commit-answered (made s x) (w .sound) (commit (view (made s x)) (s .args .worker) (s .args .bound)) (commitOf (o .test .given .0 .0))
     (sym (ap (λ (y : CommitTest). decided y (view (made s x)) (s .args .bound)) (o .test .given .1)) ∙ k .commit-test .ensures (made s x) w)
 
@@ -55,7 +55,7 @@ returns-2 c x w =
     let m = c .before .before .before .before .before .before .before .before .before in
     let e = m .before .before .before in
     let k = e .before .before in
-    let s = k .before .before in
+    let s = k .before in
     commit-done (made s x) (w .sound) (commit (view (made s x)) (s .args .worker) (s .args .bound)) (s .args .bound)
     (sym (ap (λ (y : CommitTest). decided y (view (made s x)) (s .args .bound)) (e .enum-told .given .1)) ∙ k .commit-test .ensures (made s x) w) (fits s)
     (done (m .commit-in-place .result .advanced)) _ (m .commit-in-place .ensures) _ (c .release-below-in-place .ensures (made s x .table) (table-whole w))

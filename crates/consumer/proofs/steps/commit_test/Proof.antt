@@ -1,4 +1,4 @@
--- `commit_test` meets its contract: the worker's rows, Unchanged, then 30. Assumes nothing.
+-- `commit_test` meets its contract: the worker's rows, then Unchanged. Assumes nothing.
 use mathlib.Core.Path.{_≡_, sym, ap, _∙_}
 use mathlib.Core.Option.{none}
 use borrow.Author.Needs.{needs}
@@ -8,14 +8,13 @@ use Rattle.consumer.specs.Rights.{workerRows}
 use Rattle.consumer.specs.Parts.{deciding}
 use Rattle.consumer.specs.View.{view, permissionOf}
 use Rattle.consumer.specs.declared.Consumer.{Consumer}
-use Rattle.consumer.proofs.CallsReturns.{table-whole}
-use Rattle.consumer.proofs.CallsCommit.{is-unpermitted, is-unchanged, is-held, is-open}
+use Rattle.consumer.proofs.CallsCommit.{is-unpermitted, is-unchanged, is-open}
 use Rattle.consumer.proofs.steps.commit_test.Statement.{statement}
 use Rattle.consumer.proofs.steps.commit_test.Tie as tie
 
 -- a consumer with the parts that the arguments are
 abbrev made : tie.Start → Consumer → Consumer
-made s = deciding (s .args .rights .now) (s .args .committed) (s .args .len) (s .args .offsets .now)
+made s = deciding (s .args .rights .now) (s .args .committed)
 
 -- the worker may commit
 open-to : (d : tie.After-enum-told3) → let s = d .before .before .before in none ≡ first (workerRows (s .args .rights .now) (s .args .worker) 16)
@@ -39,40 +38,25 @@ returns c x w =
     let s = d .before .before .before in
     is-unchanged (view (made s x)) (s .args .worker) (s .args .bound) (open-to d) (c .if1 .taken)
 
-holds-below-in-place-requires : tie.Need-holds-below-in-place-requires
-holds-below-in-place-requires c κs = search needs
-
 returns-2 : tie.Need-returns-2
 returns-2 c x w =
-    let h = c .before in
-    let e = h .before in
-    let d = e .before in
-    let s = d .before .before .before in
-    is-held (view (made s x)) (s .args .worker) (s .args .bound) (open-to d) (e .if1 .left)
-    (sym (h .holds-below-in-place .ensures (made s x .table) (table-whole w)) ∙ c .if2 .taken)
-
-returns-3 : tie.Need-returns-3
-returns-3 c x w =
     let k = c .before .before in
     let s = k .before in
     is-unpermitted (view (made s x)) (s .args .worker) (s .args .bound) UnknownWorker
     (sym (ap permissionOf (c .enum-told .given .1)) ∙ k .permission-of .ensures)
 
-returns-4 : tie.Need-returns-4
-returns-4 c x w =
+returns-3 : tie.Need-returns-3
+returns-3 c x w =
     let k = c .before .before in
     let s = k .before in
     is-unpermitted (view (made s x)) (s .args .worker) (s .args .bound) NotPermitted
     (sym (ap permissionOf (c .enum-told2 .given .1)) ∙ k .permission-of .ensures)
 
-returns-5 : tie.Need-returns-5
-returns-5 c x w =
-    let h = c .before in
-    let e = h .before in
-    let d = e .before in
+returns-4 : tie.Need-returns-4
+returns-4 c x w =
+    let d = c .before in
     let s = d .before .before .before in
-    is-open (view (made s x)) (s .args .worker) (s .args .bound) (open-to d) (e .if1 .left)
-    (sym (h .holds-below-in-place .ensures (made s x .table) (table-whole w)) ∙ c .if2 .left)
+    is-open (view (made s x)) (s .args .worker) (s .args .bound) (open-to d) (c .if1 .left)
 
 pub commit-test-spec : {M : Type 1} → statement M
 commit-test-spec =
@@ -83,8 +67,6 @@ commit-test-spec =
     enum-told-2
     enum-told-3
     returns
-    holds-below-in-place-requires
     returns-2
     returns-3
-    returns-4
-    returns-5)
+    returns-4)
