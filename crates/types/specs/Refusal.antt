@@ -45,6 +45,7 @@ pub data Refusal : Type 0 where
   Full : Refusal
   CapReached : Refusal
   Shed : Refusal
+  -- nothing meets it any longer (02, l)
   Held : Refusal
   JournalFull : Refusal
   -- of document 02: an interval whose first bound is above its second
