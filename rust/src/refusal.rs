@@ -115,6 +115,24 @@ pub enum Refusal {
     Held,
     /// 31: the numbers of groups are used up: the last is 4294967295. It is never met for want of blocks.
     JournalFull,
+    /// 32: the first bound is above the second.
+    BoundsReversed,
+    /// 33: the hours have a bit above 47, or a shift of a week or more.
+    BadHours,
+    /// 34: no half hour of the week is open.
+    NeverOpen,
+    /// 35: a claim outside opening hours.
+    Closed {
+        /// The clock of the next opening: the largest number where that lies beyond.
+        opening: u64,
+    },
+    /// 36: the lists are of unequal length.
+    UnequalLengths,
+    /// 37: an offset of the list is below the one before it.
+    Falling {
+        /// The place of the first such offset, from 0.
+        place: u64,
+    },
     /// 38: there is no worker of that number: it is 8 or more.
     UnknownWorker,
     /// 39: the worker may not do that.
@@ -159,6 +177,12 @@ impl Refusal {
             Refusal::Shed => 29,
             Refusal::Held => 30,
             Refusal::JournalFull => 31,
+            Refusal::BoundsReversed => 32,
+            Refusal::BadHours => 33,
+            Refusal::NeverOpen => 34,
+            Refusal::Closed { .. } => 35,
+            Refusal::UnequalLengths => 36,
+            Refusal::Falling { .. } => 37,
             Refusal::UnknownWorker => 38,
             Refusal::NotPermitted => 39,
             Refusal::ForeignToken => 40,
@@ -190,6 +214,8 @@ impl Refusal {
                 offset: first,
                 prev_offset: second,
             },
+            35 => Refusal::Closed { opening: first },
+            37 => Refusal::Falling { place: first },
             _ => return Refusal::without_values(number),
         })
     }
@@ -219,6 +245,10 @@ impl Refusal {
             29 => Refusal::Shed,
             30 => Refusal::Held,
             31 => Refusal::JournalFull,
+            32 => Refusal::BoundsReversed,
+            33 => Refusal::BadHours,
+            34 => Refusal::NeverOpen,
+            36 => Refusal::UnequalLengths,
             38 => Refusal::UnknownWorker,
             39 => Refusal::NotPermitted,
             40 => Refusal::ForeignToken,
@@ -228,17 +258,15 @@ impl Refusal {
 
     // What is said of it, with a # in place of each value.
     fn words(self) -> &'static str {
-        let number = self.number() as usize;
-        if number < 38 {
-            return WORDS[number - 1];
-        }
-        MORE_WORDS[number - 38]
+        WORDS[self.number() as usize - 1]
     }
 
     // Its values, 0 where it has fewer.
     const fn values(self) -> [u64; 2] {
         match self {
             Refusal::Damaged { block } => [block, 0],
+            Refusal::Closed { opening } => [opening, 0],
+            Refusal::Falling { place } => [place, 0],
             Refusal::CursorBadLength { len } | Refusal::AttemptBadLength { len } => [len, 0],
             Refusal::CursorUnsupportedVersion { version }
             | Refusal::AttemptUnsupportedVersion { version } => [version, 0],
@@ -254,8 +282,8 @@ impl Refusal {
     }
 }
 
-// What is said of each, by its number, from 1 to 31.
-const WORDS: [&str; 31] = [
+// What is said of each, by its number, from 1 on.
+const WORDS: [&str; 40] = [
     "a delivery limit of 0 or 4294967295 needs the opt-in",
     "more than 16 backoffs",
     "the flush threshold is 0",
@@ -287,10 +315,12 @@ const WORDS: [&str; 31] = [
     "there is no room for another range of settled offsets",
     "an offset below the bound is in flight",
     "the numbers of checkpoints are used up",
-];
-
-// The same from 38 on.
-const MORE_WORDS: [&str; 3] = [
+    "the first bound is above the second",
+    "the hours have a bit above 47, or a shift of a week or more",
+    "no half hour of the week is open",
+    "closed until clock #",
+    "the lists are of unequal length",
+    "the offset at place # is below the one before it",
     "there is no worker of that number",
     "the worker may not do that",
     "the token is another worker's",
@@ -317,7 +347,7 @@ mod tests {
 
     #[test]
     fn numbers_and_values_go_both_ways() {
-        for number in (1..=31).chain(38..=40) {
+        for number in 1..=40 {
             let refusal = Refusal::of_number(number, 7, 9).unwrap();
             assert_eq!(refusal.number(), number);
             assert!(refusal
@@ -325,7 +355,7 @@ mod tests {
                 .starts_with(&format!("refused ({number}): ")));
         }
         assert_eq!(Refusal::of_number(0, 0, 0), None);
-        for number in [32, 37, 41, 255] {
+        for number in [41, 255] {
             assert_eq!(Refusal::of_number(number, 0, 0), None);
         }
         assert_eq!(
