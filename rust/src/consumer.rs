@@ -7,8 +7,11 @@ use crate::ffi::{Ask, Machine, Numbers};
 use crate::journal::{Failed, Journal, JournalFile, NewJournal, Storage};
 use crate::refusal::Refusal;
 use crate::snapshot::MAX_PAIRS;
-use crate::types::{Due, Generation, HandOut, Lease, LeaseToken, Offset, Standing, View};
+use crate::types::{Due, Generation, HandOut, Lease, LeaseToken, Offset, Standing, Stretch, View};
 use crate::workers::WorkerId;
+
+/// The most stretches that [`Consumer::open_between`] answers: one before each of 128 ranges, and one behind the last.
+pub const MAX_STRETCHES: usize = 129;
 
 /// The delivery state of one consumer: which messages are settled, who holds which until when, and how often each was handed out.
 ///
@@ -334,6 +337,45 @@ impl<S> Consumer<S> {
             deadline: shown(3, deadline),
             holder: shown(4, holder).map(WorkerId::new),
         })
+    }
+
+    /// Every stretch of unsettled offsets from `a` up to `b`, which isn't in it: rising, none touching the next, clipped at both
+    /// bounds. They fill the list from its first place on, and their number is answered. [`MAX_STRETCHES`] places are always enough.
+    ///
+    /// # Errors
+    /// Refusals 38 and 39, 32 where `a` is above `b`, and 20 where they don't fit; then the list is as it was.
+    pub fn open_between(
+        &mut self,
+        worker: WorkerId,
+        a: Offset,
+        b: Offset,
+        out: &mut [Stretch],
+    ) -> Result<usize, Refusal> {
+        Ok(size(self.machine.open_between(worker, a, b, out)?))
+    }
+
+    /// The same in a list of its own.
+    ///
+    /// # Errors
+    /// Refusals 38, 39 and 32.
+    pub fn open_stretches(
+        &mut self,
+        worker: WorkerId,
+        a: Offset,
+        b: Offset,
+    ) -> Result<Vec<Stretch>, Refusal> {
+        let mut list = [Stretch::default(); MAX_STRETCHES];
+        let n = self.open_between(worker, a, b, &mut list)?;
+        Ok(list[..n].to_vec())
+    }
+
+    /// The nearest unsettled offset at or above one. The last offset of all is never settled, so that there always is one.
+    ///
+    /// # Errors
+    /// Refusals 38 and 39.
+    pub fn nearest_open(&mut self, worker: WorkerId, offset: Offset) -> Result<Offset, Refusal> {
+        self.look_up(worker, Ask::NearestOpen, offset.get())
+            .map(Offset::new)
     }
 
     /// Gives the state up. What was not checkpointed is lost, as in a power failure, and only a restart is left.

@@ -8,7 +8,7 @@
 
 use crate::configuration::{Configuration, LeaseConfig, Settings};
 use crate::refusal::Refusal;
-use crate::types::Offset;
+use crate::types::{Offset, Stretch};
 use crate::workers::WorkerId;
 
 // cursor: AckCursor
@@ -102,6 +102,8 @@ pub(crate) enum Ask {
     IsDue = 38,
     BlocksLeft = 39,
     ViewOf = 40,
+    OpenBetween = 41,
+    NearestOpen = 42,
 }
 
 extern "C" {
@@ -367,6 +369,27 @@ impl Machine {
         self.on_consumer(worker, Ask::Waiting, [now, 0, 0, 0], places, &mut numbers);
         numbers.check()?;
         Ok(numbers.count)
+    }
+
+    /// The open stretches between two numbers, into a list: how many there are, or 38, 39, 32 or 20.
+    #[inline]
+    pub(crate) fn open_between(
+        &mut self,
+        worker: WorkerId,
+        a: Offset,
+        b: Offset,
+        out: &mut [Stretch],
+    ) -> Result<u64, Refusal> {
+        // SAFETY: a stretch is laid out as its two numbers, start and end. A slice has at most `isize::MAX` bytes, so that twice its
+        // length is a length.
+        let places = unsafe {
+            core::slice::from_raw_parts_mut(out.as_mut_ptr().cast::<u64>(), 2 * out.len())
+        };
+        let mut numbers = Numbers::default();
+        let bounds = [a.get(), b.get(), 0, 0];
+        self.on_consumer(worker, Ask::OpenBetween, bounds, places, &mut numbers);
+        numbers.check()?;
+        Ok(numbers.count / 2)
     }
 
     /// Takes the consumer into a record: how many blocks are to be written, or 38, 39 or 31.
@@ -637,7 +660,7 @@ mod tests {
     fn a_number_that_is_no_call_is_refused() {
         let mut guarded = Guarded::new();
         guarded.start(&Configuration::default(), 512 * 20);
-        for kind in [7, 15, 16, 17, 18, 19, 31, 41, u64::MAX] {
+        for kind in [7, 15, 16, 17, 18, 19, 31, 43, u64::MAX] {
             guarded.ask(kind, [0; 4], &mut []);
             assert_eq!(guarded.numbers, code(255, 0, [0; 4]));
         }

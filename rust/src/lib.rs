@@ -114,7 +114,7 @@ mod types;
 mod workers;
 
 pub use configuration::{Configuration, DeliveryConfig, LeaseConfig, Settings};
-pub use consumer::{CheckpointError, Consumer, Step, Writing};
+pub use consumer::{CheckpointError, Consumer, Step, Writing, MAX_STRETCHES};
 pub use journal::{
     Failed, Journal, JournalError, JournalFile, NewJournal, Storage, BLOCK, MAX_BLOCKS, MIN_BLOCKS,
 };
@@ -122,5 +122,5 @@ pub use refusal::Refusal;
 pub use snapshot::{
     decode_attempt_snapshot, encode_attempt_snapshot, encode_attempt_snapshot_v2, MAX_PAIRS,
 };
-pub use types::{Due, Generation, HandOut, Lease, LeaseToken, Offset, Standing, View};
+pub use types::{Due, Generation, HandOut, Lease, LeaseToken, Offset, Standing, Stretch, View};
 pub use workers::{Rights, WorkerId, WORKERS};

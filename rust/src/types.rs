@@ -35,6 +35,32 @@ impl Offset {
     }
 }
 
+/// A stretch of offsets: from `start` on, and up to `end`, which isn't in it.
+#[derive(Clone, Copy, Debug, PartialEq, Eq, Hash, Default)]
+#[repr(C)]
+pub struct Stretch {
+    /// The first of them.
+    pub start: Offset,
+    /// The first behind them.
+    pub end: Offset,
+}
+
+impl Stretch {
+    /// The stretch from one number up to another.
+    #[must_use]
+    pub const fn new(start: u64, end: u64) -> Stretch {
+        Stretch {
+            start: Offset::new(start),
+            end: Offset::new(end),
+        }
+    }
+
+    /// Its offsets, rising.
+    pub fn offsets(self) -> impl Iterator<Item = Offset> {
+        (self.start.get()..self.end.get()).map(Offset::new)
+    }
+}
+
 /// Names a hand-out: no two of one journal's life share one.
 #[derive(Clone, Copy, PartialEq, Eq, PartialOrd, Ord, Hash, Default)]
 #[repr(transparent)]

@@ -14,7 +14,7 @@ const OTHER: WorkerId = WorkerId::new(5);
 
 /// Each operation's right, and every call that it covers. A call answers whether it was permitted.
 type Call = fn(&mut Consumer, LeaseToken) -> Result<(), Refusal>;
-const CALLS: [(Rights, Call); 18] = [
+const CALLS: [(Rights, Call); 20] = [
     (Rights::CLAIM, |c, _| {
         c.claim(OTHER, Offset::new(9), 0).map(drop)
     }),
@@ -53,6 +53,13 @@ const CALLS: [(Rights, Call); 18] = [
     (Rights::LOOK, |c, _| c.blocks_left(OTHER).map(drop)),
     (Rights::LOOK, |c, _| {
         c.view(OTHER, Offset::new(3), 0).map(drop)
+    }),
+    (Rights::LOOK, |c, _| {
+        c.open_stretches(OTHER, Offset::ZERO, Offset::new(9))
+            .map(drop)
+    }),
+    (Rights::LOOK, |c, _| {
+        c.nearest_open(OTHER, Offset::ZERO).map(drop)
     }),
 ];
 

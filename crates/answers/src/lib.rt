@@ -8,13 +8,14 @@ ghost use Rattle.types.specs.Refusal.{code, done, numbered, answered};
 ghost use Rattle.types.specs.Table.{unless};
 ghost use Rattle.raw.specs.Bytes.{outcomeOf};
 ghost use Rattle.cursor.specs.Answers.{rangesError, snapshotError, decodeFault};
+ghost use Rattle.cursor.specs.Unsettled.{openOf};
 ghost use Rattle.attempt.specs.Codec.{attemptError, encodeOf, decodeOf};
 ghost use Rattle.consumer.specs.Questions.{bit};
 ghost use Rattle.consumer.specs.Standing.{standingNumber, viewValues};
 ghost use Rattle.consumer.specs.View.{claimOf, settleOf, nackOf, progressOf, commitOf, standingIn, viewIn};
 ghost use Rattle.checkpoint.specs.Writing.{stepOf};
 ghost use Rattle.starts.specs.Starting.{startFault};
-ghost use Rattle.machine.specs.Answers.{begunOf, firstPlaces, listOf, leaseTold, replyOf, Arguments, seenOf};
+ghost use Rattle.machine.specs.Answers.{begunOf, firstPlaces, listOf, placesOf, leaseTold, replyOf, Arguments, seenOf};
 ghost use Rattle.machine.specs.Calls.{Call};
 ghost use Rattle.machine.specs.View.{afterOf};
 ghost use Rattle.machine.specs.declared.Machine.{Machine};
@@ -32,6 +33,7 @@ use consumer::views::Standing;
 use consumer::views::View;
 use cursor::AckCursorError;
 use cursor::SnapshotError;
+use cursor::open::OpenAnswer;
 use machine::calls::AskAnswer;
 use machine::calls::CallAnswer;
 use machine::calls::LeaseReply;
@@ -299,6 +301,17 @@ fn of_list(listed: Listed, out: &[u64]) -> Numbers
     )
 }
 
+// Stretches whose numbers stand in the first places of `out`.
+fn of_open(answer: OpenAnswer, out: &[u64]) -> Numbers
+    ensures { λ r. ⌜ r ≡ numbersOf (answered values (placesOf (openOf answer) (now (out .entry)))) ⌝ }
+{
+    match answer {
+        OpenAnswer::Filled(n) => of_list(Listed::Filled(n), out),
+        OpenAnswer::BoundsReversed => Numbers(32, 0, 0, 0, 0, 0, 0),
+        OpenAnswer::OutTooShort => Numbers(20, 0, 0, 0, 0, 0, 0),
+    }
+}
+
 // A lease: its generation, the start of its attempt, its deadline and its hand-outs; or nothing.
 fn of_lease(lease: LeaseReply) -> Numbers
     ensures { λ r. ⌜ r ≡ numbersOf (answered values (done (leaseTold lease))) ⌝ }
@@ -370,6 +383,8 @@ pub fn of_reply(reply: Reply, out: &[u64]) -> Numbers
         Reply::IsDue(due) => Numbers(0, 2, bit_of(due.ceiling), bit_of(due.threshold), 0, 0, 0),
         Reply::BlocksLeft(count) => Numbers(0, 1, count as u64, 0, 0, 0, 0),
         Reply::ViewOf(view) => of_view(view),
+        Reply::OpenBetween(answer) => of_open(answer, out),
+        Reply::NearestOpen(offset) => Numbers(0, 1, offset.0, 0, 0, 0, 0),
         Reply::UnknownWorker => Numbers(38, 0, 0, 0, 0, 0, 0),
         Reply::NotPermitted => Numbers(39, 0, 0, 0, 0, 0, 0),
     }

@@ -7,3 +7,4 @@ pub mod Consumer
 pub mod Journal
 pub mod Workers
 pub mod Views
+pub mod Open

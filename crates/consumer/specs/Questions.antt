@@ -8,6 +8,7 @@ use Rattle.types.specs.Refusal.{Result, done, OutTooShort}
 use Rattle.types.specs.Table.{_⇒_, checked}
 use Rattle.types.specs.Keyed.{Entry, lookup}
 use Rattle.cursor.specs.Cursor.{settled}
+use Rattle.cursor.specs.Unsettled.{stretches, bounds, openTable, nearestOpen}
 use Rattle.lease.specs.Operations.{leaseOf}
 use Rattle.lease.specs.Lookup.{leaseValues}
 use Rattle.lease.specs.Rest.{expired, inFlight}
@@ -35,6 +36,10 @@ waitingAt s now = keysOf (s .table .carried) ++ keysOf (longestFirst (expiredDea
 abbrev pub waiting : State → ℕ → ℕ → Result (List ℕ)
 waiting s now room = checked (ltb room (length (waitingAt s now)) ⇒ OutTooShort ∷ []) (done (waitingAt s now))
 
+-- the unsettled stretches between two numbers, start and end of each, where there is room for so many: 32, 20
+abbrev pub openBetween : State → ℕ → ℕ → ℕ → Result (List ℕ)
+openBetween s a b room = checked (openTable (s .cursor) a b room) (done (bounds (stretches (s .cursor) a b)))
+
 -- a test as a number
 abbrev pub bit : Bool → ℕ
 bit true = 1
@@ -58,6 +63,10 @@ pub data Question : Type 0 where
   BlocksLeft : Question
   -- of an offset, at a clock
   ViewOf : ℕ → ℕ → Question
+  -- the unsettled stretches between two numbers, into a list of so many places
+  OpenBetween : ℕ → ℕ → ℕ → Question
+  -- the nearest unsettled offset at or above one
+  NearestOpen : ℕ → Question
 
 -- what worker w is answered to each question, once it may ask
 abbrev pub reply : State → ℕ → Question → Result (List ℕ)
@@ -70,6 +79,8 @@ reply s w InFlight = done (inFlight (s .table) ∷ [])
 reply s w IsDue = done (bit (atCeiling s) ∷ bit (atThreshold s) ∷ [])
 reply s w BlocksLeft = done ((halfEnd (s .size) (s .next .block) - s .next .block) ∷ [])
 reply s w (ViewOf o now) = done (viewValues (viewOf s w o now))
+reply s w (OpenBetween a b room) = openBetween s a b room
+reply s w (NearestOpen o) = done (nearestOpen (s .cursor) o ∷ [])
 
 -- a question of worker w: 38, 39 first
 abbrev pub look : State → ℕ → Question → Result (List ℕ)

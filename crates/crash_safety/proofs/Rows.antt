@@ -13,6 +13,7 @@ use Rattle.types.specs.Keyed.{Entry}
 use Rattle.types.proofs.Cases.{split}
 use Rattle.cursor.specs.declared.Range.{Range}
 use Rattle.cursor.specs.Cursor.{Cursor, rangesTable}
+use Rattle.cursor.specs.Unsettled.{openTable}
 use Rattle.cursor.specs.Snapshot as cursors
 use Rattle.cursor.specs.Snapshot.{decodeCursor}
 use Rattle.attempt.specs.Snapshot as attempts
@@ -24,7 +25,7 @@ use Rattle.consumer.specs.State.{Configuration, State, NextGroup}
 use Rattle.consumer.specs.Rights.{committing, looking}
 use Rattle.consumer.specs.Calls as consumer
 use Rattle.consumer.specs.Calls.{callRows, claimTable, ackTable, nackTable, progressTable}
-use Rattle.consumer.specs.Questions.{Question, Waiting, Committed, IsSettled, LeaseOf, CountOf, InFlight, IsDue, BlocksLeft, ViewOf, waitingAt, reply}
+use Rattle.consumer.specs.Questions.{Question, Waiting, Committed, IsSettled, LeaseOf, CountOf, InFlight, IsDue, BlocksLeft, ViewOf, OpenBetween, NearestOpen, waitingAt, reply}
 use Rattle.checkpoint.specs.Checkpoint as checkpoint
 use Rattle.checkpoint.specs.Checkpoint.{Writing, beginTable, stepTable}
 use Rattle.starts.specs.Restart as restarts
@@ -114,6 +115,8 @@ module _ (s : State) (w : ℕ) where
   reply-not IsDue = tt
   reply-not BlocksLeft = tt
   reply-not (ViewOf o now) = tt
+  reply-not (OpenBetween a b room) = checked-not (openTable (s .cursor) a b room) _ refl tt
+  reply-not (NearestOpen o) = tt
 
   ask-not : (a : List ℕ) (q : Ask) → Seen (asked s a w q)
   ask-not a (claim o now) = claim-not o now

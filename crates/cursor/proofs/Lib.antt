@@ -9,3 +9,5 @@ pub mod Reading
 pub mod Writing
 pub mod Taking
 pub mod Edits
+pub mod Unsettled
+pub mod OpenHanded

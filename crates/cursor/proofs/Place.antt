@@ -39,11 +39,11 @@ pub place-most : (o : ℕ) (l : List Range) → place o l ≤ length l
 place-most o [] = omega arith
 place-most o (r ∷ rs) = split (leb (r .start) o) (λ p. rw p (omega (arith, place-most o rs))) (λ p. rw p (omega arith))
 
-end-step : (lo k : ℕ) (r : Range) (rs : List Range) → endBefore lo (suc k) (r ∷ rs) ≡ endBefore (r .end) k rs
+pub end-step : (lo k : ℕ) (r : Range) (rs : List Range) → endBefore lo (suc k) (r ∷ rs) ≡ endBefore (r .end) k rs
 end-step lo zero r rs = refl
 end-step lo (suc k) r rs = refl
 
-end-least : (o lo : ℕ) (l : List Range) → Above lo l → lo ≤ endBefore lo (place o l) l
+pub end-least : (o lo : ℕ) (l : List Range) → Above lo l → lo ≤ endBefore lo (place o l) l
 end-least o lo [] a = omega arith
 end-least o lo (r ∷ rs) a =
     split (leb (r .start) o)
@@ -179,7 +179,7 @@ module _ (c : Cursor) (o i : ℕ) (a : Above (c .committed) (c .ahead)) (e : i �
 pub spot-max : (c : Cursor) (o : ℕ) → o ≡ MAX → Spotted c o Settled
 spot-max c o e = rw (eq-eqb o MAX e) (or-true (settled c o))
 
-place-none : (o lo : ℕ) (l : List Range) → Above lo l → o ≤ lo → place o l ≡ 0
+pub place-none : (o lo : ℕ) (l : List Range) → Above lo l → o ≤ lo → place o l ≡ 0
 place-none o lo [] a h = refl
 place-none o lo (r ∷ rs) a h = rw (lt-leb (r .start) o (omega arith))
 

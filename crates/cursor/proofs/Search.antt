@@ -58,11 +58,11 @@ module _ (g : AckCursor) (w : Whole g) where
     pub place-within : i ≤ g .runs
     place-within = omega (arith, below-le (suc x) (take (g .runs) (g .starts)), length-take-le (g .runs) (g .starts) long-starts)
 
-    placed-there : i ≡ place x (view g .ahead)
+    pub placed-there : i ≡ place x (view g .ahead)
     placed-there = p ∙ sym (place-is (g .runs) (g .starts) (g .ends) long-starts long-ends x)
 
     module _ (end : ℕ) (q : end ≡ getD (g .committed ∷ g .ends) i 0) where
-      end-there : end ≡ endBefore (g .committed) i (view g .ahead)
+      pub end-there : end ≡ endBefore (g .committed) i (view g .ahead)
       end-there = q ∙ end-is (g .runs) (g .starts) (g .ends) long-starts long-ends (g .committed) i place-within
 
       pub found-acked : ltb x end ≡ settled (view g) x

@@ -37,7 +37,7 @@ module _ (n : ℕ) (s e : List ℕ) (hs : n ≤ length s) (he : n ≤ length e) 
   abbrev ranges : List Range
   ranges = zipped range (take n s) (take n e)
 
-  even : length (take n s) ≡ length (take n e)
+  pub even : length (take n s) ≡ length (take n e)
   even = rw (length-take-le n s hs, length-take-le n e he)
 
   pub count : length ranges ≡ n

@@ -7,3 +7,4 @@ pub mod Taking
 pub mod Place
 pub mod Examples
 pub mod Edits
+pub mod Unsettled

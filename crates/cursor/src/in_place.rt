@@ -330,7 +330,7 @@ fn locate(committed: u64, starts: &[u64; RANGES], ends: &[u64; RANGES], runs: us
 }
 
 // The end before a place, which is committed at the first place.
-fn end_before(committed: u64, ends: &[u64; RANGES], at: usize) -> u64
+pub(crate) fn end_before(committed: u64, ends: &[u64; RANGES], at: usize) -> u64
     requires { ⌜ at ≤ 128 ⌝ }
     ensures { λ r. ⌜ r ≡ getD (committed ∷ now (ends .entry)) at 0 ⌝ }
 {
@@ -353,7 +353,7 @@ fn stands_at(column: &[u64; RANGES], n: usize, at: usize, x: u64) -> bool
 }
 
 // How many of the first n numbers of a column, which rise, are at most x.
-fn partition_point(column: &[u64; RANGES], n: usize, x: u64) -> usize
+pub(crate) fn partition_point(column: &[u64; RANGES], n: usize, x: u64) -> usize
     requires { ⌜ (length (now column) ≡ 128) × (n ≤ 128) × Ascending 0 (take n (now column)) ⌝ }
     ensures { λ r. ⌜ r ≡ upTo x (take n (now (column .entry))) ⌝ }
 {

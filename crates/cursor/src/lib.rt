@@ -31,6 +31,7 @@ use types::numbers::shorter;
 // `encode_snapshot` and `decode_snapshot`.
 mod codec;
 pub mod in_place;
+pub mod open;
 
 // The offsets from start up to, and not including, end.
 #[repr(C)]

@@ -69,6 +69,11 @@ question-fits room questions.BlocksLeft vs p = refl
 question-fits room (questions.ViewOf o now) vs p =
     let h = enums.owed question.the-type question-laws.the-laws (questions.ViewOf o now) vs p in
     rw (offset-fits o _ (h .0), number-fits now (h .1 .0 .1))
+question-fits room (questions.OpenBetween a b) vs p =
+    let h = enums.owed question.the-type question-laws.the-laws (questions.OpenBetween a b) vs p in
+    rw (number-fits a (h .0 .1), number-fits b (h .1 .0 .1))
+question-fits room (questions.NearestOpen o) vs p =
+    offset-fits o _ (enums.owed question.the-type question-laws.the-laws (questions.NearestOpen o) vs p .0)
 
 pub ask-fits : (room : ℕ) (q : Ask) (vs : List Val) → Is ask.the-row q vs → fits (askOf room q) ≡ true
 ask-fits room (asks.Claim o now) vs p =

@@ -1,23 +1,25 @@
 -- What each call on the state owes its contract, from what the consumer's own function ensures. Assumes nothing.
-use Prim.Native.Nat.{ℕ}
+use Prim.Native.Nat.{ℕ, _/_}
 use mathlib.Core.Path.{_≡_, refl, sym, ap, subst, _∙_}
 use mathlib.Core.Bool.{true, false}
 use mathlib.Core.List.{List, [], _∷_, _++_, append-assoc}
-use mathlib.Core.Option.{none, some}
+use mathlib.Core.Option.{Option, none, some}
 use lib.Dec.{ltb}
 use lib.ListN.{length, drop, replicate}
 use lib.Seq.{take-at}
 use Rattle.types.specs.Refusal.{Refusal, Result, refused, done, OutTooShort, UnknownWorker, NotPermitted}
-use Rattle.types.specs.Table.{_⇒_, first, Answer, answer, checked}
+use Rattle.types.specs.Table.{Row, _⇒_, first, Answer, answer, checked, guarded}
 use Rattle.types.specs.Lists.{listed}
 use Rattle.types.proofs.Cases.{split}
 use Rattle.types.proofs.Checked.{refused-not-done, done-inj}
 use Rattle.types.specs.Lists.{listedOf}
 use Rattle.types.specs.declared.lent.Listed.{Listed}
 use Rattle.types.specs.declared.lent.Listed.the-variants as lists
+use Rattle.cursor.specs.Unsettled.{stretches, bounds, openTable, openNumbers, openOf}
+use Rattle.cursor.specs.declared.open.OpenAnswer.{OpenAnswer}
 use Rattle.consumer.specs.Rights.{looking}
 use Rattle.consumer.specs.Calls.{callRows}
-use Rattle.consumer.specs.Questions.{Question, Waiting, Committed, IsSettled, LeaseOf, CountOf, InFlight, IsDue, BlocksLeft, ViewOf, waitingAt, reply}
+use Rattle.consumer.specs.Questions.{Question, Waiting, Committed, IsSettled, LeaseOf, CountOf, InFlight, IsDue, BlocksLeft, ViewOf, OpenBetween, NearestOpen, waitingAt, reply}
 use Rattle.consumer.specs.Questions as questions
 use Rattle.consumer.specs.View.{view, Sound, permissionOf}
 use Rattle.consumer.specs.Parts.{Whole}
@@ -26,7 +28,7 @@ use Rattle.consumer.specs.declared.rights.Permission.{Permission}
 use Rattle.consumer.specs.declared.rights.Permission.the-variants as permission
 use Rattle.machine.specs.Calls.{look, looked}
 use Rattle.machine.specs.Transitions.{gives, idle}
-use Rattle.machine.specs.Answers.{askOf, firstPlaces, listOf, replyOf, answeredList, filledWith, listIn, argumentsIn, askedBy}
+use Rattle.machine.specs.Answers.{askOf, firstPlaces, listOf, placesOf, replyOf, answeredList, filledWith, listIn, argumentsIn, askedBy}
 use Rattle.machine.specs.View.{AskedIs, LookedIs}
 use Rattle.machine.specs.declared.calls.Ask as code
 use Rattle.machine.specs.declared.calls.Asked.{Asked}
@@ -83,6 +85,29 @@ waiting-replied c w now out out′ r e h =
     let p = listed-puts (waitingAt (view c) now) out out′ r h in
     subst (λ (x : Question). LookedIs (reply (view c) w x) x out (replies.Waiting r) out′) (sym e) (record { kind = refl; is = p .is; lists = p .fills })
 
+-- the same of a list that a table of rows stands before
+module _ (ws : List Row) (list out out′ : List ℕ) (o : Result ℕ) (e : answer o out′ ≡ guarded ws out (answer (done (length list)) (filledWith list out))) where
+  rows-put : (placesOf o out′ ≡ checked ws (done list)) × (out′ ≡ filledWith (answeredList (checked ws (done list))) out)
+  rows-put = go (first ws) refl
+    where
+      go : (f : Option Refusal) → first ws ≡ f → (placesOf o out′ ≡ checked ws (done list)) × (out′ ≡ filledWith (answeredList (checked ws (done list))) out)
+      go none q =
+          let d : answer o out′ ≡ answer (done (length list)) (filledWith list out) = rw q at e in
+          let counts : o ≡ done (length list) = ap (λ (a : Answer ℕ (List ℕ)). a .outcome) d in
+          let whole : out′ ≡ filledWith list out = ap (λ (a : Answer ℕ (List ℕ)). a .state) d in
+          (rw (q, counts, whole) (ap done (at-front list out out′ (length list) refl)), rw q whole)
+      go (some f) q =
+          let d : answer o out′ ≡ answer (refused f) out = rw q at e in
+          let turned : o ≡ refused f = ap (λ (a : Answer ℕ (List ℕ)). a .outcome) d in
+          (rw (q, turned), rw q (ap (λ (a : Answer ℕ (List ℕ)). a .state) d))
+
+pub open-replied : (c : Consumer) (w : ℕ) {q : Question} (a b : ℕ) (out out′ : List ℕ) (r : OpenAnswer) → q ≡ OpenBetween a b (length out / 2)
+    → answer (openOf r) out′ ≡ openNumbers (view c .cursor) a b out → LookedIs (reply (view c) w q) q out (replies.OpenBetween r) out′
+unfolding openNumbers
+open-replied c w a b out out′ r e h =
+    let p = rows-put (openTable (view c .cursor) a b (length out / 2)) (bounds (stretches (view c .cursor) a b)) out out′ (openOf r) h in
+    subst (λ (x : Question). LookedIs (reply (view c) w x) x out (replies.OpenBetween r) out′) (sym e) (record { kind = refl; is = p .0; lists = p .1 })
+
 -- ## who may look
 -- a refused question fills no list, and is the one that was asked
 no-list : (q : Question) (f : Refusal) → listIn q (refused f) ≡ []
@@ -95,6 +120,8 @@ no-list InFlight f = refl
 no-list IsDue f = refl
 no-list BlocksLeft f = refl
 no-list (ViewOf o now) f = refl
+no-list (OpenBetween a b room) f = refl
+no-list (NearestOpen o) f = refl
 
 asked-itself : (q : Question) → argumentsIn q .question ≡ q
 asked-itself (Waiting now room) = refl
@@ -106,6 +133,8 @@ asked-itself InFlight = refl
 asked-itself IsDue = refl
 asked-itself BlocksLeft = refl
 asked-itself (ViewOf o now) = refl
+asked-itself (OpenBetween a b room) = refl
+asked-itself (NearestOpen o) = refl
 
 module _ (c : Consumer) (w : ℕ) (q : Question) (out : List ℕ) (p : Permission) (says : permissionOf p ≡ first (callRows (view c) w looking)) where
   refused-look : (f : Refusal) (r : Reply) → permissionOf p ≡ some f → replyOf r out ≡ refused f → askedBy (argumentsIn q) r ≡ argumentsIn q .question

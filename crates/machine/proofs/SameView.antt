@@ -54,6 +54,8 @@ module _ (o now : ℕ) (out : List ℕ) (x : Result (List ℕ)) where
   told (answers.Looked (replies.ViewOf v)) e =
       let q : x ≡ done (viewValues (viewIn v)) = cc in
       rw q (ap (λ (y : code.View). answers.Looked (replies.ViewOf y)) (sym (values-tell v)))
+  told (answers.Looked (replies.OpenBetween l)) e = impossible cc
+  told (answers.Looked (replies.NearestOpen n)) e = impossible cc
   told (answers.Looked replies.UnknownWorker) e = let q : x ≡ refused UnknownWorker = cc in rw q
   told (answers.Looked replies.NotPermitted) e = let q : x ≡ refused NotPermitted = cc in rw q
 

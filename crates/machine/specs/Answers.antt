@@ -1,5 +1,5 @@
 -- What the code's calls and answers stand for: the calls and the events of Calls.antt.
-use Prim.Native.Nat.{ℕ}
+use Prim.Native.Nat.{ℕ, _/_}
 use mathlib.Core.Path.{_≡_}
 use mathlib.Core.List.{List, [], _∷_, _++_}
 use mathlib.Core.Option.{Option, none, some}
@@ -10,8 +10,9 @@ use Rattle.types.specs.Table.{Kept}
 use Rattle.delivery.specs.Config.{delayOf}
 use Rattle.types.specs.declared.lent.Listed.{Listed}
 use Rattle.types.specs.declared.lent.Listed.the-variants as listed
-use Rattle.consumer.specs.Questions.{Question, Waiting, Committed, IsSettled, LeaseOf, CountOf, InFlight, IsDue, BlocksLeft, ViewOf, bit}
+use Rattle.consumer.specs.Questions.{Question, Waiting, Committed, IsSettled, LeaseOf, CountOf, InFlight, IsDue, BlocksLeft, ViewOf, OpenBetween, NearestOpen, bit}
 use Rattle.consumer.specs.Standing.{viewValues}
+use Rattle.cursor.specs.Unsettled.{openOf}
 use Rattle.consumer.specs.View.{claimOf, settleOf, nackOf, progressOf, commitOf, viewIn, Unmoved}
 use Rattle.checkpoint.specs.declared.BeginAnswer.{BeginAnswer}
 use Rattle.checkpoint.specs.declared.BeginAnswer.the-variants as begins
@@ -31,7 +32,7 @@ use Rattle.machine.specs.declared.calls.AskAnswer.{AskAnswer}
 use Rattle.machine.specs.declared.calls.AskAnswer.the-variants as answer
 
 -- ## calls
--- the question; `room` is the number of places that are lent for a list
+-- the question; `room` is the number of places that are lent for a list, of which a stretch takes two
 abbrev pub questionOf : ℕ → code.Question → Question
 questionOf room (question.Waiting now) = Waiting now room
 questionOf room question.Committed = Committed
@@ -42,6 +43,8 @@ questionOf room question.InFlight = InFlight
 questionOf room question.IsDue = IsDue
 questionOf room question.BlocksLeft = BlocksLeft
 questionOf room (question.ViewOf o now) = ViewOf (o .0) now
+questionOf room (question.OpenBetween a b) = OpenBetween a b (room / 2)
+questionOf room (question.NearestOpen o) = NearestOpen (o .0)
 
 abbrev pub askOf : ℕ → code-ask.Ask → Ask
 askOf room (asks.Claim o now) = claim (o .0) now
@@ -68,6 +71,11 @@ abbrev pub listOf : Listed → List ℕ → Result (List ℕ)
 listOf (listed.Filled n) out = done (firstPlaces n out)
 listOf listed.OutTooShort out = refused refusal.OutTooShort
 
+-- the same by how many places were filled
+abbrev pub placesOf : Result ℕ → List ℕ → Result (List ℕ)
+placesOf (refused r) out = refused r
+placesOf (done n) out = done (firstPlaces n out)
+
 -- the generation, attempt start, deadline and deliveries of a lease, or nothing
 abbrev pub leaseTold : LeaseReply → List ℕ
 leaseTold (told.Some l) = l .generation .0 ∷ l .«attempt_start» ∷ l .deadline ∷ l .deliveries ∷ []
@@ -83,14 +91,17 @@ replyOf (reply.InFlight n) out = done (n ∷ [])
 replyOf (reply.IsDue d) out = done (bit (d .ceiling) ∷ bit (d .threshold) ∷ [])
 replyOf (reply.BlocksLeft n) out = done (n ∷ [])
 replyOf (reply.ViewOf v) out = done (viewValues (viewIn v))
+replyOf (reply.OpenBetween l) out = placesOf (openOf l) out
+replyOf (reply.NearestOpen o) out = done (o .0 ∷ [])
 replyOf reply.UnknownWorker out = refused refusal.UnknownWorker
 replyOf reply.NotPermitted out = refused refusal.NotPermitted
 
 -- the arguments of a call; those that it hasn't are 0, none and the question for committed
 pub record Arguments : Type 0 where
-  -- or the bound
+  -- or the bound, or the first of two
   pub offset : ℕ
   pub generation : ℕ
+  -- or the second bound
   pub clock : ℕ
   pub delay : Option ℕ
   pub room : ℕ
@@ -116,6 +127,8 @@ argumentsIn InFlight = asking InFlight 0 0 0
 argumentsIn IsDue = asking IsDue 0 0 0
 argumentsIn BlocksLeft = asking BlocksLeft 0 0 0
 argumentsIn (ViewOf o now) = asking (ViewOf o now) o now 0
+argumentsIn (OpenBetween a b room) = asking (OpenBetween a b room) a b room
+argumentsIn (NearestOpen o) = asking (NearestOpen o) o 0 0
 
 abbrev pub argumentsOf : Ask → Arguments
 argumentsOf (claim o now) = arguments o 0 now none
@@ -137,6 +150,8 @@ askedBy g (reply.InFlight n) = InFlight
 askedBy g (reply.IsDue d) = IsDue
 askedBy g (reply.BlocksLeft n) = BlocksLeft
 askedBy g (reply.ViewOf v) = ViewOf (g .offset) (g .clock)
+askedBy g (reply.OpenBetween l) = OpenBetween (g .offset) (g .clock) (g .room)
+askedBy g (reply.NearestOpen o) = NearestOpen (g .offset)
 askedBy g reply.UnknownWorker = g .question
 askedBy g reply.NotPermitted = g .question
 
@@ -173,7 +188,7 @@ abbrev pub answeredList : Result (List ℕ) → List ℕ
 answeredList (refused r) = []
 answeredList (done l) = l
 
--- the waiting list alone is answered so
+-- the waiting list and the stretches are answered so
 abbrev pub listIn : Question → Result (List ℕ) → List ℕ
 listIn (Waiting now room) a = answeredList a
 listIn Committed a = []
@@ -184,6 +199,8 @@ listIn InFlight a = []
 listIn IsDue a = []
 listIn BlocksLeft a = []
 listIn (ViewOf o now) a = []
+listIn (OpenBetween a b room) r = answeredList r
+listIn (NearestOpen o) a = []
 
 abbrev pub listSeen : Event → List ℕ
 listSeen (claimed o now a) = []

@@ -8,7 +8,7 @@ use Rattle.types.specs.Limits.{MAX}
 use Rattle.types.specs.Refusal.{Result}
 use Rattle.consumer.specs.State.{State}
 use Rattle.consumer.specs.Calls.{HandOut}
-use Rattle.consumer.specs.Questions.{Question, Waiting, IsSettled, LeaseOf, CountOf, Committed, InFlight, IsDue, BlocksLeft, ViewOf}
+use Rattle.consumer.specs.Questions.{Question, Waiting, IsSettled, LeaseOf, CountOf, Committed, InFlight, IsDue, BlocksLeft, ViewOf, OpenBetween, NearestOpen}
 use Rattle.checkpoint.specs.Checkpoint.{BlockWritten}
 
 -- what the state answers
@@ -46,6 +46,8 @@ questionFits InFlight = true
 questionFits IsDue = true
 questionFits BlocksLeft = true
 questionFits (ViewOf o now) = u64 o && u64 now
+questionFits (OpenBetween a b room) = u64 a && u64 b
+questionFits (NearestOpen o) = u64 o
 
 abbrev pub delayFits : Option ℕ → Bool
 delayFits none = true

@@ -9,6 +9,7 @@ use consumer::calls::ProgressAnswer;
 use consumer::calls::SettleAnswer;
 use consumer::queries::Due;
 use consumer::views::View;
+use cursor::open::OpenAnswer;
 use delivery::Delay;
 use lease::LeaseToken;
 use starts::StartAnswer;
@@ -28,6 +29,9 @@ pub enum Question {
     IsDue,
     BlocksLeft,
     ViewOf { offset: Offset, now: u64 },
+    // The stretches go into the lent list, start and end of each.
+    OpenBetween { a: u64, b: u64 },
+    NearestOpen(Offset),
 }
 
 // A call on the consumer's state.
@@ -83,6 +87,8 @@ pub enum Reply {
     IsDue(Due),
     BlocksLeft(usize),
     ViewOf(View),
+    OpenBetween(OpenAnswer),
+    NearestOpen(Offset),
     UnknownWorker,
     NotPermitted,
 }

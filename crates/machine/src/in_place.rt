@@ -372,7 +372,7 @@ fn ask_commit<'a>(
     }
 }
 
-// Answers a worker's question that it may ask; the waiting list goes into `out`.
+// Answers a worker's question that it may ask; a list goes into `out`.
 fn reply<'a>(
     worker: u64,
     fixed: Fixed,
@@ -466,6 +466,27 @@ fn reply<'a>(
                 carried_offsets,
                 carried_counts,
             ))
+        }
+        Question::OpenBetween { a, b } => {
+            Reply::OpenBetween(cursor::open::open_between_in_place(
+                figures.committed,
+                starts,
+                ends,
+                figures.runs,
+                a,
+                b,
+                out,
+            ))
+        }
+        Question::NearestOpen(offset) => {
+            let nearest = cursor::open::nearest_in_place(
+                figures.committed,
+                starts,
+                ends,
+                figures.runs,
+                offset.0,
+            );
+            Reply::NearestOpen(Offset(nearest))
         }
     }
 }

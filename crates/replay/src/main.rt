@@ -70,7 +70,7 @@ fn answer<'a>(
     requires { ⌜ Ready (length (now area)) session ⌝ }
     ensures { λ r. ⌜ Ready (length (now (area .entry))) (r .session) ⌝ }
 {
-    let mut list = [0u64; 192];
+    let mut list = [0u64; 512];
     let acted = session::act(session, line, area, &mut list);
     let said = acted.said;
     let after = acted.session;

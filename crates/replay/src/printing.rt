@@ -63,11 +63,15 @@ const WHOLE_HELD: usize = 28;
 
 const WHOLE_WAITING: usize = 29;
 
-pub const BLOCK: usize = 30;
+const OPEN: usize = 30;
 
-pub const STATE: usize = 31;
+const NEAREST: usize = 31;
 
-// An answer: a template and its numbers. Behind those of a waiting list, a block and the state stand their entries.
+pub const BLOCK: usize = 32;
+
+pub const STATE: usize = 33;
+
+// An answer: a template and its numbers. Behind those of a list, a block and the state stand their entries.
 pub struct Said {
     pub template: usize,
     pub numbers: [u64; 4],
@@ -153,6 +157,8 @@ pub fn answer_said(form: usize, offset: u64, code: Numbers) -> Said {
         script::PROGRESS => with(EXTENDED, code.2),
         script::COMMIT => plain(either(code.2, UNCHANGED, COMMITTED)),
         script::WAITING => with(WAITING, code.1),
+        script::OPEN => with(OPEN, code.1),
+        script::NEAREST => with(NEAREST, code.2),
         script::BEGIN => with(BEGUN, code.2),
         script::STEP | script::STEP_ON => with(either(code.3, WROTE, DONE), code.2),
         _ => plain(RESTARTED),
@@ -173,6 +179,27 @@ fn waiting(out: &mut [u8], at: usize, list: &[u64], n: usize) -> usize {
     output::put(out, next, b"\n")
 }
 
+// The stretches whose numbers are the first n of a list, and the line's end.
+fn stretches(out: &mut [u8], at: usize, list: &[u64], n: usize) -> usize {
+    let mut next = shown::or_none(out, at, n);
+    let len = list.len();
+    let mut i: usize = 0;
+    while i < len {
+        let end = i + 1;
+        if n <= i {
+            break;
+        }
+        if len <= end {
+            break;
+        }
+        next = shown::before(out, next, i);
+        next = output::put_number(out, next, list[i]);
+        next = shown::with(out, next, b"-", list[end]);
+        i += 2;
+    }
+    output::put(out, next, b"\n")
+}
+
 // The hexadecimal digits of the block that begins at a place, and the line's end.
 fn block(out: &mut [u8], at: usize, area: &[u8], from: usize) -> usize {
     let mut next = at;
@@ -189,7 +216,7 @@ fn block(out: &mut [u8], at: usize, area: &[u8], from: usize) -> usize {
     output::put(out, next, b"\n")
 }
 
-// An answer; `list` has the waiting list.
+// An answer; `list` has the waiting list or the stretches.
 pub fn print<'a>(
     out: &'a mut [u8],
     at: usize,
@@ -206,12 +233,13 @@ pub fn print<'a>(
     let next = templates::fill(
         out,
         at,
-        b"|bad line\n|not now\n|refused #\n|refused # #\n|refused # # #\n|started\n|deliver # # #\n|deadletter # # #\n|settled\n|requeued #\n|extended #\n|committed\n|unchanged\n|waiting|begun #\n|wrote #\n|done #\n|restarted\n|cut #\n|poked\n|worker #\n|rights\n|view settled\n|view held\n|view waiting\n|view settled none none none none\n|view waiting # none none none\n|view held # # # #\n|view waiting # # # #\n|block |",
+        b"|bad line\n|not now\n|refused #\n|refused # #\n|refused # # #\n|started\n|deliver # # #\n|deadletter # # #\n|settled\n|requeued #\n|extended #\n|committed\n|unchanged\n|waiting|begun #\n|wrote #\n|done #\n|restarted\n|cut #\n|poked\n|worker #\n|rights\n|view settled\n|view held\n|view waiting\n|view settled none none none none\n|view waiting # none none none\n|view held # # # #\n|view waiting # # # #\n|open|nearest #\n|block |",
         template,
         numbers,
     );
     match template {
         WAITING => waiting(out, next, list, numbers[0] as usize),
+        OPEN => stretches(out, next, list, numbers[0] as usize),
         BLOCK => block(out, next, area, numbers[0] as usize),
         STATE => shown::state(out, next, consumer),
         _ => next,

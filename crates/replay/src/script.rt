@@ -49,9 +49,13 @@ pub const RIGHTS: usize = 21;
 
 pub const VIEW: usize = 22;
 
-pub const BAD: usize = 23;
+pub const OPEN: usize = 23;
 
-pub const NOTHING: usize = 24;
+pub const NEAREST: usize = 24;
+
+pub const BAD: usize = 25;
+
+pub const NOTHING: usize = 26;
 
 // A line's form, how many numbers it has, and the first 24 of them, 0 where it has fewer.
 pub struct Line {
@@ -121,7 +125,7 @@ fn place_in(entries: &[u8], name: &[u8], n: usize) -> usize {
 // The form of a line with a name and so many numbers behind it.
 fn form_of(name: &[u8], n: usize) -> usize {
     place_in(
-        b"claim/2|ack/2|term/2|nack/3|nack/4|progress/3|commit/1|waiting/1|begin/0|step/0|step/1|restart/0|restart/1|start+6|cut old/0|cut new/0|cut torn/0|state/0|poke/3|peek/1|worker/1|rights/2|view/2",
+        b"claim/2|ack/2|term/2|nack/3|nack/4|progress/3|commit/1|waiting/1|begin/0|step/0|step/1|restart/0|restart/1|start+6|cut old/0|cut new/0|cut torn/0|state/0|poke/3|peek/1|worker/1|rights/2|view/2|open/3|nearest/1",
         name,
         n,
     )

@@ -21,6 +21,7 @@ use server::kinds;
 use server::kinds::Calling;
 use starts::StartAnswer;
 use types::limits::WORKERS;
+use types::numbers::shorter;
 
 // The machine, how many bytes of the lent area are its journal, which is none before the first start, and the worker who calls. The rights
 // in the machine's configuration are those that were said last: a start and a restart hand them in, and nothing else looks at them.
@@ -50,6 +51,8 @@ fn kind_of(form: usize) -> u64 {
         script::CLAIM..=script::COMMIT => form as u64,
         script::WAITING => 32,
         script::VIEW => 40,
+        script::OPEN => 41,
+        script::NEAREST => 42,
         script::BEGIN => 16,
         script::STEP | script::STEP_ON => 17,
         script::RESTART | script::RESTART_ON => 18,
@@ -57,8 +60,14 @@ fn kind_of(form: usize) -> u64 {
     }
 }
 
+// The call of a line. `open` has room for up to 256 stretches.
 fn call_of(worker: u64, line: Line) -> Calling {
     let v = line.numbers;
+    if line.form == script::OPEN {
+        if 256 < v[2] {
+            return Calling::None;
+        }
+    }
     kinds::call_of(worker, kind_of(line.form), v[0], v[1], v[2], v[3])
 }
 
@@ -81,6 +90,19 @@ fn lent_to(line: Line, len: usize) -> usize {
         script::STEP_ON | script::RESTART_ON => line.numbers[0] as usize,
         _ => len,
     }
+}
+
+// How many places of the list a call is lent: two for each stretch that `open` has room for, and all of them elsewhere.
+fn places_for(line: Line, most: usize) -> usize
+    ensures { λ r. ⌜ r ≤ most ⌝ }
+{
+    let room = line.numbers[2];
+    if line.form == script::OPEN {
+        if room <= 256 {
+            return shorter(2 * (room as usize), most);
+        }
+    }
+    most
 }
 
 // ## a start
@@ -267,7 +289,8 @@ fn called(session: Session, call: Call, line: Line, area: &mut [u8], list: &mut 
         };
     }
     let before = session.machine;
-    let called = machine::call(before, call, &mut area[..lent], list);
+    let places = places_for(line, list.len());
+    let called = machine::call(before, call, &mut area[..lent], &mut list[..places]);
     let answer = called.answer;
     let after = called.machine;
     after_call(
@@ -393,7 +416,7 @@ fn seen(session: Session, line: Line, area: &mut [u8]) -> Said {
     }
 }
 
-// What a line does, and its answer; `list` has the waiting list.
+// What a line does, and its answer; `list` has the waiting list or the stretches.
 pub fn act(session: Session, line: Line, area: &mut [u8], list: &mut [u64]) -> Acted
     requires { ⌜ Ready (length (now area)) session ⌝ }
     ensures { λ r. ⌜ Ready (length (now (area .entry))) (r .session) ⌝ }

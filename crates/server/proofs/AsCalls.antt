@@ -56,7 +56,7 @@ same-made c p area w (some q) is-w h = rw (is-w, h) refl
 
 module _ (w a b c d : ℕ) (is-w : u64 w ≡ true) (is-a : u64 a ≡ true) (is-b : u64 b ≡ true) (is-c : u64 c ≡ true) (is-d : u64 d ≡ true) where
   all-fit : (room : ℕ) → All (λ key q. fits q ≡ true) (asks a b c d room)
-  all-fit room = rw (is-a, is-b, is-c, is-d) (refl, (refl, (refl, (refl, (refl, (refl, (refl, (refl, (refl, (refl, (refl, (refl, (refl, (refl, (refl, (refl, tt))))))))))))))))
+  all-fit room = rw (is-a, is-b, is-c, is-d) (refl, (refl, (refl, (refl, (refl, (refl, (refl, (refl, (refl, (refl, (refl, (refl, (refl, (refl, (refl, (refl, (refl, (refl, tt))))))))))))))))))
 
   -- whatever area is lent: a call on the state leaves it
   pub ask-is-call : (m : Machine) (kind : ℕ) (out : List ℕ) (n : Numbers) (m′ : Machine) (out′ : List ℕ) → (kind ≡ 16 → ⊥) → (kind ≡ 17 → ⊥) → (kind ≡ 18 → ⊥)

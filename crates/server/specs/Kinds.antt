@@ -1,9 +1,9 @@
 -- Calls in numbers, as Rust hands them in: which call a number is, with the numbers behind it.
-use Prim.Native.Nat.{ℕ}
+use Prim.Native.Nat.{ℕ, _/_}
 use mathlib.Core.List.{List, [], _∷_}
 use mathlib.Core.Option.{Option, none, some}
 use Rattle.types.specs.Keyed.{Entry, entry, lookup, mapValues}
-use Rattle.consumer.specs.Questions.{Waiting, Committed, IsSettled, LeaseOf, CountOf, InFlight, IsDue, BlocksLeft, ViewOf}
+use Rattle.consumer.specs.Questions.{Waiting, Committed, IsSettled, LeaseOf, CountOf, InFlight, IsDue, BlocksLeft, ViewOf, OpenBetween, NearestOpen}
 use Rattle.machine.specs.Calls.{Ask, claim, ack, term, nack, progress, commit, look, Call, ask, begin, step, restart}
 use Rattle.machine.specs.Answers.{askOf, callOf}
 use Rattle.server.specs.declared.kinds.Asking.{Asking}
@@ -18,7 +18,8 @@ asks a b c d room =
     entry 0 (claim a b) ∷ entry 1 (ack a b) ∷ entry 2 (term a b) ∷ entry 3 (nack a b c none) ∷ entry 4 (nack a b c (some d)) ∷
     entry 5 (progress a b c) ∷ entry 6 (commit a) ∷ entry 32 (look (Waiting a room)) ∷ entry 33 (look Committed) ∷
     entry 34 (look (IsSettled a)) ∷ entry 35 (look (LeaseOf a)) ∷ entry 36 (look (CountOf a)) ∷ entry 37 (look InFlight) ∷
-    entry 38 (look IsDue) ∷ entry 39 (look BlocksLeft) ∷ entry 40 (look (ViewOf a b)) ∷ []
+    entry 38 (look IsDue) ∷ entry 39 (look BlocksLeft) ∷ entry 40 (look (ViewOf a b)) ∷
+    entry 41 (look (OpenBetween a b (room / 2))) ∷ entry 42 (look (NearestOpen a)) ∷ []
 
 abbrev pub askAt : ℕ → ℕ → ℕ → ℕ → ℕ → ℕ → Option Ask
 askAt kind a b c d room = lookup kind (asks a b c d room)

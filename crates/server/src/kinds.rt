@@ -56,6 +56,8 @@ pub fn ask_of(kind: u64, a: u64, b: u64, c: u64, d: u64) -> Asking
         38 => Asking::Ask(Ask::Look(Question::IsDue)),
         39 => Asking::Ask(Ask::Look(Question::BlocksLeft)),
         40 => Asking::Ask(Ask::Look(Question::ViewOf { offset, now: b })),
+        41 => Asking::Ask(Ask::Look(Question::OpenBetween { a, b })),
+        42 => Asking::Ask(Ask::Look(Question::NearestOpen(offset))),
         _ => Asking::None,
     }
 }

@@ -25,7 +25,7 @@ pub fn with(out: &mut [u8], at: usize, text: &[u8], n: u64) -> usize
 }
 
 // What stands in front of entry i of a list, and what an empty list is.
-fn before(out: &mut [u8], at: usize, i: usize) -> usize
+pub fn before(out: &mut [u8], at: usize, i: usize) -> usize
     ensures { λ r. ⌜ Says (mark i ∷ []) at (now (out .entry)) r (now (out .exit)) ⌝ }
 {
     if i == 0 {
@@ -34,7 +34,7 @@ fn before(out: &mut [u8], at: usize, i: usize) -> usize
     put(out, at, b",")
 }
 
-fn or_none(out: &mut [u8], at: usize, n: usize) -> usize
+pub fn or_none(out: &mut [u8], at: usize, n: usize) -> usize
     ensures { λ r. ⌜ Says (noneWhere n) at (now (out .entry)) r (now (out .exit)) ⌝ }
 {
     if n == 0 {

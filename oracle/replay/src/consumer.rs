@@ -1,6 +1,7 @@
 //! 01's consumer over the original's cursor, lease table and delivery policy. Each call runs down 01's refusals in their order, then
 //! lets the original act. A lease's worker (02, g) stands beside the original's table, which has no place for it.
 use crate::journal::{read, writes, zeroing, Half, Stored};
+use crate::open::{nearest, stretches};
 use crate::rights::{Operation, Rights};
 use crate::views::{Details, View};
 use ironbus::cursor::{AckCursor, BoundedAck};
@@ -301,6 +302,25 @@ impl Consumer {
         leases.sort_by_key(|lease| (lease.deadline, lease.offset));
         carried.extend(leases.iter().map(|lease| lease.offset));
         Ok(carried)
+    }
+
+    /// Refusals 38, 39, 32, 20. The unsettled stretches from one offset up to another, where the lent list has that many places (02, a).
+    pub fn open(&self, worker: u64, from: u64, to: u64, room: usize) -> Result<Vec<(u64, u64)>, Code> {
+        self.settings.rights.ask(worker, Operation::Look)?;
+        if from > to {
+            return Err(vec![32]);
+        }
+        let stretches = stretches(&self.cursor, from, to);
+        if stretches.len() > room {
+            return Err(vec![20]);
+        }
+        Ok(stretches)
+    }
+
+    /// Refusals 38, 39. The first unsettled offset that isn't below the given one (02, a).
+    pub fn nearest(&self, worker: u64, offset: u64) -> Result<u64, Code> {
+        self.settings.rights.ask(worker, Operation::Look)?;
+        Ok(nearest(&self.cursor, offset))
     }
 
     /// Refusals 38, 39, 31. The counts are stored in version 2 (02, j). Where the half in use has no room for the group, the other

@@ -9,6 +9,7 @@ pub mod journal;
 pub mod line;
 pub mod make;
 pub mod nacks;
+pub mod open;
 pub mod program;
 pub mod rights;
 pub mod scenes;

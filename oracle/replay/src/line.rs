@@ -4,6 +4,9 @@ use crate::rights::WORKERS;
 /// The longest line that is read, one less than 65,536 for its line end; a longer one is none of the calls (docs/DECISIONS.md).
 pub const LINE: usize = 65_535;
 
+/// The most places of a lent list.
+pub const ROOM: usize = 256;
+
 pub struct Start {
     pub limit: u32,
     pub opt_in: bool,
@@ -32,6 +35,9 @@ pub enum Call {
     Commit(u64),
     Waiting(u64),
     View(u64, u64),
+    /// The bounds, and the places of the lent list.
+    Open(u64, u64, usize),
+    Nearest(u64),
     Begin,
     Step(Option<u64>),
     Cut(Left),
@@ -73,6 +79,11 @@ fn rights(worker: u64, mask: u64) -> Option<Call> {
     Some(Call::Rights(worker, mask.try_into().ok()?))
 }
 
+/// The places of a lent list, nothing where they are too many.
+fn room(places: u64) -> Option<usize> {
+    places.try_into().ok().filter(|&places| places <= ROOM)
+}
+
 /// The call that a line makes, or nothing where it is none.
 pub fn read(line: &[u8]) -> Option<Call> {
     if line.len() > LINE {
@@ -99,6 +110,8 @@ pub fn read(line: &[u8]) -> Option<Call> {
         ("commit", &[bound]) => Call::Commit(bound),
         ("waiting", &[now]) => Call::Waiting(now),
         ("view", &[offset, now]) => Call::View(offset, now),
+        ("open", &[from, to, places]) => Call::Open(from, to, room(places)?),
+        ("nearest", &[offset]) => Call::Nearest(offset),
         ("begin", &[]) => Call::Begin,
         ("step", &[]) => Call::Step(None),
         ("step", &[bytes]) => Call::Step(Some(bytes)),
@@ -198,6 +211,30 @@ mod tests {
             "rights 0 256",
             "rights 4294967296 0",
             "rights 0 1 2",
+        ] {
+            assert!(is_none(line), "{line}");
+        }
+    }
+
+    #[test]
+    fn lent_lists() {
+        assert!(matches!(read(b"open 9 2 256"), Some(Call::Open(9, 2, 256))));
+        assert!(matches!(
+            read(b"open 0 18446744073709551615 0"),
+            Some(Call::Open(0, u64::MAX, 0))
+        ));
+        assert!(matches!(read(b"nearest 18446744073709551615"), Some(Call::Nearest(u64::MAX))));
+        for line in [
+            "open",
+            "open 0 1",
+            "open 0 1 257",
+            "open 0 1 4294967296",
+            "open 0 1 18446744073709551615",
+            "open 0 18446744073709551616 1",
+            "open 0 1 1 1",
+            "nearest",
+            "nearest 18446744073709551616",
+            "nearest 0 0",
         ] {
             assert!(is_none(line), "{line}");
         }

@@ -2,7 +2,7 @@
 use crate::line::LINE;
 use crate::program::{Phase, Program};
 use crate::workers::Crew;
-use crate::{commits, halves, headers, nacks, scenes, versions, views, waiting, wear, workers};
+use crate::{commits, halves, headers, nacks, open, scenes, versions, views, waiting, wear, workers};
 use lists::random::Random;
 use lists::state::Table;
 
@@ -19,10 +19,12 @@ pub struct Maker {
 }
 
 /// What can't be called before a start.
-const NEEDS_A_START: [&str; 9] = [
+const NEEDS_A_START: [&str; 11] = [
     "restart",
     "claim 0 0",
     "view 0 0",
+    "open 0 0 0",
+    "nearest 0",
     "poke 0 0 0",
     "peek 0",
     "step",
@@ -32,7 +34,7 @@ const NEEDS_A_START: [&str; 9] = [
 ];
 
 /// Lines that look like calls.
-const NO_CALLS: [&str; 21] = [
+const NO_CALLS: [&str; 27] = [
     "cut",
     "cut half",
     "cut old ",
@@ -54,6 +56,12 @@ const NO_CALLS: [&str; 21] = [
     "view",
     "view 0",
     "view 0 0 0",
+    "open",
+    "open 0 1",
+    "open 0 1 257",
+    "open 0 1 1 1",
+    "nearest",
+    "nearest 0 0",
 ];
 
 /// A script of so many lines.
@@ -77,7 +85,7 @@ pub fn script(seed: u64, lines: usize) -> Vec<Vec<u8>> {
         scenes::spend(&mut maker);
     }
     while maker.lines.len() < lines {
-        match maker.random.below(47) {
+        match maker.random.below(49) {
             0..=5 => scenes::life(&mut maker),
             6..=7 => scenes::cuts(&mut maker),
             8 => scenes::full(&mut maker),
@@ -100,6 +108,7 @@ pub fn script(seed: u64, lines: usize) -> Vec<Vec<u8>> {
             38..=39 => nacks::nacks(&mut maker),
             40..=41 => waiting::waiting(&mut maker),
             42..=43 => commits::commits(&mut maker),
+            44..=45 => open::open(&mut maker),
             _ => wear::forged(&mut maker),
         }
     }
@@ -237,7 +246,7 @@ impl Maker {
     /// One call that isn't a checkpoint's.
     pub fn call(&mut self) -> String {
         let time = self.time();
-        match self.random.below(25) {
+        match self.random.below(27) {
             0..=8 => format!("claim {} {time}", self.offset()),
             9..=11 => format!("ack {}", self.token()),
             12 => format!("term {}", self.token()),
@@ -247,6 +256,8 @@ impl Maker {
             18..=19 => format!("commit {}", self.offset()),
             20..=21 => format!("waiting {time}"),
             22 => format!("view {} {time}", self.offset()),
+            23 => self.open(),
+            24 => format!("nearest {}", self.offset()),
             _ => "state".to_string(),
         }
     }

@@ -62,13 +62,13 @@ fn listed(entries: Vec<String>) -> String {
     entries.join(",")
 }
 
+/// Ranges, each as START-END.
+fn ranges(ranges: &[(u64, u64)]) -> String {
+    listed(ranges.iter().map(|(start, end)| format!("{start}-{end}")).collect())
+}
+
 fn state(consumer: &Consumer) -> String {
     let table = consumer.table();
-    let ranges = consumer
-        .cursor
-        .ahead_ranges()
-        .iter()
-        .map(|(start, end)| format!("{start}-{end}"));
     let leases = table.leases.iter().map(|l| {
         format!(
             "{}:{}:{}:{}:{}",
@@ -79,7 +79,7 @@ fn state(consumer: &Consumer) -> String {
     format!(
         "state committed {} ranges {} leases {} carried {} next {} ceiling {} counter {} group {} block {} half {}",
         consumer.cursor.committed().get(),
-        listed(ranges.collect()),
+        ranges(consumer.cursor.ahead_ranges()),
         listed(leases.collect()),
         listed(carried.collect()),
         table.next_generation,
@@ -119,6 +119,8 @@ pub fn ask(consumer: &mut Consumer, worker: u64, call: &Call) -> Result<String, 
             format!("waiting{offsets}")
         }
         Call::View(offset, now) => consumer.view(worker, offset, now)?.line(),
+        Call::Open(from, to, room) => format!("open {}", ranges(&consumer.open(worker, from, to, room)?)),
+        Call::Nearest(offset) => format!("nearest {}", consumer.nearest(worker, offset)?),
         Call::State => state(consumer),
         _ => NOT_NOW.to_string(),
     })

@@ -1,5 +1,6 @@
 //! The scenes of a script: what a consumer may live through.
 use crate::make::Maker;
+use crate::open::questions;
 use crate::rights::Operation;
 use crate::workers::Crew;
 
@@ -247,6 +248,7 @@ pub fn ranges(maker: &mut Maker) {
             maker.say(call);
         }
         maker.say("state");
+        questions(maker);
         checkpoint(maker);
         maker.say("restart");
         checkpoint(maker);

@@ -13,6 +13,7 @@ use std::sync::OnceLock;
 
 mod commits;
 mod nacks;
+mod open;
 mod waiting;
 
 /// The scripts that `oracle/run compare` uses, made once for all tests.
@@ -651,7 +652,7 @@ fn the_last_number() {
 }
 
 /// The scripts that `oracle/run compare` uses have every kind of answer, and every refusal that a script can meet: all but 6, 12, 13
-/// and 19, which a sound header's lengths rule out, 20, as the waiting list always fits, and 30, which nothing meets since 02, l.
+/// and 19, which a sound header's lengths rule out, and 30, which nothing meets since 02, l.
 #[test]
 fn scripts_have_everything() {
     let mut words = BTreeSet::new();
@@ -665,14 +666,14 @@ fn scripts_have_everything() {
             }
         }
     }
-    assert_eq!(words.len(), 23, "{words:?}");
+    assert_eq!(words.len(), 25, "{words:?}");
     assert_eq!(
         refusals,
         (1..=5)
             .chain(7..=11)
             .chain(14..=18)
-            .chain(21..=29)
-            .chain(31..=31)
+            .chain(20..=29)
+            .chain(31..=32)
             .chain(38..=40)
             .collect()
     );
@@ -718,7 +719,7 @@ fn scripts_have_workers() {
         }
     }
     for word in [
-        "claim", "ack", "term", "nack", "progress", "commit", "begin", "waiting", "view",
+        "claim", "ack", "term", "nack", "progress", "commit", "begin", "waiting", "view", "open", "nearest",
     ] {
         assert!(met.get(&("38", word.to_string())) >= Some(&20), "{word} {met:?}");
         assert!(met.get(&("39", word.to_string())) >= Some(&40), "{word} {met:?}");
@@ -733,9 +734,27 @@ fn scripts_have_workers() {
     for refusal in ["38", "39"] {
         has(
             refusal,
-            &["21", "22", "23", "24", "26", "27", "28", "31", "unchanged", "committed"],
+            &[
+                "21",
+                "22",
+                "23",
+                "20",
+                "24",
+                "26",
+                "27",
+                "28",
+                "31",
+                "32",
+                "unchanged",
+                "committed",
+            ],
         );
-        has(refusal, &["begun", "deliver", "settled", "requeued", "extended", "waiting"]);
+        has(
+            refusal,
+            &[
+                "begun", "deliver", "settled", "requeued", "extended", "waiting", "open", "nearest",
+            ],
+        );
     }
     has("40", &["25", "26", "28", "29", "settled", "requeued", "extended"]);
 }

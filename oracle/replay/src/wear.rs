@@ -2,6 +2,7 @@
 use crate::block::{bodies_for, body_block, header_block, seal, used, Header, BLOCK, ROOM};
 use crate::journal::block_of;
 use crate::make::Maker;
+use crate::open::questions;
 use crate::scenes::checkpoint;
 use ironbus::crc::crc32c;
 use lists::codecs::{attempt_snapshot, attempt_snapshot_v2};
@@ -194,6 +195,7 @@ pub fn forged(maker: &mut Maker) {
         forge(maker, at, group, &cursor, &attempts);
         maker.say("restart");
         maker.say("state");
+        questions(maker);
     }
     checkpoint(maker);
     for _ in 0..10 {

@@ -90,7 +90,7 @@ impl Maker {
             "nack" => Operation::Nack,
             "progress" => Operation::Extend,
             "commit" => Operation::Commit,
-            "waiting" | "view" => Operation::Look,
+            "waiting" | "view" | "open" | "nearest" => Operation::Look,
             _ => return,
         };
         let offset = words[1].parse().unwrap();
@@ -179,6 +179,9 @@ fn everything(maker: &mut Maker, base: u64) {
     }
     maker.say("waiting 10");
     maker.say(format!("view {base} 9"));
+    maker.say(format!("nearest {base}"));
+    let (from, room) = maker.random.pick(&[(0, 0), (0, 9), (base + 11, 9)]);
+    maker.say(format!("open {from} {} {room}", base + 10));
     maker.say("begin");
     if maker.writing() {
         unattended(maker);

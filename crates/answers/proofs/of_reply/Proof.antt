@@ -39,8 +39,8 @@ of-lease-requires c κs = search needs
 enum-known-reply-5 : tie.Need-enum-known-reply-5
 enum-known-reply-5 c = search needs
 
-cast-t14 : tie.Need-cast-t14
-cast-t14 c = search needs
+cast-t16 : tie.Need-cast-t16
+cast-t16 c = search needs
 
 enum-known-reply-6 : tie.Need-enum-known-reply-6
 enum-known-reply-6 c = search needs
@@ -62,6 +62,15 @@ enum-known-reply-9 c = search needs
 
 of-view-requires : tie.Need-of-view-requires
 of-view-requires c κs = search needs
+
+enum-known-reply-10 : tie.Need-enum-known-reply-10
+enum-known-reply-10 c = search needs
+
+of-open-requires : tie.Need-of-open-requires
+of-open-requires c κs = search needs
+
+enum-known-reply-11 : tie.Need-enum-known-reply-11
+enum-known-reply-11 c = search needs
 
 enum-told : tie.Need-enum-told
 enum-told c = search needs
@@ -97,10 +106,16 @@ returns-9 : tie.Need-returns-9
 returns-9 c = c .of-view .ensures ∙ ap (as-numbers (c .before .before .before .before .before .args .out .now)) (sym (c .before .before .reply9 .given .1))
 
 returns-10 : tie.Need-returns-10
-returns-10 c = ap (as-numbers (c .before .before .before .args .out .now)) (sym (c .enum-told .given .1))
+returns-10 c = c .of-open .ensures ∙ ap (as-numbers (c .before .before .before .before .before .args .out .now)) (sym (c .before .before .reply10 .given .1))
 
 returns-11 : tie.Need-returns-11
-returns-11 c = ap (as-numbers (c .before .before .before .args .out .now)) (sym (c .enum-told2 .given .1))
+returns-11 c = ap (as-numbers (c .before .before .before .before .args .out .now)) (sym (c .before .reply11 .given .1))
+
+returns-12 : tie.Need-returns-12
+returns-12 c = ap (as-numbers (c .before .before .before .args .out .now)) (sym (c .enum-told .given .1))
+
+returns-13 : tie.Need-returns-13
+returns-13 c = ap (as-numbers (c .before .before .before .args .out .now)) (sym (c .enum-told2 .given .1))
 
 pub of-reply-spec : {M : Type 1} → statement M
 of-reply-spec =
@@ -114,7 +129,7 @@ of-reply-spec =
     enum-known-reply-4
     of-lease-requires
     enum-known-reply-5
-    cast-t14
+    cast-t16
     enum-known-reply-6
     enum-known-reply-7
     bit-of-requires-2
@@ -122,6 +137,9 @@ of-reply-spec =
     enum-known-reply-8
     enum-known-reply-9
     of-view-requires
+    enum-known-reply-10
+    of-open-requires
+    enum-known-reply-11
     enum-told
     enum-told-2
     returns
@@ -134,4 +152,6 @@ of-reply-spec =
     returns-8
     returns-9
     returns-10
-    returns-11)
+    returns-11
+    returns-12
+    returns-13)

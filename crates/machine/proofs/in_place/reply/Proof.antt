@@ -13,7 +13,7 @@ use Rattle.consumer.specs.Standing.{View, viewValues}
 use Rattle.consumer.specs.declared.queries.Due.{Due}
 use Rattle.consumer.proofs.CallsReturns.{table-whole}
 use Rattle.machine.specs.Answers.{questionOf}
-use Rattle.machine.proofs.Replies.{lent, replied, waiting-replied}
+use Rattle.machine.proofs.Replies.{lent, replied, waiting-replied, open-replied}
 use Rattle.machine.proofs.in_place.reply.Statement.{statement}
 use Rattle.machine.proofs.in_place.reply.Tie as tie
 
@@ -68,8 +68,23 @@ enum-known-question-5 c = search needs
 view-in-place-requires : tie.Need-view-in-place-requires
 view-in-place-requires c κs = search needs
 
+enum-known-question-6 : tie.Need-enum-known-question-6
+enum-known-question-6 c = search needs
+
+open-between-in-place-requires : tie.Need-open-between-in-place-requires
+open-between-in-place-requires c κs = search needs
+
+enum-known-question-7 : tie.Need-enum-known-question-7
+enum-known-question-7 c = search needs
+
+nearest-in-place-requires : tie.Need-nearest-in-place-requires
+nearest-in-place-requires c κs = search needs
+
 same-length : tie.Need-same-length
 same-length c = search needs
+
+same-length-2 : tie.Need-same-length-2
+same-length-2 c = search needs
 
 returns : tie.Need-returns
 returns c x w =
@@ -130,6 +145,20 @@ returns-9 c x w =
     replied (lent w) (s .args .worker) (s .args .out .now) _ (ap (questionOf (length (s .args .out .now))) (g .question5 .given .1)) refl
     (ap (λ (v : View). done (viewValues v)) (c .view-in-place .ensures (lent w) w)) refl
 
+returns-10 : tie.Need-returns-10
+returns-10 c x w =
+    let k = c .before .before in
+    let g = k .before .before .before in
+    let s = g .before .before .before in
+    open-replied (lent w) (s .args .worker) _ _ (s .args .out .now) _ (k .open-between-in-place .result)
+    (ap (questionOf (length (s .args .out .now))) (g .question6 .given .1)) (k .open-between-in-place .ensures)
+
+returns-11 : tie.Need-returns-11
+returns-11 c x w =
+    let g = c .before .before in
+    let s = g .before .before .before in
+    replied (lent w) (s .args .worker) (s .args .out .now) _ (ap (questionOf (length (s .args .out .now))) (g .question7 .given .1)) refl (ap (λ (n : ℕ). done (n ∷ [])) (c .nearest-in-place .ensures)) refl
+
 pub reply-spec : {M : Type 1} → statement M
 reply-spec =
     tie.close
@@ -151,6 +180,10 @@ reply-spec =
     blocks-left-requires
     enum-known-question-5
     view-in-place-requires
+    enum-known-question-6
+    open-between-in-place-requires
+    enum-known-question-7
+    nearest-in-place-requires
     same-length
     returns
     returns-2
@@ -160,4 +193,7 @@ reply-spec =
     returns-6
     returns-7
     returns-8
-    returns-9)
+    returns-9
+    same-length-2
+    returns-10
+    returns-11)
