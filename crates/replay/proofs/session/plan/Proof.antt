@@ -8,11 +8,20 @@ use Rattle.replay.proofs.session.plan.Tie as tie
 array-read-room : tie.Need-array-read-room
 array-read-room c = search needs
 
+plain-requires : tie.Need-plain-requires
+plain-requires c κs = search needs
+
 returns : tie.Need-returns
 returns c = search needs
 
+plain-requires-2 : tie.Need-plain-requires-2
+plain-requires-2 c κs = search needs
+
 returns-2 : tie.Need-returns-2
 returns-2 c = search needs
+
+plain-requires-3 : tie.Need-plain-requires-3
+plain-requires-3 c κs = search needs
 
 returns-3 : tie.Need-returns-3
 returns-3 c = search needs
@@ -52,8 +61,11 @@ plan-spec =
     tie.close
     (tie.spec
     array-read-room
+    plain-requires
     returns
+    plain-requires-2
     returns-2
+    plain-requires-3
     returns-3
     sub-n
     offsets-of-requires
