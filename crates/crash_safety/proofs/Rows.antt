@@ -82,9 +82,9 @@ falls-without : (before place : ℕ) (os : List ℕ) → without30 (fallRows bef
 falls-without before place [] = refl
 falls-without before place (o ∷ os) = falls-without o (place + 1) os
 
-pairs-without : (os : List ℕ) → without30 (pairRows os) ≡ true
-pairs-without [] = refl
-pairs-without (o ∷ os) = falls-without o 1 os
+plan-without : (os : List ℕ) → without30 (pairRows os) ≡ true
+plan-without [] = refl
+plan-without (o ∷ os) = falls-without o 1 os
 
 -- ## calls on the state
 -- what is seen of an item is not 30
@@ -127,7 +127,7 @@ module _ (s : State) (w : ℕ) where
   reply-not (ViewOf o now) = tt
   reply-not (OpenBetween a b room) = checked-not (openTable (s .cursor) a b room) _ refl tt
   reply-not (NearestOpen o) = tt
-  reply-not (Plan os room) = checked-not (planTable os room) _ (pairs-without os) tt
+  reply-not (Plan os room) = checked-not (planTable os room) _ (plan-without os) tt
 
   ask-not : (a : List ℕ) (q : Ask) → Seen (asked s a w q)
   ask-not a (claim o now) = claim-not o now
