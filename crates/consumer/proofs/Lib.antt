@@ -17,3 +17,4 @@ pub mod Questions
 pub mod Asked
 pub mod WaitingHanded
 pub mod Planned
+pub mod Walks
