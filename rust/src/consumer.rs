@@ -378,6 +378,21 @@ impl<S> Consumer<S> {
             .map(Offset::new)
     }
 
+    /// Which offsets of a list are settled, in one walk over both: each place of `out` becomes 1 where its offset is settled, and 0 where
+    /// it is open. No offset is below the one before it, and both lists have the same length. Answers the number of looks, which are
+    /// comparisons of an offset with a range of settled ones: at most one for each offset and one for each range.
+    ///
+    /// # Errors
+    /// Refusals 38 and 39, then 36 and 37; `out` is as it was.
+    pub fn plan(
+        &mut self,
+        worker: WorkerId,
+        offsets: &[Offset],
+        out: &mut [u8],
+    ) -> Result<u64, Refusal> {
+        self.machine.plan(worker, offsets, out)
+    }
+
     /// Gives the state up. What was not checkpointed is lost, as in a power failure, and only a restart is left.
     #[must_use]
     pub fn into_journal(self) -> Journal<S> {

@@ -140,6 +140,15 @@ extern "C" {
         generation: u64,
         now: u64,
     );
+    fn ninotskev_plan(
+        machine: *mut Machine,
+        numbers: *mut Numbers,
+        worker: u64,
+        offsets: *const u64,
+        offsets_len: usize,
+        out: *mut u8,
+        out_len: usize,
+    );
     fn ninotskev_begin(machine: *mut Machine, numbers: *mut Numbers, worker: u64);
     fn ninotskev_step(machine: *mut Machine, numbers: *mut Numbers, area: *mut u8, area_len: usize);
     fn ninotskev_encode_attempts(
@@ -392,6 +401,31 @@ impl Machine {
         Ok(numbers.count / 2)
     }
 
+    /// Which offsets of a list are settled, into a list: how many looks that took, or 38, 39, 36 or 37.
+    #[inline]
+    pub(crate) fn plan(
+        &mut self,
+        worker: WorkerId,
+        offsets: &[Offset],
+        out: &mut [u8],
+    ) -> Result<u64, Refusal> {
+        let mut numbers = Numbers::default();
+        // SAFETY: as for `on_consumer`; an offset is laid out as its number.
+        unsafe {
+            ninotskev_plan(
+                self,
+                &mut numbers,
+                worker.get(),
+                offsets.as_ptr().cast::<u64>(),
+                offsets.len(),
+                out.as_mut_ptr(),
+                out.len(),
+            );
+        }
+        numbers.check()?;
+        Ok(numbers.values[0])
+    }
+
     /// Takes the consumer into a record: how many blocks are to be written, or 38, 39 or 31.
     #[inline]
     pub(crate) fn begin(&mut self, worker: WorkerId) -> Result<u64, Refusal> {
@@ -508,6 +542,22 @@ mod tests {
                     offset,
                     generation,
                     now,
+                );
+            }
+            self.untouched();
+        }
+
+        fn plan(&mut self, worker: u64, offsets: &[u64], out: &mut [u8]) {
+            // SAFETY: as for `Machine::plan`; the machine was started.
+            unsafe {
+                ninotskev_plan(
+                    &mut self.machine,
+                    &mut self.numbers,
+                    worker,
+                    offsets.as_ptr(),
+                    offsets.len(),
+                    out.as_mut_ptr(),
+                    out.len(),
                 );
             }
             self.untouched();
@@ -632,6 +682,11 @@ mod tests {
         let cursor = &guarded.machine.writing.consumer.cursor;
         assert_eq!((cursor.committed, cursor.runs), (0, 1));
         assert_eq!((cursor.starts[0], cursor.ends[0]), (9, 10));
+        // A plan: in front of the range, in it, and at its end, where no range is left.
+        let mut bytes = [7; 4];
+        guarded.plan(0, &[8, 9, 9, 10], &mut bytes);
+        assert_eq!(guarded.numbers, code(0, 5, [4, 0, 1, 1, 0]));
+        assert_eq!(bytes, [0, 1, 1, 0]);
     }
 
     // With a checkpoint of the claim that is left.
@@ -683,6 +738,9 @@ mod tests {
         assert_eq!(list, [7; 2]);
         guarded.progress([5, 0, 0]);
         assert_eq!(guarded.numbers, code(255, 0, [0; 4]));
+        let mut bytes = [7; 1];
+        guarded.plan(0, &[5], &mut bytes);
+        assert_eq!((guarded.numbers, bytes), (code(255, 0, [0; 4]), [7; 1]));
         guarded.begin();
         assert_eq!(guarded.numbers, code(255, 0, [0; 4]));
         assert_eq!(guarded.machine.phase, 1);

@@ -14,7 +14,7 @@ const OTHER: WorkerId = WorkerId::new(5);
 
 /// Each operation's right, and every call that it covers. A call answers whether it was permitted.
 type Call = fn(&mut Consumer, LeaseToken) -> Result<(), Refusal>;
-const CALLS: [(Rights, Call); 20] = [
+const CALLS: [(Rights, Call); 21] = [
     (Rights::CLAIM, |c, _| {
         c.claim(OTHER, Offset::new(9), 0).map(drop)
     }),
@@ -60,6 +60,11 @@ const CALLS: [(Rights, Call); 20] = [
     }),
     (Rights::LOOK, |c, _| {
         c.nearest_open(OTHER, Offset::ZERO).map(drop)
+    }),
+    // lists that would be refused too
+    (Rights::LOOK, |c, _| match c.plan(OTHER, &[], &mut [7]) {
+        Err(Refusal::UnequalLengths) => Ok(()),
+        answer => answer.map(drop),
     }),
 ];
 

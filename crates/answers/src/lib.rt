@@ -12,7 +12,7 @@ ghost use Rattle.cursor.specs.Unsettled.{openOf};
 ghost use Rattle.attempt.specs.Codec.{attemptError, encodeOf, decodeOf};
 ghost use Rattle.consumer.specs.Questions.{bit};
 ghost use Rattle.consumer.specs.Standing.{standingNumber, viewValues};
-ghost use Rattle.consumer.specs.View.{claimOf, settleOf, nackOf, progressOf, commitOf, standingIn, viewIn};
+ghost use Rattle.consumer.specs.View.{claimOf, settleOf, nackOf, progressOf, commitOf, planOf, standingIn, viewIn};
 ghost use Rattle.checkpoint.specs.Writing.{stepOf};
 ghost use Rattle.starts.specs.Starting.{startFault};
 ghost use Rattle.machine.specs.Answers.{begunOf, firstPlaces, listOf, placesOf, leaseTold, replyOf, Arguments, seenOf};
@@ -29,6 +29,7 @@ use consumer::calls::CommitAnswer;
 use consumer::calls::NackAnswer;
 use consumer::calls::ProgressAnswer;
 use consumer::calls::SettleAnswer;
+use consumer::plans::PlanAnswer;
 use consumer::views::Standing;
 use consumer::views::View;
 use cursor::AckCursorError;
@@ -309,6 +310,43 @@ fn of_open(answer: OpenAnswer, out: &[u64]) -> Numbers
         OpenAnswer::Filled(n) => of_list(Listed::Filled(n), out),
         OpenAnswer::BoundsReversed => Numbers(32, 0, 0, 0, 0, 0, 0),
         OpenAnswer::OutTooShort => Numbers(20, 0, 0, 0, 0, 0, 0),
+    }
+}
+
+fn wide(byte: u8) -> u64
+    ensures { λ r. ⌜ r ≡ byte ⌝ }
+{
+    byte as u64
+}
+
+// The byte at a place of a list, 0 where there is none.
+fn byte_at(list: &[u8], i: usize) -> u64
+    ensures { λ r. ⌜ r ≡ getD (now (list .entry)) i 0 ⌝ }
+{
+    if i < list.len() {
+        return wide(list[i]);
+    }
+    0
+}
+
+// A plan: how many looks it took, and behind that the bytes that stand in `out`.
+pub fn of_plan(answer: PlanAnswer, out: &[u8]) -> Numbers
+    ensures { λ r. ⌜ r ≡ numbersOf (answered values (planOf answer (now (out .entry)))) ⌝ }
+{
+    match answer {
+        PlanAnswer::Answered(looks) => Numbers(
+            0,
+            out.len() as u64 + 1,
+            looks as u64,
+            byte_at(out, 0),
+            byte_at(out, 1),
+            byte_at(out, 2),
+            byte_at(out, 3),
+        ),
+        PlanAnswer::UnequalLengths => Numbers(36, 0, 0, 0, 0, 0, 0),
+        PlanAnswer::Falling(place) => Numbers(37, 1, place as u64, 0, 0, 0, 0),
+        PlanAnswer::UnknownWorker => Numbers(38, 0, 0, 0, 0, 0, 0),
+        PlanAnswer::NotPermitted => Numbers(39, 0, 0, 0, 0, 0, 0),
     }
 }
 

@@ -8,3 +8,4 @@ pub mod Journal
 pub mod Workers
 pub mod Views
 pub mod Open
+pub mod Plans

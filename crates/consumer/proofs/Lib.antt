@@ -16,3 +16,5 @@ pub mod Waiting
 pub mod Questions
 pub mod Asked
 pub mod WaitingHanded
+pub mod Planned
+pub mod Walks

@@ -8,3 +8,4 @@ pub mod Questions
 pub mod Valid
 pub mod View
 pub mod Parts
+pub mod Walks

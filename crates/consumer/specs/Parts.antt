@@ -2,8 +2,9 @@
 use Prim.Native.Nat.{ℕ, _<_}
 use mathlib.Core.Path.{_≡_}
 use mathlib.Core.Bool.{Bool, true}
-use mathlib.Core.List.{List, []}
+use mathlib.Core.List.{List, [], _∷_}
 use mathlib.Core.Option.{Option, none, some}
+use lib.ListN.{length}
 use Rattle.types.specs.Limits.{WORKERS}
 use Rattle.types.specs.Refusal.{Refusal, Result, refused, done}
 use Rattle.types.specs.Refusal as refusal
@@ -22,10 +23,11 @@ use Rattle.lease.specs.Parts as lease
 use Rattle.consumer.specs.State.{State}
 use Rattle.consumer.specs.Rights.{Operation, bitOf}
 use Rattle.consumer.specs.Calls.{HandOut, claimRows, claimTable, tokenRows, attemptOf, withCommitted, commit}
-use Rattle.consumer.specs.Questions.{Question, reply, waitingAt}
+use Rattle.consumer.specs.Questions.{Question, Plan, reply, look, bytesAfter, waitingAt}
 use Rattle.consumer.specs.Standing.{viewOf}
-use Rattle.consumer.specs.View.{view, Sound, Answers, Commits, holding, holdingBoth, commitOf, testOf, asResult, viewIn}
+use Rattle.consumer.specs.View.{view, Sound, Answers, Commits, holding, holdingBoth, commitOf, testOf, asResult, planOf, viewIn}
 use Rattle.consumer.specs.declared.Consumer.{Consumer}
+use Rattle.consumer.specs.declared.plans.PlanAnswer.{PlanAnswer}
 use Rattle.consumer.specs.declared.views.View as code
 use Rattle.consumer.specs.declared.steps.ClaimTest.{ClaimTest}
 use Rattle.consumer.specs.declared.steps.TokenRefusal.{TokenRefusal}
@@ -142,6 +144,10 @@ awaiting n m ks ds cks c = holding c (carrying m cks (c .table .«carried_counts
 abbrev pub showing : List ℕ → AckCursor → ℕ → ℕ → List ℕ → List ℕ → List ℕ → List ℕ → List ℕ → List ℕ → List ℕ → List ℕ → Consumer → Consumer
 showing rights cursor n m ks gs ss ds ns ws cks cvs = committing rights cursor n m ks gs ss ds ns ws cks cvs
 
+-- a plan: the rights and the cursor
+abbrev pub planning : List ℕ → AckCursor → Consumer → Consumer
+planning rights cursor = permitted rights (λ c. holdingBoth c cursor (c .table))
+
 -- ## what a call in place says of every consumer that has these parts
 -- a lent array does not show its length
 pub record Whole (c : Consumer) : Type 0 where
@@ -163,6 +169,20 @@ RepliesIn r with q = (c : Consumer) → Whole (with c) → (w : ℕ) → r ≡ r
 -- what a worker is shown of an offset at a clock
 abbrev pub ShowsIn : code.View → (Consumer → Consumer) → ℕ → ℕ → ℕ → Type 0
 ShowsIn r with w o now = (c : Consumer) → Whole (with c) → viewIn r ≡ viewOf (view (with c)) w o now
+
+-- a plan that is answered so: the reply, and the lent byte list
+pub record Plans (right : Result (List ℕ)) (out : List ℕ) (r : PlanAnswer) (out′ : List ℕ) : Type 0 where
+  pub is : planOf r out′ ≡ right
+  pub bytes : out′ ≡ bytesAfter right out
+
+-- the cursor's answer, with what it left in the lent byte list
+abbrev pub repliedWith : Result ℕ → List ℕ → Result (List ℕ)
+repliedWith (refused r) out = refused r
+repliedWith (done n) out = done (n ∷ out)
+
+-- a worker's plan
+abbrev pub PlansIn : PlanAnswer → (Consumer → Consumer) → ℕ → List ℕ → List ℕ → List ℕ → Type 0
+PlansIn r with w os out out′ = (c : Consumer) → Plans (look (view (with c)) w (Plan os (length out))) out r out′
 
 -- the waiting list at a clock, into a lent list
 abbrev pub ListsIn : Result ℕ → (Consumer → Consumer) → ℕ → List ℕ → List ℕ → Type 0

@@ -4,11 +4,12 @@ use mathlib.Core.Bool.{Bool, true, false}
 use mathlib.Core.List.{List, [], _∷_, _++_}
 use lib.Dec.{ltb}
 use lib.ListN.{length}
-use Rattle.types.specs.Refusal.{Result, done, OutTooShort}
+use Rattle.types.specs.Refusal.{Result, refused, done, OutTooShort}
 use Rattle.types.specs.Table.{_⇒_, checked}
 use Rattle.types.specs.Keyed.{Entry, lookup}
 use Rattle.cursor.specs.Cursor.{settled}
 use Rattle.cursor.specs.Unsettled.{stretches, bounds, openTable, nearestOpen}
+use Rattle.cursor.specs.Plan.{planTable, looks, planBytes}
 use Rattle.lease.specs.Operations.{leaseOf}
 use Rattle.lease.specs.Lookup.{leaseValues}
 use Rattle.lease.specs.Rest.{expired, inFlight}
@@ -67,6 +68,8 @@ pub data Question : Type 0 where
   OpenBetween : ℕ → ℕ → ℕ → Question
   -- the nearest unsettled offset at or above one
   NearestOpen : ℕ → Question
+  -- of offsets, into a byte list of so many places
+  Plan : List ℕ → ℕ → Question
 
 -- what worker w is answered to each question, once it may ask
 abbrev pub reply : State → ℕ → Question → Result (List ℕ)
@@ -81,7 +84,14 @@ reply s w BlocksLeft = done ((halfEnd (s .size) (s .next .block) - s .next .bloc
 reply s w (ViewOf o now) = done (viewValues (viewOf s w o now))
 reply s w (OpenBetween a b room) = openBetween s a b room
 reply s w (NearestOpen o) = done (nearestOpen (s .cursor) o ∷ [])
+reply s w (Plan os room) = checked (planTable os room) (done (looks (s .cursor) os ∷ planBytes (s .cursor) os))
 
 -- a question of worker w: 38, 39 first
 abbrev pub look : State → ℕ → Question → Result (List ℕ)
 look s w q = checked (callRows s w looking) (reply s w q)
+
+-- the lent byte list after a plan: behind the number of looks stands the answer to each offset
+abbrev pub bytesAfter : Result (List ℕ) → List ℕ → List ℕ
+bytesAfter (refused r) out = out
+bytesAfter (done []) out = out
+bytesAfter (done (n ∷ bytes)) out = bytes

@@ -2,6 +2,7 @@
 use Prim.Native.Nat.{ℕ}
 use mathlib.Core.Path.{_≡_}
 use mathlib.Core.Bool.{Bool, true, false}
+use mathlib.Core.List.{List, _∷_}
 use mathlib.Core.Option.{Option, none, some}
 use Rattle.types.specs.Refusal.{Refusal, Result, refused, done}
 use Rattle.types.specs.Refusal as refusal
@@ -35,6 +36,8 @@ use Rattle.consumer.specs.declared.calls.CommitAnswer.{CommitAnswer}
 use Rattle.consumer.specs.declared.calls.CommitAnswer.the-variants as commit
 use Rattle.consumer.specs.declared.queries.WaitingAnswer.{WaitingAnswer}
 use Rattle.consumer.specs.declared.queries.WaitingAnswer.the-variants as waiting
+use Rattle.consumer.specs.declared.plans.PlanAnswer.{PlanAnswer}
+use Rattle.consumer.specs.declared.plans.PlanAnswer.the-variants as plans
 use Rattle.consumer.specs.declared.views.Standing as code-standing
 use Rattle.consumer.specs.declared.views.Standing.the-variants as standings
 use Rattle.consumer.specs.declared.views.View as code-view
@@ -161,6 +164,14 @@ waitingOf (waiting.Filled n) = done n
 waitingOf waiting.OutTooShort = refused refusal.OutTooShort
 waitingOf waiting.UnknownWorker = refused refusal.UnknownWorker
 waitingOf waiting.NotPermitted = refused refusal.NotPermitted
+
+-- a plan: the number of looks, and behind it what stands in the lent byte list
+abbrev pub planOf : PlanAnswer → List ℕ → Result (List ℕ)
+planOf (plans.Answered n) out = done (n ∷ out)
+planOf plans.UnequalLengths out = refused refusal.UnequalLengths
+planOf (plans.Falling place) out = refused (refusal.Falling place)
+planOf plans.UnknownWorker out = refused refusal.UnknownWorker
+planOf plans.NotPermitted out = refused refusal.NotPermitted
 
 -- what is shown of an offset
 abbrev pub standingIn : code-standing.Standing → Standing

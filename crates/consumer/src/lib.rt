@@ -12,6 +12,7 @@ use types::limits::WORKERS;
 pub mod calls;
 pub mod halves;
 pub mod in_place;
+pub mod plans;
 pub mod queries;
 pub mod rights;
 pub mod views;

@@ -1,5 +1,5 @@
 -- No call is answered 30: the refusals of every table are another's, on whatever state, record and area. Assumes nothing.
-use Prim.Native.Nat.{ℕ, zero, suc}
+use Prim.Native.Nat.{ℕ, zero, suc, _+_}
 use mathlib.Core.Path.{_≡_, refl, sym}
 use mathlib.Core.Bool.{Bool, true, false, cond, true≢false}
 use mathlib.Core.List.{List, [], _∷_, _++_}
@@ -14,6 +14,7 @@ use Rattle.types.proofs.Cases.{split}
 use Rattle.cursor.specs.declared.Range.{Range}
 use Rattle.cursor.specs.Cursor.{Cursor, rangesTable}
 use Rattle.cursor.specs.Unsettled.{openTable}
+use Rattle.cursor.specs.Plan.{planTable, fallRows, pairRows}
 use Rattle.cursor.specs.Snapshot as cursors
 use Rattle.cursor.specs.Snapshot.{decodeCursor}
 use Rattle.attempt.specs.Snapshot as attempts
@@ -25,7 +26,7 @@ use Rattle.consumer.specs.State.{Configuration, State, NextGroup}
 use Rattle.consumer.specs.Rights.{committing, looking}
 use Rattle.consumer.specs.Calls as consumer
 use Rattle.consumer.specs.Calls.{callRows, claimTable, ackTable, nackTable, progressTable}
-use Rattle.consumer.specs.Questions.{Question, Waiting, Committed, IsSettled, LeaseOf, CountOf, InFlight, IsDue, BlocksLeft, ViewOf, OpenBetween, NearestOpen, waitingAt, reply}
+use Rattle.consumer.specs.Questions.{Question, Waiting, Committed, IsSettled, LeaseOf, CountOf, InFlight, IsDue, BlocksLeft, ViewOf, OpenBetween, NearestOpen, Plan, waitingAt, reply}
 use Rattle.checkpoint.specs.Checkpoint as checkpoint
 use Rattle.checkpoint.specs.Checkpoint.{Writing, beginTable, stepTable}
 use Rattle.starts.specs.Restart as restarts
@@ -76,6 +77,15 @@ module _ {A : Type 0} where
       go none n = k
       go (some r) n = n
 
+-- the rows of a plan's pairs
+falls-without : (before place : ℕ) (os : List ℕ) → without30 (fallRows before place os) ≡ true
+falls-without before place [] = refl
+falls-without before place (o ∷ os) = falls-without o (place + 1) os
+
+plan-without : (os : List ℕ) → without30 (pairRows os) ≡ true
+plan-without [] = refl
+plan-without (o ∷ os) = falls-without o 1 os
+
 -- ## calls on the state
 -- what is seen of an item is not 30
 abbrev Seen : Option After → Type 0
@@ -117,6 +127,7 @@ module _ (s : State) (w : ℕ) where
   reply-not (ViewOf o now) = tt
   reply-not (OpenBetween a b room) = checked-not (openTable (s .cursor) a b room) _ refl tt
   reply-not (NearestOpen o) = tt
+  reply-not (Plan os room) = checked-not (planTable os room) _ (plan-without os) tt
 
   ask-not : (a : List ℕ) (q : Ask) → Seen (asked s a w q)
   ask-not a (claim o now) = claim-not o now

@@ -11,3 +11,4 @@ pub mod Taking
 pub mod Edits
 pub mod Unsettled
 pub mod OpenHanded
+pub mod Plan

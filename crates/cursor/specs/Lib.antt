@@ -8,3 +8,4 @@ pub mod Place
 pub mod Examples
 pub mod Edits
 pub mod Unsettled
+pub mod Plan

@@ -32,6 +32,7 @@ use types::numbers::shorter;
 mod codec;
 pub mod in_place;
 pub mod open;
+pub mod plans;
 
 // The offsets from start up to, and not including, end.
 #[repr(C)]

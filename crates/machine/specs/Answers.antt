@@ -10,7 +10,7 @@ use Rattle.types.specs.Table.{Kept}
 use Rattle.delivery.specs.Config.{delayOf}
 use Rattle.types.specs.declared.lent.Listed.{Listed}
 use Rattle.types.specs.declared.lent.Listed.the-variants as listed
-use Rattle.consumer.specs.Questions.{Question, Waiting, Committed, IsSettled, LeaseOf, CountOf, InFlight, IsDue, BlocksLeft, ViewOf, OpenBetween, NearestOpen, bit}
+use Rattle.consumer.specs.Questions.{Question, Waiting, Committed, IsSettled, LeaseOf, CountOf, InFlight, IsDue, BlocksLeft, ViewOf, Plan, OpenBetween, NearestOpen, bit}
 use Rattle.consumer.specs.Standing.{viewValues}
 use Rattle.cursor.specs.Unsettled.{openOf}
 use Rattle.consumer.specs.View.{claimOf, settleOf, nackOf, progressOf, commitOf, viewIn, Unmoved}
@@ -129,6 +129,7 @@ argumentsIn BlocksLeft = asking BlocksLeft 0 0 0
 argumentsIn (ViewOf o now) = asking (ViewOf o now) o now 0
 argumentsIn (OpenBetween a b room) = asking (OpenBetween a b room) a b room
 argumentsIn (NearestOpen o) = asking (NearestOpen o) o 0 0
+argumentsIn (Plan os room) = asking (Plan os room) 0 0 room
 
 abbrev pub argumentsOf : Ask → Arguments
 argumentsOf (claim o now) = arguments o 0 now none
@@ -201,6 +202,7 @@ listIn BlocksLeft a = []
 listIn (ViewOf o now) a = []
 listIn (OpenBetween a b room) r = answeredList r
 listIn (NearestOpen o) a = []
+listIn (Plan os room) a = []
 
 abbrev pub listSeen : Event → List ℕ
 listSeen (claimed o now a) = []

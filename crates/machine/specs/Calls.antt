@@ -1,14 +1,14 @@
 -- The calls of demand 3's lists, and what is seen of each: its arguments with its answer, or a power failure.
 use Prim.Native.Nat.{ℕ}
 use mathlib.Core.Bool.{Bool, true, _&&_}
-use mathlib.Core.List.{List}
+use mathlib.Core.List.{List, [], _∷_}
 use mathlib.Core.Option.{Option, none, some}
 use lib.Dec.{leb}
 use Rattle.types.specs.Limits.{MAX}
 use Rattle.types.specs.Refusal.{Result}
 use Rattle.consumer.specs.State.{State}
 use Rattle.consumer.specs.Calls.{HandOut}
-use Rattle.consumer.specs.Questions.{Question, Waiting, IsSettled, LeaseOf, CountOf, Committed, InFlight, IsDue, BlocksLeft, ViewOf, OpenBetween, NearestOpen}
+use Rattle.consumer.specs.Questions.{Question, Waiting, IsSettled, LeaseOf, CountOf, Committed, InFlight, IsDue, BlocksLeft, ViewOf, Plan, OpenBetween, NearestOpen}
 use Rattle.checkpoint.specs.Checkpoint.{BlockWritten}
 
 -- what the state answers
@@ -36,6 +36,10 @@ pub data Call : Type 0 where
 abbrev pub u64 : ℕ → Bool
 u64 n = leb n MAX
 
+abbrev pub allFit : List ℕ → Bool
+allFit [] = true
+allFit (n ∷ ns) = u64 n && allFit ns
+
 abbrev pub questionFits : Question → Bool
 questionFits (Waiting now room) = u64 now
 questionFits Committed = true
@@ -48,6 +52,7 @@ questionFits BlocksLeft = true
 questionFits (ViewOf o now) = u64 o && u64 now
 questionFits (OpenBetween a b room) = u64 a && u64 b
 questionFits (NearestOpen o) = u64 o
+questionFits (Plan os room) = allFit os
 
 abbrev pub delayFits : Option ℕ → Bool
 delayFits none = true

@@ -3,11 +3,13 @@ use Prim.Native.Nat.{ℕ, zero, suc}
 use mathlib.Core.Path.{_≡_}
 use mathlib.Core.List.{List}
 use mathlib.Core.Option.{Option, none}
+use lib.ListN.{length}
 use Rattle.types.specs.Refusal.{Result, refused, done}
 use Rattle.types.specs.Table.{Kept, unless}
 use Rattle.consumer.specs.State.{State}
-use Rattle.consumer.specs.Questions.{Question}
-use Rattle.consumer.specs.View.{view}
+use Rattle.consumer.specs.Questions.{Question, Plan, bytesAfter}
+use Rattle.consumer.specs.Questions as questions
+use Rattle.consumer.specs.View.{view, planOf}
 use Rattle.consumer.specs.View as consumer
 use Rattle.consumer.specs.declared.Consumer.{Consumer}
 use Rattle.consumer.specs.declared.Configuration.{Configuration}
@@ -17,13 +19,15 @@ use Rattle.checkpoint.specs.declared.StepAnswer.{StepAnswer}
 use Rattle.checkpoint.specs.declared.StepAnswer.the-variants as steps
 use Rattle.starts.specs.Restart as restarts
 use Rattle.starts.specs.Starting.{configurationOf, startFault, startOf}
-use Rattle.machine.specs.Calls.{Ask, Call, ask, begin, step, restart, begun, stepped, restarted}
-use Rattle.machine.specs.Transitions.{Phase, idle, writing, off, After, gives, asked, transition}
+use Rattle.machine.specs.Calls.{Ask, look, Call, ask, begin, step, restart, looked, begun, stepped, restarted}
+use Rattle.machine.specs.Transitions.{Phase, idle, writing, off, After, gives, onState, asked, transition}
 use Rattle.machine.specs.Answers.{replyOf, Arguments, noArguments, argumentsIn, argumentsOf, askedBy, seenOf, AskKept, begunOf, filledWith, listIn, outAfter}
 use Rattle.machine.specs.declared.calls.Reply.{Reply}
 use Rattle.machine.specs.declared.calls.Asked.{Asked}
 use Rattle.machine.specs.declared.calls.CallAnswer.{CallAnswer}
 use Rattle.machine.specs.declared.calls.CallAnswer.the-variants as answer
+use Rattle.machine.specs.declared.plans.PlanCall.{PlanCall}
+use Rattle.machine.specs.declared.plans.PlanCall.the-variants as plan
 use Rattle.machine.specs.declared.Machine.{Machine}
 use Rattle.machine.specs.declared.Called.{Called}
 use Rattle.machine.specs.declared.Started.{Started}
@@ -117,6 +121,26 @@ pub record CalledIs (m : Machine) (q : Call) (a out : List ℕ) (r : Called) (a�
   pub configuration : r .machine .configuration ≡ m .configuration
   pub kept : CallKept (r .answer) (held m a) (held (r .machine) a′)
   pub lists : out′ ≡ outAfter (transition (configurationOf (m .configuration)) (phaseOf m) a q) out
+
+-- ## a plan, the question that is lent lists of its own
+-- what the call makes of who can be called, on whatever area
+abbrev pub planAfter : Phase → List ℕ → ℕ → List ℕ → List ℕ → Option After
+planAfter p area w os out = onState p (λ s. asked s area w (look (Plan os (length out))))
+
+-- the lent byte list after it
+abbrev pub planBytesIn : Phase → ℕ → List ℕ → List ℕ → List ℕ
+planBytesIn (idle s) w os out = bytesAfter (questions.look s w (Plan os (length out))) out
+planBytesIn (writing r) w os out = out
+planBytesIn off w os out = out
+
+-- what an answer and the byte list beside it stand for; the machine is the one that was handed in
+abbrev pub plannedOf : PlanCall → Machine → List ℕ → ℕ → List ℕ → List ℕ → Option After
+plannedOf (plan.Planned a) m os room out area = gives (looked (Plan os room) (planOf a out)) (phaseOf m) area
+plannedOf plan.NotNow m os room out area = none
+
+pub record PlannedIs (m : Machine) (w : ℕ) (os out : List ℕ) (r : PlanCall) (out′ : List ℕ) : Type 0 where
+  pub is : (area : List ℕ) → plannedOf r m os (length out) out′ area ≡ planAfter (phaseOf m) area w os out
+  pub bytes : out′ ≡ planBytesIn (phaseOf m) w os out
 
 -- ## parts
 -- a machine that writes nothing

@@ -20,6 +20,7 @@ use starts::StartAnswer;
 pub mod asks;
 pub mod calls;
 pub mod in_place;
+pub mod plans;
 
 // Who can be called is a number: 0 the consumer in the record, 1 the record itself, 2 nobody, so that only a restart is possible.
 #[repr(C)]

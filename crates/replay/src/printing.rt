@@ -67,11 +67,16 @@ const OPEN: usize = 30;
 
 const NEAREST: usize = 31;
 
-pub const BLOCK: usize = 32;
+// A plan of nothing, and of something.
+const PLAN_NONE: usize = 32;
 
-pub const STATE: usize = 33;
+const PLAN: usize = 33;
 
-// An answer: a template and its numbers. Behind those of a list, a block and the state stand their entries.
+pub const BLOCK: usize = 34;
+
+pub const STATE: usize = 35;
+
+// An answer: a template and its numbers. Behind those of a list, a plan, a block and the state stand their entries.
 pub struct Said {
     pub template: usize,
     pub numbers: [u64; 4],
@@ -145,6 +150,17 @@ pub fn view_said(code: Numbers, supervisor: bool) -> Said {
     }
 }
 
+// What a plan of n offsets answered: the number of its looks.
+pub fn plan_said(code: Numbers, n: u64) -> Said {
+    if code.0 != 0 {
+        return refusal(code);
+    }
+    if n == 0 {
+        return with(PLAN_NONE, code.2);
+    }
+    says(PLAN, code.2, n, 0)
+}
+
 // What a call of a form answered, in numbers; `offset` is the one that was claimed.
 pub fn answer_said(form: usize, offset: u64, code: Numbers) -> Said {
     if code.0 != 0 {
@@ -200,6 +216,28 @@ fn stretches(out: &mut [u8], at: usize, list: &[u64], n: usize) -> usize {
     output::put(out, next, b"\n")
 }
 
+// An entry of a list with commas between them.
+fn entry(out: &mut [u8], at: usize, i: usize, x: u64) -> usize {
+    if i == 0 {
+        return shown::with(out, at, b" ", x);
+    }
+    shown::with(out, at, b",", x)
+}
+
+// The first n entries of such a list, and the line's end.
+fn plan(out: &mut [u8], at: usize, list: &[u64], n: usize) -> usize {
+    let mut next = at;
+    let mut i: usize = 0;
+    while i < list.len() {
+        if n <= i {
+            break;
+        }
+        next = entry(out, next, i, list[i]);
+        i += 1;
+    }
+    output::put(out, next, b"\n")
+}
+
 // The hexadecimal digits of the block that begins at a place, and the line's end.
 fn block(out: &mut [u8], at: usize, area: &[u8], from: usize) -> usize {
     let mut next = at;
@@ -216,7 +254,7 @@ fn block(out: &mut [u8], at: usize, area: &[u8], from: usize) -> usize {
     output::put(out, next, b"\n")
 }
 
-// An answer; `list` has the waiting list or the stretches.
+// An answer; `list` has the waiting list, the stretches, or the answers of a plan.
 pub fn print<'a>(
     out: &'a mut [u8],
     at: usize,
@@ -233,13 +271,14 @@ pub fn print<'a>(
     let next = templates::fill(
         out,
         at,
-        b"|bad line\n|not now\n|refused #\n|refused # #\n|refused # # #\n|started\n|deliver # # #\n|deadletter # # #\n|settled\n|requeued #\n|extended #\n|committed\n|unchanged\n|waiting|begun #\n|wrote #\n|done #\n|restarted\n|cut #\n|poked\n|worker #\n|rights\n|view settled\n|view held\n|view waiting\n|view settled none none none none\n|view waiting # none none none\n|view held # # # #\n|view waiting # # # #\n|open|nearest #\n|block |",
+        b"|bad line\n|not now\n|refused #\n|refused # #\n|refused # # #\n|started\n|deliver # # #\n|deadletter # # #\n|settled\n|requeued #\n|extended #\n|committed\n|unchanged\n|waiting|begun #\n|wrote #\n|done #\n|restarted\n|cut #\n|poked\n|worker #\n|rights\n|view settled\n|view held\n|view waiting\n|view settled none none none none\n|view waiting # none none none\n|view held # # # #\n|view waiting # # # #\n|open|nearest #\n|plan # none\n|plan #|block |",
         template,
         numbers,
     );
     match template {
         WAITING => waiting(out, next, list, numbers[0] as usize),
         OPEN => stretches(out, next, list, numbers[0] as usize),
+        PLAN => plan(out, next, list, numbers[1] as usize),
         BLOCK => block(out, next, area, numbers[0] as usize),
         STATE => shown::state(out, next, consumer),
         _ => next,

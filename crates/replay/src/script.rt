@@ -53,15 +53,20 @@ pub const OPEN: usize = 23;
 
 pub const NEAREST: usize = 24;
 
-pub const BAD: usize = 25;
+pub const PLAN: usize = 25;
 
-pub const NOTHING: usize = 26;
+pub const BAD: usize = 26;
 
-// A line's form, how many numbers it has, and the first 24 of them, 0 where it has fewer.
+pub const NOTHING: usize = 27;
+
+// How many numbers of a line are kept: a plan has as many, its room and 128 offsets.
+pub const NUMBERS: usize = 129;
+
+// A line's form, how many numbers it has, and the first of them, 0 where it has fewer.
 pub struct Line {
     pub form: usize,
     pub count: usize,
-    pub numbers: [u64; 24],
+    pub numbers: [u64; NUMBERS],
 }
 
 // Whether a line asks for nothing: it is empty, or begins with #.
@@ -77,7 +82,7 @@ pub fn plain(form: usize) -> Line {
     Line {
         form: form,
         count: 0,
-        numbers: [0; 24],
+        numbers: [0; NUMBERS],
     }
 }
 
@@ -125,7 +130,7 @@ fn place_in(entries: &[u8], name: &[u8], n: usize) -> usize {
 // The form of a line with a name and so many numbers behind it.
 fn form_of(name: &[u8], n: usize) -> usize {
     place_in(
-        b"claim/2|ack/2|term/2|nack/3|nack/4|progress/3|commit/1|waiting/1|begin/0|step/0|step/1|restart/0|restart/1|start+6|cut old/0|cut new/0|cut torn/0|state/0|poke/3|peek/1|worker/1|rights/2|view/2|open/3|nearest/1",
+        b"claim/2|ack/2|term/2|nack/3|nack/4|progress/3|commit/1|waiting/1|begin/0|step/0|step/1|restart/0|restart/1|start+6|cut old/0|cut new/0|cut torn/0|state/0|poke/3|peek/1|worker/1|rights/2|view/2|open/3|nearest/1|plan+1",
         name,
         n,
     )
@@ -144,7 +149,7 @@ pub fn parse(line: &[u8]) -> Line {
     if is_nothing(line) {
         return plain(NOTHING);
     }
-    let mut numbers = [0u64; 24];
+    let mut numbers = [0u64; NUMBERS];
     let gathered = words::parse_numbers(line, 0, &mut numbers);
     let Numbers::Count(n) = gathered else {
         return plain(form_of(line, 0));

@@ -8,6 +8,7 @@ use crate::printing;
 use crate::printing::Said;
 use crate::script;
 use crate::script::Line;
+use crate::script::NUMBERS;
 use answers::Numbers;
 use consumer::Configuration;
 use consumer::Settings;
@@ -16,6 +17,7 @@ use delivery::DeliveryConfig;
 use lease::LeaseConfig;
 use machine::Machine;
 use machine::calls::Call;
+use machine::plans::PlanCall;
 use power_cut::Kind;
 use server::kinds;
 use server::kinds::Calling;
@@ -108,7 +110,7 @@ fn places_for(line: Line, most: usize) -> usize
 // ## a start
 
 // Whether the numbers of a start are in range: the first and the third u32, the second 0 or 1.
-fn in_range(v: [u64; 24]) -> bool {
+fn in_range(v: [u64; NUMBERS]) -> bool {
     if 4294967295 < v[0] {
         return false;
     }
@@ -124,7 +126,7 @@ fn short(n: u64) -> u32 {
 }
 
 // The backoffs among a start's numbers, which are the last of them, and how many they are.
-fn backoffs_of(v: [u64; 24]) -> [u64; 16] {
+fn backoffs_of(v: [u64; NUMBERS]) -> [u64; 16] {
     let mut backoffs = [0u64; 16];
     let mut i: usize = 0;
     while i < 16 {
@@ -142,7 +144,7 @@ fn backoff_len(count: usize) -> usize {
 }
 
 // The configuration that a start's numbers are, with the workers' rights.
-fn configuration_of(v: [u64; 24], count: usize, rights: [u8; WORKERS]) -> Configuration {
+fn configuration_of(v: [u64; NUMBERS], count: usize, rights: [u8; WORKERS]) -> Configuration {
     Configuration {
         settings: Settings {
             delivery: DeliveryConfig {
@@ -165,7 +167,7 @@ fn configuration_of(v: [u64; 24], count: usize, rights: [u8; WORKERS]) -> Config
 pub fn nothing_started() -> Session
     ensures { λ r. ⌜ ((n : ℕ) → Ready n r) ⌝ }
 {
-    let configuration = configuration_of([0; 24], 0, [127, 0, 0, 0, 0, 0, 0, 0]);
+    let configuration = configuration_of([0; NUMBERS], 0, [127, 0, 0, 0, 0, 0, 0, 0]);
     Session {
         machine: Machine::off(configuration),
         len: 0,
@@ -393,6 +395,83 @@ fn give(session: Session, worker: u64, mask: u64) -> Acted
     }
 }
 
+// ## a plan
+
+// The offsets of a plan: the numbers behind its first.
+fn offsets_of(v: [u64; NUMBERS]) -> [u64; 128] {
+    let mut offsets = [0u64; 128];
+    let mut i: usize = 0;
+    while i < 128 {
+        offsets[i] = v[i + 1];
+        i += 1;
+    }
+    offsets
+}
+
+fn wide(byte: u8) -> u64 {
+    byte as u64
+}
+
+// Bytes as the first entries of a list, as far as it has places.
+fn list_bytes(bytes: &[u8], list: &mut [u64]) {
+    let mut i: usize = 0;
+    while i < list.len() {
+        if bytes.len() <= i {
+            break;
+        }
+        list[i] = wide(bytes[i]);
+        i += 1;
+    }
+}
+
+// A plan of these offsets, into a list of bytes. Its answers go into `list`.
+fn planned(
+    machine: Machine,
+    worker: u64,
+    offsets: &[u64],
+    bytes: &mut [u8],
+    list: &mut [u64],
+) -> Said
+    requires { ⌜ Sound machine ⌝ }
+{
+    let answer = machine.plan(worker, offsets, bytes);
+    let PlanCall::Planned(planned) = answer else {
+        return printing::plain(printing::NOT_NOW);
+    };
+    list_bytes(bytes, list);
+    printing::plan_said(answers::of_plan(planned, bytes), offsets.len() as u64)
+}
+
+// A plan into the first of some bytes: as many as its first number says. The numbers behind that are its offsets.
+fn plan(machine: Machine, worker: u64, line: Line, bytes: &mut [u8], list: &mut [u64]) -> Said
+    requires { ⌜ Sound machine ⌝ }
+{
+    let v = line.numbers;
+    let count = line.count;
+    let room = v[0];
+    if (bytes.len() as u64) < room {
+        return printing::plain(printing::BAD_LINE);
+    }
+    if NUMBERS < count {
+        return printing::plain(printing::BAD_LINE);
+    }
+    if count == 0 {
+        return printing::plain(printing::BAD_LINE);
+    }
+    let n = count - 1;
+    let places = room as usize;
+    let offsets = offsets_of(v);
+    planned(machine, worker, &offsets[..n], &mut bytes[..places], list)
+}
+
+// A plan, of whose room there is at most 256.
+fn plan_line(machine: Machine, worker: u64, line: Line, list: &mut [u64]) -> Said
+    requires { ⌜ Sound machine ⌝ }
+{
+    let mut bytes = [0u8; 256];
+    plan(machine, worker, line, &mut bytes, list)
+}
+
 // ## lines
 
 // The state, where it can be called.
@@ -404,7 +483,9 @@ fn state(machine: Machine) -> Said {
 }
 
 // The answer to a line that leaves the session as it is.
-fn seen(session: Session, line: Line, area: &mut [u8]) -> Said {
+fn seen(session: Session, line: Line, area: &mut [u8], list: &mut [u64]) -> Said
+    requires { ⌜ Sound (session .machine) ⌝ }
+{
     let form = line.form;
     let v = line.numbers;
     match form {
@@ -412,11 +493,12 @@ fn seen(session: Session, line: Line, area: &mut [u8]) -> Said {
         script::STATE => state(session.machine),
         script::PEEK => blocks::peek(session.len, v[0]),
         script::POKE => blocks::poke(session.len, v[0], v[1], v[2], area),
+        script::PLAN => plan_line(session.machine, session.worker, line, list),
         _ => printing::plain(printing::BAD_LINE),
     }
 }
 
-// What a line does, and its answer; `list` has the waiting list or the stretches.
+// What a line does, and its answer; `list` has the waiting list, the stretches, or the answers of a plan.
 pub fn act(session: Session, line: Line, area: &mut [u8], list: &mut [u64]) -> Acted
     requires { ⌜ Ready (length (now area)) session ⌝ }
     ensures { λ r. ⌜ Ready (length (now (area .entry))) (r .session) ⌝ }
@@ -440,6 +522,6 @@ pub fn act(session: Session, line: Line, area: &mut [u8], list: &mut [u64]) -> A
     }
     Acted {
         session: session,
-        said: seen(session, line, area),
+        said: seen(session, line, area, list),
     }
 }

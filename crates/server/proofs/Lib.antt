@@ -3,5 +3,6 @@ pub mod InNumbers
 pub mod Restarted
 pub mod AsCalls
 pub mod InPlace
+pub mod Planned
 pub mod Machine
 pub mod Exported

@@ -16,7 +16,7 @@ use Rattle.machine.specs.declared.Machine.{Machine}
 use Rattle.machine.specs.declared.in_place.Fixed.{Fixed}
 use Rattle.machine.specs.declared.in_place.Figures.{Figures}
 use Rattle.answers.specs.declared.Numbers.{Numbers}
-use Rattle.server.specs.Transitions.{SoundIf, AskedOn, CallIs}
+use Rattle.server.specs.Transitions.{SoundIf, AskedOn, PlannedOn, CallIs}
 
 -- the machine of a phase and a record
 abbrev pub machineOf : Configuration → ℕ → Writing → Machine
@@ -56,6 +56,10 @@ AskedIn k before w kind a b c d out n after out′ =
 -- Progress, which is call 5, on every consumer that has these parts, whatever list is lent
 abbrev pub ProgressedIn : ℕ → (before : Consumer → Consumer) (w offset generation clock : ℕ) (n : Numbers) (after : Consumer → Consumer) → Type 0
 ProgressedIn k before w offset generation clock n after = (out : List ℕ) → AskedIn k before w 5 offset generation clock 0 out n after out
+
+-- a plan on every consumer that has these parts
+abbrev pub PlannedIn : ℕ → (before : Consumer → Consumer) (w : ℕ) (os out : List ℕ) (n : Numbers) (after : Consumer → Consumer) (out′ : List ℕ) → Type 0
+PlannedIn k before w os out n after out′ = (x : Consumer) → PlannedOn k (before x) w os out n (after x) out′
 
 -- ## begin
 -- a record with these parts

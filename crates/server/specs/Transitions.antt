@@ -8,6 +8,8 @@ use Rattle.types.specs.Refusal.{Result, refused, done}
 use Rattle.types.specs.Refusal as refusal
 use Rattle.types.specs.Table.{Kept, unless}
 use Rattle.consumer.specs.State.{State}
+use Rattle.consumer.specs.Questions.{Plan, bytesAfter}
+use Rattle.consumer.specs.Questions as questions
 use Rattle.consumer.specs.View.{view, Unmoved}
 use Rattle.consumer.specs.View as consumer
 use Rattle.consumer.specs.declared.Consumer.{Consumer}
@@ -17,11 +19,11 @@ use Rattle.starts.specs.Starting.{configurationOf, startFault}
 use Rattle.machine.specs.Calls.{Ask, Call, Event, claimed, acked, termed, nacked, progressed, committed, looked, begun, stepped, restarted, failed}
 use Rattle.machine.specs.Transitions.{Phase, idle, After, onState, asked, transition}
 use Rattle.machine.specs.Answers.{outAfter}
-use Rattle.machine.specs.View.{phaseOf, Sound, held}
+use Rattle.machine.specs.View.{phaseOf, Sound, held, planAfter, planBytesIn}
 use Rattle.machine.specs.declared.Machine.{Machine}
 use Rattle.machine.specs.declared.calls.CallAnswer.{CallAnswer}
 use Rattle.machine.specs.declared.calls.CallAnswer.the-variants as answers
-use Rattle.answers.specs.Numbers.{numbersOf, notNow, noValues, numbersIn}
+use Rattle.answers.specs.Numbers.{numbersOf, notNow, noValues, values, numbersIn}
 use Rattle.server.specs.Kinds.{askAt, callAt}
 use Rattle.answers.specs.declared.Numbers.{Numbers}
 
@@ -130,6 +132,22 @@ pub record CallIs (before : Machine) (w kind a b c d : ℕ) (area out : List ℕ
   pub sound : Sound after
   pub configuration : after .configuration ≡ before .configuration
   pub kept : KeptIn (callAfter before w kind a b c d area out) (held before area) (held after area′)
+
+-- ## a plan of worker w, which leaves who is asked as it was
+pub record AnswersPlan (before : Consumer) (w : ℕ) (os out : List ℕ) (n : Numbers) (after : Consumer) (out′ : List ℕ) : Type 0 where
+  pub is : n ≡ numbersOf (refusal.answered values (questions.look (view before) w (Plan os (length out))))
+  pub bytes : out′ ≡ bytesAfter (questions.look (view before) w (Plan os (length out))) out
+  pub kept : after ≡ before
+
+abbrev pub PlannedOn : ℕ → Consumer → ℕ → List ℕ → List ℕ → Numbers → Consumer → List ℕ → Type 0
+PlannedOn zero before w os out n after out′ = AnswersPlan before w os out n after out′
+PlannedOn (suc k) before w os out n after out′ = Declined before out n after out′
+
+-- on the machine, with whatever area
+pub record PlanIs (before : Machine) (w : ℕ) (os out : List ℕ) (n : Numbers) (after : Machine) (out′ : List ℕ) : Type 0 where
+  pub is : (area : List ℕ) → n ≡ numbersIn (planAfter (phaseOf before) area w os out)
+  pub bytes : out′ ≡ planBytesIn (phaseOf before) w os out
+  pub kept : after ≡ before
 
 -- ## a start, whatever stood in the machine's place before
 -- a fresh machine, or beside a refusal the very thing that stood there

@@ -3,9 +3,10 @@
 ghost use mathlib.Core.List.{List};
 ghost use Prim.Native.Nat.{ℕ};
 ghost use Rattle.machine.specs.View.{Sound, OffIs};
-ghost use Rattle.server.specs.Transitions.{AskIs, CallIs, StartIs};
+ghost use Rattle.server.specs.Transitions.{AskIs, CallIs, PlanIs, StartIs};
 use crate::in_place::ask_in_place;
 use crate::in_place::begin_in_place;
+use crate::in_place::plan_in_place;
 use crate::in_place::progress_in_place;
 use crate::in_place::step_in_place;
 use crate::transitions::restart;
@@ -211,6 +212,33 @@ pub extern "C" fn ninotskev_progress(
         &mut machine.writing.consumer.table.deadlines,
         &mut machine.writing.consumer.table.deliveries,
         &mut machine.writing.consumer.table.workers,
+    );
+    *numbers = done;
+}
+
+// A worker's plan on the machine in its place: which of a list of offsets are settled, into a lent byte list. It changes no number of the
+// machine.
+#[no_mangle]
+pub extern "C" fn ninotskev_plan(
+    machine: &mut Machine,
+    numbers: &mut Numbers,
+    worker: u64,
+    offsets: &[u64],
+    out: &mut [u8],
+)
+    requires { ⌜ Sound (machine .now) ⌝ }
+    ensures { λ _. ⌜ PlanIs (machine .entry .now) worker (offsets .entry .now) (out .entry .now) (numbers .exit .now) (machine .exit .now) (out .exit .now) ⌝ }
+{
+    let done = plan_in_place(
+        machine.phase,
+        worker,
+        machine.writing.consumer.cursor.committed,
+        machine.writing.consumer.cursor.runs,
+        &machine.writing.consumer.settings.rights,
+        &mut machine.writing.consumer.cursor.starts,
+        &mut machine.writing.consumer.cursor.ends,
+        offsets,
+        out,
     );
     *numbers = done;
 }

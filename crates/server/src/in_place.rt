@@ -2,10 +2,10 @@
 // are lent and changed where they lie.
 ghost use Rattle.cursor.specs.View.{ackCursor};
 ghost use Rattle.lease.specs.Parts.{listingAll};
-ghost use Rattle.consumer.specs.Parts.{progressing};
+ghost use Rattle.consumer.specs.Parts.{progressing, planning};
 ghost use Rattle.checkpoint.specs.Parts.{beginning, parts};
 ghost use Rattle.machine.specs.Parts.{consumerOf};
-ghost use Rattle.server.specs.Parts.{fixedAs, figuresAs, AskableIn, AskedIn, ProgressedIn, toBegin, Beginnable, phaseBegun, BegunOn, Steppable, SteppedOn};
+ghost use Rattle.server.specs.Parts.{fixedAs, figuresAs, AskableIn, AskedIn, ProgressedIn, PlannedIn, toBegin, Beginnable, phaseBegun, BegunOn, Steppable, SteppedOn};
 ghost use mathlib.Core.Path.{_≡_};
 use crate::kinds;
 use crate::kinds::Asking;
@@ -218,6 +218,38 @@ pub fn progress_in_place(
         workers,
     );
     answers::of_progress(answer)
+}
+
+// A plan, where the state can be called: that is phase 0. The columns are read only; each is lent by itself.
+pub fn plan_in_place(
+    phase: u64,
+    worker: u64,
+    committed: u64,
+    runs: usize,
+    rights: &[u8; WORKERS],
+    starts: &mut [u64; RANGES],
+    ends: &mut [u64; RANGES],
+    offsets: &[u64],
+    out: &mut [u8],
+) -> Numbers
+    requires { ⌜ AskableIn phase (planning (rights .now) (ackCursor committed (starts .now) (ends .now) runs)) ⌝ }
+    ensures { λ r. ⌜ PlannedIn phase (planning (rights .entry .now) (ackCursor committed (starts .entry .now) (ends .entry .now) runs)) worker (offsets .entry .now) (out .entry .now)
+        r (planning (rights .entry .now) (ackCursor committed (starts .exit .now) (ends .exit .now) runs)) (out .exit .now) ⌝ }
+{
+    if phase != 0 {
+        return Numbers(255, 0, 0, 0, 0, 0, 0);
+    }
+    let answer = consumer::plans::plan_in_place(
+        committed,
+        runs,
+        worker,
+        rights,
+        starts,
+        ends,
+        offsets,
+        out,
+    );
+    answers::of_plan(answer, out)
 }
 
 // What a begin answers, and the numbers of the machine that it changes.

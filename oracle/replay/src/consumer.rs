@@ -2,6 +2,7 @@
 //! lets the original act. A lease's worker (02, g) stands beside the original's table, which has no place for it.
 use crate::journal::{read, writes, zeroing, Half, Stored};
 use crate::open::{nearest, stretches};
+use crate::plan::{falls, plan, Plan};
 use crate::rights::{Operation, Rights};
 use crate::views::{Details, View};
 use ironbus::cursor::{AckCursor, BoundedAck};
@@ -321,6 +322,18 @@ impl Consumer {
     pub fn nearest(&self, worker: u64, offset: u64) -> Result<u64, Code> {
         self.settings.rights.ask(worker, Operation::Look)?;
         Ok(nearest(&self.cursor, offset))
+    }
+
+    /// Refusals 38, 39, 36, 37. Which offsets of a list are settled, where the lent list has as many places, and the looks (02, f).
+    pub fn plan(&self, worker: u64, room: usize, offsets: &[u64]) -> Result<Plan, Code> {
+        self.settings.rights.ask(worker, Operation::Look)?;
+        if room != offsets.len() {
+            return Err(vec![36]);
+        }
+        match falls(offsets) {
+            Some(place) => Err(vec![37, place as u64]),
+            None => Ok(plan(&self.cursor, offsets)),
+        }
     }
 
     /// Refusals 38, 39, 31. The counts are stored in version 2 (02, j). Where the half in use has no room for the group, the other

@@ -10,6 +10,7 @@ pub mod line;
 pub mod make;
 pub mod nacks;
 pub mod open;
+pub mod plan;
 pub mod program;
 pub mod rights;
 pub mod scenes;

@@ -7,6 +7,9 @@ pub const LINE: usize = 65_535;
 /// The most places of a lent list.
 pub const ROOM: usize = 256;
 
+/// The most offsets of a plan.
+pub const PLAN: usize = 128;
+
 pub struct Start {
     pub limit: u32,
     pub opt_in: bool,
@@ -38,6 +41,8 @@ pub enum Call {
     /// The bounds, and the places of the lent list.
     Open(u64, u64, usize),
     Nearest(u64),
+    /// The places of the lent list, and the offsets.
+    Plan(usize, Vec<u64>),
     Begin,
     Step(Option<u64>),
     Cut(Left),
@@ -112,6 +117,7 @@ pub fn read(line: &[u8]) -> Option<Call> {
         ("view", &[offset, now]) => Call::View(offset, now),
         ("open", &[from, to, places]) => Call::Open(from, to, room(places)?),
         ("nearest", &[offset]) => Call::Nearest(offset),
+        ("plan", &[places, ref offsets @ ..]) if offsets.len() <= PLAN => Call::Plan(room(places)?, offsets.to_vec()),
         ("begin", &[]) => Call::Begin,
         ("step", &[]) => Call::Step(None),
         ("step", &[bytes]) => Call::Step(Some(bytes)),
@@ -126,7 +132,7 @@ pub fn read(line: &[u8]) -> Option<Call> {
 
 #[cfg(test)]
 mod tests {
-    use super::{read, Call, LINE};
+    use super::{read, Call, LINE, PLAN};
 
     fn is_none(line: &str) -> bool {
         read(line.as_bytes()).is_none()
@@ -235,6 +241,25 @@ mod tests {
             "nearest",
             "nearest 18446744073709551616",
             "nearest 0 0",
+        ] {
+            assert!(is_none(line), "{line}");
+        }
+    }
+
+    #[test]
+    fn plans() {
+        assert!(matches!(read(b"plan 0"), Some(Call::Plan(0, offsets)) if offsets.is_empty()));
+        assert!(matches!(read(b"plan 256 7 3 7"), Some(Call::Plan(256, offsets)) if offsets == [7, 3, 7]));
+        let line = |offsets: usize| format!("plan 128{}", " 5".repeat(offsets));
+        assert!(matches!(read(line(PLAN).as_bytes()), Some(Call::Plan(128, offsets)) if offsets.len() == PLAN));
+        assert!(is_none(&line(PLAN + 1)));
+        for line in [
+            "plan",
+            "plan ",
+            "plan 257",
+            "plan 257 1",
+            "plan 1 18446744073709551616",
+            "plan 1 x",
         ] {
             assert!(is_none(line), "{line}");
         }

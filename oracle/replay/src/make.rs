@@ -2,7 +2,7 @@
 use crate::line::LINE;
 use crate::program::{Phase, Program};
 use crate::workers::Crew;
-use crate::{commits, halves, headers, nacks, open, scenes, versions, views, waiting, wear, workers};
+use crate::{commits, halves, headers, nacks, open, plan, scenes, versions, views, waiting, wear, workers};
 use lists::random::Random;
 use lists::state::Table;
 
@@ -19,12 +19,13 @@ pub struct Maker {
 }
 
 /// What can't be called before a start.
-const NEEDS_A_START: [&str; 11] = [
+const NEEDS_A_START: [&str; 12] = [
     "restart",
     "claim 0 0",
     "view 0 0",
     "open 0 0 0",
     "nearest 0",
+    "plan 0",
     "poke 0 0 0",
     "peek 0",
     "step",
@@ -34,7 +35,7 @@ const NEEDS_A_START: [&str; 11] = [
 ];
 
 /// Lines that look like calls.
-const NO_CALLS: [&str; 27] = [
+const NO_CALLS: [&str; 30] = [
     "cut",
     "cut half",
     "cut old ",
@@ -62,6 +63,9 @@ const NO_CALLS: [&str; 27] = [
     "open 0 1 1 1",
     "nearest",
     "nearest 0 0",
+    "plan",
+    "plan 257",
+    "plan 1 18446744073709551616",
 ];
 
 /// A script of so many lines.
@@ -85,7 +89,7 @@ pub fn script(seed: u64, lines: usize) -> Vec<Vec<u8>> {
         scenes::spend(&mut maker);
     }
     while maker.lines.len() < lines {
-        match maker.random.below(49) {
+        match maker.random.below(51) {
             0..=5 => scenes::life(&mut maker),
             6..=7 => scenes::cuts(&mut maker),
             8 => scenes::full(&mut maker),
@@ -109,6 +113,7 @@ pub fn script(seed: u64, lines: usize) -> Vec<Vec<u8>> {
             40..=41 => waiting::waiting(&mut maker),
             42..=43 => commits::commits(&mut maker),
             44..=45 => open::open(&mut maker),
+            46..=47 => plan::plans(&mut maker),
             _ => wear::forged(&mut maker),
         }
     }
@@ -246,7 +251,7 @@ impl Maker {
     /// One call that isn't a checkpoint's.
     pub fn call(&mut self) -> String {
         let time = self.time();
-        match self.random.below(27) {
+        match self.random.below(28) {
             0..=8 => format!("claim {} {time}", self.offset()),
             9..=11 => format!("ack {}", self.token()),
             12 => format!("term {}", self.token()),
@@ -258,6 +263,7 @@ impl Maker {
             22 => format!("view {} {time}", self.offset()),
             23 => self.open(),
             24 => format!("nearest {}", self.offset()),
+            25 => self.plan(),
             _ => "state".to_string(),
         }
     }

@@ -62,13 +62,15 @@ impl Maker {
     }
 }
 
-/// Questions of both kinds.
+/// Questions about what is settled and what is not.
 pub fn questions(maker: &mut Maker) {
     for _ in 0..3 {
         let open = maker.open();
         maker.say(open);
         let offset = maker.offset();
         maker.say(format!("nearest {offset}"));
+        let plan = maker.plan();
+        maker.say(plan);
     }
 }
 

@@ -121,6 +121,11 @@ pub fn ask(consumer: &mut Consumer, worker: u64, call: &Call) -> Result<String, 
         Call::View(offset, now) => consumer.view(worker, offset, now)?.line(),
         Call::Open(from, to, room) => format!("open {}", ranges(&consumer.open(worker, from, to, room)?)),
         Call::Nearest(offset) => format!("nearest {}", consumer.nearest(worker, offset)?),
+        Call::Plan(room, ref offsets) => {
+            let plan = consumer.plan(worker, room, offsets)?;
+            let settled = plan.settled.iter().map(|&settled| u8::from(settled).to_string());
+            format!("plan {} {}", plan.looks, listed(settled.collect()))
+        }
         Call::State => state(consumer),
         _ => NOT_NOW.to_string(),
     })

@@ -14,6 +14,7 @@ use std::sync::OnceLock;
 mod commits;
 mod nacks;
 mod open;
+mod plan;
 mod waiting;
 
 /// The scripts that `oracle/run compare` uses, made once for all tests.
@@ -666,7 +667,7 @@ fn scripts_have_everything() {
             }
         }
     }
-    assert_eq!(words.len(), 25, "{words:?}");
+    assert_eq!(words.len(), 26, "{words:?}");
     assert_eq!(
         refusals,
         (1..=5)
@@ -674,6 +675,7 @@ fn scripts_have_everything() {
             .chain(14..=18)
             .chain(20..=29)
             .chain(31..=32)
+            .chain(36..=37)
             .chain(38..=40)
             .collect()
     );
@@ -719,7 +721,7 @@ fn scripts_have_workers() {
         }
     }
     for word in [
-        "claim", "ack", "term", "nack", "progress", "commit", "begin", "waiting", "view", "open", "nearest",
+        "claim", "ack", "term", "nack", "progress", "commit", "begin", "waiting", "view", "open", "nearest", "plan",
     ] {
         assert!(met.get(&("38", word.to_string())) >= Some(&20), "{word} {met:?}");
         assert!(met.get(&("39", word.to_string())) >= Some(&40), "{word} {met:?}");
@@ -727,36 +729,15 @@ fn scripts_have_workers() {
     for word in ["ack", "term", "nack", "progress"] {
         assert!(met.get(&("40", word.to_string())) >= Some(&20), "{word} {met:?}");
     }
-    let has = |refusal: &str, numbers: &[&str]| {
+    let has = |refusal: &str, answers: &str| {
         let seen = &instead[refusal];
-        assert!(numbers.iter().all(|&number| seen.contains(number)), "{refusal} {seen:?}");
+        assert!(answers.split(' ').all(|answer| seen.contains(answer)), "{refusal} {seen:?}");
     };
     for refusal in ["38", "39"] {
-        has(
-            refusal,
-            &[
-                "21",
-                "22",
-                "23",
-                "20",
-                "24",
-                "26",
-                "27",
-                "28",
-                "31",
-                "32",
-                "unchanged",
-                "committed",
-            ],
-        );
-        has(
-            refusal,
-            &[
-                "begun", "deliver", "settled", "requeued", "extended", "waiting", "open", "nearest",
-            ],
-        );
+        has(refusal, "20 21 22 23 24 26 27 28 31 32 36 37 unchanged committed");
+        has(refusal, "begun deliver settled requeued extended waiting open nearest plan");
     }
-    has("40", &["25", "26", "28", "29", "settled", "requeued", "extended"]);
+    has("40", "25 26 28 29 settled requeued extended");
 }
 
 /// 02, g: a script without the refused calls of one worker gives all else the same answers.

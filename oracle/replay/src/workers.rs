@@ -90,7 +90,7 @@ impl Maker {
             "nack" => Operation::Nack,
             "progress" => Operation::Extend,
             "commit" => Operation::Commit,
-            "waiting" | "view" | "open" | "nearest" => Operation::Look,
+            "waiting" | "view" | "open" | "nearest" | "plan" => Operation::Look,
             _ => return,
         };
         let offset = words[1].parse().unwrap();
@@ -182,6 +182,8 @@ fn everything(maker: &mut Maker, base: u64) {
     maker.say(format!("nearest {base}"));
     let (from, room) = maker.random.pick(&[(0, 0), (0, 9), (base + 11, 9)]);
     maker.say(format!("open {from} {} {room}", base + 10));
+    let plan = maker.random.pick(&["1 5", "0 5", "3 5 2 1"]);
+    maker.say(format!("plan {plan}"));
     maker.say("begin");
     if maker.writing() {
         unattended(maker);

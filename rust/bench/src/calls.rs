@@ -4,7 +4,7 @@ use std::hint::black_box;
 use std::time::Instant;
 
 use delivery_bench::{Nowhere, Side, Token};
-use ironbus_delivery_state::{LeaseConfig, MAX_BLOCKS};
+use ironbus_delivery_state::{LeaseConfig, Offset, MAX_BLOCKS};
 
 use crate::{lines, per_call, Ours, Theirs};
 
@@ -144,6 +144,38 @@ fn is_settled<S: Side<Storage = Nowhere>>(ranges: u64) -> [f64; 1] {
     [time]
 }
 
+/// How many offsets a plan has.
+const PLANNED: u64 = 100;
+
+/// A plan of 100 offsets over so many ranges of one offset each, by one call and by a question for each offset.
+fn plan<S: Side<Storage = Nowhere>>(ranges: u64) -> [f64; 2] {
+    let mut side = start::<S>();
+    for range in 1..=ranges {
+        let token = side.claim(2 * range, 0);
+        side.ack(token);
+    }
+    let offsets: Vec<Offset> = (0..PLANNED)
+        .map(|i| Offset::new(1 + i * (2 * ranges + 1) / PLANNED))
+        .collect();
+    let mut at_once = [7; PLANNED as usize];
+    let mut one_by_one = [7; PLANNED as usize];
+    let turns = CALLS / PLANNED;
+    let whole = per_call(turns, TIMES, || {
+        for _ in 0..turns {
+            side.plan(black_box(&offsets), &mut at_once);
+        }
+    });
+    let single = per_call(turns, TIMES, || {
+        for _ in 0..turns {
+            for (offset, byte) in black_box(&offsets).iter().zip(&mut one_by_one) {
+                *byte = u8::from(side.is_settled(offset.get()));
+            }
+        }
+    });
+    assert_eq!(at_once, one_by_one);
+    [whole, single]
+}
+
 /// The count of each of so many leases in turn: `lease_of` here, `deliveries` in the original.
 fn deliveries<S: Side<Storage = Nowhere>>(leases: u64) -> [f64; 1] {
     let mut side = start::<S>();
@@ -262,6 +294,18 @@ fn questions() {
             ROUNDS,
             || is_settled::<Theirs>(ranges),
             || is_settled::<Ours>(ranges),
+        );
+    }
+    for ranges in [0, 16, 128] {
+        let names = [
+            &*format!("plan of {PLANNED} offsets, {ranges} ranges ahead"),
+            &*format!("{PLANNED} times is_settled, {ranges} ranges ahead"),
+        ];
+        lines(
+            names,
+            ROUNDS,
+            || plan::<Theirs>(ranges),
+            || plan::<Ours>(ranges),
         );
     }
     for leases in [1, 50] {

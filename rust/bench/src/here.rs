@@ -78,6 +78,10 @@ impl<S: Storage> Side for Here<S> {
         self.0.is_settled(WORKER, Offset::new(offset)).unwrap()
     }
 
+    fn plan(&mut self, offsets: &[Offset], out: &mut [u8]) {
+        self.0.plan(WORKER, offsets, out).unwrap();
+    }
+
     fn deliveries(&mut self, token: Token) -> Option<u32> {
         let lease = self
             .0

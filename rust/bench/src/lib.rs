@@ -7,6 +7,8 @@ mod storage;
 
 use std::ops::{ControlFlow, Range};
 
+use ironbus_delivery_state::Offset;
+
 pub use here::Here;
 pub use original::Original;
 pub use storage::{Blocks, Nowhere};
@@ -44,6 +46,12 @@ pub trait Side: Sized {
 
     /// Whether an offset is settled.
     fn is_settled(&mut self, offset: u64) -> bool;
+    /// Which offsets of a list that doesn't fall are settled: 1 or 0 for each. The original has no call for it, and is asked one by one.
+    fn plan(&mut self, offsets: &[Offset], out: &mut [u8]) {
+        for (offset, byte) in offsets.iter().zip(out) {
+            *byte = u8::from(self.is_settled(offset.get()));
+        }
+    }
     /// How often an offset was handed out, where the token has its lease.
     fn deliveries(&mut self, token: Token) -> Option<u32>;
     /// How many offsets wait at a clock, once they are listed: by deadline here, by offset in the original.

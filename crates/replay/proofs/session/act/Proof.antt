@@ -78,6 +78,9 @@ seen-requires c κs = search needs
 same-length-5 : tie.Need-same-length-5
 same-length-5 c = search needs
 
+same-length-6 : tie.Need-same-length-6
+same-length-6 c = search needs
+
 returns-6 : tie.Need-returns-6
 returns-6 c = search needs
 
@@ -110,4 +113,5 @@ act-spec =
     returns-5
     seen-requires
     same-length-5
+    same-length-6
     returns-6)
