@@ -25,6 +25,7 @@ use crate::rights::COMMIT;
 use crate::rights::Permission;
 use cursor::BoundedAck;
 use delivery::Disposition;
+use hours::Hours;
 use lease::Attempts;
 use lease::Claim;
 use lease::ExtendOutcome;
@@ -43,8 +44,9 @@ pub enum ClaimTest {
     Refused(ClaimAnswer),
 }
 
-// What stands against a claim: the first of 38, 39, 21, 22, 23, 25, 26 and 27 that is met.
+// What stands against a claim: the first of 38, 39, 21, 22, 35, 23, 25, 26 and 27 that is met.
 pub fn claim_test<'a, 'b>(
+    hours: Hours,
     ceiling: u64,
     threshold: u32,
     committed: u64,
@@ -66,13 +68,14 @@ pub fn claim_test<'a, 'b>(
     carried_counts: &'b [u32; CARRIED],
 ) -> ClaimTest
     requires { ⌜ cursor.Whole (ackCursor committed (starts .now) (ends .now) runs) × (len ≤ LEASES) × («carried_len» ≤ CARRIED) ⌝ }
-    ensures { λ r. ⌜ TestsIn r (permitted (rights .entry .now) (testing ceiling threshold (ackCursor committed (starts .entry .now) (ends .entry .now) runs) len «carried_len» «next_generation» redeliveries (offsets .entry .now) (deadlines .entry .now) (deliveries .entry .now) («carried_offsets» .entry .now) («carried_counts» .entry .now))) worker offset now ⌝ }
+    ensures { λ r. ⌜ TestsIn r (permitted (rights .entry .now) (testing hours ceiling threshold (ackCursor committed (starts .entry .now) (ends .entry .now) runs) len «carried_len» «next_generation» redeliveries (offsets .entry .now) (deadlines .entry .now) (deliveries .entry .now) («carried_offsets» .entry .now) («carried_counts» .entry .now))) worker offset now ⌝ }
 {
     let permission = rights::permission_of(rights, worker, CLAIM);
     match permission {
         Permission::UnknownWorker => ClaimTest::Refused(ClaimAnswer::UnknownWorker),
         Permission::NotPermitted => ClaimTest::Refused(ClaimAnswer::NotPermitted),
         Permission::Granted => offset_test(
+            hours,
             ceiling,
             threshold,
             committed,
@@ -94,8 +97,9 @@ pub fn claim_test<'a, 'b>(
     }
 }
 
-// What stands against a claim that a worker may make: the first of 21, 22, 23, 25, 26 and 27 that is met.
+// What stands against a claim that a worker may make: the first of 21, 22, 35, 23, 25, 26 and 27 that is met.
 fn offset_test<'a, 'b>(
+    hours: Hours,
     ceiling: u64,
     threshold: u32,
     committed: u64,
@@ -115,13 +119,18 @@ fn offset_test<'a, 'b>(
     carried_counts: &'b [u32; CARRIED],
 ) -> ClaimTest
     requires { ⌜ cursor.Whole (ackCursor committed (starts .now) (ends .now) runs) × (len ≤ LEASES) × («carried_len» ≤ CARRIED) ⌝ }
-    ensures { λ r. ⌜ OpensIn r (testing ceiling threshold (ackCursor committed (starts .entry .now) (ends .entry .now) runs) len «carried_len» «next_generation» redeliveries (offsets .entry .now) (deadlines .entry .now) (deliveries .entry .now) («carried_offsets» .entry .now) («carried_counts» .entry .now)) offset now ⌝ }
+    ensures { λ r. ⌜ OpensIn r (testing hours ceiling threshold (ackCursor committed (starts .entry .now) (ends .entry .now) runs) len «carried_len» «next_generation» redeliveries (offsets .entry .now) (deadlines .entry .now) (deliveries .entry .now) («carried_offsets» .entry .now) («carried_counts» .entry .now)) offset now ⌝ }
 {
     if offset == MAX {
         return ClaimTest::Refused(ClaimAnswer::LastOffset);
     }
     if cursor::in_place::is_acked_in_place(committed, starts, ends, runs, offset) {
         return ClaimTest::Refused(ClaimAnswer::Settled);
+    }
+    if !hours.is_open(now) {
+        return ClaimTest::Refused(ClaimAnswer::Closed {
+            opening: hours.next_opening(now),
+        });
     }
     if !lease::in_place::is_claimable_in_place(len, offset, now, offsets, deadlines) {
         return ClaimTest::Refused(ClaimAnswer::InFlight);

@@ -15,7 +15,21 @@ use Rattle.hours.specs.View.{view, closedUntil}
 use Rattle.hours.specs.declared.Hours.{Hours}
 use Rattle.hours.proofs.Openings as openings
 
--- the next opening, by what is answered at the clock
+-- whether it is open and the next opening, by what is answered at the clock
+pub is-open-now : (h : Option Week) (now : ℕ) → none ≡ closedUntil h now → true ≡ isOpen h now
+is-open-now h now s =
+    split (isOpen h now) (λ t. sym t) (λ t. absurd (never-none (rw t at s)))
+  where
+    never-none : none ≡ some (nextOpening h now) → ⊥
+    never-none e = let z : _≡_ {A = ℕ} 0 1 = cc in omega arith
+
+pub is-open-later : (h : Option Week) (now clock : ℕ) → some clock ≡ closedUntil h now → false ≡ isOpen h now
+is-open-later h now clock s =
+    split (isOpen h now) (λ t. absurd (never-some (rw t at s))) (λ t. sym t)
+  where
+    never-some : some clock ≡ none → ⊥
+    never-some e = let z : _≡_ {A = ℕ} 0 1 = cc in omega arith
+
 pub opening-is-now : (h : Option Week) (now : ℕ) → none ≡ closedUntil h now → now ≡ nextOpening h now
 opening-is-now none now s = refl
 opening-is-now (some w) now s =

@@ -3,7 +3,7 @@
 ghost use mathlib.Core.Path.{_≡_};
 ghost use Prim.Native.Nat.{_/_, _%_, _^_, _<_};
 ghost use Rattle.types.specs.Table.{first};
-ghost use Rattle.hours.specs.Hours.{firstOpen, anyAbove, nextOpening, hoursRows};
+ghost use Rattle.hours.specs.Hours.{firstOpen, anyAbove, isOpen, nextOpening, hoursRows};
 ghost use Rattle.hours.specs.View.{view, closedUntil, openingOf, testOf};
 use types::numbers;
 
@@ -117,6 +117,17 @@ impl Hours {
             return Opening::Now;
         }
         Opening::At(numbers::saturating_add(now, (first - half) * HALF_HOUR - time % HALF_HOUR))
+    }
+
+    // Whether it is open at a clock.
+    pub fn is_open(self, now: u64) -> bool
+        ensures { λ r. ⌜ r ≡ isOpen (view self) now ⌝ }
+    {
+        let opening = self.at(now);
+        match opening {
+            Opening::Now => true,
+            Opening::At(_) => false,
+        }
     }
 
     // The first open clock from a given one on.
