@@ -24,23 +24,23 @@ bad-area-requires c κs = search needs
 
 returns : tie.Need-returns
 returns c =
-    let t = c .before .before in
-    let s = t .before in
-    hours-refused (view (s .args .hours)) (s .args .area-len) BadHours (sym (ap testOf (c .enum-told .given .1)) ∙ t .test .ensures)
-
-returns-2 : tie.Need-returns-2
-returns-2 c =
-    let t = c .before .before in
-    let s = t .before in
-    hours-refused (view (s .args .hours)) (s .args .area-len) NeverOpen (sym (ap testOf (c .enum-told2 .given .1)) ∙ t .test .ensures)
-
-returns-3 : tie.Need-returns-3
-returns-3 c =
     let k = c .before in
     let e = k .before in
     let t = e .before .before in
     let s = t .before in
     area-refused (view (s .args .hours)) (s .args .area-len) (sym (ap testOf (e .enum-told3 .given .1)) ∙ t .test .ensures) (sym (k .bad-area .ensures) ∙ c .if1 .taken)
+
+returns-2 : tie.Need-returns-2
+returns-2 c =
+    let t = c .before .before in
+    let s = t .before in
+    hours-refused (view (s .args .hours)) (s .args .area-len) BadHours (sym (ap testOf (c .enum-told .given .1)) ∙ t .test .ensures)
+
+returns-3 : tie.Need-returns-3
+returns-3 c =
+    let t = c .before .before in
+    let s = t .before in
+    hours-refused (view (s .args .hours)) (s .args .area-len) NeverOpen (sym (ap testOf (c .enum-told2 .given .1)) ∙ t .test .ensures)
 
 returns-4 : tie.Need-returns-4
 returns-4 c =
