@@ -119,9 +119,9 @@ attemptOf s o = countOr0 (deliveriesOf (leaseOf (s .table) o))
 abbrev pub nackDelay : State → ℕ → Option ℕ → ℕ
 nackDelay s o explicit = effectiveNackDelay (s .settings .policy) (attemptOf s o) explicit (s .table .config .«hard_cap_nanos»)
 
--- when it can be claimed again
+-- when it can be claimed again: after that delay, or at the next opening where that falls outside the hours (02, c)
 abbrev pub nackDeadline : State → ℕ → ℕ → Option ℕ → ℕ
-nackDeadline s o now explicit = sat64 now (nackDelay s o explicit)
+nackDeadline s o now explicit = nextOpening (s .settings .hours) (sat64 now (nackDelay s o explicit))
 
 -- 25, 26 for the ceiling alone
 abbrev pub nackRows : State → List Row

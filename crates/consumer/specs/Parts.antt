@@ -122,15 +122,16 @@ owning rights n ks gs ns ws = permitted rights (λ c. holding c (lease.counting 
 abbrev pub settling : List ℕ → AckCursor → ℕ → List ℕ → List ℕ → List ℕ → List ℕ → List ℕ → List ℕ → Consumer → Consumer
 settling rights cursor n ks gs ss ds ns ws = permitted rights (λ c. holdingBoth c cursor (leasing n ks gs ss ds ns ws (c .table)))
 
--- Nack: the rights, the ceiling, the schedule, the configuration of the leases, the next generation, and the number and five columns of the
--- leases
-abbrev pub nacking : List ℕ → ℕ → List ℕ → ℕ → LeaseConfig → ℕ → ℕ → List ℕ → List ℕ → List ℕ → List ℕ → List ℕ → Consumer → Consumer
-nacking rights ceiling backoffs m config n g ks gs ds ns ws =
+-- Nack: the rights, the hours, the ceiling, the schedule, the configuration of the leases, the next generation, and the number and five
+-- columns of the leases
+abbrev pub nacking : List ℕ → Hours → ℕ → List ℕ → ℕ → LeaseConfig → ℕ → ℕ → List ℕ → List ℕ → List ℕ → List ℕ → List ℕ → Consumer → Consumer
+nacking rights hours ceiling backoffs m config n g ks gs ds ns ws =
     permitted rights
+    (inHours hours
     (λ c.
     made ceiling (delaying backoffs m (c .settings .delivery)) (c .cursor)
     (requeuing n g ks gs ds
-    (extending config n ks gs (c .table .«attempt_starts») ds (leasing n ks gs (c .table .«attempt_starts») ds ns ws (c .table)))) c)
+    (extending config n ks gs (c .table .«attempt_starts») ds (leasing n ks gs (c .table .«attempt_starts») ds ns ws (c .table)))) c))
 
 -- Progress: the rights, the configuration of the leases, their number and their columns
 abbrev pub progressing : List ℕ → LeaseConfig → ℕ → List ℕ → List ℕ → List ℕ → List ℕ → List ℕ → List ℕ → Consumer → Consumer

@@ -253,17 +253,19 @@ impl Consumer {
     }
 
     // Failed: the offset can be claimed again after the delay, its own or that of the schedule for so many hand-outs, but no later than
-    // the hard cap from now.
+    // the hard cap from now; and where that falls outside the hours, at the next opening.
     pub fn nack(self, worker: u64, token: LeaseToken, now: u64, delay: Delay) -> Nacked
         requires { ⌜ Sound self ⌝ }
         ensures { λ r. ⌜ Answers (nackOf (r .answer)) self (r .consumer) (nack (view self) worker (token .offset .0) (token .generation .0) now (delayOf delay)) ⌝ }
     {
         let mut table = self.table;
         let config = table.config;
+        let hours = self.settings.hours;
         let mut generations = table.generations;
         let mut deadlines = table.deadlines;
         let done = in_place::nack_in_place(
             config,
+            hours,
             self.ceiling.0,
             self.settings.delivery.backoff_len,
             table.len,

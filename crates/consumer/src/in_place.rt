@@ -233,6 +233,7 @@ pub struct NackedAt {
 // `Consumer::nack` on the parts that it looks at.
 pub fn nack_in_place<'a>(
     config: LeaseConfig,
+    hours: Hours,
     ceiling: u64,
     backoff_len: usize,
     len: usize,
@@ -252,8 +253,8 @@ pub fn nack_in_place<'a>(
 ) -> NackedAt
     requires { ⌜ LentBackoffs («backoff_nanos» .now) «backoff_len» × (len ≤ LEASES) ⌝ }
     ensures { λ r. ⌜ AnswersIn (nackOf (r .answer))
-        (nacking (rights .entry .now) ceiling («backoff_nanos» .entry .now) «backoff_len» config len «next_generation» (offsets .entry .now) (generations .entry .now) (deadlines .entry .now) (deliveries .entry .now) (workers .entry .now))
-        (nacking (rights .entry .now) ceiling («backoff_nanos» .entry .now) «backoff_len» config len (r .«next_generation») (offsets .entry .now) (generations .exit .now) (deadlines .exit .now) (deliveries .entry .now) (workers .entry .now))
+        (nacking (rights .entry .now) hours ceiling («backoff_nanos» .entry .now) «backoff_len» config len «next_generation» (offsets .entry .now) (generations .entry .now) (deadlines .entry .now) (deliveries .entry .now) (workers .entry .now))
+        (nacking (rights .entry .now) hours ceiling («backoff_nanos» .entry .now) «backoff_len» config len (r .«next_generation») (offsets .entry .now) (generations .exit .now) (deadlines .exit .now) (deliveries .entry .now) (workers .entry .now))
         (λ s. nack s worker offset generation now (delayOf delay)) ⌝ }
 {
     let test = steps::token_test(
@@ -289,13 +290,14 @@ pub fn nack_in_place<'a>(
             next_generation,
         };
     }
-    let delay_nanos = delivery::nack_delay_in_place(
+    let capped_nanos = delivery::nack_delay_in_place(
         backoff_nanos,
         backoff_len,
         attempt,
         delay,
         config.hard_cap_nanos,
     );
+    let delay_nanos = steps::delay_in_hours(hours, now, capped_nanos);
     let nacked = lease::in_place::nack_in_place(
         len,
         next_generation,

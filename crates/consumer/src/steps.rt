@@ -3,12 +3,14 @@
 ghost use mathlib.Core.Path.{_≡_};
 ghost use Prim.Native.Nat.{_≤_};
 ghost use mathlib.Core.List.{[]};
-ghost use Rattle.types.specs.Limits.{LEASES, CARRIED};
+ghost use Rattle.types.specs.Limits.{LEASES, CARRIED, sat64};
 ghost use Rattle.types.specs.Refusal.{refused};
 ghost use Rattle.types.specs.Lists.{offsetsIn};
 ghost use Rattle.cursor.specs.View.{ackCursor};
 ghost use Rattle.cursor.specs.View as cursor;
 ghost use Rattle.cursor.specs.Answers.{ackOf};
+ghost use Rattle.hours.specs.Hours.{nextOpening};
+ghost use Rattle.hours.specs.View as opening;
 ghost use Rattle.lease.specs.Answers as answers;
 ghost use Rattle.lease.specs.Parts as lease;
 ghost use Rattle.consumer.specs.Calls.{isFull, isShed};
@@ -37,6 +39,7 @@ use types::limits::LEASES;
 use types::limits::MAX;
 use types::limits::RANGES;
 use types::limits::WORKERS;
+use types::numbers;
 
 // Whether a claim is open, or what it is refused with.
 pub enum ClaimTest {
@@ -310,6 +313,13 @@ pub fn is_shed(outcome: BoundedAck) -> bool
         BoundedAck::Duplicate => false,
         BoundedAck::Shed => true,
     }
+}
+
+// The delay of a nack at a clock, which has been capped, with its end moved to the next opening if that falls outside the hours.
+pub fn delay_in_hours(hours: Hours, now: u64, delay_nanos: u64) -> u64
+    ensures { λ r. ⌜ sat64 now r ≡ nextOpening (opening.view hours) (sat64 now «delay_nanos») ⌝ }
+{
+    hours.next_opening(numbers::saturating_add(now, delay_nanos)) - now
 }
 
 // What Nack answers for the table's answer.

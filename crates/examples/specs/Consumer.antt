@@ -33,7 +33,7 @@ use Rattle.starts.specs.Versions.{Source, Measured, attemptsIn, payloadIn, Stan
 abbrev pub configuration : Configuration
 configuration =
     record {
-      settings = record { policy = policy 2 false [] 1; rights = 127 ∷ replicate 7 0 };
+      settings = record { policy = policy 2 false [] 1; rights = 127 ∷ replicate 7 0; hours = none };
       lease = record { «visibility_nanos» = 10; «hard_cap_nanos» = 25 };
     }
 

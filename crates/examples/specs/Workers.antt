@@ -22,7 +22,7 @@ use Rattle.crash_safety.specs.Workers.{thinned}
 abbrev configuration : Configuration
 configuration =
     record {
-      settings = record { policy = policy 2 false [] 1; rights = 127 ∷ 127 ∷ replicate 6 0 };
+      settings = record { policy = policy 2 false [] 1; rights = 127 ∷ 127 ∷ replicate 6 0; hours = none };
       lease = record { «visibility_nanos» = 10; «hard_cap_nanos» = 25 };
     }
 

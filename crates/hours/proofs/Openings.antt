@@ -97,6 +97,45 @@ module _ (w : Week) (now : ℕ) where
           ap (openHalf (w .days)) at ∙ first-open (w .days) 336 (halfAt w now) is-found,
         ))
 
+-- ## a later clock has no earlier opening
+first-later : (days : List ℕ) (x y : ℕ) → x ≤ y → firstOpen days x 336 ≤ firstOpen days y 336
+first-later days x y l =
+    split (ltb (firstOpen days y 336) (firstOpen days x 336))
+    (λ t.
+    let less : firstOpen days y 336 < firstOpen days x 336 = ltb-true _ _ t in
+    let from = first-from days 336 y in
+    absurd (true≢false
+    (sym (first-open days 336 y (omega (arith, first-within days 336 x)))
+    ∙ first-least days 336 x (firstOpen days y 336) (omega arith) less)))
+    (λ t. ltb-false (firstOpen days y 336) (firstOpen days x 336) t)
+
+module _ (w : Week) (now later-clock : ℕ) (l : now ≤ later-clock) (fits : later-clock ≤ MAX) where
+  -- an open half hour is found no later than it is
+  found-by : openAt w later-clock ≡ true → found w now ≤ halfAt w later-clock
+  found-by o =
+      split (ltb (halfAt w later-clock) (found w now))
+      (λ t. absurd (true≢false (sym o ∙ first-least (w .days) 336 (halfAt w now) (halfAt w later-clock) (omega arith) (ltb-true _ _ t))))
+      (λ t. ltb-false (halfAt w later-clock) (found w now) t)
+
+  pub opening-later-clock : opening w now ≤ opening w later-clock
+  opening-later-clock =
+      split (openAt w now)
+      (λ t. omega (arith, opening-now w now t, opening-after w later-clock fits))
+      (λ t.
+      split (openAt w later-clock)
+      (λ o. omega (arith, opening-later w now t, opening-now w later-clock o, found-by o))
+      (λ o.
+      omega (arith, opening-later w now t, opening-later w later-clock o, first-later (w .days) (halfAt w now) (halfAt w later-clock) (omega arith))))
+
+-- ## with hours or without
+pub next-after : (h : Option Week) (now : ℕ) → now ≤ MAX → now ≤ nextOpening h now
+next-after none now fits = omega arith
+next-after (some w) now fits = opening-after w now fits
+
+pub next-later : (h : Option Week) (now later-clock : ℕ) → now ≤ later-clock → later-clock ≤ MAX → nextOpening h now ≤ nextOpening h later-clock
+next-later none now later-clock l fits = l
+next-later (some w) now later-clock l fits = opening-later-clock w now later-clock l fits
+
 -- the clock at which a half hour begins, so many half hours on
 clock-of : (now shift d : ℕ) → 0 < d
     → min (((now + shift) / HALF_HOUR + d) * HALF_HOUR - shift) MAX ≡ sat64 now (d * HALF_HOUR - (now + shift) % HALF_HOUR)

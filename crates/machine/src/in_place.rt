@@ -252,6 +252,7 @@ fn ask_nack<'a>(
 {
     let done = consumer::in_place::nack_in_place(
         fixed.config,
+        fixed.hours,
         fixed.ceiling,
         fixed.backoff_len,
         figures.len,
