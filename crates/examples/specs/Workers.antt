@@ -4,6 +4,7 @@ use Prim.Native.Nat.{ℕ}
 use mathlib.Core.Path.{_≡_, refl}
 use mathlib.Core.Bool.{false}
 use mathlib.Core.List.{List, [], _∷_}
+use mathlib.Core.Option.{none}
 use lib.ListN.{replicate}
 use Rattle.types.specs.Refusal.{refused, done, UnknownWorker, NotPermitted, ForeignToken}
 use Rattle.cursor.specs.Cursor.{cursor, ackBounded}
