@@ -213,7 +213,9 @@ mod tests {
     fn the_shift_is_less_than_a_week() {
         for day in Weekday::ALL {
             for half in 0..=48u8 {
-                let hours = Hours::week().clock_zero(day, (half / 2, half % 2 * 30)).unwrap();
+                let hours = Hours::week()
+                    .clock_zero(day, (half / 2, half % 2 * 30))
+                    .unwrap();
                 assert!(hours.shift_nanos() < Hours::WEEK);
             }
         }

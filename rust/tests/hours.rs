@@ -34,7 +34,8 @@ fn with_hours(days: [u64; 7], shift: u64) -> Configuration {
 /// A fresh consumer, which hands nothing out before its first checkpoint: an open claim is 26, and nothing changes.
 fn consumer(name: &str, days: [u64; 7], shift: u64) -> Consumer {
     let journal = NewJournal::create(fresh_path(name), 18).unwrap();
-    Consumer::start(&with_hours(days, shift), journal).unwrap_or_else(|(refusal, _)| panic!("{refusal}"))
+    Consumer::start(&with_hours(days, shift), journal)
+        .unwrap_or_else(|(refusal, _)| panic!("{refusal}"))
 }
 
 fn compare(consumer: &mut Consumer, days: [u64; 7], shift: u64, now: u64) {
@@ -43,7 +44,10 @@ fn compare(consumer: &mut Consumer, days: [u64; 7], shift: u64, now: u64) {
         None => Refusal::CheckpointDue,
     };
     let answer = consumer.claim(WORKER, Offset::ZERO, now).unwrap_err();
-    assert_eq!(answer, expected, "days {days:?}, shift {shift}, clock {now}");
+    assert_eq!(
+        answer, expected,
+        "days {days:?}, shift {shift}, clock {now}"
+    );
 }
 
 /// Both sides of every half hour of two weeks, from a clock on; where they lie beyond the largest number, none.
@@ -76,7 +80,10 @@ fn everywhere(name: &str, days: [u64; 7], shift: u64) {
 fn every_half_hour_of_a_week() {
     let weekdays = 0b11_1111_1111_0000_0000_0000_0000;
     let days = [weekdays, weekdays, 0, weekdays, 1 << 47, 1, 0];
-    for (i, shift) in [0, 1, HALF, 3 * 48 * HALF, WEEK - 1].into_iter().enumerate() {
+    for (i, shift) in [0, 1, HALF, 3 * 48 * HALF, WEEK - 1]
+        .into_iter()
+        .enumerate()
+    {
         everywhere(&format!("hours-week-{i}"), days, shift);
     }
 }
@@ -84,7 +91,10 @@ fn every_half_hour_of_a_week() {
 /// The search goes up to the same weekday a week on, its earlier half hours included.
 #[test]
 fn one_open_half_hour_only() {
-    for (i, (day, half)) in [(0, 0), (0, 47), (3, 20), (6, 0), (6, 47)].into_iter().enumerate() {
+    for (i, (day, half)) in [(0, 0), (0, 47), (3, 20), (6, 0), (6, 47)]
+        .into_iter()
+        .enumerate()
+    {
         let mut days = [0; 7];
         days[day] = 1u64 << half;
         for shift in [0, 17, WEEK - 1] {
@@ -119,16 +129,39 @@ fn random_hours_and_clocks() {
 fn hours_that_are_refused() {
     let refused = |name: &str, configuration: &Configuration| {
         let journal = NewJournal::create(fresh_path(name), 18).unwrap();
-        Consumer::start(configuration, journal).err().map(|(refusal, _)| refusal)
+        Consumer::start(configuration, journal)
+            .err()
+            .map(|(refusal, _)| refusal)
     };
     let bits = [0, 0, 0, 0, 0, 0, 1 << 48];
-    assert_eq!(refused("hours-33-bits", &with_hours(bits, 0)), Some(Refusal::BadHours));
-    assert_eq!(refused("hours-33-shift", &with_hours([1; 7], WEEK)), Some(Refusal::BadHours));
-    assert_eq!(refused("hours-33-both", &with_hours([0; 7], WEEK)), Some(Refusal::BadHours));
-    assert_eq!(refused("hours-34", &with_hours([0; 7], WEEK - 1)), Some(Refusal::NeverOpen));
-    assert_eq!(refused("hours-ok", &with_hours([0, 0, 0, 0, 0, 0, 1 << 47], WEEK - 1)), None);
+    assert_eq!(
+        refused("hours-33-bits", &with_hours(bits, 0)),
+        Some(Refusal::BadHours)
+    );
+    assert_eq!(
+        refused("hours-33-shift", &with_hours([1; 7], WEEK)),
+        Some(Refusal::BadHours)
+    );
+    assert_eq!(
+        refused("hours-33-both", &with_hours([0; 7], WEEK)),
+        Some(Refusal::BadHours)
+    );
+    assert_eq!(
+        refused("hours-34", &with_hours([0; 7], WEEK - 1)),
+        Some(Refusal::NeverOpen)
+    );
+    assert_eq!(
+        refused(
+            "hours-ok",
+            &with_hours([0, 0, 0, 0, 0, 0, 1 << 47], WEEK - 1)
+        ),
+        None
+    );
     let mut threshold = with_hours([0; 7], WEEK);
-    threshold.settings.delivery = threshold.settings.delivery.with_attempts_flush_redeliveries(0);
+    threshold.settings.delivery = threshold
+        .settings
+        .delivery
+        .with_attempts_flush_redeliveries(0);
     assert_eq!(refused("hours-3", &threshold), Some(Refusal::ZeroThreshold));
 }
 
@@ -137,11 +170,17 @@ fn hours_that_are_refused() {
 fn a_restart_tests_the_hours() {
     let path = fresh_path("hours-restart");
     let journal = NewJournal::create(&path, 18).unwrap();
-    let consumer = Consumer::start(&with_hours([1; 7], 0), journal).map_err(|(r, _)| r).unwrap();
+    let consumer = Consumer::start(&with_hours([1; 7], 0), journal)
+        .map_err(|(r, _)| r)
+        .unwrap();
     let journal = consumer.checkpoint(WORKER).unwrap().into_journal();
-    let (refusal, journal) = Consumer::restart(&with_hours([0; 7], 0), journal).err().unwrap();
+    let (refusal, journal) = Consumer::restart(&with_hours([0; 7], 0), journal)
+        .err()
+        .unwrap();
     assert_eq!(refusal, Refusal::NeverOpen);
-    let mut consumer = Consumer::restart(&with_hours([2; 7], 0), journal).map_err(|(r, _)| r).unwrap();
+    let mut consumer = Consumer::restart(&with_hours([2; 7], 0), journal)
+        .map_err(|(r, _)| r)
+        .unwrap();
     assert_eq!(
         consumer.claim(WORKER, Offset::ZERO, 0),
         Err(Refusal::Closed { opening: HALF })
@@ -157,11 +196,20 @@ fn what_a_claim_meets_first() {
     let settled = claim(&mut consumer, 4, HALF - 5);
     consumer.ack(WORKER, settled).unwrap();
     let closed = Err(Refusal::Closed { opening: WEEK });
-    assert_eq!(consumer.claim(WORKER, Offset::new(u64::MAX), HALF), Err(Refusal::LastOffset));
-    assert_eq!(consumer.claim(WORKER, Offset::new(4), HALF), Err(Refusal::Settled));
+    assert_eq!(
+        consumer.claim(WORKER, Offset::new(u64::MAX), HALF),
+        Err(Refusal::LastOffset)
+    );
+    assert_eq!(
+        consumer.claim(WORKER, Offset::new(4), HALF),
+        Err(Refusal::Settled)
+    );
     assert_eq!(consumer.claim(WORKER, Offset::new(3), HALF), closed);
     assert_eq!(consumer.progress(WORKER, held, 5), Ok(15));
-    assert_eq!(consumer.claim(WORKER, Offset::new(3), 14), Err(Refusal::InFlight));
+    assert_eq!(
+        consumer.claim(WORKER, Offset::new(3), 14),
+        Err(Refusal::InFlight)
+    );
     let mut waiting = [Offset::ZERO; 4];
     assert_eq!(consumer.waiting(WORKER, HALF, &mut waiting), Ok(1));
     consumer.ack(WORKER, held).unwrap();
@@ -173,20 +221,32 @@ fn where_a_nack_goes() {
     let days = [1, 0, 0, 0, 0, 0, 0];
     let mut consumer = consumer("hours-nack", days, 0).checkpoint(WORKER).unwrap();
     let token = claim(&mut consumer, 0, 0);
-    assert_eq!(consumer.nack(WORKER, token, HALF - 6, Some(5)), Ok(HALF - 1));
+    assert_eq!(
+        consumer.nack(WORKER, token, HALF - 6, Some(5)),
+        Ok(HALF - 1)
+    );
     let token = claim(&mut consumer, 1, 0);
     assert_eq!(consumer.nack(WORKER, token, HALF - 6, Some(6)), Ok(WEEK));
     // the hard cap is 25: the delay is capped first, and the deadline moved then
     let token = claim(&mut consumer, 2, 0);
     assert_eq!(consumer.nack(WORKER, token, 0, Some(u64::MAX)), Ok(25));
     let token = claim(&mut consumer, 3, 0);
-    assert_eq!(consumer.nack(WORKER, token, HALF - 1, Some(u64::MAX)), Ok(WEEK));
+    assert_eq!(
+        consumer.nack(WORKER, token, HALF - 1, Some(u64::MAX)),
+        Ok(WEEK)
+    );
     // from a clock outside the hours, and near the end of all clocks
     let token = claim(&mut consumer, 4, 0);
-    assert_eq!(consumer.nack(WORKER, token, WEEK + HALF, None), Ok(2 * WEEK));
+    assert_eq!(
+        consumer.nack(WORKER, token, WEEK + HALF, None),
+        Ok(2 * WEEK)
+    );
     let token = claim(&mut consumer, 5, 0);
     assert_eq!(searched(days, 0, u64::MAX), Some(u64::MAX));
-    assert_eq!(consumer.nack(WORKER, token, u64::MAX - 3, Some(20)), Ok(u64::MAX));
+    assert_eq!(
+        consumer.nack(WORKER, token, u64::MAX - 3, Some(20)),
+        Ok(u64::MAX)
+    );
     assert_eq!(
         consumer.claim(WORKER, Offset::new(5), u64::MAX),
         Err(Refusal::Closed { opening: u64::MAX })
@@ -203,7 +263,9 @@ fn hours_that_people_can_read() {
     let mut configuration = configuration(2, 1, 10, 25);
     configuration.settings.hours = hours;
     let journal = NewJournal::create(fresh_path("hours-readable"), 18).unwrap();
-    let consumer = Consumer::start(&configuration, journal).map_err(|(refusal, _)| refusal).unwrap();
+    let consumer = Consumer::start(&configuration, journal)
+        .map_err(|(refusal, _)| refusal)
+        .unwrap();
     let mut consumer = consumer.checkpoint(WORKER).unwrap();
     // 1970-01-01 was a Thursday: closed at midnight and open from 8 on
     assert_eq!(
