@@ -102,7 +102,7 @@ pub start-bad-bits : start (configuration 1 (weekOf (1 ∷ 0 ∷ 0 ∷ 0 ∷ 0 �
 unfolding start
 start-bad-bits = refl
 
-pub start-bad-bits-on-monday : start (configuration 1 (weekOf (2 ^ 48 + 1 ∷ 0 ∷ 0 ∷ 0 ∷ 0 ∷ 0 ∷ 0 ∷ []) 0)) 9216 ≡ refused BadHours
+pub start-bad-bits-on-monday : start (configuration 1 (weekOf (281474976710657 ∷ 0 ∷ 0 ∷ 0 ∷ 0 ∷ 0 ∷ 0 ∷ []) 0)) 9216 ≡ refused BadHours
 unfolding start
 start-bad-bits-on-monday = refl
 
