@@ -2,7 +2,8 @@
 -- Assumes nothing.
 use Prim.Native.Nat.{ℕ}
 use mathlib.Core.Path.{_≡_, refl}
-use mathlib.Core.Bool.{Bool, true, false}
+use mathlib.Core.Bool.{Bool, true, false, _&&_}
+use lib.Dec.{T}
 use mathlib.Core.List.{List, [], _∷_}
 use lib.ListN.{length}
 use mir.Syntax.{Width, w8, w32, w64, tyInt, tyArray}
@@ -262,6 +263,20 @@ pub numbers-told : (x : Numbers) → Typed TNumbers′.mir (TNumbers′.lowered 
 numbers-told x t =
     told-struct TNumbers.struct TNumbers.propositions TNumbers′.the-laws (number w64, (number w64, (number w64, (number w64, (number w64, (number w64, (number w64, tt))))))) x
     (all-typed (fieldTys TNumbers′.mir) (fieldsIn (TNumbers′.lowered x)) t)
+
+-- its hours, which are copied whole
+pub hours-typed : (m : Machine) → Typed TMachine′.mir (TMachine′.lowered m) → Typed THours′.mir (THours′.lowered (m .writing .consumer .settings .hours))
+hours-typed m t =
+    let x = m .writing .consumer in
+    let writing = all-typed (fieldTys TWriting′.mir) (fieldsIn (TWriting′.lowered (m .writing))) (all-typed (fieldTys TMachine′.mir) (fieldsIn (TMachine′.lowered m)) t .1 .1 .0) in
+    let consumer = all-typed (fieldTys TConsumer′.mir) (fieldsIn (TConsumer′.lowered x)) (writing .0) in
+    let settings = all-typed (fieldTys TSettings′.mir) (fieldsIn (TSettings′.lowered (x .settings))) (consumer .1 .1 .1 .1 .1 .0) in
+    settings .1 .1 .0
+
+-- two tests that hold
+pub both-hold : (a b : Bool) → T a → T b → T (a && b)
+both-hold true b p q = q
+both-hold false b p q = absurd p
 
 -- ## the lengths of its columns
 long : (w : Width) (n : ℕ) (xs : List ℕ) → Typed (tyArray (tyInt w) n) (val w xs) → length xs ≡ n

@@ -15,14 +15,14 @@ as-numbers a = numbersOf (answered handOutValues (claimOf a))
 enum-known-answer : tie.Need-enum-known-answer
 enum-known-answer c = search needs
 
-cast-t7 : tie.Need-cast-t7
-cast-t7 c = search needs
+cast-t8 : tie.Need-cast-t8
+cast-t8 c = search needs
 
 enum-known-answer-2 : tie.Need-enum-known-answer-2
 enum-known-answer-2 c = search needs
 
-cast-t8 : tie.Need-cast-t8
-cast-t8 c = search needs
+cast-t9 : tie.Need-cast-t9
+cast-t9 c = search needs
 
 enum-known-answer-3 : tie.Need-enum-known-answer-3
 enum-known-answer-3 c = search needs
@@ -89,9 +89,9 @@ of-claim-spec =
     tie.close
     (tie.spec
     enum-known-answer
-    cast-t7
-    enum-known-answer-2
     cast-t8
+    enum-known-answer-2
+    cast-t9
     enum-known-answer-3
     enum-told
     enum-told-2
