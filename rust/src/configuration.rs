@@ -1,5 +1,6 @@
 //! What a consumer is started with. The structs are laid out as the proved library has them.
 
+use crate::hours::Hours;
 use crate::workers::{Rights, WORKERS};
 
 /// How long a message stays with the worker that claimed it. Times are nanoseconds of any clock.
@@ -116,6 +117,8 @@ pub struct Settings {
     pub delivery: DeliveryConfig,
     /// What each worker may do, worker 0's first. By default worker 0 may do everything, and the others nothing.
     pub rights: [Rights; WORKERS],
+    /// When work is handed out. By default always.
+    pub hours: Hours,
 }
 
 impl Default for Settings {
@@ -125,6 +128,7 @@ impl Default for Settings {
         Settings {
             delivery: DeliveryConfig::default(),
             rights,
+            hours: Hours::always(),
         }
     }
 }

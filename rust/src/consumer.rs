@@ -103,7 +103,7 @@ impl<S> Consumer<S> {
     /// Hands an offset out under the next generation, which fences off whoever held it before.
     ///
     /// # Errors
-    /// Refusals 38, 39, 21, 22, 23, 25, 26 and 27. After 26 comes a [checkpoint](Consumer::begin).
+    /// Refusals 38, 39, 21, 22, 35, 23, 25, 26 and 27. After 35 the next opening has to be waited for; after 26 comes a [checkpoint](Consumer::begin).
     pub fn claim(
         &mut self,
         worker: WorkerId,

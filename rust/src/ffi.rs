@@ -456,6 +456,7 @@ impl Machine {
 mod tests {
     use super::*;
     use crate::configuration::DeliveryConfig;
+    use crate::hours::Hours;
     use crate::workers::Rights;
     use std::mem::{offset_of, size_of};
 
@@ -596,13 +597,13 @@ mod tests {
 
     #[test]
     fn sizes_are_those_of_the_fields() {
-        assert_eq!(size_of::<Configuration>(), 152 + 8 + 16);
+        assert_eq!(size_of::<Configuration>(), 152 + 8 + 72 + 16);
         assert_eq!(size_of::<AckCursor>(), 8 + 1024 + 1024 + 8);
         assert_eq!(
             size_of::<LeaseTable>(),
             16 + 4 * 512 + 2 * 256 + 8 + 1024 + 512 + 8 + 8 + 8
         );
-        assert_eq!(offset_of!(Machine, writing), 176 + 8);
+        assert_eq!(offset_of!(Machine, writing), 248 + 8);
         assert_eq!(size_of::<Numbers>(), 56);
     }
 
@@ -624,6 +625,7 @@ mod tests {
                 delivery: DeliveryConfig::new(3, true, &[11, 12])
                     .with_attempts_flush_redeliveries(7),
                 rights: [127, 1, 2, 3, 4, 5, 6, 255].map(Rights::from_bits),
+                hours: Hours::from_masks([1, 2, 3, 4, 5, 6, 7], 11),
             },
             lease: LeaseConfig {
                 visibility_nanos: 100,
@@ -670,6 +672,10 @@ mod tests {
         assert_eq!((table.generations[1], table.attempt_starts[1]), (1, 50));
         assert_eq!((table.deadlines[1], table.deliveries[1]), (150, 1));
         assert_eq!(table.workers[..2], [0, 7]);
+        // Outside the hours: Monday has its first half hour alone, and Tuesday its second.
+        guarded.ask(Ask::Claim as u64, [6, Hours::HALF_HOUR - 11, 0, 0], &mut []);
+        let tuesday = 49 * Hours::HALF_HOUR - 11;
+        assert_eq!(guarded.numbers, code(35, 1, [tuesday]));
         // What is shown to a supervisor, and to another who looks.
         guarded.ask_by(7, Ask::ViewOf as u64, [9, 149, 0, 0], &mut []);
         assert_eq!(guarded.numbers, code(0, 5, [1, 1, 1, 150, 7]));

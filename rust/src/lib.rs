@@ -107,6 +107,7 @@ mod configuration;
 mod consumer;
 #[allow(unsafe_code)]
 mod ffi;
+mod hours;
 mod journal;
 mod refusal;
 mod snapshot;
@@ -115,6 +116,7 @@ mod workers;
 
 pub use configuration::{Configuration, DeliveryConfig, LeaseConfig, Settings};
 pub use consumer::{CheckpointError, Consumer, Step, Writing, MAX_STRETCHES};
+pub use hours::{Hours, HoursError, TimeOfDay, Weekday};
 pub use journal::{
     Failed, Journal, JournalError, JournalFile, NewJournal, Storage, BLOCK, MAX_BLOCKS, MIN_BLOCKS,
 };

@@ -55,7 +55,7 @@ pub struct Numbers(
     pub u64,
 );
 
-// A hand-out: its generation, the hand-outs so far, and 1 where it is for the dead letters.
+// A hand-out: its generation, the hand-outs so far, and 1 where it is for the dead letters. Outside hours, the clock of the next opening.
 pub fn of_claim(answer: ClaimAnswer) -> Numbers
     ensures { λ r. ⌜ r ≡ numbersOf (answered handOutValues (claimOf answer)) ⌝ }
 {
@@ -66,6 +66,7 @@ pub fn of_claim(answer: ClaimAnswer) -> Numbers
         ClaimAnswer::DeadLetter { token, deliveries } => {
             Numbers(0, 3, token.generation.0, deliveries as u64, 1, 0, 0)
         }
+        ClaimAnswer::Closed { opening } => Numbers(35, 1, opening, 0, 0, 0, 0),
         ClaimAnswer::UnknownWorker => Numbers(38, 0, 0, 0, 0, 0, 0),
         ClaimAnswer::NotPermitted => Numbers(39, 0, 0, 0, 0, 0, 0),
         ClaimAnswer::LastOffset => Numbers(21, 0, 0, 0, 0, 0, 0),
@@ -265,6 +266,8 @@ pub fn of_start(answer: StartAnswer) -> Numbers
         StartAnswer::UnlimitedDeliverNotAllowed => Numbers(1, 0, 0, 0, 0, 0, 0),
         StartAnswer::TooManySteps => Numbers(2, 0, 0, 0, 0, 0, 0),
         StartAnswer::ZeroThreshold => Numbers(3, 0, 0, 0, 0, 0, 0),
+        StartAnswer::BadHours => Numbers(33, 0, 0, 0, 0, 0, 0),
+        StartAnswer::NeverOpen => Numbers(34, 0, 0, 0, 0, 0, 0),
         StartAnswer::BadArea => Numbers(4, 0, 0, 0, 0, 0, 0),
         StartAnswer::Damaged { block } => Numbers(5, 1, block as u64, 0, 0, 0, 0),
         StartAnswer::Cursor(error) => of_cursor(error),

@@ -1,4 +1,4 @@
--- Cases of the consumer's refusals: claim 21, 22, 23, 25, 26, 27; Ack and Term 24, 29; Nack 24, 25, 26; Progress 24, 28; the waiting list
+-- Cases of the consumer's refusals, without hours: claim 21, 22, 23, 25, 26, 27; Ack and Term 24, 29; Nack 24, 25, 26; Progress 24, 28; the waiting list
 -- 20, and its order; and commits over leases and counts.
 use Prim.Native.Nat.{ℕ, _-_}
 use mathlib.Core.Path.{_≡_, refl}
@@ -21,7 +21,7 @@ use Rattle.cases.specs.States.{countsFrom, leasesFrom, leaseUntil, range
 
 -- limit 2, threshold 3, backoff 7, one group written, the workers having these rights
 abbrev pub consumerOf : List ℕ → Cursor → Table → ℕ → State
-consumerOf given c t ceiling = stateOf c t ceiling (nextGroupAt 2 2) 9216 (record { policy = policy 2 false (7 ∷ []) 3; rights = given })
+consumerOf given c t ceiling = stateOf c t ceiling (nextGroupAt 2 2) 9216 (record { policy = policy 2 false (7 ∷ []) 3; rights = given; hours = none })
 
 -- worker 0, who makes the calls, may do everything
 abbrev pub consumer : Cursor → Table → ℕ → State

@@ -29,7 +29,7 @@ use Rattle.cases.specs.States.{rangesFrom, leaseConfig, rights, tableOf}
 -- a limit, without the opt-in; n backoffs; a flush threshold
 abbrev configuration : ℕ → ℕ → ℕ → Configuration
 configuration m n threshold =
-    record { settings = record { policy = policy m false (replicate n 5) threshold; rights = rights }; lease = leaseConfig }
+    record { settings = record { policy = policy m false (replicate n 5) threshold; rights = rights; hours = none }; lease = leaseConfig }
 
 abbrev accepted : Configuration
 accepted = configuration 2 0 1

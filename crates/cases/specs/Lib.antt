@@ -9,3 +9,4 @@ pub mod Workers
 pub mod Views
 pub mod Open
 pub mod Plans
+pub mod Hours

@@ -10,12 +10,13 @@ use lib.Dec.{leb}
 use lib.ListN.{length}
 use borrow.Author.Tests.{eq-eqb, ne-eqb, le-leb, lt-leb}
 use Rattle.types.specs.Limits.{MAX, LEASES, CARRIED}
-use Rattle.types.specs.Refusal.{Refusal, Result, refused, done, LastOffset, Settled, InFlight, Exhausted, CheckpointDue, Full}
+use Rattle.types.specs.Refusal.{Refusal, Result, refused, done, LastOffset, Settled, Closed, InFlight, Exhausted, CheckpointDue, Full}
 use Rattle.types.specs.Table.{Row, first, Passed, Answer, answer}
 use Rattle.types.specs.Keyed.{lookup}
 use Rattle.types.proofs.Table.{first-none, guarded-passed, first-met-before, first-none-before, passed-append}
 use Rattle.cursor.specs.Cursor.{settled}
 use Rattle.delivery.specs.Policy.{Destination, destination}
+use Rattle.hours.specs.Hours.{isOpen, nextOpening}
 use Rattle.lease.specs.declared.Lease.{Lease}
 use Rattle.lease.specs.declared.LeaseTable.{LeaseTable}
 use Rattle.lease.specs.declared.LeaseToken.{LeaseToken}
@@ -82,35 +83,39 @@ module _ (s : State) (o now : ℕ) where
     is-settled h = refuses-with Settled (rw (ne-eqb o MAX last, h))
 
     module _ (unsettled : settled (s .cursor) o ≡ false) where
-      pub is-running : running (leaseOf (s .table) o) now ≡ true → Refuses InFlight
-      is-running h = refuses-with InFlight (rw (ne-eqb o MAX last, unsettled, h))
+      pub is-closed : isOpen (s .settings .hours) now ≡ false → (clock : ℕ) → clock ≡ nextOpening (s .settings .hours) now → Refuses (Closed clock)
+      is-closed h clock e = refuses-with (Closed clock) (rw (ne-eqb o MAX last, unsettled, h) (ap (λ (x : ℕ). some (Closed x)) (sym e)))
 
-      module _ (not-running : running (leaseOf (s .table) o) now ≡ false) where
-        pub is-exhausted : s .table .nextGeneration ≡ MAX → Refuses Exhausted
-        is-exhausted h =
-            refuses-with Exhausted (rw (ne-eqb o MAX last, unsettled, not-running, eq-eqb (s .table .nextGeneration) MAX h))
+      module _ (in-hours : isOpen (s .settings .hours) now ≡ true) where
+        pub is-running : running (leaseOf (s .table) o) now ≡ true → Refuses InFlight
+        is-running h = refuses-with InFlight (rw (ne-eqb o MAX last, unsettled, in-hours, h))
 
-        module _ (left : s .table .nextGeneration ≡ MAX → ⊥) where
-          pub is-at-ceiling : s .ceiling ≤ s .table .nextGeneration → Refuses CheckpointDue
-          is-at-ceiling h =
-              refuses-with CheckpointDue
-              (rw (ne-eqb o MAX last, unsettled, not-running, ne-eqb (s .table .nextGeneration) MAX left, le-leb (s .ceiling) (s .table .nextGeneration) h))
+        module _ (not-running : running (leaseOf (s .table) o) now ≡ false) where
+          pub is-exhausted : s .table .nextGeneration ≡ MAX → Refuses Exhausted
+          is-exhausted h =
+              refuses-with Exhausted (rw (ne-eqb o MAX last, unsettled, in-hours, not-running, eq-eqb (s .table .nextGeneration) MAX h))
 
-          module _ (below : s .table .nextGeneration < s .ceiling) where
-            pub is-at-threshold : s .settings .policy .flushRedeliveries ≤ s .table .redeliveries → Refuses CheckpointDue
-            is-at-threshold h =
+          module _ (left : s .table .nextGeneration ≡ MAX → ⊥) where
+            pub is-at-ceiling : s .ceiling ≤ s .table .nextGeneration → Refuses CheckpointDue
+            is-at-ceiling h =
                 refuses-with CheckpointDue
-                (rw (ne-eqb o MAX last, unsettled, not-running, ne-eqb (s .table .nextGeneration) MAX left, lt-leb (s .ceiling) (s .table .nextGeneration) below, le-leb (s .settings .policy .flushRedeliveries) (s .table .redeliveries) h))
+                (rw (ne-eqb o MAX last, unsettled, in-hours, not-running, ne-eqb (s .table .nextGeneration) MAX left, le-leb (s .ceiling) (s .table .nextGeneration) h))
 
-            module _ (few : s .table .redeliveries < s .settings .policy .flushRedeliveries) where
-              pub is-full : isFull (s .table) o ≡ true → Refuses Full
-              is-full h =
-                  refuses-with Full
-                  (rw (ne-eqb o MAX last, unsettled, not-running, ne-eqb (s .table .nextGeneration) MAX left, lt-leb (s .ceiling) (s .table .nextGeneration) below, lt-leb (s .settings .policy .flushRedeliveries) (s .table .redeliveries) few) (rw h))
+            module _ (below : s .table .nextGeneration < s .ceiling) where
+              pub is-at-threshold : s .settings .policy .flushRedeliveries ≤ s .table .redeliveries → Refuses CheckpointDue
+              is-at-threshold h =
+                  refuses-with CheckpointDue
+                  (rw (ne-eqb o MAX last, unsettled, in-hours, not-running, ne-eqb (s .table .nextGeneration) MAX left, lt-leb (s .ceiling) (s .table .nextGeneration) below, le-leb (s .settings .policy .flushRedeliveries) (s .table .redeliveries) h))
 
-              pub is-open : isFull (s .table) o ≡ false → _≡_ {A = Option (Result HandOut)} none (asResult (first (claimRows s o now)))
-              is-open h =
-                  rw (ne-eqb o MAX last, unsettled, not-running, ne-eqb (s .table .nextGeneration) MAX left, lt-leb (s .ceiling) (s .table .nextGeneration) below, lt-leb (s .settings .policy .flushRedeliveries) (s .table .redeliveries) few) (rw h)
+              module _ (few : s .table .redeliveries < s .settings .policy .flushRedeliveries) where
+                pub is-full : isFull (s .table) o ≡ true → Refuses Full
+                is-full h =
+                    refuses-with Full
+                    (rw (ne-eqb o MAX last, unsettled, in-hours, not-running, ne-eqb (s .table .nextGeneration) MAX left, lt-leb (s .ceiling) (s .table .nextGeneration) below, lt-leb (s .settings .policy .flushRedeliveries) (s .table .redeliveries) few) (rw h))
+
+                pub is-open : isFull (s .table) o ≡ false → _≡_ {A = Option (Result HandOut)} none (asResult (first (claimRows s o now)))
+                is-open h =
+                    rw (ne-eqb o MAX last, unsettled, in-hours, not-running, ne-eqb (s .table .nextGeneration) MAX left, lt-leb (s .ceiling) (s .table .nextGeneration) below, lt-leb (s .settings .policy .flushRedeliveries) (s .table .redeliveries) few) (rw h)
 
 -- ## what the whole test says
 -- the worker's rows, then the claim's own
@@ -152,7 +157,7 @@ module _ (c : Consumer) (ok : Sound c) (w o now : ℕ) (fits : o ≤ MAX) (p : P
 
   -- the table's own tests failed too
   table-passed : Passed (leases.claimRows t o now)
-  table-passed = (own .1 .1 .0, (own .1 .1 .1 .0, (room (leaseOf t o) refl, tt)))
+  table-passed = (own .1 .1 .1 .0, (own .1 .1 .1 .1 .0, (room (leaseOf t o) refl, tt)))
     where
       own : Passed (claimRows (view c) o now)
       own = passed-append (callRows (view c) w claiming) (claimRows (view c) o now) p .1

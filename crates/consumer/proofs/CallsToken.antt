@@ -22,6 +22,7 @@ use Rattle.delivery.specs.Policy.{effectiveNackDelay}
 use Rattle.lease.specs.declared.Lease.{Lease}
 use Rattle.lease.specs.declared.LeaseTable.{LeaseTable}
 use Rattle.lease.specs.State.{Table, withLeases}
+use Rattle.hours.specs.Hours.{nextOpening}
 use Rattle.lease.specs.State as state
 use Rattle.lease.specs.Operations.{leaseOf, owns, tokenRow, extendRows, extended, requeue}
 use Rattle.lease.specs.Operations as leases
@@ -178,7 +179,8 @@ module _ (c : Consumer) (ok : Sound c) (w o g now : ℕ) (explicit : Option ℕ)
           (ne-eqb (view c .table .nextGeneration) MAX left, (lt-leb (view c .ceiling) (view c .table .nextGeneration) h, tt))
 
 module _ (c : Consumer) (ok : Sound c) (w o g now attempt : ℕ) (explicit : Option ℕ) (p : Passed (nackTable (view c) w o g)) (count : attempt ≡ attemptOf (view c) o)
-    (delay : ℕ) (waits : delay ≡ effectiveNackDelay (view c .settings .policy) attempt explicit (c .table .config .«hard_cap_nanos»)) where
+    (capped : ℕ) (waits : capped ≡ effectiveNackDelay (view c .settings .policy) attempt explicit (c .table .config .«hard_cap_nanos»))
+    (delay : ℕ) (moves : sat64 now delay ≡ nextOpening (view c .settings .hours) (sat64 now capped)) where
   -- the table's own tests failed too
   table-nacked : leases.nack (view c .table) o g now delay ≡ answer (done (sat64 now delay)) (requeue (view c .table) o (sat64 now delay))
   unfolding leases.nack
@@ -188,7 +190,9 @@ module _ (c : Consumer) (ok : Sound c) (w o g now attempt : ℕ) (explicit : Opt
 
   deadline-is : sat64 now delay ≡ nackDeadline (view c) o now explicit
   deadline-is =
-      ap (sat64 now) (waits ∙ ap (λ (n : ℕ). effectiveNackDelay (view c .settings .policy) n explicit (c .table .config .«hard_cap_nanos»)) count)
+      moves
+      ∙ ap (λ (n : ℕ). nextOpening (view c .settings .hours) (sat64 now n))
+      (waits ∙ ap (λ (n : ℕ). effectiveNackDelay (view c .settings .policy) n explicit (c .table .config .«hard_cap_nanos»)) count)
 
   -- what the table did is what the nack does
   pub nack-requeued : (outcome : Result ℕ) (after : LeaseTable) → answers.Answers outcome (c .table) after (leases.nack (view c .table) o g now delay)

@@ -15,6 +15,7 @@ use Rattle.types.specs.Keyed.{lookup}
 use Rattle.types.proofs.Cases.{split, neither}
 use Rattle.types.proofs.Table.{first-met, first-none-before, passed-none, guarded-cases, passed-append, append-passed}
 use Rattle.cursor.specs.Cursor.{settled, ackBounded}
+use Rattle.hours.specs.Hours.{isOpen}
 use Rattle.lease.specs.declared.Lease.{Lease}
 use Rattle.lease.specs.State.{Table}
 use Rattle.lease.specs.Operations.{leaseOf, isNone, running, owns, tokenRow, capFrom, startOf, extended}
@@ -40,6 +41,7 @@ pub record ClaimOpen (s : State) (w o now : ℕ) : Type 0 where
   pub allowed : Allowed s w claiming
   pub not-last : o ≡ MAX → ⊥
   pub unsettled : settled (s .cursor) o ≡ false
+  pub in-hours : isOpen (s .settings .hours) now ≡ true
   pub not-running : running (leaseOf (s .table) o) now ≡ false
   pub generation-left : s .table .nextGeneration ≡ MAX → ⊥
   pub below-ceiling : s .table .nextGeneration < s .ceiling
@@ -63,14 +65,16 @@ pub claim-open : (s : State) (w o now : ℕ) → Passed (claimTable s w o now) �
 claim-open s w o now p =
     let rows = passed-append (callRows s w claiming) (claimRows s o now) p in
     let own = rows .1 in
-    let below = neither (atCeiling s) (atThreshold s) (own .1 .1 .1 .1 .0) in
-    let full = own .1 .1 .1 .1 .1 .0 in
+    let table = own .1 .1 .1 in
+    let below = neither (atCeiling s) (atThreshold s) (table .1 .1 .0) in
+    let full = table .1 .1 .1 .0 in
     record {
       allowed = call-open s w claiming (rows .0);
       not-last = eqb-false o MAX (own .0);
       unsettled = own .1 .0;
-      not-running = own .1 .1 .0;
-      generation-left = eqb-false (s .table .nextGeneration) MAX (own .1 .1 .1 .0);
+      in-hours = not-false _ (own .1 .1 .0);
+      not-running = table .0;
+      generation-left = eqb-false (s .table .nextGeneration) MAX (table .1 .0);
       below-ceiling = leb-false (s .ceiling) (s .table .nextGeneration) (below .0);
       below-threshold = leb-false (s .settings .policy .flushRedeliveries) (s .table .redeliveries) (below .1);
       lease-room = room-for-lease (s .table) o full;

@@ -1,4 +1,4 @@
--- No nack outlasts the hard cap. Assumes nothing.
+-- No nack outlasts the hard cap by more than the next opening asks for. Assumes nothing.
 use Prim.Native.Nat.{ℕ, _≤_, min}
 use native.Mathlib.Omega.{arith}
 use mathlib.Core.Path.{_≡_, ap}
@@ -11,18 +11,20 @@ use Rattle.types.specs.Table.{Answer, answer}
 use Rattle.types.proofs.Checked.{refused-not-done, done-inj}
 use Rattle.delivery.specs.Policy.{delayed}
 use Rattle.lease.specs.declared.Lease.{Lease}
-use Rattle.lease.specs.Operations.{leaseOf, running, capFrom, requeuedAs}
+use Rattle.hours.proofs.Openings.{next-later}
+use Rattle.lease.specs.Operations.{leaseOf, running, requeuedAs}
 use Rattle.consumer.specs.State.{State}
 use Rattle.consumer.specs.Calls.{attemptOf, nackDeadline, nacked, nack}
-use Rattle.consumer.specs.Waits.{WithinCap, NackWithinCap}
+use Rattle.consumer.specs.Waits.{latest, WithinCap, NackWithinCap}
 use Rattle.consumer.proofs.Updates.{lookup-update-same}
 use Rattle.consumer.proofs.Open.{NackOpen, nack-cases}
 
 sooner : (now asked cap : ℕ) → sat64 now (min asked cap) ≤ sat64 now cap
 sooner now asked cap = omega arith
 
-pub deadline-within : (s : State) (o now : ℕ) (d : Option ℕ) → nackDeadline s o now d ≤ capFrom (s .table .config) now
-deadline-within s o now d = sooner now (delayed (s .settings .policy .backoff) (attemptOf s o) d) (s .table .config .«hard_cap_nanos»)
+pub deadline-within : (s : State) (o now : ℕ) (d : Option ℕ) → nackDeadline s o now d ≤ latest s now
+deadline-within s o now d =
+    next-later (s .settings .hours) _ _ (sooner now (delayed (s .settings .policy .backoff) (attemptOf s o) d) (s .table .config .«hard_cap_nanos»)) (omega arith)
 
 module _ (s : State) (w o g now : ℕ) (d : Option ℕ) where
   -- the lease that a nack leaves doesn't run from its deadline on

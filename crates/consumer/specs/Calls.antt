@@ -7,11 +7,12 @@ use mathlib.Core.Option.{Option, none, some}
 use lib.Dec.{leb, eqb}
 use lib.ListN.{length}
 use Rattle.types.specs.Limits.{MAX, LEASES, CARRIED, RANGES, sat64}
-use Rattle.types.specs.Refusal.{Result, refused, done, LastOffset, Settled, InFlight, Exhausted, CheckpointDue, Full, CapReached, Shed, ForeignToken}
+use Rattle.types.specs.Refusal.{Result, refused, done, LastOffset, Settled, Closed, InFlight, Exhausted, CheckpointDue, Full, CapReached, Shed, ForeignToken}
 use Rattle.types.specs.Table.{Row, _⇒_, Answer, answer, guarded}
 use Rattle.types.specs.Keyed.{lookup, update, delete}
 use Rattle.cursor.specs.Cursor.{settled, ackBounded, commitUpTo}
 use Rattle.delivery.specs.Policy.{Destination, disposition, effectiveNackDelay}
+use Rattle.hours.specs.Hours.{isOpen, nextOpening}
 use Rattle.lease.specs.State.{Table, withLeases}
 use Rattle.lease.specs.declared.Lease.{Lease}
 use Rattle.lease.specs.Operations.{leaseOf, isNone, running, capFrom, nextCount, grant, tokenRow, startOf, withDeadline, extended, requeue}
@@ -67,11 +68,12 @@ isFull t o =
     && (leb LEASES (length (t .leases))
     || (isNone (lookup o (t .carried)) && leb CARRIED (length (t .leases) + length (t .carried))))
 
--- 21, 22, 23, 25, 26 with both of its conditions, 27
+-- 21, 22, 35, 23, 25, 26 with both of its conditions, 27
 abbrev pub claimRows : State → ℕ → ℕ → List Row
 claimRows s o now =
     eqb o MAX ⇒ LastOffset
     ∷ settled (s .cursor) o ⇒ Settled
+    ∷ not (isOpen (s .settings .hours) now) ⇒ Closed (nextOpening (s .settings .hours) now)
     ∷ running (leaseOf (s .table) o) now ⇒ InFlight
     ∷ eqb (s .table .nextGeneration) MAX ⇒ Exhausted
     ∷ (atCeiling s || atThreshold s) ⇒ CheckpointDue
@@ -117,9 +119,9 @@ attemptOf s o = countOr0 (deliveriesOf (leaseOf (s .table) o))
 abbrev pub nackDelay : State → ℕ → Option ℕ → ℕ
 nackDelay s o explicit = effectiveNackDelay (s .settings .policy) (attemptOf s o) explicit (s .table .config .«hard_cap_nanos»)
 
--- when it can be claimed again
+-- when it can be claimed again: after that delay, or at the next opening where that falls outside the hours (02, c)
 abbrev pub nackDeadline : State → ℕ → ℕ → Option ℕ → ℕ
-nackDeadline s o now explicit = sat64 now (nackDelay s o explicit)
+nackDeadline s o now explicit = nextOpening (s .settings .hours) (sat64 now (nackDelay s o explicit))
 
 -- 25, 26 for the ceiling alone
 abbrev pub nackRows : State → List Row

@@ -15,6 +15,7 @@ use Rattle.cursor.specs.View.{ackCursor}
 use Rattle.cursor.specs.declared.AckCursor.{AckCursor}
 use Rattle.delivery.specs.Policy.{destination}
 use Rattle.delivery.specs.declared.DeliveryConfig.{DeliveryConfig}
+use Rattle.hours.specs.declared.Hours.{Hours}
 use Rattle.lease.specs.declared.LeaseConfig.{LeaseConfig}
 use Rattle.lease.specs.declared.LeaseTable.{LeaseTable}
 use Rattle.lease.specs.Operations.{Grant}
@@ -47,7 +48,7 @@ made ceiling policy cursor table c =
       ceiling = record { 0 = ceiling };
       next = c .next;
       «area_len» = c .«area_len»;
-      settings = record { delivery = policy; rights = c .settings .rights };
+      settings = record { delivery = policy; rights = c .settings .rights; hours = c .settings .hours };
     }
 
 -- with other rights
@@ -59,12 +60,27 @@ permitting rights c =
       ceiling = c .ceiling;
       next = c .next;
       «area_len» = c .«area_len»;
-      settings = record { delivery = c .settings .delivery; rights = rights };
+      settings = record { delivery = c .settings .delivery; rights = rights; hours = c .settings .hours };
     }
 
 -- and with other parts beside them
 abbrev pub permitted : List ℕ → (Consumer → Consumer) → Consumer → Consumer
 permitted rights with c = with (permitting rights c)
+
+-- with other hours, and with other parts beside them
+abbrev pub keepingHours : Hours → Consumer → Consumer
+keepingHours hours c =
+    record {
+      cursor = c .cursor;
+      table = c .table;
+      ceiling = c .ceiling;
+      next = c .next;
+      «area_len» = c .«area_len»;
+      settings = record { delivery = c .settings .delivery; rights = c .settings .rights; hours = hours };
+    }
+
+abbrev pub inHours : Hours → (Consumer → Consumer) → Consumer → Consumer
+inHours hours with c = with (keepingHours hours c)
 
 -- a policy with another limit and another threshold, and one with another schedule
 abbrev pub limiting : ℕ → ℕ → DeliveryConfig → DeliveryConfig
@@ -87,15 +103,15 @@ delaying backoffs n d =
       «attempts_flush_redeliveries» = d .«attempts_flush_redeliveries»;
     }
 
--- claim: the rights, the ceiling, the limit, the threshold, the cursor and the table
-abbrev pub claiming : List ℕ → ℕ → ℕ → ℕ → AckCursor → LeaseTable → Consumer → Consumer
-claiming rights ceiling limit threshold cursor table =
-    permitted rights (λ c. made ceiling (limiting limit threshold (c .settings .delivery)) cursor table c)
+-- claim: the rights, the hours, the ceiling, the limit, the threshold, the cursor and the table
+abbrev pub claiming : List ℕ → Hours → ℕ → ℕ → ℕ → AckCursor → LeaseTable → Consumer → Consumer
+claiming rights hours ceiling limit threshold cursor table =
+    permitted rights (inHours hours (λ c. made ceiling (limiting limit threshold (c .settings .delivery)) cursor table c))
 
 -- its test: the same without the rights, the limit, the configuration of the leases and three of their columns
-abbrev pub testing : ℕ → ℕ → AckCursor → ℕ → ℕ → ℕ → ℕ → List ℕ → List ℕ → List ℕ → List ℕ → List ℕ → Consumer → Consumer
-testing ceiling threshold cursor n m g r ks ds ns cks cvs c =
-    claiming (c .settings .rights) ceiling (c .settings .delivery .«max_deliver») threshold cursor
+abbrev pub testing : Hours → ℕ → ℕ → AckCursor → ℕ → ℕ → ℕ → ℕ → List ℕ → List ℕ → List ℕ → List ℕ → List ℕ → Consumer → Consumer
+testing hours ceiling threshold cursor n m g r ks ds ns cks cvs c =
+    claiming (c .settings .rights) hours ceiling (c .settings .delivery .«max_deliver») threshold cursor
     (gathered (c .table .config) n m g r ks (c .table .generations) (c .table .«attempt_starts») ds ns (c .table .workers) cks cvs) c
 
 -- the test of a token: the rights, and the number and four columns of the leases
@@ -106,15 +122,16 @@ owning rights n ks gs ns ws = permitted rights (λ c. holding c (lease.counting 
 abbrev pub settling : List ℕ → AckCursor → ℕ → List ℕ → List ℕ → List ℕ → List ℕ → List ℕ → List ℕ → Consumer → Consumer
 settling rights cursor n ks gs ss ds ns ws = permitted rights (λ c. holdingBoth c cursor (leasing n ks gs ss ds ns ws (c .table)))
 
--- Nack: the rights, the ceiling, the schedule, the configuration of the leases, the next generation, and the number and five columns of the
--- leases
-abbrev pub nacking : List ℕ → ℕ → List ℕ → ℕ → LeaseConfig → ℕ → ℕ → List ℕ → List ℕ → List ℕ → List ℕ → List ℕ → Consumer → Consumer
-nacking rights ceiling backoffs m config n g ks gs ds ns ws =
+-- Nack: the rights, the hours, the ceiling, the schedule, the configuration of the leases, the next generation, and the number and five
+-- columns of the leases
+abbrev pub nacking : List ℕ → Hours → ℕ → List ℕ → ℕ → LeaseConfig → ℕ → ℕ → List ℕ → List ℕ → List ℕ → List ℕ → List ℕ → Consumer → Consumer
+nacking rights hours ceiling backoffs m config n g ks gs ds ns ws =
     permitted rights
+    (inHours hours
     (λ c.
     made ceiling (delaying backoffs m (c .settings .delivery)) (c .cursor)
     (requeuing n g ks gs ds
-    (extending config n ks gs (c .table .«attempt_starts») ds (leasing n ks gs (c .table .«attempt_starts») ds ns ws (c .table)))) c)
+    (extending config n ks gs (c .table .«attempt_starts») ds (leasing n ks gs (c .table .«attempt_starts») ds ns ws (c .table)))) c))
 
 -- Progress: the rights, the configuration of the leases, their number and their columns
 abbrev pub progressing : List ℕ → LeaseConfig → ℕ → List ℕ → List ℕ → List ℕ → List ℕ → List ℕ → List ℕ → Consumer → Consumer

@@ -9,6 +9,7 @@ use Rattle.lease.specs.declared.LeaseConfig.{LeaseConfig}
 use Rattle.lease.specs.State.{Table}
 use Rattle.delivery.specs.Policy.{Policy}
 use Rattle.journal.specs.Area.{badLength}
+use Rattle.hours.specs.Hours.{Week}
 
 -- a count that may be missing
 abbrev pub countOr0 : Option ℕ → ℕ
@@ -19,6 +20,8 @@ pub record Settings : Type 0 where
   pub policy : Policy
   -- a byte for each worker (Rights.antt)
   pub rights : List ℕ
+  -- nothing where it is open always
+  pub hours : Option Week
 
 -- the configuration: what a consumer is started with
 pub record Configuration : Type 0 where

@@ -7,10 +7,12 @@ use mathlib.Core.List.{List}
 use mathlib.Core.Option.{none, some}
 use lib.ListN.{length}
 use Rattle.types.specs.Limits.{MAX, MAX32, CARRIED, STEPS}
+use Rattle.types.specs.Table.{Passed}
 use Rattle.types.specs.Keyed.{Entry, lookup}
 use Rattle.cursor.specs.Cursor.{Cursor, settled}
 use Rattle.cursor.specs.Cursor as cursor
 use Rattle.delivery.specs.Policy.{unlimited}
+use Rattle.hours.specs.Hours.{hoursRows}
 use Rattle.lease.specs.declared.Lease.{Lease}
 use Rattle.lease.specs.State as lease
 use Rattle.consumer.specs.State.{Settings, State, badArea, blocksOf}
@@ -20,11 +22,12 @@ pub record Fits (s : Settings) : Type 0 where
   pub limit-fits : s .policy .maxDeliver ≤ MAX32
   pub threshold-fits : s .policy .flushRedeliveries ≤ MAX32
 
--- settings that a start accepts: 1, 2 and 3
+-- settings that a start accepts: 1, 2, 3, 33 and 34
 pub record Accepted (s : Settings) : Type 0 where
   pub limited : (unlimited (s .policy .maxDeliver) && not (s .policy .allowUnlimited)) ≡ false
   pub few-steps : length (s .policy .backoff) ≤ STEPS
   pub some-threshold : 0 < s .policy .flushRedeliveries
+  pub hours : Passed (hoursRows (s .hours))
 
 -- an offset with a lease, beside a cursor and carried counts: it is below MAX, unsettled, and has no carried count
 pub record Leased (c : Cursor) (carried : List (Entry ℕ)) (o : ℕ) : Type 0 where

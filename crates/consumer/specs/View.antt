@@ -11,6 +11,7 @@ use Rattle.cursor.specs.View as cursor
 use Rattle.cursor.specs.declared.AckCursor.{AckCursor}
 use Rattle.delivery.specs.Config as delivery
 use Rattle.delivery.specs.Policy.{Destination, Deliver, DeadLetter}
+use Rattle.hours.specs.View as hours
 use Rattle.lease.specs.State as lease
 use Rattle.lease.specs.declared.LeaseTable.{LeaseTable}
 use Rattle.lease.specs.declared.LeaseToken.{LeaseToken}
@@ -46,7 +47,7 @@ use Rattle.consumer.specs.declared.rights.Permission.{Permission}
 use Rattle.consumer.specs.declared.rights.Permission.the-variants as permission
 
 abbrev pub settingsOf : Settings → state.Settings
-settingsOf s = record { policy = delivery.view (s .delivery); rights = s .rights }
+settingsOf s = record { policy = delivery.view (s .delivery); rights = s .rights; hours = hours.view (s .hours) }
 
 abbrev pub view : Consumer → State
 view c =
@@ -111,6 +112,7 @@ claimOf (claim.Deliver token n) = done (handOutOf token n Deliver)
 claimOf (claim.DeadLetter token n) = done (handOutOf token n DeadLetter)
 claimOf claim.LastOffset = refused refusal.LastOffset
 claimOf claim.Settled = refused refusal.Settled
+claimOf (claim.Closed opening) = refused (refusal.Closed opening)
 claimOf claim.InFlight = refused refusal.InFlight
 claimOf claim.Exhausted = refused refusal.Exhausted
 claimOf claim.CheckpointDue = refused refusal.CheckpointDue

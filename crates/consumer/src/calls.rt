@@ -14,12 +14,13 @@ use types::Generation;
 use types::Offset;
 
 // What a claim answers: a hand-out for delivery or for the dead letters, with its token and the number of hand-outs so far,
-// this one counted; or refusal 38, 39, 21, 22, 23, 25, 26 or 27.
+// this one counted; or refusal 38, 39, 21, 22, 35 with the clock of the next opening, 23, 25, 26 or 27.
 pub enum ClaimAnswer {
     Deliver { token: LeaseToken, deliveries: u32 },
     DeadLetter { token: LeaseToken, deliveries: u32 },
     LastOffset,
     Settled,
+    Closed { opening: u64 },
     InFlight,
     Exhausted,
     CheckpointDue,
@@ -134,6 +135,7 @@ impl Consumer {
         ensures { λ r. ⌜ Answers (claimOf (r .answer)) self (r .consumer) (claim (view self) worker (offset .0) now) ⌝ }
     {
         let config = self.table.config;
+        let hours = self.settings.hours;
         let mut offsets = self.table.offsets;
         let mut generations = self.table.generations;
         let mut attempt_starts = self.table.attempt_starts;
@@ -144,6 +146,7 @@ impl Consumer {
         let mut carried_counts = self.table.carried_counts;
         let done = in_place::claim_in_place(
             config,
+            hours,
             self.ceiling.0,
             self.settings.delivery.max_deliver,
             self.settings.delivery.attempts_flush_redeliveries,
@@ -250,17 +253,19 @@ impl Consumer {
     }
 
     // Failed: the offset can be claimed again after the delay, its own or that of the schedule for so many hand-outs, but no later than
-    // the hard cap from now.
+    // the hard cap from now; and where that falls outside the hours, at the next opening.
     pub fn nack(self, worker: u64, token: LeaseToken, now: u64, delay: Delay) -> Nacked
         requires { ⌜ Sound self ⌝ }
         ensures { λ r. ⌜ Answers (nackOf (r .answer)) self (r .consumer) (nack (view self) worker (token .offset .0) (token .generation .0) now (delayOf delay)) ⌝ }
     {
         let mut table = self.table;
         let config = table.config;
+        let hours = self.settings.hours;
         let mut generations = table.generations;
         let mut deadlines = table.deadlines;
         let done = in_place::nack_in_place(
             config,
+            hours,
             self.ceiling.0,
             self.settings.delivery.backoff_len,
             table.len,

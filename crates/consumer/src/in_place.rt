@@ -29,6 +29,7 @@ use crate::steps::ClaimTest;
 use crate::steps::CommitTest;
 use crate::steps::TokenTest;
 use delivery::Delay;
+use hours::Hours;
 use lease::Attempts;
 use lease::LeaseConfig;
 use types::lent;
@@ -51,6 +52,7 @@ pub struct ClaimedAt {
 // `Consumer::claim` on the parts that it looks at.
 pub fn claim_in_place<'a>(
     config: LeaseConfig,
+    hours: Hours,
     ceiling: u64,
     max_deliver: u32,
     threshold: u32,
@@ -77,11 +79,12 @@ pub fn claim_in_place<'a>(
 ) -> ClaimedAt
     requires { ⌜ cursor.Whole (ackCursor committed (starts .now) (ends .now) runs) × lease.Whole (gathered config len «carried_len» «next_generation» redeliveries (offsets .now) (generations .now) («attempt_starts» .now) (deadlines .now) (deliveries .now) (workers .now) («carried_offsets» .now) («carried_counts» .now)) ⌝ }
     ensures { λ r. ⌜ AnswersIn (claimOf (r .answer))
-        (claiming (rights .entry .now) ceiling «max_deliver» threshold (ackCursor committed (starts .entry .now) (ends .entry .now) runs) (gathered config len «carried_len» «next_generation» redeliveries (offsets .entry .now) (generations .entry .now) («attempt_starts» .entry .now) (deadlines .entry .now) (deliveries .entry .now) (workers .entry .now) («carried_offsets» .entry .now) («carried_counts» .entry .now)))
-        (claiming (rights .entry .now) ceiling «max_deliver» threshold (ackCursor committed (starts .entry .now) (ends .entry .now) runs) (gathered config (r .len) (r .«carried_len») (r .«next_generation») (r .redeliveries) (offsets .exit .now) (generations .exit .now) («attempt_starts» .exit .now) (deadlines .exit .now) (deliveries .exit .now) (workers .exit .now) («carried_offsets» .exit .now) («carried_counts» .exit .now)))
+        (claiming (rights .entry .now) hours ceiling «max_deliver» threshold (ackCursor committed (starts .entry .now) (ends .entry .now) runs) (gathered config len «carried_len» «next_generation» redeliveries (offsets .entry .now) (generations .entry .now) («attempt_starts» .entry .now) (deadlines .entry .now) (deliveries .entry .now) (workers .entry .now) («carried_offsets» .entry .now) («carried_counts» .entry .now)))
+        (claiming (rights .entry .now) hours ceiling «max_deliver» threshold (ackCursor committed (starts .entry .now) (ends .entry .now) runs) (gathered config (r .len) (r .«carried_len») (r .«next_generation») (r .redeliveries) (offsets .exit .now) (generations .exit .now) («attempt_starts» .exit .now) (deadlines .exit .now) (deliveries .exit .now) (workers .exit .now) («carried_offsets» .exit .now) («carried_counts» .exit .now)))
         (λ s. claim s worker offset now) ⌝ }
 {
     let test = steps::claim_test(
+        hours,
         ceiling,
         threshold,
         committed,
@@ -230,6 +233,7 @@ pub struct NackedAt {
 // `Consumer::nack` on the parts that it looks at.
 pub fn nack_in_place<'a>(
     config: LeaseConfig,
+    hours: Hours,
     ceiling: u64,
     backoff_len: usize,
     len: usize,
@@ -249,8 +253,8 @@ pub fn nack_in_place<'a>(
 ) -> NackedAt
     requires { ⌜ LentBackoffs («backoff_nanos» .now) «backoff_len» × (len ≤ LEASES) ⌝ }
     ensures { λ r. ⌜ AnswersIn (nackOf (r .answer))
-        (nacking (rights .entry .now) ceiling («backoff_nanos» .entry .now) «backoff_len» config len «next_generation» (offsets .entry .now) (generations .entry .now) (deadlines .entry .now) (deliveries .entry .now) (workers .entry .now))
-        (nacking (rights .entry .now) ceiling («backoff_nanos» .entry .now) «backoff_len» config len (r .«next_generation») (offsets .entry .now) (generations .exit .now) (deadlines .exit .now) (deliveries .entry .now) (workers .entry .now))
+        (nacking (rights .entry .now) hours ceiling («backoff_nanos» .entry .now) «backoff_len» config len «next_generation» (offsets .entry .now) (generations .entry .now) (deadlines .entry .now) (deliveries .entry .now) (workers .entry .now))
+        (nacking (rights .entry .now) hours ceiling («backoff_nanos» .entry .now) «backoff_len» config len (r .«next_generation») (offsets .entry .now) (generations .exit .now) (deadlines .exit .now) (deliveries .entry .now) (workers .entry .now))
         (λ s. nack s worker offset generation now (delayOf delay)) ⌝ }
 {
     let test = steps::token_test(
@@ -286,13 +290,14 @@ pub fn nack_in_place<'a>(
             next_generation,
         };
     }
-    let delay_nanos = delivery::nack_delay_in_place(
+    let capped_nanos = delivery::nack_delay_in_place(
         backoff_nanos,
         backoff_len,
         attempt,
         delay,
         config.hard_cap_nanos,
     );
+    let delay_nanos = steps::delay_in_hours(hours, now, capped_nanos);
     let nacked = lease::in_place::nack_in_place(
         len,
         next_generation,

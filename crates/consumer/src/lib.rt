@@ -4,6 +4,7 @@
 // backwards.
 use cursor::AckCursor;
 use delivery::DeliveryConfig;
+use hours::Hours;
 use lease::LeaseConfig;
 use lease::LeaseTable;
 use types::Generation;
@@ -25,6 +26,7 @@ pub struct Settings {
     pub delivery: DeliveryConfig,
     // A byte for each worker, worker 0's first.
     pub rights: [u8; WORKERS],
+    pub hours: Hours,
 }
 
 // The configuration: what a consumer is started with.

@@ -3,12 +3,14 @@
 ghost use mathlib.Core.Path.{_≡_};
 ghost use Prim.Native.Nat.{_≤_};
 ghost use mathlib.Core.List.{[]};
-ghost use Rattle.types.specs.Limits.{LEASES, CARRIED};
+ghost use Rattle.types.specs.Limits.{LEASES, CARRIED, sat64};
 ghost use Rattle.types.specs.Refusal.{refused};
 ghost use Rattle.types.specs.Lists.{offsetsIn};
 ghost use Rattle.cursor.specs.View.{ackCursor};
 ghost use Rattle.cursor.specs.View as cursor;
 ghost use Rattle.cursor.specs.Answers.{ackOf};
+ghost use Rattle.hours.specs.Hours.{nextOpening};
+ghost use Rattle.hours.specs.View as opening;
 ghost use Rattle.lease.specs.Answers as answers;
 ghost use Rattle.lease.specs.Parts as lease;
 ghost use Rattle.consumer.specs.Calls.{isFull, isShed};
@@ -25,6 +27,7 @@ use crate::rights::COMMIT;
 use crate::rights::Permission;
 use cursor::BoundedAck;
 use delivery::Disposition;
+use hours::Hours;
 use lease::Attempts;
 use lease::Claim;
 use lease::ExtendOutcome;
@@ -36,6 +39,7 @@ use types::limits::LEASES;
 use types::limits::MAX;
 use types::limits::RANGES;
 use types::limits::WORKERS;
+use types::numbers;
 
 // Whether a claim is open, or what it is refused with.
 pub enum ClaimTest {
@@ -43,8 +47,9 @@ pub enum ClaimTest {
     Refused(ClaimAnswer),
 }
 
-// What stands against a claim: the first of 38, 39, 21, 22, 23, 25, 26 and 27 that is met.
+// What stands against a claim: the first of 38, 39, 21, 22, 35, 23, 25, 26 and 27 that is met.
 pub fn claim_test<'a, 'b>(
+    hours: Hours,
     ceiling: u64,
     threshold: u32,
     committed: u64,
@@ -66,13 +71,14 @@ pub fn claim_test<'a, 'b>(
     carried_counts: &'b [u32; CARRIED],
 ) -> ClaimTest
     requires { ⌜ cursor.Whole (ackCursor committed (starts .now) (ends .now) runs) × (len ≤ LEASES) × («carried_len» ≤ CARRIED) ⌝ }
-    ensures { λ r. ⌜ TestsIn r (permitted (rights .entry .now) (testing ceiling threshold (ackCursor committed (starts .entry .now) (ends .entry .now) runs) len «carried_len» «next_generation» redeliveries (offsets .entry .now) (deadlines .entry .now) (deliveries .entry .now) («carried_offsets» .entry .now) («carried_counts» .entry .now))) worker offset now ⌝ }
+    ensures { λ r. ⌜ TestsIn r (permitted (rights .entry .now) (testing hours ceiling threshold (ackCursor committed (starts .entry .now) (ends .entry .now) runs) len «carried_len» «next_generation» redeliveries (offsets .entry .now) (deadlines .entry .now) (deliveries .entry .now) («carried_offsets» .entry .now) («carried_counts» .entry .now))) worker offset now ⌝ }
 {
     let permission = rights::permission_of(rights, worker, CLAIM);
     match permission {
         Permission::UnknownWorker => ClaimTest::Refused(ClaimAnswer::UnknownWorker),
         Permission::NotPermitted => ClaimTest::Refused(ClaimAnswer::NotPermitted),
         Permission::Granted => offset_test(
+            hours,
             ceiling,
             threshold,
             committed,
@@ -94,8 +100,9 @@ pub fn claim_test<'a, 'b>(
     }
 }
 
-// What stands against a claim that a worker may make: the first of 21, 22, 23, 25, 26 and 27 that is met.
+// What stands against a claim that a worker may make: the first of 21, 22, 35, 23, 25, 26 and 27 that is met.
 fn offset_test<'a, 'b>(
+    hours: Hours,
     ceiling: u64,
     threshold: u32,
     committed: u64,
@@ -115,13 +122,18 @@ fn offset_test<'a, 'b>(
     carried_counts: &'b [u32; CARRIED],
 ) -> ClaimTest
     requires { ⌜ cursor.Whole (ackCursor committed (starts .now) (ends .now) runs) × (len ≤ LEASES) × («carried_len» ≤ CARRIED) ⌝ }
-    ensures { λ r. ⌜ OpensIn r (testing ceiling threshold (ackCursor committed (starts .entry .now) (ends .entry .now) runs) len «carried_len» «next_generation» redeliveries (offsets .entry .now) (deadlines .entry .now) (deliveries .entry .now) («carried_offsets» .entry .now) («carried_counts» .entry .now)) offset now ⌝ }
+    ensures { λ r. ⌜ OpensIn r (testing hours ceiling threshold (ackCursor committed (starts .entry .now) (ends .entry .now) runs) len «carried_len» «next_generation» redeliveries (offsets .entry .now) (deadlines .entry .now) (deliveries .entry .now) («carried_offsets» .entry .now) («carried_counts» .entry .now)) offset now ⌝ }
 {
     if offset == MAX {
         return ClaimTest::Refused(ClaimAnswer::LastOffset);
     }
     if cursor::in_place::is_acked_in_place(committed, starts, ends, runs, offset) {
         return ClaimTest::Refused(ClaimAnswer::Settled);
+    }
+    if !hours.is_open(now) {
+        return ClaimTest::Refused(ClaimAnswer::Closed {
+            opening: hours.next_opening(now),
+        });
     }
     if !lease::in_place::is_claimable_in_place(len, offset, now, offsets, deadlines) {
         return ClaimTest::Refused(ClaimAnswer::InFlight);
@@ -301,6 +313,13 @@ pub fn is_shed(outcome: BoundedAck) -> bool
         BoundedAck::Duplicate => false,
         BoundedAck::Shed => true,
     }
+}
+
+// The delay of a nack at a clock, which has been capped, with its end moved to the next opening if that falls outside the hours.
+pub fn delay_in_hours(hours: Hours, now: u64, delay_nanos: u64) -> u64
+    ensures { λ r. ⌜ sat64 now r ≡ nextOpening (opening.view hours) (sat64 now «delay_nanos») ⌝ }
+{
+    hours.next_opening(numbers::saturating_add(now, delay_nanos)) - now
 }
 
 // What Nack answers for the table's answer.

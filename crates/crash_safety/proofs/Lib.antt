@@ -26,6 +26,7 @@ pub mod Checkpoints
 pub mod Recovery
 pub mod Worn
 pub mod Useful
+pub mod Hours
 pub mod Ran
 pub mod Numbers
 pub mod Halves

@@ -9,7 +9,7 @@ use mathlib.Core.Option.{Option, none, some}
 use lib.Dec.{leb, eqb}
 use borrow.Author.Tests.{eqb-false, ne-eqb, lt-leb}
 use Rattle.types.specs.Limits.{MAX, WORKERS}
-use Rattle.types.specs.Refusal.{Refusal, Result, refused, done, LastOffset, Settled, InFlight, Exhausted, CheckpointDue, Full, UnknownWorker, NotPermitted, numbered}
+use Rattle.types.specs.Refusal.{Refusal, Result, refused, done, LastOffset, Settled, Closed, InFlight, Exhausted, CheckpointDue, Full, UnknownWorker, NotPermitted, numbered}
 use Rattle.types.proofs.Cases.{split}
 use Rattle.types.specs.Keyed.{lookup}
 use Rattle.types.specs.Table.{Passed}
@@ -17,6 +17,7 @@ use Rattle.types.specs.Lists.{times}
 use Rattle.types.proofs.Table.{guarded-passed, append-passed}
 use Rattle.types.proofs.Keyed.{lookup-all}
 use Rattle.cursor.specs.Cursor.{settled}
+use Rattle.hours.specs.Hours.{isOpen, nextOpening}
 use Rattle.lease.specs.declared.Lease.{Lease}
 use Rattle.lease.specs.State.{Counted}
 use Rattle.lease.specs.Operations.{leaseOf, isNone, running, timesHandedOut}
@@ -57,7 +58,7 @@ module _ (c : Configuration) (s : State) (same : s .settings ≡ c .settings) (v
   claims-granted w o now may p =
       let passed : Passed (claimTable (flushed s) w o now) =
       append-passed (callRows (flushed s) w claiming) (claimRows (flushed s) o now) (rw same may)
-      (p .not-last, (p .unsettled, (p .not-held, (p .generations, (nothing-due (p .generations), (p .room, tt)))))) in
+      (p .not-last, (p .unsettled, (ap not (p .in-hours), (p .not-held, (p .generations, (nothing-due (p .generations), (p .room, tt))))))) in
       rw (guarded-passed (claimTable (flushed s) w o now) (flushed s) _ passed)
 
   -- 25 stands in front of 26, so that after a checkpoint 26 is never answered
@@ -71,13 +72,15 @@ module _ (c : Configuration) (s : State) (same : s .settings ≡ c .settings) (v
       (λ t. other LastOffset (λ z. omega arith) (rw (u₁, u₂, t) at e))
       (λ t₁. split (settled (s .cursor) o)
       (λ t. other Settled (λ z. omega arith) (rw (u₁, u₂, t₁, t) at e))
-      (λ t₂. split (running (leaseOf (s .table) o) now)
-      (λ t. other InFlight (λ z. omega arith) (rw (u₁, u₂, t₁, t₂, t) at e))
+      (λ t₂. split (isOpen (s .settings .hours) now)
+      (λ h. split (running (leaseOf (s .table) o) now)
+      (λ t. other InFlight (λ z. omega arith) (rw (u₁, u₂, t₁, t₂, h, t) at e))
       (λ t₃. split (eqb (s .table .nextGeneration) MAX)
-      (λ t. other Exhausted (λ z. omega arith) (rw (u₁, u₂, t₁, t₂, t₃, t) at e))
+      (λ t. other Exhausted (λ z. omega arith) (rw (u₁, u₂, t₁, t₂, h, t₃, t) at e))
       (λ t₄. split (isFull (s .table) o)
-      (λ t. other Full (λ z. omega arith) (rw (u₁, u₂, t₁, t₂, t₃, t₄, nothing-due t₄, t) at e))
-      (λ t₅. granted (rw (u₁, u₂, t₁, t₂, t₃, t₄, nothing-due t₄, t₅) at e)))))))
+      (λ t. other Full (λ z. omega arith) (rw (u₁, u₂, t₁, t₂, h, t₃, t₄, nothing-due t₄, t) at e))
+      (λ t₅. granted (rw (u₁, u₂, t₁, t₂, h, t₃, t₄, nothing-due t₄, t₅) at e)))))
+      (λ t. other (Closed (nextOpening (s .settings .hours) now)) (λ z. omega arith) (rw (u₁, u₂, t₁, t₂, t) at e)))))
       (λ t. other NotPermitted (λ z. omega arith) (rw (u₁, t) at e)))
     where
       granted : done (handOut (flushed s) o) ≡ refused CheckpointDue → ⊥

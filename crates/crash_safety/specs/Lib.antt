@@ -4,6 +4,7 @@ pub mod Book
 pub mod Demand3
 pub mod Workers
 pub mod Waits
+pub mod Hours
 pub mod Tokens
 pub mod Settled
 pub mod Recovery

@@ -1,16 +1,17 @@
 -- Not useless. After every list that leaves a state with a number for one more group, the begin of a worker who may checkpoint and its
--- steps are not refused; a claim of one who may claim is then granted, but for the last offset, a settled one, one that is held, when
--- generations or room for it are used up. And the waiting list of every state holds each offset just once that the book has unsettled
+-- steps are not refused; a claim of one who may claim is then granted in opening hours, but for the last offset, a settled one, one that is
+-- held, when generations or room for it are used up. And the waiting list of every state holds each offset just once that the book has unsettled
 -- with a count, and that no lease holds.
 use Prim.Native.Nat.{ℕ}
 use mathlib.Core.Path.{_≡_}
-use mathlib.Core.Bool.{Bool, false, cond, not, _&&_}
+use mathlib.Core.Bool.{Bool, true, false, cond, not, _&&_}
 use mathlib.Core.List.{List, [], _∷_}
 use lib.Dec.{eqb}
 use Rattle.types.specs.Limits.{MAX}
 use Rattle.types.specs.Refusal.{refused, done, CheckpointDue}
 use Rattle.types.specs.Lists.{times}
 use Rattle.cursor.specs.Cursor.{settled}
+use Rattle.hours.specs.Hours.{isOpen}
 use Rattle.lease.specs.Operations.{leaseOf, running}
 use Rattle.consumer.specs.State.{Configuration, State}
 use Rattle.consumer.specs.Calls.{isFull, handOut, claim}
@@ -46,10 +47,11 @@ pub record Checkpointed (c : Configuration) (v : ℕ) (w : World) (s : State) : 
   pub wrote : AllAccepted (run c w (checkpoint v s))
   pub leaves : ends c w (checkpoint v s) .phase ≡ idle (flushed s)
 
--- nothing speaks against a claim of the offset: not 21, 22, 23, 25 or 27
+-- nothing speaks against a claim of the offset: not 21, 22, 35, 23, 25 or 27
 pub record Claimable (s : State) (o now : ℕ) : Type 0 where
   pub not-last : eqb o MAX ≡ false
   pub unsettled : settled (s .cursor) o ≡ false
+  pub in-hours : isOpen (s .settings .hours) now ≡ true
   pub not-held : running (leaseOf (s .table) o) now ≡ false
   pub generations : eqb (s .table .nextGeneration) MAX ≡ false
   pub room : isFull (s .table) o ≡ false

@@ -45,7 +45,7 @@ settled-examples =
       thirteen = record {
         is = consumers.example-13;
         started = ap (map codeIn) (consumers.example-13 .started);
-        always = λ c size w now p. ap codeIn (consumers.example-13 .always c size w now p);
+        always = λ c size w now p h. ap codeIn (consumers.example-13 .always c size w now p h);
       };
       fourteen = record { is = consumers.example-14; answers = ap (map codeIn) (consumers.example-14 .answered) };
     }

@@ -3,8 +3,9 @@
 use Prim.Native.Nat.{ℕ, zero, suc, _+_, _-_, _*_, _≤_, _<_}
 use native.Mathlib.Omega.{arith}
 use mathlib.Core.Path.{_≡_, refl, sym, ap, _∙_}
-use mathlib.Core.Bool.{false, xor}
+use mathlib.Core.Bool.{true, false, xor}
 use mathlib.Core.List.{List, [], _∷_, _++_}
+use mathlib.Core.Option.{none}
 use lib.ListN.{length, take, drop, replicate}
 use lib.Seq.{drop-append-add}
 use Rattle.types.specs.Limits.{MAX}
@@ -17,6 +18,7 @@ use Rattle.cursor.specs.Cursor.{cursor}
 use Rattle.cursor.specs.Snapshot.{encodeCursor, decodeCursor}
 use Rattle.attempt.specs.Snapshot.{encodeAttempts, encodeAttempts1, encodeAttempts2, decodeAttempts}
 use Rattle.delivery.specs.Policy.{policy, Destination, Deliver, DeadLetter}
+use Rattle.hours.specs.Hours.{isOpen}
 use Rattle.lease.specs.Counts.{allAttemptCounts}
 use Rattle.journal.specs.Area.{blockAt, writeAt}
 use Rattle.journal.specs.Blocks.{headerBlock, bodyBlock, chunkOf}
@@ -33,7 +35,7 @@ use Rattle.starts.specs.Versions.{Source, Measured, attemptsIn, payloadIn, Stan
 abbrev pub configuration : Configuration
 configuration =
     record {
-      settings = record { policy = policy 2 false [] 1; rights = 127 ∷ replicate 7 0 };
+      settings = record { policy = policy 2 false [] 1; rights = 127 ∷ replicate 7 0; hours = none };
       lease = record { «visibility_nanos» = 10; «hard_cap_nanos» = 25 };
     }
 
@@ -77,15 +79,15 @@ handsOut generation deliveries destination =
 abbrev pub fromStart : List Act → List (Result HandOut)
 fromStart l = onDone (start configuration 9216) (λ s. answers s (replicate 9216 0) l)
 
--- fresh consumer, claim 0: refusal 26; whatever its configuration, its area and the clock are, to every worker who may claim
+-- fresh consumer, claim 0: refusal 26; whatever its configuration and its area are, at every open clock, to every worker who may claim
 pub record Example13 : Type 0 where
   pub started : fromStart (claims 0 ∷ []) ≡ refused CheckpointDue ∷ []
   pub always : (c : Configuration) (size w now : ℕ) → Passed (workerRows (c .settings .rights) w (bitOf claiming))
-      → claim (fresh c size) w 0 now .outcome ≡ refused CheckpointDue
+      → isOpen (c .settings .hours) now ≡ true → claim (fresh c size) w 0 now .outcome ≡ refused CheckpointDue
 
 pub example-13 : Example13
 unfolding badArea start claim
-example-13 = record { started = refl; always = λ c size w now p. rw (p .0, p .1 .0) }
+example-13 = record { started = refl; always = λ c size w now p h. rw (p .0, p .1 .0, h) }
 
 -- checkpoint; claims of 0 at 0, 10, 20 give Deliver 1, Deliver 2, refusal 26; checkpoint, restart, checkpoint; claim gives
 -- DeadLetter 3, generation 4098

@@ -2,5 +2,6 @@ pub mod Journal
 pub mod Consumer
 pub mod BoundMet
 pub mod Workers
+pub mod Hours
 pub mod SettledExamples
 pub mod Commits

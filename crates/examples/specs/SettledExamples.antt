@@ -15,6 +15,7 @@ use Rattle.cursor.specs.Examples as cursors
 use Rattle.delivery.specs.Examples as delivery
 use Rattle.attempt.specs.Snapshot.{decodeAttempts}
 use Rattle.attempt.specs.Examples as attempts
+use Rattle.hours.specs.Hours.{isOpen}
 use Rattle.lease.specs.Operations.{claim, extend}
 use Rattle.lease.specs.Examples.{leased}
 use Rattle.lease.specs.Examples as leases
@@ -62,7 +63,7 @@ pub record Thirteen : Type 0 where
   pub is : consumers.Example13
   pub started : map codeIn (fromStart (claims 0 ∷ [])) ≡ code 26 [] ∷ []
   pub always : (c : Configuration) (size w now : ℕ) → Passed (workerRows (c .settings .rights) w (bitOf claiming))
-      → codeIn (consumer.claim (fresh c size) w 0 now .outcome) ≡ code 26 []
+      → isOpen (c .settings .hours) now ≡ true → codeIn (consumer.claim (fresh c size) w 0 now .outcome) ≡ code 26 []
 
 pub record Fourteen : Type 0 where
   pub is : consumers.Example14

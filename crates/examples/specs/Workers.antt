@@ -4,6 +4,7 @@ use Prim.Native.Nat.{ℕ}
 use mathlib.Core.Path.{_≡_, refl}
 use mathlib.Core.Bool.{false}
 use mathlib.Core.List.{List, [], _∷_}
+use mathlib.Core.Option.{none}
 use lib.ListN.{replicate}
 use Rattle.types.specs.Refusal.{refused, done, UnknownWorker, NotPermitted, ForeignToken}
 use Rattle.cursor.specs.Cursor.{cursor, ackBounded}
@@ -22,7 +23,7 @@ use Rattle.crash_safety.specs.Workers.{thinned}
 abbrev configuration : Configuration
 configuration =
     record {
-      settings = record { policy = policy 2 false [] 1; rights = 127 ∷ 127 ∷ replicate 6 0 };
+      settings = record { policy = policy 2 false [] 1; rights = 127 ∷ 127 ∷ replicate 6 0; hours = none };
       lease = record { «visibility_nanos» = 10; «hard_cap_nanos» = 25 };
     }
 

@@ -11,6 +11,7 @@ use consumer::Configuration;
 use consumer::Settings;
 use consumer::halves::half_blocks;
 use delivery::DeliveryConfig;
+use hours::Hours;
 use journal::LastGroup;
 use journal::Walked;
 use lease::LeaseConfig;
@@ -32,6 +33,11 @@ fn configuration() -> Configuration {
                 attempts_flush_redeliveries: 1,
             },
             rights: [0; WORKERS],
+            hours: Hours {
+                given: false,
+                shift: 0,
+                days: [0; 7],
+            },
         },
         lease: lease,
     }

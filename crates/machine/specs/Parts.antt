@@ -32,6 +32,7 @@ consumerOf f n starts ends ks gs ss ds ns ws cks cvs backoffs rights x =
                   «attempts_flush_redeliveries» = f .threshold;
                 };
             rights = rights;
+            hours = f .hours;
           };
     }
 
@@ -40,6 +41,7 @@ abbrev pub fixedOf : Consumer → Fixed
 fixedOf x =
     record {
       config = x .table .config;
+      hours = x .settings .hours;
       ceiling = x .ceiling .0;
       block = x .next .block;
       «area_len» = x .«area_len»;

@@ -25,8 +25,10 @@ pub fn ask(consumer: Consumer, worker: u64, ask: Ask, out: &mut [u64]) -> Asked
     let ceiling = consumer.ceiling;
     let next = consumer.next;
     let config = table.config;
+    let hours = settings.hours;
     let fixed = Fixed {
         config,
+        hours,
         ceiling: ceiling.0,
         block: next.block,
         area_len: consumer.area_len,

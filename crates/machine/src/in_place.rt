@@ -32,6 +32,7 @@ use consumer::rights;
 use consumer::rights::LOOK;
 use consumer::rights::Permission;
 use delivery::Delay;
+use hours::Hours;
 use lease::LeaseConfig;
 use lease::LeaseToken;
 use lease::lookup::LeaseAt;
@@ -44,6 +45,7 @@ use types::limits::WORKERS;
 // What of a consumer its calls look at and leave.
 pub struct Fixed {
     pub config: LeaseConfig,
+    pub hours: Hours,
     pub ceiling: u64,
     pub block: usize,
     pub area_len: usize,
@@ -92,6 +94,7 @@ fn ask_claim<'a>(
 {
     let done = consumer::in_place::claim_in_place(
         fixed.config,
+        fixed.hours,
         fixed.ceiling,
         fixed.max_deliver,
         fixed.threshold,
@@ -249,6 +252,7 @@ fn ask_nack<'a>(
 {
     let done = consumer::in_place::nack_in_place(
         fixed.config,
+        fixed.hours,
         fixed.ceiling,
         fixed.backoff_len,
         figures.len,

@@ -76,6 +76,8 @@ pub const BLOCK: usize = 34;
 
 pub const STATE: usize = 35;
 
+pub const HOURS: usize = 36;
+
 // An answer: a template and its numbers. Behind those of a list, a plan, a block and the state stand their entries.
 pub struct Said {
     pub template: usize,
@@ -271,7 +273,7 @@ pub fn print<'a>(
     let next = templates::fill(
         out,
         at,
-        b"|bad line\n|not now\n|refused #\n|refused # #\n|refused # # #\n|started\n|deliver # # #\n|deadletter # # #\n|settled\n|requeued #\n|extended #\n|committed\n|unchanged\n|waiting|begun #\n|wrote #\n|done #\n|restarted\n|cut #\n|poked\n|worker #\n|rights\n|view settled\n|view held\n|view waiting\n|view settled none none none none\n|view waiting # none none none\n|view held # # # #\n|view waiting # # # #\n|open|nearest #\n|plan # none\n|plan #|block |",
+        b"|bad line\n|not now\n|refused #\n|refused # #\n|refused # # #\n|started\n|deliver # # #\n|deadletter # # #\n|settled\n|requeued #\n|extended #\n|committed\n|unchanged\n|waiting|begun #\n|wrote #\n|done #\n|restarted\n|cut #\n|poked\n|worker #\n|rights\n|view settled\n|view held\n|view waiting\n|view settled none none none none\n|view waiting # none none none\n|view held # # # #\n|view waiting # # # #\n|open|nearest #\n|plan # none\n|plan #|block ||hours\n",
         template,
         numbers,
     );

@@ -55,9 +55,13 @@ pub const NEAREST: usize = 24;
 
 pub const PLAN: usize = 25;
 
-pub const BAD: usize = 26;
+pub const HOURS: usize = 26;
 
-pub const NOTHING: usize = 27;
+pub const HOURS_NONE: usize = 27;
+
+pub const BAD: usize = 28;
+
+pub const NOTHING: usize = 29;
 
 // How many numbers of a line are kept: a plan has as many, its room and 128 offsets.
 pub const NUMBERS: usize = 129;
@@ -130,7 +134,7 @@ fn place_in(entries: &[u8], name: &[u8], n: usize) -> usize {
 // The form of a line with a name and so many numbers behind it.
 fn form_of(name: &[u8], n: usize) -> usize {
     place_in(
-        b"claim/2|ack/2|term/2|nack/3|nack/4|progress/3|commit/1|waiting/1|begin/0|step/0|step/1|restart/0|restart/1|start+6|cut old/0|cut new/0|cut torn/0|state/0|poke/3|peek/1|worker/1|rights/2|view/2|open/3|nearest/1|plan+1",
+        b"claim/2|ack/2|term/2|nack/3|nack/4|progress/3|commit/1|waiting/1|begin/0|step/0|step/1|restart/0|restart/1|start+6|cut old/0|cut new/0|cut torn/0|state/0|poke/3|peek/1|worker/1|rights/2|view/2|open/3|nearest/1|plan+1|hours/8|hours none/0",
         name,
         n,
     )

@@ -14,6 +14,7 @@ use consumer::Configuration;
 use consumer::Settings;
 use consumer::rights;
 use delivery::DeliveryConfig;
+use hours::Hours;
 use lease::LeaseConfig;
 use machine::Machine;
 use machine::calls::Call;
@@ -26,7 +27,8 @@ use types::limits::WORKERS;
 use types::numbers::shorter;
 
 // The machine, how many bytes of the lent area are its journal, which is none before the first start, and the worker who calls. The rights
-// in the machine's configuration are those that were said last: a start and a restart hand them in, and nothing else looks at them.
+// and the hours in the machine's configuration are those that were said last: a start and a restart hand them in, and nothing else looks
+// at them.
 pub struct Session {
     pub machine: Machine,
     pub len: usize,
@@ -143,8 +145,22 @@ fn backoff_len(count: usize) -> usize {
     count - 6
 }
 
-// The configuration that a start's numbers are, with the workers' rights.
-fn configuration_of(v: [u64; NUMBERS], count: usize, rights: [u8; WORKERS]) -> Configuration {
+// No hours: open always.
+fn no_hours() -> Hours {
+    Hours {
+        given: false,
+        shift: 0,
+        days: [0; 7],
+    }
+}
+
+// The configuration that a start's numbers are, with the workers' rights and the hours.
+fn configuration_of(
+    v: [u64; NUMBERS],
+    count: usize,
+    rights: [u8; WORKERS],
+    hours: Hours,
+) -> Configuration {
     Configuration {
         settings: Settings {
             delivery: DeliveryConfig {
@@ -155,6 +171,7 @@ fn configuration_of(v: [u64; NUMBERS], count: usize, rights: [u8; WORKERS]) -> C
                 attempts_flush_redeliveries: short(v[2]),
             },
             rights: rights,
+            hours: hours,
         },
         lease: LeaseConfig {
             visibility_nanos: v[3],
@@ -167,7 +184,7 @@ fn configuration_of(v: [u64; NUMBERS], count: usize, rights: [u8; WORKERS]) -> C
 pub fn nothing_started() -> Session
     ensures { λ r. ⌜ ((n : ℕ) → Ready n r) ⌝ }
 {
-    let configuration = configuration_of([0; NUMBERS], 0, [127, 0, 0, 0, 0, 0, 0, 0]);
+    let configuration = configuration_of([0; NUMBERS], 0, [127, 0, 0, 0, 0, 0, 0, 0], no_hours());
     Session {
         machine: Machine::off(configuration),
         len: 0,
@@ -219,7 +236,8 @@ fn start(session: Session, line: Line, area: &mut [u8]) -> Acted
         };
     }
     let rights = session.machine.configuration.settings.rights;
-    let configuration = configuration_of(v, line.count, rights);
+    let hours = session.machine.configuration.settings.hours;
+    let configuration = configuration_of(v, line.count, rights, hours);
     let acted = started(session, configuration, v[5] as usize, area.len());
     if acted.said.template == printing::STARTED {
         let len = acted.session.len;
@@ -342,8 +360,8 @@ fn calling(session: Session, worker: u64) -> Acted
     }
 }
 
-// The machine, where every start and restart from here on hands in these rights.
-fn handing_in(machine: Machine, rights: [u8; WORKERS]) -> Machine
+// The machine, where every start and restart from here on hands in these rights and these hours.
+fn handing_in(machine: Machine, rights: [u8; WORKERS], hours: Hours) -> Machine
     requires { ⌜ Sound machine ⌝ }
     ensures { λ r. ⌜ Sound r ⌝ }
 {
@@ -357,6 +375,7 @@ fn handing_in(machine: Machine, rights: [u8; WORKERS]) -> Machine
             settings: Settings {
                 delivery: delivery,
                 rights: rights,
+                hours: hours,
             },
             lease: lease,
         },
@@ -384,10 +403,11 @@ fn give(session: Session, worker: u64, mask: u64) -> Acted
     }
     let mut rights = session.machine.configuration.settings.rights;
     rights[worker as usize] = mask as u8;
+    let hours = session.machine.configuration.settings.hours;
     let before = session.machine;
     Acted {
         session: Session {
-            machine: handing_in(before, rights),
+            machine: handing_in(before, rights, hours),
             len: session.len,
             worker: session.worker,
         },
@@ -472,6 +492,41 @@ fn plan_line(machine: Machine, worker: u64, line: Line, list: &mut [u64]) -> Sai
     plan(machine, worker, line, &mut bytes, list)
 }
 
+// ## hours
+
+fn is_hours(form: usize) -> bool {
+    match form {
+        script::HOURS | script::HOURS_NONE => true,
+        _ => false,
+    }
+}
+
+// The hours that a line says: the shift and the seven days, or none.
+fn hours_of(form: usize, v: [u64; NUMBERS]) -> Hours {
+    Hours {
+        given: form == script::HOURS,
+        shift: v[0],
+        days: [v[1], v[2], v[3], v[4], v[5], v[6], v[7]],
+    }
+}
+
+// The hours at every start and restart from here on.
+fn set_hours(session: Session, hours: Hours) -> Acted
+    requires { ⌜ Sound (session .machine) ⌝ }
+    ensures { λ r. ⌜ ((n : ℕ) → Ready n session → Ready n (r .session)) ⌝ }
+{
+    let rights = session.machine.configuration.settings.rights;
+    let before = session.machine;
+    Acted {
+        session: Session {
+            machine: handing_in(before, rights, hours),
+            len: session.len,
+            worker: session.worker,
+        },
+        said: printing::plain(printing::HOURS),
+    }
+}
+
 // ## lines
 
 // The state, where it can be called.
@@ -519,6 +574,9 @@ pub fn act(session: Session, line: Line, area: &mut [u8], list: &mut [u64]) -> A
     }
     if form == script::RIGHTS {
         return give(session, v[0], v[1]);
+    }
+    if is_hours(form) {
+        return set_hours(session, hours_of(form, v));
     }
     Acted {
         session: session,

@@ -2,7 +2,8 @@
 -- Assumes nothing.
 use Prim.Native.Nat.{ℕ}
 use mathlib.Core.Path.{_≡_, refl}
-use mathlib.Core.Bool.{Bool, true, false}
+use mathlib.Core.Bool.{Bool, true, false, _&&_}
+use lib.Dec.{T}
 use mathlib.Core.List.{List, [], _∷_}
 use lib.ListN.{length}
 use mir.Syntax.{Width, w8, w32, w64, tyInt, tyArray}
@@ -22,6 +23,9 @@ use Rattle.lease.proofs.LeaseConfig.Laws as TLease′
 use Rattle.lease.specs.declared.LeaseTable.{LeaseTable}
 use Rattle.lease.proofs.LeaseTable as TTable
 use Rattle.lease.proofs.LeaseTable.Laws as TTable′
+use Rattle.hours.specs.declared.Hours.{Hours}
+use Rattle.hours.proofs.Hours as THours
+use Rattle.hours.proofs.Hours.Laws as THours′
 use Rattle.consumer.specs.declared.Settings.{Settings}
 use Rattle.consumer.proofs.Settings as TSettings
 use Rattle.consumer.proofs.Settings.Laws as TSettings′
@@ -56,7 +60,7 @@ abbrev pub OfMachine : Type 0
 OfMachine = Path TMachine′.mir
 
 abbrev in-writing : Path TWriting′.mir → OfMachine
-in-writing p = into {τ = TWriting′.mir} {d = 184} 2 refl p
+in-writing p = into {τ = TWriting′.mir} {d = 256} 2 refl p
 
 abbrev in-consumer : Path TConsumer′.mir → OfMachine
 in-consumer p = in-writing (into {τ = TConsumer′.mir} {d = 0} 0 refl p)
@@ -105,7 +109,7 @@ fetching [] (x ∷ xs) = lent (x .0 .path) ∷ fetching [] xs
 fetching (p ∷ ps) xs = copied p ∷ fetching ps xs
 
 abbrev pub phase : OfMachine
-phase = into {d = 176} 1 refl here
+phase = into {d = 248} 1 refl here
 
 abbrev pub committed : OfMachine
 committed = in-cursor (into {d = 0} 0 refl here)
@@ -188,17 +192,20 @@ threshold = in-delivery (into {d = 144} 4 refl here)
 abbrev pub rights : MachineColumn
 rights = record { path = in-settings (into {d = 152} 1 refl here); width = w8; size = 8; of = λ m. m .writing .consumer .settings .rights }
 
+abbrev pub hours : OfMachine
+hours = in-settings (into {τ = THours′.mir} {d = 160} 2 refl here)
+
 abbrev pub written : OfMachine
-written = in-writing (into {d = 6400} 1 refl here)
+written = in-writing (into {d = 6472} 1 refl here)
 
 abbrev pub payload : MachineColumn
-payload = record { path = in-writing (into {d = 6408} 2 refl here); width = w8; size = 3606; of = λ m. m .writing .payload }
+payload = record { path = in-writing (into {d = 6480} 2 refl here); width = w8; size = 3606; of = λ m. m .writing .payload }
 
 abbrev pub cursor-len : OfMachine
-cursor-len = in-writing (into {d = 10016} 3 refl here)
+cursor-len = in-writing (into {d = 10088} 3 refl here)
 
 abbrev pub attempt-len : OfMachine
-attempt-len = in-writing (into {d = 10024} 4 refl here)
+attempt-len = in-writing (into {d = 10096} 4 refl here)
 
 -- ## what a machine value tells
 generation-told : (g : Generation) → Typed TGeneration′.mir (TGeneration′.lowered g) → Is TGeneration.the-row g (TGeneration′.lowered g ∷ [])
@@ -223,8 +230,11 @@ delivery-told x t =
     told-struct TDelivery.struct TDelivery.propositions TDelivery′.the-laws (number w32, (truth, (column w64 16, (number w64, (number w32, tt))))) x
     (all-typed (fieldTys TDelivery′.mir) (fieldsIn (TDelivery′.lowered x)) t)
 
+pub hours-told : (x : Hours) → Typed THours′.mir (THours′.lowered x) → Is THours.the-row x (THours′.lowered x ∷ [])
+hours-told x t = told-struct THours.struct THours.propositions THours′.the-laws (truth, (number w64, (column w64 7, tt))) x (all-typed (fieldTys THours′.mir) (fieldsIn (THours′.lowered x)) t)
+
 settings-told : (x : Settings) → Typed TSettings′.mir (TSettings′.lowered x) → Is TSettings.the-row x (TSettings′.lowered x ∷ [])
-settings-told x t = told-struct TSettings.struct TSettings.propositions TSettings′.the-laws (delivery-told, (column w8 8, tt)) x (all-typed (fieldTys TSettings′.mir) (fieldsIn (TSettings′.lowered x)) t)
+settings-told x t = told-struct TSettings.struct TSettings.propositions TSettings′.the-laws (delivery-told, (column w8 8, (hours-told, tt))) x (all-typed (fieldTys TSettings′.mir) (fieldsIn (TSettings′.lowered x)) t)
 
 pub configuration-told : (x : Configuration) → Typed TConfiguration′.mir (TConfiguration′.lowered x) → Is TConfiguration.the-row x (TConfiguration′.lowered x ∷ [])
 configuration-told x t =
@@ -253,6 +263,20 @@ pub numbers-told : (x : Numbers) → Typed TNumbers′.mir (TNumbers′.lowered 
 numbers-told x t =
     told-struct TNumbers.struct TNumbers.propositions TNumbers′.the-laws (number w64, (number w64, (number w64, (number w64, (number w64, (number w64, (number w64, tt))))))) x
     (all-typed (fieldTys TNumbers′.mir) (fieldsIn (TNumbers′.lowered x)) t)
+
+-- its hours, which are copied whole
+pub hours-typed : (m : Machine) → Typed TMachine′.mir (TMachine′.lowered m) → Typed THours′.mir (THours′.lowered (m .writing .consumer .settings .hours))
+hours-typed m t =
+    let x = m .writing .consumer in
+    let writing = all-typed (fieldTys TWriting′.mir) (fieldsIn (TWriting′.lowered (m .writing))) (all-typed (fieldTys TMachine′.mir) (fieldsIn (TMachine′.lowered m)) t .1 .1 .0) in
+    let consumer = all-typed (fieldTys TConsumer′.mir) (fieldsIn (TConsumer′.lowered x)) (writing .0) in
+    let settings = all-typed (fieldTys TSettings′.mir) (fieldsIn (TSettings′.lowered (x .settings))) (consumer .1 .1 .1 .1 .1 .0) in
+    settings .1 .1 .0
+
+-- two tests that hold
+pub both-hold : (a b : Bool) → T a → T b → T (a && b)
+both-hold true b p q = q
+both-hold false b p q = absurd p
 
 -- ## the lengths of its columns
 long : (w : Width) (n : ℕ) (xs : List ℕ) → Typed (tyArray (tyInt w) n) (val w xs) → length xs ≡ n

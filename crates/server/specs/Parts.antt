@@ -3,6 +3,7 @@ use Prim.Native.Nat.{ℕ}
 use mathlib.Core.Path.{_≡_}
 use mathlib.Core.List.{List}
 use lib.ListN.{length}
+use Rattle.hours.specs.declared.Hours.{Hours}
 use Rattle.lease.specs.Parts.{Full}
 use Rattle.lease.specs.declared.LeaseConfig.{LeaseConfig}
 use Rattle.consumer.specs.declared.Configuration.{Configuration}
@@ -31,9 +32,9 @@ pub record Sized (c : Consumer) : Type 0 where
 
 -- ## a call on the state
 -- the numbers of a consumer that its calls leave, and those that they change
-abbrev pub fixedAs : LeaseConfig → (ceiling block areaLen maxDeliver backoffLen threshold : ℕ) → Fixed
-fixedAs config ceiling block size most steps threshold =
-    record { config = config; ceiling = ceiling; block = block; «area_len» = size; «max_deliver» = most; «backoff_len» = steps; threshold = threshold }
+abbrev pub fixedAs : LeaseConfig → Hours → (ceiling block areaLen maxDeliver backoffLen threshold : ℕ) → Fixed
+fixedAs config hours ceiling block size most steps threshold =
+    record { config = config; hours = hours; ceiling = ceiling; block = block; «area_len» = size; «max_deliver» = most; «backoff_len» = steps; threshold = threshold }
 
 abbrev pub figuresAs : (committed runs len carriedLen generation redeliveries : ℕ) → Figures
 figuresAs c r n m g red = record { committed = c; runs = r; len = n; «carried_len» = m; «next_generation» = g; redeliveries = red }

@@ -145,6 +145,7 @@ pub extern "C" fn ninotskev_ask(
         machine.writing.consumer.cursor.committed,
         machine.writing.consumer.cursor.runs,
         machine.writing.consumer.table.config,
+        machine.writing.consumer.settings.hours,
         machine.writing.consumer.table.len,
         machine.writing.consumer.table.carried_len,
         machine.writing.consumer.table.next_generation.0,

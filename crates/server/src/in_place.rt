@@ -11,6 +11,7 @@ use crate::kinds;
 use crate::kinds::Asking;
 use answers::Numbers;
 use checkpoint::BeginAnswer;
+use hours::Hours;
 use lease::LeaseConfig;
 use machine::in_place::Figures;
 use machine::in_place::Fixed;
@@ -107,6 +108,7 @@ pub fn ask_in_place(
     committed: u64,
     runs: usize,
     config: LeaseConfig,
+    hours: Hours,
     len: usize,
     carried_len: usize,
     next_generation: u64,
@@ -131,9 +133,9 @@ pub fn ask_in_place(
     rights: &mut [u8; WORKERS],
     out: &mut [u64],
 ) -> AskDone
-    requires { ⌜ AskableIn phase (consumerOf (fixedAs config ceiling block «area_len» «max_deliver» «backoff_len» threshold) (figuresAs committed runs len «carried_len» «next_generation» redeliveries) (now starts) (now ends) (now offsets) (now generations) (now «attempt_starts») (now deadlines) (now deliveries) (now workers) (now «carried_offsets») (now «carried_counts») (now «backoff_nanos») (now rights)) ⌝ }
-    ensures { λ r. ⌜ AskedIn phase (consumerOf (fixedAs config ceiling block «area_len» «max_deliver» «backoff_len» threshold) (figuresAs committed runs len «carried_len» «next_generation» redeliveries) (now (starts .entry)) (now (ends .entry)) (now (offsets .entry)) (now (generations .entry)) (now («attempt_starts» .entry)) (now (deadlines .entry)) (now (deliveries .entry)) (now (workers .entry)) (now («carried_offsets» .entry)) (now («carried_counts» .entry)) (now («backoff_nanos» .entry)) (now (rights .entry))) worker kind a b c d (now (out .entry))
-        (r .numbers) (consumerOf (fixedAs config ceiling block «area_len» «max_deliver» «backoff_len» threshold) (r .figures) (now (starts .exit)) (now (ends .exit)) (now (offsets .exit)) (now (generations .exit)) (now («attempt_starts» .exit)) (now (deadlines .exit)) (now (deliveries .exit)) (now (workers .exit)) (now («carried_offsets» .exit)) (now («carried_counts» .exit)) (now («backoff_nanos» .entry)) (now (rights .exit))) (now (out .exit)) ⌝ }
+    requires { ⌜ AskableIn phase (consumerOf (fixedAs config hours ceiling block «area_len» «max_deliver» «backoff_len» threshold) (figuresAs committed runs len «carried_len» «next_generation» redeliveries) (now starts) (now ends) (now offsets) (now generations) (now «attempt_starts») (now deadlines) (now deliveries) (now workers) (now «carried_offsets») (now «carried_counts») (now «backoff_nanos») (now rights)) ⌝ }
+    ensures { λ r. ⌜ AskedIn phase (consumerOf (fixedAs config hours ceiling block «area_len» «max_deliver» «backoff_len» threshold) (figuresAs committed runs len «carried_len» «next_generation» redeliveries) (now (starts .entry)) (now (ends .entry)) (now (offsets .entry)) (now (generations .entry)) (now («attempt_starts» .entry)) (now (deadlines .entry)) (now (deliveries .entry)) (now (workers .entry)) (now («carried_offsets» .entry)) (now («carried_counts» .entry)) (now («backoff_nanos» .entry)) (now (rights .entry))) worker kind a b c d (now (out .entry))
+        (r .numbers) (consumerOf (fixedAs config hours ceiling block «area_len» «max_deliver» «backoff_len» threshold) (r .figures) (now (starts .exit)) (now (ends .exit)) (now (offsets .exit)) (now (generations .exit)) (now («attempt_starts» .exit)) (now (deadlines .exit)) (now (deliveries .exit)) (now (workers .exit)) (now («carried_offsets» .exit)) (now («carried_counts» .exit)) (now («backoff_nanos» .entry)) (now (rights .exit))) (now (out .exit)) ⌝ }
 {
     let figures = Figures {
         committed,
@@ -145,6 +147,7 @@ pub fn ask_in_place(
     };
     let fixed = Fixed {
         config,
+        hours,
         ceiling,
         block,
         area_len,

@@ -21,6 +21,7 @@ settings-open s p =
       limited = p .0;
       few-steps = ltb-false STEPS (length (s .policy .backoff)) (p .1 .0);
       some-threshold = omega (arith, eqb-false (s .policy .flushRedeliveries) 0 (p .1 .1 .0));
+      hours = p .1 .1 .1;
     }
 
 pub record StartOpen (c : Configuration) (size : ℕ) : Type 0 where

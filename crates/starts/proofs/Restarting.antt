@@ -128,7 +128,7 @@ module _ (a : List ℕ) where
 -- ## The tests before
 -- every answer but `Started` is a refusal
 abbrev variants : List ℕ
-variants = 1 ∷ 2 ∷ 3 ∷ 4 ∷ 5 ∷ 6 ∷ 7 ∷ []
+variants = 1 ∷ 2 ∷ 3 ∷ 4 ∷ 5 ∷ 6 ∷ 7 ∷ 8 ∷ 9 ∷ []
 
 abbrev pub Other : StartAnswer → Type 0
 Other d = OneOf variants (tagOf the-type d)
@@ -142,6 +142,8 @@ other-faulty answers.Started o = absurd (miss variants 0 tt o)
 other-faulty answers.UnlimitedDeliverNotAllowed o = record { refusal = _; is = refl }
 other-faulty answers.TooManySteps o = record { refusal = _; is = refl }
 other-faulty answers.ZeroThreshold o = record { refusal = _; is = refl }
+other-faulty answers.BadHours o = record { refusal = _; is = refl }
+other-faulty answers.NeverOpen o = record { refusal = _; is = refl }
 other-faulty answers.BadArea o = record { refusal = _; is = refl }
 other-faulty (answers.Damaged block) o = record { refusal = _; is = refl }
 other-faulty (answers.Cursor error) o = record { refusal = _; is = refl }

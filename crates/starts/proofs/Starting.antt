@@ -3,17 +3,18 @@ use Prim.Native.Nat.{ℕ, _≤_, _<_, _-_}
 use native.Mathlib.Omega.{arith}
 use mathlib.Core.Path.{_≡_, refl, sym, ap, subst, _∙_}
 use mathlib.Core.Bool.{true, false, not, _&&_}
-use mathlib.Core.List.{append-nil}
+use mathlib.Core.List.{List, [], _∷_, _++_, append-nil}
 use mathlib.Core.Option.{Option, none, some}
 use lib.ListN.{length, length-append, length-take, length-replicate}
 use lib.Dec.{ltb}
 use borrow.Author.Tests.{lt-ltb, le-ltb, eq-eqb, ne-eqb}
 use Rattle.types.specs.Limits.{STEPS}
 use Rattle.types.specs.Refusal.{Refusal, done, UnlimitedDeliverNotAllowed, TooManySteps, ZeroThreshold, BadArea}
-use Rattle.types.specs.Table.{first, Passed, checked}
-use Rattle.types.proofs.Table.{first-none}
+use Rattle.types.specs.Table.{Row, _⇒_, first, Passed, checked}
+use Rattle.types.proofs.Table.{first-none, first-met-before, first-none-before}
 use Rattle.delivery.specs.Policy.{unlimited}
 use Rattle.delivery.specs.declared.DeliveryConfig.{DeliveryConfig}
+use Rattle.hours.specs.Hours.{Week, hoursRows}
 use Rattle.consumer.specs.State.{badArea}
 use Rattle.consumer.specs.State as state
 use Rattle.consumer.specs.Valid.{Fits}
@@ -44,11 +45,26 @@ module _ (c : state.Configuration) (size : ℕ) where
       threshold-refused e = rw (limited, few-test, eq-eqb (c .settings .policy .flushRedeliveries) 0 e)
 
       module _ (flushes : c .settings .policy .flushRedeliveries ≡ 0 → ⊥) where
-        pub area-refused : badArea size ≡ true → some BadArea ≡ first (startTable c size)
-        area-refused t = rw (limited, few-test, ne-eqb (c .settings .policy .flushRedeliveries) 0 flushes, t)
+        -- then the hours and the area
+        pub goes-on : first (hoursRows (c .settings .hours) ++ (badArea size ⇒ BadArea ∷ [])) ≡ first (startTable c size)
+        goes-on = rw (limited, few-test, ne-eqb (c .settings .policy .flushRedeliveries) 0 flushes)
 
-        pub accepted : badArea size ≡ false → none ≡ first (startTable c size)
-        accepted t = rw (limited, few-test, ne-eqb (c .settings .policy .flushRedeliveries) 0 flushes, t)
+module _ (h : Option Week) (size : ℕ) where
+  abbrev rows : List Row
+  rows = hoursRows h ++ (badArea size ⇒ BadArea ∷ [])
+
+  pub hours-refused : (r : Refusal) → some r ≡ first (hoursRows h) → some r ≡ first rows
+  hours-refused r e = sym (first-met-before (hoursRows h) (badArea size ⇒ BadArea ∷ []) r (sym e))
+
+  module _ (e : none ≡ first (hoursRows h)) where
+    area-tested : first rows ≡ first (badArea size ⇒ BadArea ∷ [])
+    area-tested = first-none-before (hoursRows h) (badArea size ⇒ BadArea ∷ []) (sym e)
+
+    pub area-refused : badArea size ≡ true → some BadArea ≡ first rows
+    area-refused t = sym (area-tested ∙ rw t)
+
+    pub accepted : badArea size ≡ false → none ≡ first rows
+    accepted t = sym (area-tested ∙ rw t)
 
 -- as many backoffs as the config counts
 pub backoffs-count : (c : DeliveryConfig) → length (c .«backoff_nanos») ≡ 16 → length (backoffsOf c) ≡ c .«backoff_len»

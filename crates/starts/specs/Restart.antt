@@ -13,6 +13,7 @@ use Rattle.cursor.specs.Cursor.{Cursor, settled, resume}
 use Rattle.cursor.specs.Snapshot.{decodeCursor}
 use Rattle.attempt.specs.Snapshot.{decodeAttempts}
 use Rattle.delivery.specs.Policy.{policyTable}
+use Rattle.hours.specs.Hours.{hoursRows}
 use Rattle.lease.specs.State.{startingAt, withCarried}
 use Rattle.journal.specs.Area.{blockAt}
 use Rattle.journal.specs.Blocks.{groupOf, cursorLength, attemptLength, ceilingOf}
@@ -20,13 +21,13 @@ use Rattle.journal.specs.Sound.{soundButFit, soundButNumber}
 use Rattle.journal.specs.Walks.{Stop, walk, headerBehind, payload}
 use Rattle.consumer.specs.State.{Settings, Configuration, State, stateOf, NextGroup, nextGroupAt, badArea, halfBlocks}
 
--- 1 to 3
+-- 1 to 3, then 33 and 34
 abbrev pub settingsTable : Settings → List Row
 settingsTable s =
     policyTable (s .policy .maxDeliver) (s .policy .allowUnlimited) (s .policy .backoff)
-    ++ (eqb (s .policy .flushRedeliveries) 0 ⇒ ZeroThreshold ∷ [])
+    ++ (eqb (s .policy .flushRedeliveries) 0 ⇒ ZeroThreshold ∷ hoursRows (s .hours))
 
--- 1 to 4
+-- these, then 4
 abbrev pub startTable : Configuration → ℕ → List Row
 startTable c n = settingsTable (c .settings) ++ (badArea n ⇒ BadArea ∷ [])
 

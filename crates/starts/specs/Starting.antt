@@ -22,6 +22,7 @@ use Rattle.cursor.specs.View as cursor
 use Rattle.attempt.specs.Codec.{attemptError}
 use Rattle.delivery.specs.declared.DeliveryConfig.{DeliveryConfig}
 use Rattle.delivery.specs.Policy.{policy}
+use Rattle.hours.specs.View as hours
 use Rattle.lease.specs.State as lease
 use Rattle.lease.specs.State.{startingAt, withCarried}
 use Rattle.lease.specs.declared.LeaseConfig.{LeaseConfig}
@@ -53,6 +54,7 @@ handedOf s =
           policy (s .delivery .«max_deliver») (s .delivery .«allow_unlimited») (backoffsOf (s .delivery))
           (s .delivery .«attempts_flush_redeliveries»);
       rights = s .rights;
+      hours = hours.view (s .hours);
     }
 
 abbrev pub configurationOf : Configuration → state.Configuration
@@ -68,6 +70,8 @@ startFault answers.Started = none
 startFault answers.UnlimitedDeliverNotAllowed = some refusal.UnlimitedDeliverNotAllowed
 startFault answers.TooManySteps = some refusal.TooManySteps
 startFault answers.ZeroThreshold = some refusal.ZeroThreshold
+startFault answers.BadHours = some refusal.BadHours
+startFault answers.NeverOpen = some refusal.NeverOpen
 startFault answers.BadArea = some refusal.BadArea
 startFault (answers.Damaged block) = some (refusal.Damaged block)
 startFault (answers.Cursor error) = some (snapshotError error)

@@ -2,14 +2,17 @@
 ghost use mathlib.Core.Path.{_≡_};
 ghost use Prim.Native.Nat.{_-_, _≤_};
 ghost use mathlib.Core.Bool.{not, _&&_};
+ghost use mathlib.Core.List.{[], _∷_, _++_};
 ghost use lib.Dec.{leb};
 ghost use lib.ListN.{length, take, drop};
-ghost use Rattle.types.specs.Refusal.{refused, Damaged};
-ghost use Rattle.types.specs.Table.{first};
+ghost use Rattle.types.specs.Refusal.{refused, BadArea, Damaged};
+ghost use Rattle.types.specs.Table.{_⇒_, first};
 ghost use Rattle.types.specs.Lists.{entryOf, entriesOf};
 ghost use Rattle.cursor.specs.View as cursors;
 ghost use Rattle.cursor.specs.Snapshot.{decodeCursor};
 ghost use Rattle.attempt.specs.Snapshot.{decodeAttempts};
+ghost use Rattle.hours.specs.Hours.{hoursRows};
+ghost use Rattle.hours.specs.View as opening;
 ghost use Rattle.journal.specs.Answers.{lastOf, walkedOf};
 ghost use Rattle.consumer.specs.State.{badArea, halfBlocks};
 ghost use Rattle.starts.specs.Restart.{startTable, start, isDropped, unsettledCounts, fromSnapshots, readGroup, origin, limit, unfitAt, lastGroup, fromWalk, restart};
@@ -23,6 +26,8 @@ use consumer::halves;
 use cursor::AckCursor;
 use cursor::Decode as Snapshot;
 use cursor::SnapshotError;
+use hours::Hours;
+use hours::HoursTest;
 use journal::LastGroup;
 use journal::Walked;
 use lease::LeaseConfig;
@@ -34,13 +39,15 @@ use types::limits::CARRIED;
 use types::limits::LEASES;
 use types::limits::PAIRS;
 
-// What a start or a restart answers: a consumer, or a refusal: 1 to 5, the cursor snapshot's (6 to 12), or the attempt
-// snapshot's (13 to 19).
+// What a start or a restart answers: a consumer, or a refusal: 1 to 3, those of the hours (33 and 34), 4, 5, the cursor snapshot's (6
+// to 12), or the attempt snapshot's (13 to 19).
 pub enum StartAnswer {
     Started,
     UnlimitedDeliverNotAllowed,
     TooManySteps,
     ZeroThreshold,
+    BadHours,
+    NeverOpen,
     BadArea,
     Damaged { block: usize },
     Cursor(SnapshotError),
@@ -67,7 +74,24 @@ fn bad_area(area_len: usize) -> bool
     blocks < 18
 }
 
-// Refusals 1 to 4.
+// Refusals 33, 34 and 4.
+fn check_hours(hours: Hours, area_len: usize) -> StartAnswer
+    ensures { λ r. ⌜ startFault r ≡ first (hoursRows (opening.view hours) ++ (badArea «area_len» ⇒ BadArea ∷ [])) ⌝ }
+{
+    let test = hours.test();
+    match test {
+        HoursTest::BadHours => StartAnswer::BadHours,
+        HoursTest::NeverOpen => StartAnswer::NeverOpen,
+        HoursTest::Accepted => {
+            if bad_area(area_len) {
+                return StartAnswer::BadArea;
+            }
+            StartAnswer::Started
+        }
+    }
+}
+
+// Refusals 1 to 3, 33, 34 and 4.
 fn check_start(configuration: Configuration, area_len: usize) -> StartAnswer
     ensures { λ r. ⌜ startFault r ≡ first (startTable (configurationOf configuration) «area_len») ⌝ }
 {
@@ -81,10 +105,8 @@ fn check_start(configuration: Configuration, area_len: usize) -> StartAnswer
     if config.attempts_flush_redeliveries == 0 {
         return StartAnswer::ZeroThreshold;
     }
-    if bad_area(area_len) {
-        return StartAnswer::BadArea;
-    }
-    StartAnswer::Started
+    let hours = configuration.settings.hours;
+    check_hours(hours, area_len)
 }
 
 // Nothing settled, nothing handed out, and the first group at block 0.
@@ -429,7 +451,7 @@ pub fn limit(area: &[u8]) -> usize
     origin(area).block + halves::half_blocks(area.len())
 }
 
-// A fresh consumer for an area of so many zeroed bytes: 1 to 4.
+// A fresh consumer for an area of so many zeroed bytes: 1 to 3, 33, 34, 4.
 pub fn start(configuration: Configuration, area_len: usize) -> Started
     ensures { λ r. ⌜ StartedIs configuration «area_len» (start (configurationOf configuration) «area_len») r ⌝ }
 {
@@ -441,7 +463,7 @@ pub fn start(configuration: Configuration, area_len: usize) -> Started
     }
 }
 
-// A consumer that goes on from what its journal has: 1 to 19. The area is read and nothing is written.
+// A consumer that goes on from what its journal has: 1 to 3, 33, 34, 4 to 19. The area is read and nothing is written.
 pub fn restart(configuration: Configuration, area: &[u8]) -> Started
     ensures { λ r. ⌜ StartedIs configuration (length (now (area .entry))) (restart (configurationOf configuration) (now (area .entry))) r ⌝ }
 {

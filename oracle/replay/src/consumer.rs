@@ -1,5 +1,6 @@
 //! 01's consumer over the original's cursor, lease table and delivery policy. Each call runs down 01's refusals in their order, then
 //! lets the original act. A lease's worker (02, g) stands beside the original's table, which has no place for it.
+use crate::hours::Hours;
 use crate::journal::{read, writes, zeroing, Half, Stored};
 use crate::open::{nearest, stretches};
 use crate::plan::{falls, plan, Plan};
@@ -18,22 +19,37 @@ const COUNTS: usize = 128;
 const BACKOFFS: usize = 16;
 const GENERATIONS: u64 = 4_096;
 
+/// What a start and each restart are handed beside the settings that stay.
+#[derive(Clone, Copy)]
+pub struct Handed {
+    pub rights: Rights,
+    /// None: open always.
+    pub hours: Option<Hours>,
+}
+
+impl Handed {
+    /// Refusals 33, 34.
+    fn judge(&self) -> Result<(), Code> {
+        self.hours.map_or(Ok(()), |hours| hours.judge())
+    }
+}
+
 #[derive(Clone)]
 pub struct Settings {
     delivery: DeliveryConfig,
     lease: LeaseConfig,
-    rights: Rights,
+    handed: Handed,
 }
 
 impl Settings {
-    /// Refusals 1 to 3.
+    /// Refusals 1 to 3, 33, 34.
     pub fn new(
         limit: u32,
         opt_in: bool,
         threshold: u32,
         lease: LeaseConfig,
         backoffs: &[u64],
-        rights: Rights,
+        handed: Handed,
     ) -> Result<Settings, Code> {
         let delivery = DeliveryConfig::new(limit, opt_in, backoffs.to_vec()).map_err(|_| vec![1])?;
         if backoffs.len() > BACKOFFS {
@@ -42,10 +58,11 @@ impl Settings {
         if threshold == 0 {
             return Err(vec![3]);
         }
+        handed.judge()?;
         Ok(Settings {
             delivery: delivery.with_attempts_flush_redeliveries(threshold),
             lease,
-            rights,
+            handed,
         })
     }
 
@@ -55,9 +72,16 @@ impl Settings {
         delay.min(self.lease.hard_cap_nanos)
     }
 
-    /// The same, with the rights that a restart is handed.
-    pub fn with_rights(&self, rights: Rights) -> Settings {
-        Settings { rights, ..self.clone() }
+    /// A nack's deadline, moved to the next opening where it falls outside of hours (02, c).
+    fn nack_deadline(&self, now: u64, delay: u64) -> u64 {
+        let deadline = now.saturating_add(delay);
+        self.handed.hours.map_or(deadline, |hours| hours.opening(deadline))
+    }
+
+    /// Refusals 33, 34. The same, with what a restart is handed.
+    pub fn with(&self, handed: Handed) -> Result<Settings, Code> {
+        handed.judge()?;
+        Ok(Settings { handed, ..self.clone() })
     }
 }
 
@@ -137,16 +161,20 @@ impl Consumer {
         Ok(())
     }
 
-    pub fn rights(&self) -> Rights {
-        self.settings.rights
+    pub fn handed(&self) -> Handed {
+        self.settings.handed
+    }
+
+    /// The same consumer with other rights and hours.
+    pub fn with(&self, handed: Handed) -> Consumer {
+        let mut same = self.clone();
+        same.settings.handed = handed;
+        same
     }
 
     /// The same consumer with other rights.
     pub fn with_rights(&self, rights: Rights) -> Consumer {
-        Consumer {
-            settings: self.settings.with_rights(rights),
-            ..self.clone()
-        }
+        self.with(Handed { rights, ..self.handed() })
     }
 
     /// Who claimed the offset's lease.
@@ -156,8 +184,8 @@ impl Consumer {
 
     /// Refusals 38, 39. Held is what has a lease whose deadline hasn't come.
     pub fn view(&self, worker: u64, offset: u64, now: u64) -> Result<View, Code> {
-        self.settings.rights.ask(worker, Operation::Look)?;
-        let supervisor = self.settings.rights.marks(worker);
+        self.settings.handed.rights.ask(worker, Operation::Look)?;
+        let supervisor = self.settings.handed.rights.marks(worker);
         if self.cursor.is_acked(Offset::new(offset)) {
             return Ok(View {
                 standing: "settled",
@@ -189,9 +217,9 @@ impl Consumer {
         })
     }
 
-    /// Refusals 38, 39, 21, 22, 23, 25, 26, 27.
+    /// Refusals 38, 39, 21, 22, 35, 23, 25, 26, 27.
     pub fn claim(&mut self, worker: u64, offset: u64, now: u64) -> Result<HandOut, Code> {
-        self.settings.rights.ask(worker, Operation::Claim)?;
+        self.settings.handed.rights.ask(worker, Operation::Claim)?;
         let table = self.table();
         let leased = table.leases.iter().any(|lease| lease.offset == offset);
         let counted = table.carried.iter().any(|&(carried, _)| carried == offset);
@@ -201,6 +229,9 @@ impl Consumer {
         }
         if self.cursor.is_acked(Offset::new(offset)) {
             return Err(vec![22]);
+        }
+        if let Some(hours) = self.settings.handed.hours.filter(|hours| !hours.is_open(now)) {
+            return Err(vec![35, hours.opening(now)]);
         }
         if !self.table.is_claimable(Offset::new(offset), now) {
             return Err(vec![23]);
@@ -231,7 +262,7 @@ impl Consumer {
 
     /// Ack and Term: refusals 38, 39, 24, 40, 29.
     pub fn settle(&mut self, worker: u64, offset: u64, generation: u64) -> Result<(), Code> {
-        self.settings.rights.ask(worker, Operation::Settle)?;
+        self.settings.handed.rights.ask(worker, Operation::Settle)?;
         self.owns(worker, &token(offset, generation))?;
         let mut after = self.clone();
         after.holders.remove(&offset);
@@ -247,7 +278,7 @@ impl Consumer {
 
     /// Refusals 38, 39, 24, 40, 25, 26. The answer is the new deadline; the lease stays the worker's.
     pub fn nack(&mut self, worker: u64, offset: u64, generation: u64, now: u64, delay: Option<u64>) -> Result<u64, Code> {
-        self.settings.rights.ask(worker, Operation::Nack)?;
+        self.settings.handed.rights.ask(worker, Operation::Nack)?;
         let token = token(offset, generation);
         self.owns(worker, &token)?;
         let Some(attempt) = self.table.deliveries(&token) else {
@@ -261,7 +292,8 @@ impl Consumer {
             return Err(vec![26]);
         }
         let delay = self.settings.nack_delay(attempt, delay);
-        match self.table.nack(&token, now, delay) {
+        let deadline = self.settings.nack_deadline(now, delay);
+        match self.table.nack(&token, now, deadline - now) {
             NackOutcome::Requeued { deadline } => Ok(deadline),
             NackOutcome::Fenced => Err(vec![24]),
             NackOutcome::Exhausted => Err(vec![25]),
@@ -270,7 +302,7 @@ impl Consumer {
 
     /// Refusals 38, 39, 24, 40, 28. The answer is the new deadline.
     pub fn progress(&mut self, worker: u64, offset: u64, generation: u64, now: u64) -> Result<u64, Code> {
-        self.settings.rights.ask(worker, Operation::Extend)?;
+        self.settings.handed.rights.ask(worker, Operation::Extend)?;
         self.owns(worker, &token(offset, generation))?;
         match self.table.extend(&token(offset, generation), now) {
             ExtendOutcome::Extended(deadline) => Ok(deadline),
@@ -281,7 +313,7 @@ impl Consumer {
 
     /// Refusals 38, 39; none for what is held below the bound, which is dropped (02, l). The answer is false where nothing changes.
     pub fn commit(&mut self, worker: u64, bound: u64) -> Result<bool, Code> {
-        self.settings.rights.ask(worker, Operation::Commit)?;
+        self.settings.handed.rights.ask(worker, Operation::Commit)?;
         if bound <= self.cursor.committed().get() {
             return Ok(false);
         }
@@ -293,7 +325,7 @@ impl Consumer {
 
     /// Refusals 38, 39. Carried offsets, by offset; then those whose deadline has come, by deadline, equal deadlines by offset (02, m).
     pub fn waiting(&self, worker: u64, now: u64) -> Result<Vec<u64>, Code> {
-        self.settings.rights.ask(worker, Operation::Look)?;
+        self.settings.handed.rights.ask(worker, Operation::Look)?;
         let table = self.table();
         let mut carried: Vec<u64> = table.carried.iter().map(|&(offset, _)| offset).collect();
         carried.sort();
@@ -307,7 +339,7 @@ impl Consumer {
 
     /// Refusals 38, 39, 32, 20. The unsettled stretches from one offset up to another, where the lent list has that many places (02, a).
     pub fn open(&self, worker: u64, from: u64, to: u64, room: usize) -> Result<Vec<(u64, u64)>, Code> {
-        self.settings.rights.ask(worker, Operation::Look)?;
+        self.settings.handed.rights.ask(worker, Operation::Look)?;
         if from > to {
             return Err(vec![32]);
         }
@@ -320,13 +352,13 @@ impl Consumer {
 
     /// Refusals 38, 39. The first unsettled offset that isn't below the given one (02, a).
     pub fn nearest(&self, worker: u64, offset: u64) -> Result<u64, Code> {
-        self.settings.rights.ask(worker, Operation::Look)?;
+        self.settings.handed.rights.ask(worker, Operation::Look)?;
         Ok(nearest(&self.cursor, offset))
     }
 
     /// Refusals 38, 39, 36, 37. Which offsets of a list are settled, where the lent list has as many places, and the looks (02, f).
     pub fn plan(&self, worker: u64, room: usize, offsets: &[u64]) -> Result<Plan, Code> {
-        self.settings.rights.ask(worker, Operation::Look)?;
+        self.settings.handed.rights.ask(worker, Operation::Look)?;
         if room != offsets.len() {
             return Err(vec![36]);
         }
@@ -339,7 +371,7 @@ impl Consumer {
     /// Refusals 38, 39, 31. The counts are stored in version 2 (02, j). Where the half in use has no room for the group, the other
     /// half is zeroed, and the group begins it (02, i).
     pub fn begin(&self, worker: u64) -> Result<Writing, Code> {
-        self.settings.rights.ask(worker, Operation::Checkpoint)?;
+        self.settings.handed.rights.ask(worker, Operation::Checkpoint)?;
         let mut stored = Stored {
             ceiling: self.table().next_generation.saturating_add(GENERATIONS),
             cursor: Vec::new(),

@@ -5,6 +5,7 @@ pub mod compare;
 pub mod consumer;
 pub mod halves;
 pub mod headers;
+pub mod hours;
 pub mod journal;
 pub mod line;
 pub mod make;

@@ -1,4 +1,5 @@
 //! How a line of a script is read.
+use crate::hours::Hours;
 use crate::rights::WORKERS;
 
 /// The longest line that is read, one less than 65,536 for its line end; a longer one is none of the calls (docs/DECISIONS.md).
@@ -31,6 +32,7 @@ pub enum Call {
     Start(Start),
     Worker(u64),
     Rights(usize, u8),
+    Hours(Option<Hours>),
     Claim(u64, u64),
     Settle(u64, u64),
     Nack(u64, u64, u64, Option<u64>),
@@ -98,6 +100,7 @@ pub fn read(line: &[u8]) -> Option<Call> {
         b"cut old" => return Some(Call::Cut(Left::Old)),
         b"cut new" => return Some(Call::Cut(Left::New)),
         b"cut torn" => return Some(Call::Cut(Left::Torn)),
+        b"hours none" => return Some(Call::Hours(None)),
         _ => (),
     }
     let mut words = std::str::from_utf8(line).ok()?.split(' ');
@@ -107,6 +110,10 @@ pub fn read(line: &[u8]) -> Option<Call> {
         ("start", numbers) => return start(numbers),
         ("worker", &[worker]) => Call::Worker(worker),
         ("rights", &[worker, mask]) => return rights(worker, mask),
+        ("hours", &[shift, ref days @ ..]) => Call::Hours(Some(Hours {
+            shift,
+            days: days.try_into().ok()?,
+        })),
         ("claim", &[offset, now]) => Call::Claim(offset, now),
         ("ack" | "term", &[offset, generation]) => Call::Settle(offset, generation),
         ("nack", &[offset, generation, now]) => Call::Nack(offset, generation, now, None),
@@ -132,7 +139,7 @@ pub fn read(line: &[u8]) -> Option<Call> {
 
 #[cfg(test)]
 mod tests {
-    use super::{read, Call, LINE, PLAN};
+    use super::{read, Call, Hours, LINE, PLAN};
 
     fn is_none(line: &str) -> bool {
         read(line.as_bytes()).is_none()
@@ -241,6 +248,25 @@ mod tests {
             "nearest",
             "nearest 18446744073709551616",
             "nearest 0 0",
+        ] {
+            assert!(is_none(line), "{line}");
+        }
+    }
+
+    #[test]
+    fn opening_hours() {
+        assert!(matches!(read(b"hours none"), Some(Call::Hours(None))));
+        let days = |hours: Hours| (hours.shift, hours.days) == (18446744073709551615, [1, 2, 3, 4, 5, 6, u64::MAX]);
+        assert!(
+            matches!(read(b"hours 18446744073709551615 1 2 3 4 5 6 18446744073709551615"), Some(Call::Hours(Some(hours))) if days(hours))
+        );
+        for line in [
+            "hours",
+            "hours none 1",
+            "hours 0",
+            "hours 0 1 2 3 4 5 6",
+            "hours 0 1 2 3 4 5 6 7 8",
+            "hours 0 1 2 3 4 5 6 18446744073709551616",
         ] {
             assert!(is_none(line), "{line}");
         }

@@ -1,8 +1,9 @@
 //! Makes scripts. The model runs along, so that tokens, times, offsets and blocks are those that matter.
+use crate::hours::Hours;
 use crate::line::LINE;
 use crate::program::{Phase, Program};
 use crate::workers::Crew;
-use crate::{commits, halves, headers, nacks, open, plan, scenes, versions, views, waiting, wear, workers};
+use crate::{commits, halves, headers, hours, nacks, open, plan, scenes, versions, views, waiting, wear, workers};
 use lists::random::Random;
 use lists::state::Table;
 
@@ -16,6 +17,8 @@ pub struct Maker {
     /// Tokens that were given out, stale ones too.
     tokens: Vec<(u64, u64)>,
     pub crew: Crew,
+    /// The hours that the next start is given, if any.
+    pub opening: Option<Hours>,
 }
 
 /// What can't be called before a start.
@@ -35,7 +38,7 @@ const NEEDS_A_START: [&str; 12] = [
 ];
 
 /// Lines that look like calls.
-const NO_CALLS: [&str; 30] = [
+const NO_CALLS: [&str; 34] = [
     "cut",
     "cut half",
     "cut old ",
@@ -54,6 +57,10 @@ const NO_CALLS: [&str; 30] = [
     "rights 8 0",
     "rights 0 256",
     "rights 0 0 0",
+    "hours",
+    "hours none 0",
+    "hours 0 1 1 1 1 1 1",
+    "hours 0 1 1 1 1 1 1 1 1",
     "view",
     "view 0",
     "view 0 0 0",
@@ -70,16 +77,7 @@ const NO_CALLS: [&str; 30] = [
 
 /// A script of so many lines.
 pub fn script(seed: u64, lines: usize) -> Vec<Vec<u8>> {
-    let mut maker = Maker {
-        random: Random(seed),
-        program: Program::default(),
-        lines: Vec::new(),
-        visibility: 0,
-        cap: 0,
-        now: 0,
-        tokens: Vec::new(),
-        crew: Crew::Alone,
-    };
+    let mut maker = Maker::new(seed);
     let worker = maker.random.pick(&[0, 1, 8]);
     maker.worker(worker);
     for call in NEEDS_A_START {
@@ -89,7 +87,7 @@ pub fn script(seed: u64, lines: usize) -> Vec<Vec<u8>> {
         scenes::spend(&mut maker);
     }
     while maker.lines.len() < lines {
-        match maker.random.below(51) {
+        match maker.random.below(54) {
             0..=5 => scenes::life(&mut maker),
             6..=7 => scenes::cuts(&mut maker),
             8 => scenes::full(&mut maker),
@@ -114,6 +112,7 @@ pub fn script(seed: u64, lines: usize) -> Vec<Vec<u8>> {
             42..=43 => commits::commits(&mut maker),
             44..=45 => open::open(&mut maker),
             46..=47 => plan::plans(&mut maker),
+            48..=50 => hours::hours(&mut maker),
             _ => wear::forged(&mut maker),
         }
     }
@@ -122,6 +121,20 @@ pub fn script(seed: u64, lines: usize) -> Vec<Vec<u8>> {
 }
 
 impl Maker {
+    pub fn new(seed: u64) -> Maker {
+        Maker {
+            random: Random(seed),
+            program: Program::default(),
+            lines: Vec::new(),
+            visibility: 0,
+            cap: 0,
+            now: 0,
+            tokens: Vec::new(),
+            crew: Crew::Alone,
+            opening: None,
+        }
+    }
+
     /// Adds a line, and answers what the model does.
     pub fn say(&mut self, line: impl AsRef<[u8]>) -> String {
         let line = line.as_ref().to_vec();
@@ -143,11 +156,13 @@ impl Maker {
         self.start_crew(rest, visibility, cap, blocks, backoffs);
     }
 
-    /// The same, with the workers and rights that were said.
+    /// The same, with the workers and rights that were said, and the hours that were meant for it.
     pub fn start_crew(&mut self, rest: &str, visibility: u64, cap: u64, blocks: u64, backoffs: &[u64]) {
         self.visibility = visibility;
         self.cap = cap;
         self.tokens.clear();
+        let hours = self.opening.take();
+        self.hours(hours);
         let backoffs: String = backoffs.iter().map(|delay| format!(" {delay}")).collect();
         self.say(format!("start {rest} {visibility} {cap} {}{backoffs}", 512 * blocks));
     }
@@ -166,6 +181,7 @@ impl Maker {
             0 => self.alone(),
             _ => self.several(),
         }
+        self.opening = (self.random.below(5) == 0).then(|| self.any_hours());
         self.start_crew(&format!("{limit} {threshold}"), visibility, cap, blocks, &backoffs);
     }
 
@@ -183,9 +199,15 @@ impl Maker {
         matches!(&self.program.started, Some(started) if matches!(started.phase, Phase::Writing(_)))
     }
 
-    /// A time at or beside a deadline, a cap or the clock.
+    /// A time at or beside a deadline, a cap, an opening or the clock.
     pub fn time(&mut self) -> u64 {
         self.now = self.now.saturating_add(self.random.pick(&[0, 0, 1, 5, 13]));
+        if let Some(hours) = self.program.handed.hours.filter(|hours| hours.judge().is_ok()) {
+            self.now = match self.random.below(3) {
+                0 => hours.opening(self.now),
+                _ => self.now,
+            };
+        }
         let leases = self.table().map_or(Vec::new(), |table| table.leases);
         if leases.is_empty() || self.random.below(4) == 0 {
             let now = self.now;

@@ -1,6 +1,6 @@
 //! The program: what stands where, which calls can be made there, and the line that answers each.
 use crate::block::BLOCK;
-use crate::consumer::{Consumer, Settings, Writing};
+use crate::consumer::{Consumer, Handed, Settings, Writing};
 use crate::journal::{area_length, block_of};
 use crate::line::{read, Call, Left, Start};
 use crate::rights::Rights;
@@ -29,7 +29,7 @@ pub struct Program {
     /// The worker whose number the calls carry.
     pub worker: u64,
     /// What the next start or restart hands in.
-    pub rights: Rights,
+    pub handed: Handed,
 }
 
 impl Default for Program {
@@ -37,7 +37,10 @@ impl Default for Program {
         Program {
             started: None,
             worker: 0,
-            rights: Rights::FIRST,
+            handed: Handed {
+                rights: Rights::FIRST,
+                hours: None,
+            },
         }
     }
 }
@@ -132,12 +135,12 @@ pub fn ask(consumer: &mut Consumer, worker: u64, call: &Call) -> Result<String, 
 }
 
 impl Started {
-    fn fresh(start: &Start, rights: Rights) -> Result<Started, Code> {
+    fn fresh(start: &Start, handed: Handed) -> Result<Started, Code> {
         let lease = LeaseConfig {
             visibility_nanos: start.visibility,
             hard_cap_nanos: start.cap,
         };
-        let settings = Settings::new(start.limit, start.opt_in, start.threshold, lease, &start.backoffs, rights)?;
+        let settings = Settings::new(start.limit, start.opt_in, start.threshold, lease, &start.backoffs, handed)?;
         area_length(start.bytes)?;
         let area = vec![0; start.bytes as usize];
         let consumer = Consumer::restart(&settings, &area)?;
@@ -148,9 +151,9 @@ impl Started {
         })
     }
 
-    fn call(&mut self, worker: u64, rights: Rights, call: &Call) -> String {
+    fn call(&mut self, worker: u64, handed: Handed, call: &Call) -> String {
         match call {
-            Call::Restart(bytes) => self.restart(*bytes, rights),
+            Call::Restart(bytes) => self.restart(*bytes, handed),
             Call::Poke(block, byte, value) => self.poke(*block, *byte, *value),
             Call::Peek(block) => self.peek(*block),
             Call::Begin => self.begin(worker),
@@ -224,13 +227,11 @@ impl Started {
         format!("cut {block}")
     }
 
-    fn restart(&mut self, bytes: Option<u64>, rights: Rights) -> String {
+    fn restart(&mut self, bytes: Option<u64>, handed: Handed) -> String {
         let Some(bytes) = self.lent(bytes) else {
             return NOT_NOW.to_string();
         };
-        let settings = self.settings.with_rights(rights);
-        let restarted = area_length(bytes).and_then(|()| Consumer::restart(&settings, &self.area[..bytes as usize]));
-        match restarted {
+        match self.restarted(bytes, handed) {
             Ok(consumer) => {
                 self.area.truncate(bytes as usize);
                 self.phase = Phase::Idle(consumer);
@@ -238,6 +239,13 @@ impl Started {
             }
             Err(code) => refused(code),
         }
+    }
+
+    /// The consumer of a restart on so much of the area.
+    fn restarted(&self, bytes: u64, handed: Handed) -> Result<Consumer, Code> {
+        let settings = self.settings.with(handed)?;
+        area_length(bytes)?;
+        Consumer::restart(&settings, &self.area[..bytes as usize])
     }
 
     fn has_block(&self, block: u64) -> bool {
@@ -277,10 +285,14 @@ impl Program {
                 format!("worker {worker}")
             }
             Some(Call::Rights(worker, mask)) => {
-                self.rights.0[worker] = mask;
+                self.handed.rights.0[worker] = mask;
                 "rights".to_string()
             }
-            Some(Call::Start(start)) => match Started::fresh(&start, self.rights) {
+            Some(Call::Hours(hours)) => {
+                self.handed.hours = hours;
+                "hours".to_string()
+            }
+            Some(Call::Start(start)) => match Started::fresh(&start, self.handed) {
                 Ok(started) => {
                     self.started = Some(started);
                     "started".to_string()
@@ -288,7 +300,7 @@ impl Program {
                 Err(code) => refused(code),
             },
             Some(call) => match &mut self.started {
-                Some(started) => started.call(self.worker, self.rights, &call),
+                Some(started) => started.call(self.worker, self.handed, &call),
                 None => NOT_NOW.to_string(),
             },
         })

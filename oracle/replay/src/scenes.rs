@@ -37,6 +37,10 @@ pub fn life(maker: &mut Maker) {
                 if maker.crew == Crew::Several && maker.random.below(2) == 0 {
                     maker.several();
                 }
+                if maker.program.handed.hours.is_some() && maker.random.below(2) == 0 {
+                    let hours = maker.any_hours();
+                    maker.hours(Some(hours));
+                }
                 maker.say("restart");
             }
             5 => {
@@ -329,6 +333,13 @@ pub fn starts(maker: &mut Maker) {
             .random
             .pick(&[bytes, bytes, 65_024, 65_535, 65_536, 66_048, 66_560, u64::MAX - 511, u64::MAX]);
         let backoffs = " 1".repeat(maker.random.pick(&[0, 0, 15, 16, 17, 40]));
+        match maker.random.below(6) {
+            0..=1 => {
+                let hours = maker.bad_hours();
+                maker.hours(Some(hours));
+            }
+            _ => maker.hours(None),
+        }
         maker.say(format!("start {limit} {opt_in} {threshold} 10 25 {bytes}{backoffs}"));
         for _ in 0..maker.random.below(3) {
             maker.say("begin");

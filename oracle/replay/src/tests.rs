@@ -12,6 +12,7 @@ use std::collections::{BTreeMap, BTreeSet};
 use std::sync::OnceLock;
 
 mod commits;
+mod hours;
 mod nacks;
 mod open;
 mod plan;
@@ -20,7 +21,7 @@ mod waiting;
 /// The scripts that `oracle/run compare` uses, made once for all tests.
 fn scripts() -> &'static [Vec<Vec<u8>>] {
     static MADE: OnceLock<Vec<Vec<Vec<u8>>>> = OnceLock::new();
-    MADE.get_or_init(|| (1..=100).map(|seed| script(seed, 2_000)).collect())
+    MADE.get_or_init(|| (1..=120).map(|seed| script(seed, 2_000)).collect())
 }
 
 /// Runs lines written as `LINE => ANSWER`; several steps of a checkpoint are written `checkpoint => BLOCK,..`.
@@ -554,8 +555,13 @@ fn switches_cut_everywhere() {
 
 /// Pokes that write a group with nothing but its number in it.
 fn group(number: u32, at: usize) -> String {
+    group_up_to(number.into(), number, at)
+}
+
+/// The same with a ceiling.
+fn group_up_to(ceiling: u64, number: u32, at: usize) -> String {
     let stored = Stored {
-        ceiling: u64::from(number),
+        ceiling,
         cursor: vec![1, 0, 0, 0, 0, 0, 0, 0, 0, 235, 190, 219, 79],
         attempts: vec![2, 0, 0, 0, 0, 109, 169, 80, 53],
     };
@@ -667,17 +673,10 @@ fn scripts_have_everything() {
             }
         }
     }
-    assert_eq!(words.len(), 26, "{words:?}");
+    assert_eq!(words.len(), 27, "{words:?}");
     assert_eq!(
         refusals,
-        (1..=5)
-            .chain(7..=11)
-            .chain(14..=18)
-            .chain(20..=29)
-            .chain(31..=32)
-            .chain(36..=37)
-            .chain(38..=40)
-            .collect()
+        (1..=5).chain(7..=11).chain(14..=18).chain(20..=29).chain(31..=40).collect()
     );
 }
 
@@ -734,7 +733,7 @@ fn scripts_have_workers() {
         assert!(answers.split(' ').all(|answer| seen.contains(answer)), "{refusal} {seen:?}");
     };
     for refusal in ["38", "39"] {
-        has(refusal, "20 21 22 23 24 26 27 28 31 32 36 37 unchanged committed");
+        has(refusal, "20 21 22 23 24 26 27 28 31 32 35 36 37 unchanged committed");
         has(refusal, "begun deliver settled requeued extended waiting open nearest plan");
     }
     has("40", "25 26 28 29 settled requeued extended");

@@ -40,6 +40,8 @@ fn lists(maker: &mut Maker) {
         let time = maker.time();
         maker.say(format!("waiting {time}"));
     }
+    let token = maker.token();
+    maker.say(format!("nack {token} 0 0"));
     let bound = maker.random.pick(&[0, 0, u64::MAX]);
     maker.say(format!("waiting {bound}"));
 }

@@ -24,7 +24,7 @@ impl Maker {
 
     /// Gives the worker these rights at the next start or restart.
     pub fn rights(&mut self, worker: usize, mask: u8) {
-        if self.program.rights.0[worker] != mask {
+        if self.program.handed.rights.0[worker] != mask {
             self.say(format!("rights {worker} {mask}"));
         }
     }
@@ -70,7 +70,7 @@ impl Maker {
 
     /// The call is a worker's who may make it, where there is one.
     pub fn able(&mut self, operation: Operation) {
-        let Some(rights) = self.program.consumer().map(|consumer| consumer.rights()) else {
+        let Some(rights) = self.program.consumer().map(|consumer| consumer.handed().rights) else {
             return;
         };
         let may = |worker: &u64| rights.ask(*worker, operation).is_ok();

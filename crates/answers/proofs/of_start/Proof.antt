@@ -28,6 +28,12 @@ enum-told-4 c = search needs
 enum-told-5 : tie.Need-enum-told-5
 enum-told-5 c = search needs
 
+enum-told-6 : tie.Need-enum-told-6
+enum-told-6 c = search needs
+
+enum-told-7 : tie.Need-enum-told-7
+enum-told-7 c = search needs
+
 enum-known-answer : tie.Need-enum-known-answer
 enum-known-answer c = search needs
 
@@ -59,13 +65,19 @@ returns-5 : tie.Need-returns-5
 returns-5 c = ap as-numbers (sym (c .enum-told5 .given .1))
 
 returns-6 : tie.Need-returns-6
-returns-6 c = ap as-numbers (sym (c .before .answer .given .1))
+returns-6 c = ap as-numbers (sym (c .enum-told6 .given .1))
 
 returns-7 : tie.Need-returns-7
-returns-7 c = c .of-cursor .ensures ∙ ap as-numbers (sym (c .before .before .answer2 .given .1))
+returns-7 c = ap as-numbers (sym (c .enum-told7 .given .1))
 
 returns-8 : tie.Need-returns-8
-returns-8 c = c .of-attempts .ensures ∙ ap as-numbers (sym (c .before .before .answer3 .given .1))
+returns-8 c = ap as-numbers (sym (c .before .answer .given .1))
+
+returns-9 : tie.Need-returns-9
+returns-9 c = c .of-cursor .ensures ∙ ap as-numbers (sym (c .before .before .answer2 .given .1))
+
+returns-10 : tie.Need-returns-10
+returns-10 c = c .of-attempts .ensures ∙ ap as-numbers (sym (c .before .before .answer3 .given .1))
 
 pub of-start-spec : {M : Type 1} → statement M
 of-start-spec =
@@ -76,6 +88,8 @@ of-start-spec =
     enum-told-3
     enum-told-4
     enum-told-5
+    enum-told-6
+    enum-told-7
     enum-known-answer
     enum-known-answer-2
     of-cursor-requires
@@ -88,4 +102,6 @@ of-start-spec =
     returns-5
     returns-6
     returns-7
-    returns-8)
+    returns-8
+    returns-9
+    returns-10)

@@ -6,7 +6,7 @@ use mathlib.Core.Bool.{false, not, _&&_}
 use lib.ListN.{length}
 use Rattle.delivery.specs.Policy.{unlimited}
 use Rattle.starts.specs.Starting.{backoffsOf, configurationOf}
-use Rattle.starts.proofs.Starting.{unlimited-refused, steps-refused, threshold-refused, area-refused, accepted, backoffs-count}
+use Rattle.starts.proofs.Starting.{unlimited-refused, steps-refused, threshold-refused, goes-on, backoffs-count}
 use Rattle.starts.proofs.check_start.Statement.{statement}
 use Rattle.starts.proofs.check_start.Tie as tie
 
@@ -39,24 +39,15 @@ returns-3 c =
     let s = start e in
     threshold-refused (configurationOf (s .args .configuration)) (s .args .area-len) (limited e) (omega (arith, counted s)) (c .if3 .taken)
 
-bad-area-requires : tie.Need-bad-area-requires
-bad-area-requires c κs = search needs
+check-hours-requires : tie.Need-check-hours-requires
+check-hours-requires c κs = search needs
 
 returns-4 : tie.Need-returns-4
 returns-4 c =
     let t = c .before .before in
     let e = t .before .before .before .before in
     let s = start e in
-    area-refused (configurationOf (s .args .configuration)) (s .args .area-len) (limited e) (omega (arith, counted s)) (t .if3 .left) (sym (c .before .bad-area .ensures) ∙ c .if4 .taken)
-
-returns-5 : tie.Need-returns-5
-returns-5 c =
-    let t = c .before .before in
-    let e = t .before .before .before .before in
-    let s = start e in
-    accepted (configurationOf (s .args .configuration)) (s .args .area-len) (limited e) (omega (arith, counted s)) (t .if3 .left) (sym (c .before .bad-area .ensures) ∙ c .if4 .left)
+    c .check-hours .ensures ∙ goes-on (configurationOf (s .args .configuration)) (s .args .area-len) (limited e) (omega (arith, counted s)) (t .if3 .left)
 
 pub check-start-spec : {M : Type 1} → statement M
-check-start-spec =
-    tie.close
-    (tie.spec lacks-opt-in-requires returns returns-2 returns-3 bad-area-requires returns-4 returns-5)
+check-start-spec = tie.close (tie.spec lacks-opt-in-requires returns returns-2 returns-3 check-hours-requires returns-4)

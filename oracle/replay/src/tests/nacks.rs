@@ -81,7 +81,10 @@ fn scripts_have_nacks() {
                     let (start, table) = (started.as_ref().unwrap(), table.unwrap());
                     let lease = table.leases.iter().find(|lease| lease.offset == offset).unwrap();
                     let asked = asked(start, lease.deliveries, delay);
-                    assert_eq!(deadline, now.saturating_add(asked.min(start.cap)).to_string());
+                    let sum = now.saturating_add(asked.min(start.cap));
+                    let hours = program.consumer().unwrap().handed().hours;
+                    let right = hours.map_or(sum, |hours| hours.opening(sum));
+                    assert_eq!(deadline, right.to_string());
                     *met.entry((delay.is_some(), kind(asked, start.cap, now))).or_insert(0) += 1;
                 }
                 _ => (),

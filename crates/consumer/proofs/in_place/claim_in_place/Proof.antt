@@ -19,7 +19,7 @@ use Rattle.consumer.proofs.in_place.claim_in_place.Tie as tie
 -- a consumer with the parts that the arguments are
 abbrev made : tie.Start → Consumer → Consumer
 made s =
-    claiming (s .args .rights .now) (s .args .ceiling) (s .args .max-deliver) (s .args .threshold) (ackCursor (s .args .committed) (s .args .starts .now) (s .args .ends .now) (s .args .runs))
+    claiming (s .args .rights .now) (s .args .hours) (s .args .ceiling) (s .args .max-deliver) (s .args .threshold) (ackCursor (s .args .committed) (s .args .starts .now) (s .args .ends .now) (s .args .runs))
     (gathered (s .args .config) (s .args .len) (s .args .carried-len) (s .args .next-generation) (s .args .redeliveries) (s .args .offsets .now) (s .args .generations .now) (s .args .attempt-starts .now) (s .args .deadlines .now) (s .args .deliveries .now) (s .args .workers .now) (s .args .carried-offsets .now) (s .args .carried-counts .now))
 
 abbrev start : tie.After-claim-test → tie.Start

@@ -20,7 +20,7 @@ use Rattle.consumer.proofs.in_place.nack_in_place.Tie as tie
 -- a consumer with the parts that the arguments are
 abbrev made : tie.Start → Consumer → Consumer
 made s =
-    nacking (s .args .rights .now) (s .args .ceiling) (s .args .backoff-nanos .now) (s .args .backoff-len) (s .args .config) (s .args .len) (s .args .next-generation) (s .args .offsets .now)
+    nacking (s .args .rights .now) (s .args .hours) (s .args .ceiling) (s .args .backoff-nanos .now) (s .args .backoff-len) (s .args .config) (s .args .len) (s .args .next-generation) (s .args .offsets .now)
     (s .args .generations .now) (s .args .deadlines .now) (s .args .deliveries .now) (s .args .workers .now)
 
 abbrev start : tie.After-known-told → tie.Start
@@ -77,6 +77,9 @@ returns-3 c x w =
 nack-delay-in-place-requires : tie.Need-nack-delay-in-place-requires
 nack-delay-in-place-requires c κs = search needs
 
+delay-in-hours-requires : tie.Need-delay-in-hours-requires
+delay-in-hours-requires c κs = search needs
+
 nack-in-place-requires : tie.Need-nack-in-place-requires
 nack-in-place-requires c κs = search needs
 
@@ -86,7 +89,8 @@ requeued-requires c κs = search needs
 returns-4 : tie.Need-returns-4
 returns-4 c x w =
     let n = c .before in
-    let d = n .before .before .before in
+    let m = n .before .before .before in
+    let d = m .before in
     let f = d .before in
     let e = f .before in
     let k = e .before in
@@ -94,7 +98,7 @@ returns-4 c x w =
     nack-requeued (made s x) (w .sound) (s .args .worker) (s .args .offset) (s .args .generation) (s .args .now) (k .before .test .given .0 .0) (delayOf (s .args .delay))
     (nack-passed (made s x) (w .sound) (s .args .worker) (s .args .offset) (s .args .generation) (s .args .now) (delayOf (s .args .delay)) (owned k x w .0) (e .if1 .left) (f .if2 .left))
     (owned k x w .1)
-    (d .nack-delay-in-place .result) (d .nack-delay-in-place .ensures) (answers.nackOf (n .nack-in-place .result .outcome)) _
+    (d .nack-delay-in-place .result) (d .nack-delay-in-place .ensures) (m .delay-in-hours .result) (m .delay-in-hours .ensures) (answers.nackOf (n .nack-in-place .result .outcome)) _
     (n .nack-in-place .ensures (made s x .table) (table-whole w)) (nackOf (c .requeued .result)) (c .requeued .ensures)
 
 pub nack-in-place-spec : {M : Type 1} → statement M
@@ -109,6 +113,7 @@ nack-in-place-spec =
     returns-2
     returns-3
     nack-delay-in-place-requires
+    delay-in-hours-requires
     nack-in-place-requires
     requeued-requires
     returns-4)

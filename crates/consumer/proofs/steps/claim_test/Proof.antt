@@ -18,7 +18,7 @@ use Rattle.consumer.proofs.steps.claim_test.Tie as tie
 abbrev made : tie.Start → Consumer → Consumer
 made s =
     permitted (s .args .rights .now)
-    (testing (s .args .ceiling) (s .args .threshold) (ackCursor (s .args .committed) (s .args .starts .now) (s .args .ends .now) (s .args .runs)) (s .args .len) (s .args .carried-len)
+    (testing (s .args .hours) (s .args .ceiling) (s .args .threshold) (ackCursor (s .args .committed) (s .args .starts .now) (s .args .ends .now) (s .args .runs)) (s .args .len) (s .args .carried-len)
     (s .args .next-generation) (s .args .redeliveries) (s .args .offsets .now) (s .args .deadlines .now) (s .args .deliveries .now) (s .args .carried-offsets .now)
     (s .args .carried-counts .now))
 

@@ -1,29 +1,34 @@
 -- `offset_test` meets its contract: each test of the table in its order. Assumes nothing.
 use native.Mathlib.Omega.{arith}
 use mathlib.Core.Path.{_≡_, sym, _∙_}
-use mathlib.Core.Bool.{false}
+use mathlib.Core.Bool.{true, false}
 use borrow.Author.Needs.{needs}
+use borrow.Author.Tests.{not-true, not-false}
 use Rattle.cursor.specs.Cursor.{settled}
 use Rattle.cursor.specs.View.{ackCursor}
+use Rattle.hours.specs.Hours.{isOpen}
 use Rattle.lease.specs.Operations.{leaseOf, running}
 use Rattle.consumer.specs.State.{State}
 use Rattle.consumer.specs.Parts.{Whole, testing}
 use Rattle.consumer.specs.View.{view}
 use Rattle.consumer.specs.declared.Consumer.{Consumer}
 use Rattle.consumer.proofs.CallsReturns.{table-whole}
-use Rattle.consumer.proofs.CallsClaim.{blocked, unblocked, is-last, is-settled, is-running, is-exhausted, is-at-ceiling, is-at-threshold, is-full, is-open}
+use Rattle.consumer.proofs.CallsClaim.{blocked, unblocked, is-last, is-settled, is-closed, is-running, is-exhausted, is-at-ceiling, is-at-threshold, is-full, is-open}
 use Rattle.consumer.proofs.steps.offset_test.Statement.{statement}
 use Rattle.consumer.proofs.steps.offset_test.Tie as tie
 
 -- a consumer with the parts that the arguments are, and its state
 abbrev made : tie.Start → Consumer → Consumer
 made s =
-    testing (s .args .ceiling) (s .args .threshold) (ackCursor (s .args .committed) (s .args .starts .now) (s .args .ends .now) (s .args .runs)) (s .args .len) (s .args .carried-len)
+    testing (s .args .hours) (s .args .ceiling) (s .args .threshold) (ackCursor (s .args .committed) (s .args .starts .now) (s .args .ends .now) (s .args .runs)) (s .args .len) (s .args .carried-len)
     (s .args .next-generation) (s .args .redeliveries) (s .args .offsets .now) (s .args .deadlines .now) (s .args .deliveries .now) (s .args .carried-offsets .now)
     (s .args .carried-counts .now)
 
 abbrev shown : tie.Start → Consumer → State
 shown s c = view (made s c)
+
+abbrev third : tie.Else4 → tie.Else3
+third d = d .before .before
 
 abbrev second : tie.Else3 → tie.Else2
 second d = d .before .before
@@ -31,8 +36,11 @@ second d = d .before .before
 abbrev first : tie.Else2 → tie.Else1
 first d = d .before .before
 
-abbrev start : tie.Else3 → tie.Start
-start d = first (second d) .before
+abbrev entry : tie.Else3 → tie.Start
+entry d = first (second d) .before
+
+abbrev start : tie.Else4 → tie.Start
+start d = entry (third d)
 
 returns : tie.Need-returns
 returns c x w = let s = c .before in is-last (shown s x) (s .args .offset) (s .args .now) (c .if1 .taken)
@@ -47,73 +55,96 @@ returns-2 c x w =
     let s = e .before in
     is-settled (shown s x) (s .args .offset) (s .args .now) (e .if1 .left) (sym (k .is-acked-in-place .ensures) ∙ c .if2 .taken)
 
-is-claimable-in-place-requires : tie.Need-is-claimable-in-place-requires
-is-claimable-in-place-requires c κs = search needs
+is-open-requires : tie.Need-is-open-requires
+is-open-requires c κs = search needs
+
+next-opening-requires : tie.Need-next-opening-requires
+next-opening-requires c κs = search needs
 
 unsettled : (d : tie.Else2) (x : Consumer) → let s = first d .before in settled (shown s x .cursor) (s .args .offset) ≡ false
 unsettled d x = sym (d .before .is-acked-in-place .ensures) ∙ d .if2 .left
 
 returns-3 : tie.Need-returns-3
 returns-3 c x w =
-    let k = c .before in
+    let t = c .before in
+    let k = t .before in
     let e = first (k .before) in
     let s = e .before in
-    is-running (shown s x) (s .args .offset) (s .args .now) (e .if1 .left) (unsettled (k .before) x)
-    (blocked (k .is-claimable-in-place .result) _ (k .is-claimable-in-place .ensures (made s x .table) (table-whole w)) (c .if3 .taken))
+    is-closed (shown s x) (s .args .offset) (s .args .now) (e .if1 .left) (unsettled (k .before) x)
+    (sym (k .is-open .ensures) ∙ not-true _ (t .if3 .taken)) (c .next-opening .result) (c .next-opening .ensures)
 
-not-running : (d : tie.Else3) (x : Consumer) → Whole (made (start d) x)
-    → running (leaseOf (shown (start d) x .table) (start d .args .offset)) (start d .args .now) ≡ false
-not-running d x w =
-    unblocked (d .before .is-claimable-in-place .result) _
-    (d .before .is-claimable-in-place .ensures (made (start d) x .table) (table-whole w)) (d .if3 .left)
+in-hours : (d : tie.Else3) (x : Consumer) → isOpen (shown (entry d) x .settings .hours) (entry d .args .now) ≡ true
+in-hours d x = sym (d .before .is-open .ensures) ∙ not-false _ (d .if3 .left)
+
+is-claimable-in-place-requires : tie.Need-is-claimable-in-place-requires
+is-claimable-in-place-requires c κs = search needs
 
 returns-4 : tie.Need-returns-4
 returns-4 c x w =
-    let d = c .before in
-    let s = start d in
-    is-exhausted (shown s x) (s .args .offset) (s .args .now) (first (second d) .if1 .left) (unsettled (second d) x) (not-running d x w) (c .if4 .taken)
+    let k = c .before in
+    let h = k .before in
+    let s = entry h in
+    is-running (shown s x) (s .args .offset) (s .args .now) (first (second h) .if1 .left) (unsettled (second h) x) (in-hours h x)
+    (blocked (k .is-claimable-in-place .result) _ (k .is-claimable-in-place .ensures (made s x .table) (table-whole w)) (c .if4 .taken))
+
+not-running : (d : tie.Else4) (x : Consumer) → Whole (made (start d) x)
+    → running (leaseOf (shown (start d) x .table) (start d .args .offset)) (start d .args .now) ≡ false
+not-running d x w =
+    unblocked (d .before .is-claimable-in-place .result) _
+    (d .before .is-claimable-in-place .ensures (made (start d) x .table) (table-whole w)) (d .if4 .left)
 
 returns-5 : tie.Need-returns-5
 returns-5 c x w =
-    let g = c .before in
-    let d = g .before in
+    let d = c .before in
+    let h = third d in
     let s = start d in
-    is-at-ceiling (shown s x) (s .args .offset) (s .args .now) (first (second d) .if1 .left) (unsettled (second d) x) (not-running d x w) (g .if4 .left)
-    (omega (arith, c .if5 .taken))
+    is-exhausted (shown s x) (s .args .offset) (s .args .now) (first (second h) .if1 .left) (unsettled (second h) x) (in-hours h x) (not-running d x w) (c .if5 .taken)
 
 returns-6 : tie.Need-returns-6
 returns-6 c x w =
-    let h = c .before in
-    let g = h .before in
+    let g = c .before in
     let d = g .before in
+    let h = third d in
     let s = start d in
-    is-at-threshold (shown s x) (s .args .offset) (s .args .now) (first (second d) .if1 .left) (unsettled (second d) x) (not-running d x w) (g .if4 .left)
-    (omega (arith, h .if5 .left)) (c .if6 .taken)
-
-is-full-requires : tie.Need-is-full-requires
-is-full-requires c κs = search needs
+    is-at-ceiling (shown s x) (s .args .offset) (s .args .now) (first (second h) .if1 .left) (unsettled (second h) x) (in-hours h x) (not-running d x w) (g .if5 .left)
+    (omega (arith, c .if6 .taken))
 
 returns-7 : tie.Need-returns-7
 returns-7 c x w =
-    let f = c .before in
-    let k = f .before in
-    let h = k .before in
-    let g = h .before in
+    let e = c .before in
+    let g = e .before in
     let d = g .before in
+    let h = third d in
     let s = start d in
-    is-full (shown s x) (s .args .offset) (s .args .now) (first (second d) .if1 .left) (unsettled (second d) x) (not-running d x w) (g .if4 .left)
-    (omega (arith, h .if5 .left)) (k .if6 .left) (sym (f .is-full .ensures (made s x .table) (table-whole w)) ∙ c .if7 .taken)
+    is-at-threshold (shown s x) (s .args .offset) (s .args .now) (first (second h) .if1 .left) (unsettled (second h) x) (in-hours h x) (not-running d x w) (g .if5 .left)
+    (omega (arith, e .if6 .left)) (c .if7 .taken)
+
+is-full-requires : tie.Need-is-full-requires
+is-full-requires c κs = search needs
 
 returns-8 : tie.Need-returns-8
 returns-8 c x w =
     let f = c .before in
     let k = f .before in
-    let h = k .before in
-    let g = h .before in
+    let e = k .before in
+    let g = e .before in
     let d = g .before in
+    let h = third d in
     let s = start d in
-    is-open (shown s x) (s .args .offset) (s .args .now) (first (second d) .if1 .left) (unsettled (second d) x) (not-running d x w) (g .if4 .left)
-    (omega (arith, h .if5 .left)) (k .if6 .left) (sym (f .is-full .ensures (made s x .table) (table-whole w)) ∙ c .if7 .left)
+    is-full (shown s x) (s .args .offset) (s .args .now) (first (second h) .if1 .left) (unsettled (second h) x) (in-hours h x) (not-running d x w) (g .if5 .left)
+    (omega (arith, e .if6 .left)) (k .if7 .left) (sym (f .is-full .ensures (made s x .table) (table-whole w)) ∙ c .if8 .taken)
+
+returns-9 : tie.Need-returns-9
+returns-9 c x w =
+    let f = c .before in
+    let k = f .before in
+    let e = k .before in
+    let g = e .before in
+    let d = g .before in
+    let h = third d in
+    let s = start d in
+    is-open (shown s x) (s .args .offset) (s .args .now) (first (second h) .if1 .left) (unsettled (second h) x) (in-hours h x) (not-running d x w) (g .if5 .left)
+    (omega (arith, e .if6 .left)) (k .if7 .left) (sym (f .is-full .ensures (made s x .table) (table-whole w)) ∙ c .if8 .left)
 
 pub offset-test-spec : {M : Type 1} → statement M
 offset-test-spec =
@@ -122,11 +153,14 @@ offset-test-spec =
     returns
     is-acked-in-place-requires
     returns-2
-    is-claimable-in-place-requires
+    is-open-requires
+    next-opening-requires
     returns-3
+    is-claimable-in-place-requires
     returns-4
     returns-5
     returns-6
-    is-full-requires
     returns-7
-    returns-8)
+    is-full-requires
+    returns-8
+    returns-9)

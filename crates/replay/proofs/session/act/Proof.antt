@@ -72,6 +72,18 @@ give-requires c κs = search needs
 returns-5 : tie.Need-returns-5
 returns-5 c = c .give .ensures _ (c .before .before .before .before .before .before .before .before .before .before .before .before .before .pre)
 
+is-hours-requires : tie.Need-is-hours-requires
+is-hours-requires c κs = search needs
+
+hours-of-requires : tie.Need-hours-of-requires
+hours-of-requires c κs = search needs
+
+set-hours-requires : tie.Need-set-hours-requires
+set-hours-requires c κs = search needs
+
+returns-6 : tie.Need-returns-6
+returns-6 c = c .set-hours .ensures _ (c .before .before .before .before .before .before .before .before .before .before .before .before .before .before .before .before .pre)
+
 seen-requires : tie.Need-seen-requires
 seen-requires c κs = search needs
 
@@ -81,8 +93,8 @@ same-length-5 c = search needs
 same-length-6 : tie.Need-same-length-6
 same-length-6 c = search needs
 
-returns-6 : tie.Need-returns-6
-returns-6 c = search needs
+returns-7 : tie.Need-returns-7
+returns-7 c = search needs
 
 pub act-spec : {M : Type 1} → statement M
 act-spec =
@@ -111,7 +123,11 @@ act-spec =
     array-read-give-2
     give-requires
     returns-5
+    is-hours-requires
+    hours-of-requires
+    set-hours-requires
+    returns-6
     seen-requires
     same-length-5
     same-length-6
-    returns-6)
+    returns-7)

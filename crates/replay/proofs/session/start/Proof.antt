@@ -29,7 +29,7 @@ slice-relend-prefix-clear c = search needs
 slice-aggregate-clear : tie.Need-slice-aggregate-clear
 slice-aggregate-clear c =
     let s = c .before .before .before .started in
-    sym (length-take-le (s .result .session .len) (c .before .before .before .before .before .before .before .before .before .before .args .area .now) (s .ensures .inside))
+    sym (length-take-le (s .result .session .len) (c .before .before .before .before .before .before .before .before .before .before .before .args .area .now) (s .ensures .inside))
 
 clear-requires : tie.Need-clear-requires
 clear-requires c κs = search needs
