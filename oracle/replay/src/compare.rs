@@ -1,4 +1,5 @@
 //! Runs the model and a program on the same scripts.
+use crate::bounds::Bounds;
 use crate::make::script;
 use crate::program::{lines, Program};
 use std::io::Write;
@@ -14,6 +15,20 @@ pub fn answers(text: &[u8]) -> String {
         .filter_map(|line| program.answer(line))
         .map(|answer| answer + "\n")
         .collect()
+}
+
+/// The first answer to a text, the model's or another's, with which a list passes a bound.
+pub fn bounds_of(text: &[u8], given: &str) -> Result<(), String> {
+    let mut bounds = Bounds::default();
+    let asked = lines(text)
+        .enumerate()
+        .filter(|(_, line)| !line.is_empty() && line[0] != b'#');
+    for ((i, line), answer) in asked.zip(given.lines()) {
+        bounds
+            .see(line, answer)
+            .map_err(|said| format!("line {}: {}\n  {said}", i + 1, shown(line)))?;
+    }
+    Ok(())
 }
 
 /// What a program writes when it is given a text.
@@ -71,12 +86,13 @@ pub fn difference(text: &[u8], given: &str) -> Result<usize, String> {
     }
 }
 
-/// Runs both on the script of a seed; every second one has no line end at its last line.
+/// Runs both on the script of a seed, whose lists have to keep the bounds; every second one has no line end at its last line.
 pub fn compare(program: &str, seed: u64, lines: usize) -> Result<usize, String> {
     let mut text = script(seed, lines).join(&b'\n');
     if seed % 2 == 0 {
         text.push(b'\n');
     }
     let given = output_of(program, text.clone())?;
-    difference(&text, &given).map_err(|said| format!("seed {seed}, {said}"))
+    let answered = difference(&text, &given).and_then(|answered| bounds_of(&text, &given).map(|()| answered));
+    answered.map_err(|said| format!("seed {seed}, {said}"))
 }

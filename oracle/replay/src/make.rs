@@ -3,7 +3,7 @@ use crate::hours::Hours;
 use crate::line::LINE;
 use crate::program::{Phase, Program};
 use crate::workers::Crew;
-use crate::{commits, halves, headers, hours, nacks, open, plan, scenes, versions, views, waiting, wear, workers};
+use crate::{bounds, commits, halves, headers, hours, nacks, open, plan, scenes, versions, views, waiting, wear, workers};
 use lists::random::Random;
 use lists::state::Table;
 
@@ -87,7 +87,7 @@ pub fn script(seed: u64, lines: usize) -> Vec<Vec<u8>> {
         scenes::spend(&mut maker);
     }
     while maker.lines.len() < lines {
-        match maker.random.below(54) {
+        match maker.random.below(58) {
             0..=5 => scenes::life(&mut maker),
             6..=7 => scenes::cuts(&mut maker),
             8 => scenes::full(&mut maker),
@@ -113,6 +113,7 @@ pub fn script(seed: u64, lines: usize) -> Vec<Vec<u8>> {
             44..=45 => open::open(&mut maker),
             46..=47 => plan::plans(&mut maker),
             48..=50 => hours::hours(&mut maker),
+            51..=54 => bounds::bounds(&mut maker),
             _ => wear::forged(&mut maker),
         }
     }

@@ -1,6 +1,6 @@
 //! 01's examples and the phases of the program, as scripts with their answers; and that the made scripts meet everything.
 use crate::block::{bodies_for, formed_header, seal};
-use crate::compare::{answers, difference};
+use crate::compare::{answers, bounds_of, difference};
 use crate::journal::{block_of, ends_unfit, header_behind, in_use, walk, writes, Half, Stored};
 use crate::line::{read, Call};
 use crate::make::script;
@@ -11,6 +11,7 @@ use lists::codecs::as_version_1;
 use std::collections::{BTreeMap, BTreeSet};
 use std::sync::OnceLock;
 
+mod bounds;
 mod commits;
 mod hours;
 mod nacks;
@@ -439,6 +440,18 @@ fn lines_of_a_text() {
     assert_eq!(answers(b"\n# state\n\nstate\n\0\r\n#"), "not now\nbad line\n");
     assert_eq!(answers(b"state"), "not now\n");
     assert_eq!(answers(b""), "");
+}
+
+/// A bound that is passed is shown as a difference is.
+#[test]
+fn a_bound_is_shown() {
+    let text = b"start 2 0 1 10 25 9216\nclaim 0 0";
+    assert_eq!(bounds_of(text, "started\nrefused 26\n"), Ok(()));
+    let said = bounds_of(
+        &[&text[..], b"\n\nclaim 0 9"].concat(),
+        "started\ndeliver 0 0 2\ndeliver 0 0 2\n",
+    );
+    assert!(said.unwrap_err().starts_with("line 4: claim 0 9\n  2 deliveries"));
 }
 
 #[test]
