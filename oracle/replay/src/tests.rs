@@ -25,6 +25,30 @@ fn scripts() -> &'static [Vec<Vec<u8>>] {
     MADE.get_or_init(|| (1..=120).map(|seed| script(seed, 2_000)).collect())
 }
 
+/// The names of those that hold.
+fn holding<const N: usize>(facts: [(&'static str, bool); N]) -> Vec<&'static str> {
+    facts.into_iter().filter(|&(_, holds)| holds).map(|(name, _)| name).collect()
+}
+
+/// How often each kind was met.
+#[derive(Default)]
+struct Met(BTreeMap<String, u32>);
+
+impl Met {
+    fn add(&mut self, kinds: impl IntoIterator<Item = impl ToString>) {
+        for kind in kinds {
+            *self.0.entry(kind.to_string()).or_default() += 1;
+        }
+    }
+
+    /// Each of these so often at least.
+    fn want(&self, kinds: &[(&str, u32)]) {
+        for (kind, least) in kinds {
+            assert!(self.0.get(*kind) >= Some(least), "{kind} {:?}", self.0);
+        }
+    }
+}
+
 /// Runs lines written as `LINE => ANSWER`; several steps of a checkpoint are written `checkpoint => BLOCK,..`.
 fn play(text: &str) {
     let mut program = Program::default();

@@ -1,9 +1,9 @@
 //! Demand 3's bound for a recipe and 02's bound for the batch (k), on every list of the made scripts.
-use super::scripts;
+use super::{holding, scripts, Met};
 use crate::bounds::{Bounds, List};
 use crate::line::{read, Call};
 use crate::program::Program;
-use std::collections::{BTreeMap, BTreeSet};
+use std::collections::BTreeSet;
 
 /// What comes to pass in a list, besides its deliveries.
 fn events(program: &Program, call: &Call, answer: &str) -> Option<&'static str> {
@@ -18,34 +18,28 @@ fn events(program: &Program, call: &Call, answer: &str) -> Option<&'static str> 
 }
 
 /// What a list came to.
-fn reached(list: &List, events: &BTreeSet<&'static str>) -> Vec<&'static str> {
-    let mut kinds: Vec<&'static str> = events.iter().copied().collect();
-    let mut add = |what, holds| {
-        if holds {
-            kinds.push(what);
-        }
-    };
+fn reached(list: &List) -> Vec<&'static str> {
+    let restarts = list.restarts > 0;
     let several = list.deliveries.len() >= 2;
     let most = list.deliveries.values().max();
-    add("no restart", list.restarts == 0);
-    add("restarts", list.restarts > 0);
-    add(
-        "the batch's bound",
-        list.restarts > 0 && several && list.repeats == list.batch_bound(),
-    );
-    add("the recipe's bound", list.restarts > 0 && most == Some(&list.recipe_bound()));
-    kinds
+    holding([
+        ("no restart", !restarts),
+        ("restarts", restarts),
+        ("the batch's bound", restarts && several && list.repeats == list.batch_bound()),
+        ("the recipe's bound", restarts && most == Some(&list.recipe_bound())),
+    ])
 }
 
 /// The scripts that `oracle/run compare` uses keep both bounds, and reach them often, with all that 02 has put in.
 #[test]
 fn scripts_keep_the_bounds() {
-    let mut met = BTreeMap::new();
+    let mut met = Met::default();
     let mut add = |list: Option<List>, events: &mut BTreeSet<&'static str>| {
-        for kind in list.iter().flat_map(|list| reached(list, events)) {
-            *met.entry(kind).or_insert(0) += 1;
+        let events = std::mem::take(events);
+        if let Some(list) = list {
+            met.add(reached(&list));
+            met.add(events);
         }
-        events.clear();
     };
     for lines in scripts() {
         let mut program = Program::default();
@@ -63,7 +57,7 @@ fn scripts_keep_the_bounds() {
         }
         add(bounds.list, &mut seen);
     }
-    for (kind, least) in [
+    met.want(&[
         ("no restart", 100),
         ("restarts", 500),
         ("the batch's bound", 15),
@@ -72,7 +66,5 @@ fn scripts_keep_the_bounds() {
         ("workers", 100),
         ("the second half", 100),
         ("commits", 200),
-    ] {
-        assert!(met.get(kind) >= Some(&least), "{kind} {met:?}");
-    }
+    ]);
 }
