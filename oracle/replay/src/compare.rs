@@ -59,7 +59,17 @@ fn shown(line: &[u8]) -> String {
     format!("{}.. ({} bytes)", &text[..1_200], line.len())
 }
 
-/// The first difference between the model's answers to a script and those given, with the lines before it.
+/// The model's state and the worker who calls before a line of a text, by its place.
+fn before_line(text: &[u8], place: usize) -> String {
+    let mut program = Program::default();
+    for line in lines(text).take(place) {
+        program.answer(line);
+    }
+    let state = program.answer(b"state").unwrap_or_default();
+    format!("worker {}, {}", program.worker, shown(state.as_bytes()))
+}
+
+/// The first difference between the model's answers to a script and those given, with the lines and the state before it.
 pub fn difference(text: &[u8], given: &str) -> Result<usize, String> {
     let mut program = Program::default();
     let mut given = given.lines();
@@ -71,10 +81,11 @@ pub fn difference(text: &[u8], given: &str) -> Result<usize, String> {
         if got != right {
             let from = before.len().saturating_sub(SHOWN);
             return Err(format!(
-                "{}line {}: {}\n  the model:   {right}\n  the program: {got}",
+                "{}line {}: {}\n  the model:   {right}\n  the program: {got}\n  before it:   {}",
                 before[from..].concat(),
                 i + 1,
-                shown(line)
+                shown(line),
+                before_line(text, i)
             ));
         }
         before.push(format!("{}\n    {}\n", shown(line), shown(right.as_bytes())));

@@ -482,9 +482,8 @@ fn a_bound_is_shown() {
 fn a_difference_is_shown() {
     let text = b"start 1 0 1 1 1 9216\n\nbegin\nstep\n";
     assert_eq!(difference(text, "started\nbegun 2\nwrote 1\n"), Ok(3));
-    assert!(difference(text, "started\nbegun 2\nwrote 0\n")
-        .unwrap_err()
-        .contains("line 4: step"));
+    let said = difference(text, "started\nbegun 2\nwrote 0\n").unwrap_err();
+    assert!(said.contains("line 4: step\n  the model:   wrote 1\n  the program: wrote 0\n  before it:   worker 0, not now"));
     assert!(difference(text, "started\nbegun 2\n").is_err());
     assert!(difference(text, "started\nbegun 2\nwrote 1\nmore\n").is_err());
 }
