@@ -3,6 +3,7 @@ use Prim.Native.Nat.{ℕ, _+_, _*_, _-_}
 use mathlib.Core.Path.{_≡_, refl}
 use mathlib.Core.Bool.{false, xor}
 use mathlib.Core.List.{List, [], _∷_}
+use mathlib.Core.Option.{none}
 use lib.ListN.{replicate}
 use Rattle.crc.specs.Crc32c.{bits, unbits, polynomial, crc}
 use Rattle.crc.specs.Seal.{isSealed}
@@ -29,7 +30,7 @@ use Rattle.crash_safety.specs.Batch.{isRepeated, offsetsHandedOut, different, d
 abbrev configuration : Configuration
 configuration =
     record {
-      settings = record { policy = policy 3 false [] 2; rights = 127 ∷ replicate 7 0 };
+      settings = record { policy = policy 3 false [] 2; rights = 127 ∷ replicate 7 0; hours = none };
       lease = record { «visibility_nanos» = 10; «hard_cap_nanos» = 25 };
     }
 
