@@ -1,12 +1,11 @@
 //! Power failures at the block writes of a real file: after each, a restart finds what document 01's book says, and demand 3's
-//! three promises hold. Nothing here knows how the state is kept.
+//! three promises and the bound over the batch hold. Nothing here knows how the state is kept.
 
 mod common;
 
 use common::{configuration, fresh_path, Book, Cut, Cuttable, Power, Random, WORKER};
 use ironbus_delivery_state::{
-    CheckpointError, Configuration, Consumer, HandOut, Journal, LeaseToken, NewJournal, Offset,
-    Refusal,
+    CheckpointError, Configuration, Consumer, Journal, LeaseToken, NewJournal, Offset, Refusal,
 };
 use std::cell::RefCell;
 use std::path::Path;
@@ -84,9 +83,7 @@ impl Run {
             Ok(hand_out) => {
                 let token = hand_out.token();
                 assert_eq!(token.offset.get(), offset);
-                self.book
-                    .handed_out(token, matches!(hand_out, HandOut::Deliver { .. }));
-                assert_eq!(hand_out.deliveries(), self.book.page.count(offset));
+                self.book.handed_out(hand_out);
                 self.tokens.push(token);
                 false
             }
@@ -193,7 +190,7 @@ fn random_list(path: &Path, seed: u64, calls: usize, blocks: usize) -> Run {
         }
         consumer = run.call(consumer);
     }
-    run.book.holds_the_bound(&run.configuration);
+    run.book.holds_the_bounds(&run.configuration);
     run
 }
 
@@ -233,7 +230,7 @@ fn fixed_list(path: &Path, cut: Option<(usize, Cut)>) -> usize {
         }
         consumer = run.call(consumer);
     }
-    run.book.holds_the_bound(&run.configuration);
+    run.book.holds_the_bounds(&run.configuration);
     drop(consumer);
     let writes = run.power.borrow().writes;
     writes
@@ -257,6 +254,38 @@ fn every_write_of_a_list_is_cut_in_every_way() {
             fixed_list(&path, Some((at, cut)));
         }
     }
+}
+
+fn checkpointed(consumer: Consumer<Cuttable>, book: &mut Book) -> Consumer<Cuttable> {
+    book.header_written();
+    consumer.checkpoint(WORKER).unwrap()
+}
+
+/// Offsets 0 and 1 are handed out twice each, a restart loses these counts, and then they are handed out three times each: with M 3 and
+/// N 2 that is 2 × 2 + 1 × 2 repeated deliveries.
+#[test]
+fn the_bound_over_the_batch_is_met() {
+    let configuration = configuration(3, 2, 10, 25);
+    let file = Cuttable::new(&fresh_path("batch"), 18, &Rc::default());
+    let mut book = Book::default();
+    let hand_out_both = |consumer: &mut Consumer<Cuttable>, book: &mut Book, now: u64| {
+        for offset in [0, 1] {
+            book.handed_out(consumer.claim(WORKER, Offset::new(offset), now).unwrap());
+        }
+    };
+    let consumer = Consumer::start(&configuration, NewJournal::on(file).unwrap()).unwrap();
+    let mut consumer = checkpointed(consumer, &mut book);
+    hand_out_both(&mut consumer, &mut book, 0);
+    hand_out_both(&mut consumer, &mut book, 10);
+    let mut consumer = Consumer::restart(&configuration, consumer.into_journal()).unwrap();
+    book.restarted(&mut consumer, &[0, 1]);
+    let mut consumer = checkpointed(consumer, &mut book);
+    hand_out_both(&mut consumer, &mut book, 20);
+    hand_out_both(&mut consumer, &mut book, 30);
+    let mut consumer = checkpointed(consumer, &mut book);
+    hand_out_both(&mut consumer, &mut book, 40);
+    assert_eq!(book.repeated, 6);
+    book.holds_the_bounds(&configuration);
 }
 
 #[test]

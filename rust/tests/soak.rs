@@ -29,7 +29,7 @@ const WINDOW: u64 = 12;
 /// What the book is told.
 #[derive(Clone, Copy, Debug, PartialEq, Eq)]
 enum Event {
-    HandedOut { token: LeaseToken, deliver: bool },
+    HandedOut(HandOut),
     Settled(u64),
     Committed(u64),
     Begun,
@@ -60,10 +60,8 @@ impl Caller {
             0..=3 => {
                 let offset = base + self.random.below(WINDOW);
                 if let Ok(hand_out) = consumer.claim(WORKER, Offset::new(offset), self.now) {
-                    let token = hand_out.token();
-                    let deliver = matches!(hand_out, HandOut::Deliver { .. });
-                    say(Event::HandedOut { token, deliver });
-                    self.tokens.push(token);
+                    say(Event::HandedOut(hand_out));
+                    self.tokens.push(hand_out.token());
                 }
             }
             4..=6 => self.under_a_token(consumer, say),
@@ -98,7 +96,7 @@ fn window(committed: u64) -> Vec<u64> {
 
 fn tell(book: &mut Book, event: Event) {
     match event {
-        Event::HandedOut { token, deliver } => book.handed_out(token, deliver),
+        Event::HandedOut(hand_out) => book.handed_out(hand_out),
         Event::Settled(offset) => book.settled(offset),
         Event::Committed(bound) => book.committed(bound),
         Event::Begun => {}
@@ -153,7 +151,7 @@ fn twenty_thousand_checkpoints_with_power_failures() {
             }
         }
     }
-    book.holds_the_bound(&settings());
+    book.holds_the_bounds(&settings());
     let power = power.borrow();
     assert!(power.zeroed > 20_000 && power.cut_zeros > 300 && book.restarts > 1000);
 }
@@ -175,9 +173,14 @@ fn worker() {
     let mut out = io::stdout();
     let mut say = |event: Event| {
         let line = match event {
-            Event::HandedOut { token, deliver } => {
-                let (offset, generation) = (token.offset, token.generation.get());
-                format!("says handed {offset} {generation} {}\n", u8::from(deliver))
+            Event::HandedOut(hand_out) => {
+                let LeaseToken { offset, generation } = hand_out.token();
+                let (generation, count) = (generation.get(), hand_out.deliveries());
+                let name = match hand_out {
+                    HandOut::Deliver { .. } => "deliver",
+                    HandOut::DeadLetter { .. } => "deadletter",
+                };
+                format!("says {name} {offset} {generation} {count}\n")
             }
             Event::Settled(offset) => format!("says settled {offset}\n"),
             Event::Committed(bound) => format!("says committed {bound}\n"),
@@ -214,13 +217,18 @@ fn event_of(line: &str) -> Option<Event> {
     let name = words.next()?;
     let mut number = || words.next().map(|word| word.parse::<u64>().unwrap());
     Some(match name {
-        "handed" => Event::HandedOut {
-            token: LeaseToken {
+        "deliver" | "deadletter" => {
+            let token = LeaseToken {
                 offset: Offset::new(number()?),
                 generation: Generation::new(number()?),
-            },
-            deliver: number()? == 1,
-        },
+            };
+            let deliveries = u32::try_from(number()?).unwrap();
+            Event::HandedOut(if name == "deliver" {
+                HandOut::Deliver { token, deliveries }
+            } else {
+                HandOut::DeadLetter { token, deliveries }
+            })
+        }
         "settled" => Event::Settled(number()?),
         "committed" => Event::Committed(number()?),
         "begun" => Event::Begun,
@@ -299,7 +307,7 @@ fn killed_again_and_again(path: &Path, checkpoints: u64, most: u64) -> u64 {
         }
         book.restarted(&mut consumer, &offsets);
     }
-    book.holds_the_bound(&settings());
+    book.holds_the_bounds(&settings());
     let generations = book.generations.len();
     println!("{all} checkpoints, {generations} hand-outs, {kills} kills");
     println!("{within} kills in a checkpoint, {written} of them behind its header");

@@ -57,7 +57,7 @@ module _ (p : Policy) (limited : 0 < p .maxDeliver) (fires : p .maxDeliver < MAX
   abbrev N : ℕ
   N = p .flushRedeliveries
 
-  for-delivery : (n : ℕ) → forDelivery (disposition p n) ≡ leb n M
+  pub for-delivery : (n : ℕ) → forDelivery (disposition p n) ≡ leb n M
   for-delivery n =
       split (leb n M)
       (λ t. rw (t, ne-eqb M 0 (λ z. omega arith), le-ltb M n (leb-true n M t)))

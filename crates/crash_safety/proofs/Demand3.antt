@@ -21,11 +21,11 @@ use Rattle.crash_safety.proofs.Kept.{item-kept}
 use Rattle.crash_safety.proofs.Start.{begins-well}
 
 -- M lies strictly between 0 and the largest u32, so that counts pass it before they stop
-limits : (c : Configuration) → Premises c → (0 < c .settings .policy .maxDeliver) × (c .settings .policy .maxDeliver < MAX32)
+pub limits : (c : Configuration) → Premises c → (0 < c .settings .policy .maxDeliver) × (c .settings .policy .maxDeliver < MAX32)
 limits c p = omega (arith, p .limit-not-0, p .limit-not-max, p .fits .limit-fits)
 
 -- the events of every list obey the law
-lawfully : (c : Configuration) (n : ℕ) (s : State) (items : List Item) → Fits (c .settings) → start c n ≡ done s
+pub lawfully : (c : Configuration) (n : ℕ) (s : State) (items : List Item) → Fits (c .settings) → start c n ≡ done s
     → Along noted (Law (c .settings .policy)) emptyLedger (run c (freshWorld s n) items)
 lawfully c n s items f e =
     let b = begins-well c n s f e in

@@ -14,6 +14,7 @@ pub mod Steps
 pub mod Kept
 pub mod Start
 pub mod Demand3
+pub mod Batch
 pub mod Reached
 pub mod Workers
 pub mod Waits

@@ -2,6 +2,7 @@ pub mod Runs
 pub mod Effects
 pub mod Book
 pub mod Demand3
+pub mod Batch
 pub mod Workers
 pub mod Waits
 pub mod Hours

@@ -28,6 +28,7 @@ use Rattle.power_cut.specs.declared.Kind.{Kind}
 use Rattle.power_cut.specs.declared.Failed.{Failed}
 use Rattle.crash_safety.specs.Runs.{Item, call, stepOn, cut, world, run, ends}
 use Rattle.crash_safety.specs.Demand3.{Holds}
+use Rattle.crash_safety.specs.Batch.{WithinBatch}
 
 -- what is seen, in front of what is seen after it; of a call answered NotNow nothing is
 abbrev pub seen : Option After → List Event → List Event
@@ -77,9 +78,10 @@ RanIsRun =
     (m : Machine) (a : List ℕ) (is : List Item) (es : List Event) (last : Machine) (end : List ℕ) → Sound m → Ran m a is es last end
     → IsRun m a is es last end
 
--- ## so demand 3 holds of it
+-- ## so demand 3 and the bound over the batch hold of it
 pub record HoldsRan (s : Configuration) (is : List Item) (es : List Event) (last : Machine) (end : List ℕ) : Type 0 where
   pub holds : Holds (configurationOf s) is es
+  pub batch : WithinBatch (configurationOf s) is es
   -- and no machine that is off is refused to go on from the journal
   pub reopened : (m : Machine) (out : List ℕ) (r : Called) (a′ out′ : List ℕ) → OffIs s m
       → (Sound m → CalledIs m restart end out r a′ out′)

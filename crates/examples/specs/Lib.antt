@@ -1,6 +1,7 @@
 pub mod Journal
 pub mod Consumer
 pub mod BoundMet
+pub mod BatchMet
 pub mod Workers
 pub mod Hours
 pub mod SettledExamples

@@ -1,4 +1,5 @@
 //! Runs the model and a program on the same scripts.
+use crate::bounds::Bounds;
 use crate::make::script;
 use crate::program::{lines, Program};
 use std::io::Write;
@@ -14,6 +15,20 @@ pub fn answers(text: &[u8]) -> String {
         .filter_map(|line| program.answer(line))
         .map(|answer| answer + "\n")
         .collect()
+}
+
+/// The first answer to a text, the model's or another's, with which a list passes a bound.
+pub fn bounds_of(text: &[u8], given: &str) -> Result<(), String> {
+    let mut bounds = Bounds::default();
+    let asked = lines(text)
+        .enumerate()
+        .filter(|(_, line)| !line.is_empty() && line[0] != b'#');
+    for ((i, line), answer) in asked.zip(given.lines()) {
+        bounds
+            .see(line, answer)
+            .map_err(|said| format!("line {}: {}\n  {said}", i + 1, shown(line)))?;
+    }
+    Ok(())
 }
 
 /// What a program writes when it is given a text.
@@ -44,7 +59,17 @@ fn shown(line: &[u8]) -> String {
     format!("{}.. ({} bytes)", &text[..1_200], line.len())
 }
 
-/// The first difference between the model's answers to a script and those given, with the lines before it.
+/// The model's state and the worker who calls before a line of a text, by its place.
+fn before_line(text: &[u8], place: usize) -> String {
+    let mut program = Program::default();
+    for line in lines(text).take(place) {
+        program.answer(line);
+    }
+    let state = program.answer(b"state").unwrap_or_default();
+    format!("worker {}, {}", program.worker, shown(state.as_bytes()))
+}
+
+/// The first difference between the model's answers to a script and those given, with the lines and the state before it.
 pub fn difference(text: &[u8], given: &str) -> Result<usize, String> {
     let mut program = Program::default();
     let mut given = given.lines();
@@ -56,10 +81,11 @@ pub fn difference(text: &[u8], given: &str) -> Result<usize, String> {
         if got != right {
             let from = before.len().saturating_sub(SHOWN);
             return Err(format!(
-                "{}line {}: {}\n  the model:   {right}\n  the program: {got}",
+                "{}line {}: {}\n  the model:   {right}\n  the program: {got}\n  before it:   {}",
                 before[from..].concat(),
                 i + 1,
-                shown(line)
+                shown(line),
+                before_line(text, i)
             ));
         }
         before.push(format!("{}\n    {}\n", shown(line), shown(right.as_bytes())));
@@ -71,12 +97,13 @@ pub fn difference(text: &[u8], given: &str) -> Result<usize, String> {
     }
 }
 
-/// Runs both on the script of a seed; every second one has no line end at its last line.
+/// Runs both on the script of a seed, whose lists have to keep the bounds; every second one has no line end at its last line.
 pub fn compare(program: &str, seed: u64, lines: usize) -> Result<usize, String> {
     let mut text = script(seed, lines).join(&b'\n');
     if seed % 2 == 0 {
         text.push(b'\n');
     }
     let given = output_of(program, text.clone())?;
-    difference(&text, &given).map_err(|said| format!("seed {seed}, {said}"))
+    let answered = difference(&text, &given).and_then(|answered| bounds_of(&text, &given).map(|()| answered));
+    answered.map_err(|said| format!("seed {seed}, {said}"))
 }

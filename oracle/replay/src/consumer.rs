@@ -72,6 +72,14 @@ impl Settings {
         delay.min(self.lease.hard_cap_nanos)
     }
 
+    /// Refusal 35.
+    fn open_at(&self, now: u64) -> Result<(), Code> {
+        match self.handed.hours {
+            Some(hours) if !hours.is_open(now) => Err(vec![35, hours.opening(now)]),
+            _ => Ok(()),
+        }
+    }
+
     /// A nack's deadline, moved to the next opening where it falls outside of hours (02, c).
     fn nack_deadline(&self, now: u64, delay: u64) -> u64 {
         let deadline = now.saturating_add(delay);
@@ -230,9 +238,7 @@ impl Consumer {
         if self.cursor.is_acked(Offset::new(offset)) {
             return Err(vec![22]);
         }
-        if let Some(hours) = self.settings.handed.hours.filter(|hours| !hours.is_open(now)) {
-            return Err(vec![35, hours.opening(now)]);
-        }
+        self.settings.open_at(now)?;
         if !self.table.is_claimable(Offset::new(offset), now) {
             return Err(vec![23]);
         }

@@ -1,5 +1,6 @@
 //! A model of the program `replay`: document 01's consumer and journal, step by step, over the original's modules.
 pub mod block;
+pub mod bounds;
 pub mod commits;
 pub mod compare;
 pub mod consumer;

@@ -91,6 +91,18 @@ fn room(places: u64) -> Option<usize> {
     places.try_into().ok().filter(|&places| places <= ROOM)
 }
 
+/// A call that changes nothing.
+fn question(word: &str, numbers: &[u64]) -> Option<Call> {
+    Some(match (word, numbers) {
+        ("waiting", &[now]) => Call::Waiting(now),
+        ("view", &[offset, now]) => Call::View(offset, now),
+        ("open", &[from, to, places]) => Call::Open(from, to, room(places)?),
+        ("nearest", &[offset]) => Call::Nearest(offset),
+        ("plan", &[places, ref offsets @ ..]) if offsets.len() <= PLAN => Call::Plan(room(places)?, offsets.to_vec()),
+        _ => return None,
+    })
+}
+
 /// The call that a line makes, or nothing where it is none.
 pub fn read(line: &[u8]) -> Option<Call> {
     if line.len() > LINE {
@@ -120,11 +132,6 @@ pub fn read(line: &[u8]) -> Option<Call> {
         ("nack", &[offset, generation, now, delay]) => Call::Nack(offset, generation, now, Some(delay)),
         ("progress", &[offset, generation, now]) => Call::Progress(offset, generation, now),
         ("commit", &[bound]) => Call::Commit(bound),
-        ("waiting", &[now]) => Call::Waiting(now),
-        ("view", &[offset, now]) => Call::View(offset, now),
-        ("open", &[from, to, places]) => Call::Open(from, to, room(places)?),
-        ("nearest", &[offset]) => Call::Nearest(offset),
-        ("plan", &[places, ref offsets @ ..]) if offsets.len() <= PLAN => Call::Plan(room(places)?, offsets.to_vec()),
         ("begin", &[]) => Call::Begin,
         ("step", &[]) => Call::Step(None),
         ("step", &[bytes]) => Call::Step(Some(bytes)),
@@ -133,7 +140,7 @@ pub fn read(line: &[u8]) -> Option<Call> {
         ("state", &[]) => Call::State,
         ("poke", &[block, byte, value]) => Call::Poke(block, byte, value),
         ("peek", &[block]) => Call::Peek(block),
-        _ => return None,
+        (word, numbers) => return question(word, numbers),
     })
 }
 

@@ -1,9 +1,9 @@
 //! A model of the program `replay`, from document 01 and over the original. docs/ORACLE.md says what it shows.
 //!
-//!     replay-model run                           the model's answers to the script on standard input
+//!     replay-model run                           the model's answers to the script on standard input, whose lists keep the bounds
 //!     replay-model make SEED LINES               a script
 //!     replay-model compare PROGRAM SEEDS LINES   PROGRAM and the model on the scripts of seeds 1 to SEEDS, up to the first difference
-use replay_model::compare::{answers, compare};
+use replay_model::compare::{answers, bounds_of, compare};
 use replay_model::make::script;
 use std::io::{Read, Write};
 use std::process::exit;
@@ -19,7 +19,7 @@ fn compare_all(program: &str, seeds: u64, lines: usize) {
             }
         }
     }
-    println!("replay: {total} lines of {seeds} scripts, all answered as the model answers them");
+    println!("replay: {total} lines of {seeds} scripts, all answered as the model answers them and within the bounds");
 }
 
 fn main() {
@@ -31,7 +31,12 @@ fn main() {
         ["run"] => {
             let mut text = Vec::new();
             std::io::stdin().read_to_end(&mut text).unwrap();
-            out.write_all(answers(&text).as_bytes()).unwrap();
+            let given = answers(&text);
+            out.write_all(given.as_bytes()).unwrap();
+            if let Err(said) = bounds_of(&text, &given) {
+                eprintln!("{said}");
+                exit(1);
+            }
         }
         ["make", seed, lines] => {
             let mut text = script(number(seed), number(lines) as usize).join(&b'\n');

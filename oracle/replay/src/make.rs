@@ -3,7 +3,7 @@ use crate::hours::Hours;
 use crate::line::LINE;
 use crate::program::{Phase, Program};
 use crate::workers::Crew;
-use crate::{commits, halves, headers, hours, nacks, open, plan, scenes, versions, views, waiting, wear, workers};
+use crate::{bounds, commits, halves, headers, hours, nacks, open, plan, scenes, versions, views, waiting, wear, workers};
 use lists::random::Random;
 use lists::state::Table;
 
@@ -87,37 +87,43 @@ pub fn script(seed: u64, lines: usize) -> Vec<Vec<u8>> {
         scenes::spend(&mut maker);
     }
     while maker.lines.len() < lines {
-        match maker.random.below(54) {
-            0..=5 => scenes::life(&mut maker),
-            6..=7 => scenes::cuts(&mut maker),
-            8 => scenes::full(&mut maker),
-            9 => scenes::ranges(&mut maker),
-            10 => scenes::last_generations(&mut maker),
-            11 => scenes::starts(&mut maker),
-            12 => scenes::filled(&mut maker),
-            13..=14 => wear::worn(&mut maker),
-            15 => wear::bounds(&mut maker),
-            16..=20 => headers::headers(&mut maker),
-            21..=22 => versions::versions(&mut maker),
-            23..=24 => halves::switches(&mut maker),
-            25..=26 => halves::cut_switches(&mut maker),
-            27..=28 => halves::first_blocks(&mut maker),
-            29..=30 => halves::last_numbers(&mut maker),
-            31 => halves::old_journals(&mut maker),
-            32 => halves::unfit(&mut maker),
-            33..=35 => workers::workers(&mut maker),
-            36..=37 => views::views(&mut maker),
-            38..=39 => nacks::nacks(&mut maker),
-            40..=41 => waiting::waiting(&mut maker),
-            42..=43 => commits::commits(&mut maker),
-            44..=45 => open::open(&mut maker),
-            46..=47 => plan::plans(&mut maker),
-            48..=50 => hours::hours(&mut maker),
-            _ => wear::forged(&mut maker),
-        }
+        scene(&mut maker);
     }
     maker.lines.truncate(lines);
     maker.lines
+}
+
+/// Any scene.
+fn scene(maker: &mut Maker) {
+    match maker.random.below(58) {
+        0..=5 => scenes::life(maker),
+        6..=7 => scenes::cuts(maker),
+        8 => scenes::full(maker),
+        9 => scenes::ranges(maker),
+        10 => scenes::last_generations(maker),
+        11 => scenes::starts(maker),
+        12 => scenes::filled(maker),
+        13..=14 => wear::worn(maker),
+        15 => wear::bounds(maker),
+        16..=20 => headers::headers(maker),
+        21..=22 => versions::versions(maker),
+        23..=24 => halves::switches(maker),
+        25..=26 => halves::cut_switches(maker),
+        27..=28 => halves::first_blocks(maker),
+        29..=30 => halves::last_numbers(maker),
+        31 => halves::old_journals(maker),
+        32 => halves::unfit(maker),
+        33..=35 => workers::workers(maker),
+        36..=37 => views::views(maker),
+        38..=39 => nacks::nacks(maker),
+        40..=41 => waiting::waiting(maker),
+        42..=43 => commits::commits(maker),
+        44..=45 => open::open(maker),
+        46..=47 => plan::plans(maker),
+        48..=50 => hours::hours(maker),
+        51..=54 => bounds::bounds(maker),
+        _ => wear::forged(maker),
+    }
 }
 
 impl Maker {

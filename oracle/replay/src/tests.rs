@@ -1,6 +1,6 @@
 //! 01's examples and the phases of the program, as scripts with their answers; and that the made scripts meet everything.
 use crate::block::{bodies_for, formed_header, seal};
-use crate::compare::{answers, difference};
+use crate::compare::{answers, bounds_of, difference};
 use crate::journal::{block_of, ends_unfit, header_behind, in_use, walk, writes, Half, Stored};
 use crate::line::{read, Call};
 use crate::make::script;
@@ -11,6 +11,7 @@ use lists::codecs::as_version_1;
 use std::collections::{BTreeMap, BTreeSet};
 use std::sync::OnceLock;
 
+mod bounds;
 mod commits;
 mod hours;
 mod nacks;
@@ -22,6 +23,30 @@ mod waiting;
 fn scripts() -> &'static [Vec<Vec<u8>>] {
     static MADE: OnceLock<Vec<Vec<Vec<u8>>>> = OnceLock::new();
     MADE.get_or_init(|| (1..=120).map(|seed| script(seed, 2_000)).collect())
+}
+
+/// The names of those that hold.
+fn holding<const N: usize>(facts: [(&'static str, bool); N]) -> Vec<&'static str> {
+    facts.into_iter().filter(|&(_, holds)| holds).map(|(name, _)| name).collect()
+}
+
+/// How often each kind was met.
+#[derive(Default)]
+struct Met(BTreeMap<String, u32>);
+
+impl Met {
+    fn add(&mut self, kinds: impl IntoIterator<Item = impl ToString>) {
+        for kind in kinds {
+            *self.0.entry(kind.to_string()).or_default() += 1;
+        }
+    }
+
+    /// Each of these so often at least.
+    fn want(&self, kinds: &[(&str, u32)]) {
+        for (kind, least) in kinds {
+            assert!(self.0.get(*kind) >= Some(least), "{kind} {:?}", self.0);
+        }
+    }
 }
 
 /// Runs lines written as `LINE => ANSWER`; several steps of a checkpoint are written `checkpoint => BLOCK,..`.
@@ -441,13 +466,24 @@ fn lines_of_a_text() {
     assert_eq!(answers(b""), "");
 }
 
+/// A bound that is passed is shown as a difference is.
+#[test]
+fn a_bound_is_shown() {
+    let text = b"start 2 0 1 10 25 9216\nclaim 0 0";
+    assert_eq!(bounds_of(text, "started\nrefused 26\n"), Ok(()));
+    let said = bounds_of(
+        &[&text[..], b"\n\nclaim 0 9"].concat(),
+        "started\ndeliver 0 0 2\ndeliver 0 0 2\n",
+    );
+    assert!(said.unwrap_err().starts_with("line 4: claim 0 9\n  2 deliveries"));
+}
+
 #[test]
 fn a_difference_is_shown() {
     let text = b"start 1 0 1 1 1 9216\n\nbegin\nstep\n";
     assert_eq!(difference(text, "started\nbegun 2\nwrote 1\n"), Ok(3));
-    assert!(difference(text, "started\nbegun 2\nwrote 0\n")
-        .unwrap_err()
-        .contains("line 4: step"));
+    let said = difference(text, "started\nbegun 2\nwrote 0\n").unwrap_err();
+    assert!(said.contains("line 4: step\n  the model:   wrote 1\n  the program: wrote 0\n  before it:   worker 0, not now"));
     assert!(difference(text, "started\nbegun 2\n").is_err());
     assert!(difference(text, "started\nbegun 2\nwrote 1\nmore\n").is_err());
 }

@@ -10,7 +10,7 @@ use std::path::{Path, PathBuf};
 use std::rc::Rc;
 
 use ironbus_delivery_state::{
-    Configuration, Consumer, DeliveryConfig, LeaseConfig, LeaseToken, Offset, Settings, Storage,
+    Configuration, Consumer, DeliveryConfig, HandOut, LeaseConfig, Offset, Settings, Storage,
     WorkerId, BLOCK,
 };
 
@@ -83,20 +83,28 @@ impl Page {
 pub struct Book {
     pub page: Page,
     pub copy: Page,
-    // for the bound and the generations
+    // for the bounds and the generations
     pub delivered: BTreeMap<u64, u64>,
+    /// Every offset that was handed out, for delivery or as a dead letter.
+    pub handed_out: BTreeSet<u64>,
+    /// Deliver answers with a count of 2 or more.
+    pub repeated: u64,
     pub generations: BTreeSet<u64>,
     pub restarts: u64,
 }
 
 impl Book {
-    /// A Deliver or DeadLetter. No other hand-out may have its generation.
-    pub fn handed_out(&mut self, token: LeaseToken, deliver: bool) {
+    /// A Deliver or DeadLetter, with the book's next count. No other hand-out may have its generation.
+    pub fn handed_out(&mut self, hand_out: HandOut) {
+        let token = hand_out.token();
         let offset = token.offset.get();
         let count = self.page.counts.entry(offset).or_insert(0);
         *count = count.saturating_add(1);
-        if deliver {
+        assert_eq!(hand_out.deliveries(), *count, "the count of {offset}");
+        self.handed_out.insert(offset);
+        if let HandOut::Deliver { deliveries, .. } = hand_out {
             *self.delivered.entry(offset).or_insert(0) += 1;
+            self.repeated += u64::from(deliveries >= 2);
         }
         assert!(
             self.generations.insert(token.generation.get()),
@@ -150,22 +158,26 @@ impl Book {
         assert_eq!(consumer.all_attempt_counts(WORKER).unwrap(), counts);
     }
 
-    /// Demand 3's bound: at most M + C × (N + 1) deliveries of each offset.
-    pub fn holds_the_bound(&self, configuration: &Configuration) {
-        let most = u64::from(configuration.settings.delivery.max_deliver())
-            + self.restarts
-                * (u64::from(
-                    configuration
-                        .settings
-                        .delivery
-                        .attempts_flush_redeliveries(),
-                ) + 1);
+    /// Demand 3's bound, at most M + C × (N + 1) deliveries of each offset, and the one over the batch, at most (M − 1) × D + C × N
+    /// deliveries with a count of 2 or more of all D offsets together.
+    pub fn holds_the_bounds(&self, configuration: &Configuration) {
+        let delivery = &configuration.settings.delivery;
+        let limit = u64::from(delivery.max_deliver());
+        let threshold = u64::from(delivery.attempts_flush_redeliveries());
+        let most = limit + self.restarts * (threshold + 1);
         for (offset, times) in &self.delivered {
             assert!(
                 *times <= most,
                 "{offset} was delivered {times} times, and the bound is {most}"
             );
         }
+        let offsets = self.handed_out.len() as u64;
+        let most = (limit - 1) * offsets + self.restarts * threshold;
+        assert!(
+            self.repeated <= most,
+            "{} repeated deliveries of {offsets} offsets, and the bound is {most}",
+            self.repeated
+        );
     }
 }
 

@@ -1,10 +1,10 @@
 //! 02, l: a commit over jobs that are held.
-use super::{play, scripts};
+use super::{holding, play, scripts, Met};
 use crate::consumer::Consumer;
 use crate::line::{read, Call};
 use crate::program::Program;
 use ironbus::types::Offset;
-use std::collections::{BTreeMap, BTreeSet};
+use std::collections::BTreeSet;
 
 /// Leases and counts below the bound go, that at the bound stays; generations, ceiling and counter are as they were.
 #[test]
@@ -107,37 +107,32 @@ fn dropped(consumer: &Consumer, worker: u64, bound: u64) -> Vec<&'static str> {
     let table = consumer.table();
     let below = || table.leases.iter().filter(|lease| lease.offset < bound);
     let ranges = consumer.cursor.ahead_ranges();
-    let mut kinds = Vec::new();
-    let mut add = |what, holds| {
-        if holds {
-            kinds.push(what);
-        }
-    };
-    add("nothing held", below().count() == 0);
-    add(
-        "one's own",
-        below().any(|lease| consumer.holder(lease.offset) == Some(worker)),
-    );
-    add(
-        "another's",
-        below().any(|lease| consumer.holder(lease.offset) != Some(worker)),
-    );
     let held = below().count() > 0;
-    add("all leases", held && below().count() == table.leases.len());
-    add(
-        "but one at the bound",
-        held && table.leases.iter().any(|lease| lease.offset == bound),
-    );
-    add("counts too", held && table.carried.iter().any(|&(offset, _)| offset < bound));
-    add(
-        "and a range is swallowed",
-        held && ranges.iter().any(|&(start, end)| start <= bound && bound < end),
-    );
-    kinds
+    holding([
+        ("nothing held", !held),
+        (
+            "one's own",
+            below().any(|lease| consumer.holder(lease.offset) == Some(worker)),
+        ),
+        (
+            "another's",
+            below().any(|lease| consumer.holder(lease.offset) != Some(worker)),
+        ),
+        ("all leases", held && below().count() == table.leases.len()),
+        (
+            "but one at the bound",
+            held && table.leases.iter().any(|lease| lease.offset == bound),
+        ),
+        ("counts too", held && table.carried.iter().any(|&(offset, _)| offset < bound)),
+        (
+            "and a range is swallowed",
+            held && ranges.iter().any(|&(start, end)| start <= bound && bound < end),
+        ),
+    ])
 }
 
 /// What a call or a restart meets after commits that dropped such tokens.
-fn late(dropped: &BTreeSet<(u64, u64)>, program: &Program, call: &Call, answer: &str) -> Option<(&'static str, String)> {
+fn late(dropped: &BTreeSet<(u64, u64)>, program: &Program, call: &Call, answer: &str) -> Option<String> {
     let token = match *call {
         Call::Settle(offset, generation) | Call::Nack(offset, generation, ..) | Call::Progress(offset, generation, _) => {
             (offset, generation)
@@ -147,18 +142,18 @@ fn late(dropped: &BTreeSet<(u64, u64)>, program: &Program, call: &Call, answer: 
             let open = |&&(offset, _): &&(u64, u64)| !consumer.cursor.is_acked(Offset::new(offset));
             let (offset, _) = dropped.iter().find(open)?;
             let counted = consumer.table().carried.iter().any(|(carried, _)| carried == offset);
-            return Some(("open again", if counted { "counted" } else { "uncounted" }.to_string()));
+            return Some(if counted { "open again, counted" } else { "open again" }.to_string());
         }
         _ => return None,
     };
-    (dropped.contains(&token) && answer != "not now").then(|| ("late", answer.to_string()))
+    (dropped.contains(&token) && answer != "not now").then(|| format!("late {answer}"))
 }
 
 /// The scripts that `oracle/run compare` uses have such commits of every kind, late calls, and restarts that go back behind them. No
 /// lease lies below what is committed.
 #[test]
 fn scripts_have_commits_over_leases() {
-    let mut met: BTreeMap<(&str, String), u32> = BTreeMap::new();
+    let mut met = Met::default();
     for lines in scripts() {
         let mut program = Program::default();
         let mut gone = BTreeSet::new();
@@ -167,39 +162,32 @@ fn scripts_have_commits_over_leases() {
             let answer = program.answer(line).unwrap_or_default();
             let Some(call) = read(line) else { continue };
             if let (Call::Commit(bound), "committed", Some(before)) = (&call, &answer[..], before) {
-                for kind in dropped(&before, program.worker, *bound) {
-                    *met.entry((kind, String::new())).or_default() += 1;
-                }
+                met.add(dropped(&before, program.worker, *bound));
                 let leases = before.table().leases;
                 let below = leases.iter().filter(|lease| lease.offset < *bound);
                 gone.extend(below.map(|lease| (lease.offset, lease.generation)));
                 let left = program.consumer().unwrap().table().leases;
                 assert!(left.iter().all(|lease| lease.offset >= *bound));
             }
-            if let Some(kind) = late(&gone, &program, &call, &answer) {
-                *met.entry(kind).or_default() += 1;
-            }
+            met.add(late(&gone, &program, &call, &answer));
             if matches!(call, Call::Start(_) | Call::Restart(_)) {
                 gone.clear();
             }
         }
     }
-    for (kind, answer, least) in [
-        ("nothing held", "", 100),
-        ("one's own", "", 50),
-        ("another's", "", 50),
-        ("all leases", "", 30),
-        ("but one at the bound", "", 20),
-        ("counts too", "", 20),
-        ("and a range is swallowed", "", 20),
-        ("late", "refused 24", 100),
-        ("late", "refused 38", 5),
-        ("late", "refused 39", 5),
-        ("open again", "counted", 20),
-        ("open again", "uncounted", 20),
-    ] {
-        assert!(met.get(&(kind, answer.to_string())) >= Some(&least), "{kind} {met:?}");
-    }
-    let late: Vec<_> = met.keys().filter(|(kind, _)| *kind == "late").collect();
-    assert_eq!(late.len(), 3, "{late:?}");
+    met.want(&[
+        ("nothing held", 100),
+        ("one's own", 50),
+        ("another's", 50),
+        ("all leases", 30),
+        ("but one at the bound", 20),
+        ("counts too", 20),
+        ("and a range is swallowed", 20),
+        ("late refused 24", 100),
+        ("late refused 38", 5),
+        ("late refused 39", 5),
+        ("open again, counted", 20),
+        ("open again", 20),
+    ]);
+    assert_eq!(met.0.keys().filter(|kind| kind.starts_with("late")).count(), 3, "{:?}", met.0);
 }

@@ -1,10 +1,10 @@
 //! 02, c: opening hours.
-use super::{group_up_to, play, scripts};
+use super::{group_up_to, holding, play, scripts, Met};
 use crate::consumer::{Consumer, Handed};
 use crate::hours::{Hours, DAY, HALF_HOUR, WEEK};
 use crate::line::{read, Call};
 use crate::program::Program;
-use std::collections::{BTreeMap, BTreeSet};
+use std::collections::BTreeSet;
 
 /// A line that hands in hours with these half hours of the week open.
 fn hours(shift: u64, half_hours: &[u64]) -> String {
@@ -210,50 +210,47 @@ fn half_hour(hours: &Hours, clock: u64) -> (u128, u128) {
     (place / u128::from(HALF_HOUR), place % u128::from(HALF_HOUR))
 }
 
-/// What of the hours a clock meets, and the clock to which it is put off.
-fn clock_kinds(hours: &Hours, clock: u64, put_off: u64) -> Vec<&'static str> {
-    let (here, nano) = half_hour(hours, clock);
-    let (there, _) = half_hour(hours, put_off);
-    let (day, week) = (u128::from(DAY), u128::from(7 * DAY));
-    let mut kinds = Vec::new();
-    let mut add = |what, holds| {
-        if holds {
-            kinds.push(what);
-        }
-    };
-    let first = nano == 0;
-    let last = nano == u128::from(HALF_HOUR) - 1;
+/// What of the hours a clock meets.
+fn clock_kinds(hours: &Hours, clock: u64) -> Vec<&'static str> {
+    let (_, nano) = half_hour(hours, clock);
     let open = hours.is_open(clock);
-    add(
-        "the first nanosecond, open",
-        first && open && clock > 0 && !hours.is_open(clock - 1),
-    );
-    add(
-        "the first nanosecond, closed",
-        first && !open && clock > 0 && hours.is_open(clock - 1),
-    );
-    add(
-        "the last nanosecond, open",
-        last && open && clock < u64::MAX && !hours.is_open(clock + 1),
-    );
-    add(
-        "the last nanosecond, closed",
-        last && !open && clock < u64::MAX && hours.is_open(clock + 1),
-    );
-    add(
-        "the sum passes",
-        u64::try_from(u128::from(clock) + u128::from(hours.shift)).is_err(),
-    );
-    add("the last clock, open", clock == u64::MAX && open);
-    add("the last clock, closed", clock == u64::MAX && !open);
-    if !open && put_off < u64::MAX {
-        add("that day", there / day == here / day);
-        add("another day", there / day > here / day);
-        add("a week later", there / day == here / day + 7);
-        add("the turn of the week", there / week > here / week);
+    let turned = |other: Option<u64>| other.is_some_and(|other| hours.is_open(other) != open);
+    let first = nano == 0 && turned(clock.checked_sub(1));
+    let last = nano == u128::from(HALF_HOUR) - 1 && turned(clock.checked_add(1));
+    holding([
+        ("the first nanosecond, open", first && open),
+        ("the first nanosecond, closed", first && !open),
+        ("the last nanosecond, open", last && open),
+        ("the last nanosecond, closed", last && !open),
+        ("the sum passes", clock.checked_add(hours.shift).is_none()),
+        ("the last clock, open", clock == u64::MAX && open),
+        ("the last clock, closed", clock == u64::MAX && !open),
+    ])
+}
+
+/// Where the opening lies to which a closed clock is put off.
+fn opening_kinds(hours: &Hours, clock: u64, opening: u64) -> Vec<&'static str> {
+    if opening == u64::MAX {
+        return holding([("beyond", clock < u64::MAX)]);
     }
-    add("beyond", !open && clock < u64::MAX && put_off == u64::MAX);
-    kinds
+    let ((here, _), (there, _)) = (half_hour(hours, clock), half_hour(hours, opening));
+    let (day, week) = (u128::from(DAY), u128::from(7 * DAY));
+    holding([
+        ("that day", there / day == here / day),
+        ("another day", there / day > here / day),
+        ("a week later", there / day == here / day + 7),
+        ("the turn of the week", there / week > here / week),
+    ])
+}
+
+/// What a nack with a delay meets.
+fn deadline_kind(hours: &Hours, asked: u64, deadline: u64) -> &'static str {
+    assert!(hours.is_open(deadline) || deadline == u64::MAX);
+    match deadline {
+        _ if deadline == asked => "a deadline in hours",
+        u64::MAX => "a deadline moved to the last",
+        _ => "a deadline moved or capped",
+    }
 }
 
 /// What a claim would be answered without hours: its refusal's number, or `granted`.
@@ -268,45 +265,46 @@ fn without_hours(consumer: &Consumer, worker: u64, offset: u64, now: u64) -> Str
     }
 }
 
-/// The scripts that `oracle/run compare` uses have claims and nacks about the hours of every kind. Outside of hours a claim is refused
-/// 21, 22 or 35 alone, and what else it would have met is seen.
+/// What a call on a consumer with hours meets. Outside of hours a claim is refused 38, 39, 21, 22 or 35.
+fn kinds(hours: &Hours, call: &Call, answer: &str) -> Vec<&'static str> {
+    let words: Vec<&str> = answer.split(' ').collect();
+    match (call, &words[..]) {
+        (Call::Claim(_, now), ["refused", "35", opening]) => {
+            let opening = opening_kinds(hours, *now, opening.parse().unwrap());
+            [clock_kinds(hours, *now), opening].concat()
+        }
+        (Call::Claim(_, now), _) if hours.is_open(*now) => clock_kinds(hours, *now),
+        (Call::Claim(..), ["refused", "38" | "39"]) => Vec::new(),
+        (Call::Claim(..), ["refused", "21" | "22"]) => vec!["21 or 22 while closed"],
+        (Call::Claim(..), _) => panic!("{answer} while closed"),
+        (Call::Nack(_, _, now, Some(delay)), ["requeued", deadline]) => {
+            vec![deadline_kind(hours, now.saturating_add(*delay), deadline.parse().unwrap())]
+        }
+        _ => Vec::new(),
+    }
+}
+
+/// The scripts that `oracle/run compare` uses have claims and nacks about the hours of every kind; what else a closed claim would have
+/// met is seen.
 #[test]
 fn scripts_have_hours() {
-    let mut met = BTreeMap::new();
+    let mut met = Met::default();
     let mut instead = BTreeSet::new();
     for lines in scripts() {
         let mut program = Program::default();
         for line in lines {
-            let before = program.consumer().cloned();
+            let before = program.consumer().filter(|before| before.handed().hours.is_some()).cloned();
             let answer = program.answer(line).unwrap_or_default();
-            let words: Vec<&str> = answer.split(' ').collect();
-            let Some((before, hours)) = before.and_then(|before| before.handed().hours.map(|hours| (before, hours))) else {
+            let (Some(before), Some(call)) = (before, read(line)) else {
                 continue;
             };
-            let kinds = match (read(line), &words[..]) {
-                (Some(Call::Claim(offset, now)), ["refused", "35", opening]) => {
-                    instead.insert(without_hours(&before, program.worker, offset, now));
-                    clock_kinds(&hours, now, opening.parse().unwrap())
-                }
-                (Some(Call::Claim(_, now)), ["refused", "21" | "22"]) if !hours.is_open(now) => vec!["21 or 22 while closed"],
-                (Some(Call::Claim(_, now)), ["deliver" | "deadletter", ..]) => clock_kinds(&hours, now, now),
-                (Some(Call::Nack(_, _, now, Some(delay))), ["requeued", deadline]) => {
-                    let deadline: u64 = deadline.parse().unwrap();
-                    assert!(hours.is_open(deadline) || deadline == u64::MAX);
-                    vec![match now.saturating_add(delay) {
-                        sum if sum == deadline => "a deadline in hours",
-                        _ if deadline == u64::MAX => "a deadline moved to the last",
-                        _ => "a deadline moved or capped",
-                    }]
-                }
-                _ => continue,
-            };
-            for kind in kinds {
-                *met.entry(kind).or_insert(0) += 1;
+            if let (Call::Claim(offset, now), true) = (&call, answer.starts_with("refused 35")) {
+                instead.insert(without_hours(&before, program.worker, *offset, *now));
             }
+            met.add(kinds(&before.handed().hours.unwrap(), &call, &answer));
         }
     }
-    for (kind, least) in [
+    met.want(&[
         ("the first nanosecond, open", 50),
         ("the first nanosecond, closed", 20),
         ("the last nanosecond, open", 20),
@@ -323,9 +321,7 @@ fn scripts_have_hours() {
         ("a deadline in hours", 50),
         ("a deadline moved to the last", 10),
         ("a deadline moved or capped", 50),
-    ] {
-        assert!(met.get(kind) >= Some(&least), "{kind} {met:?}");
-    }
+    ]);
     let seen = ["granted", "23", "26"].iter().all(|&answer| instead.contains(answer));
     assert!(seen && !instead.contains("21") && !instead.contains("22"), "{instead:?}");
 }
@@ -333,7 +329,7 @@ fn scripts_have_hours() {
 /// They have 33 and 34 at starts and at restarts, 33 for bits and for the shift, and beside a bad area.
 #[test]
 fn scripts_have_bad_hours() {
-    let mut met = BTreeMap::new();
+    let mut met = Met::default();
     for lines in scripts() {
         let mut program = Program::default();
         for line in lines {
@@ -347,23 +343,23 @@ fn scripts_have_bad_hours() {
             };
             let why = match (&answer[..], program.handed.hours) {
                 ("refused 34", _) => "34",
-                ("refused 33", Some(hours)) if hours.shift >= WEEK => "33, shift",
-                ("refused 33", _) => "33, bits",
-                ("refused 3", Some(hours)) if hours.judge().is_err() => "3 before it",
+                ("refused 33", Some(hours)) if hours.shift >= WEEK => "33 for the shift",
+                ("refused 33", _) => "33 for bits",
+                ("refused 3", Some(hours)) if hours.judge().is_err() => "3",
                 _ => continue,
             };
-            *met.entry((at, why)).or_insert(0) += 1;
+            met.add([format!("{why} at {at}")]);
         }
     }
-    for why in ["33, shift", "33, bits", "34"] {
-        for at in [
-            "a start",
-            "a start on a bad area",
-            "a restart",
-            "a restart on some of the area",
-        ] {
-            assert!(met.get(&(at, why)) >= Some(&3), "{met:?}");
+    for at in [
+        "a start",
+        "a start on a bad area",
+        "a restart",
+        "a restart on some of the area",
+    ] {
+        for why in ["33 for the shift", "33 for bits", "34"] {
+            met.want(&[(&format!("{why} at {at}"), 3)]);
         }
     }
-    assert!(met.keys().any(|&(_, why)| why == "3 before it"), "{met:?}");
+    met.want(&[("3 at a start", 1)]);
 }

@@ -1,11 +1,10 @@
 //! 02, a: what is unsettled between two numbers, and the nearest of it.
-use super::{play, scripts};
+use super::{holding, play, scripts, Met};
 use crate::consumer::Consumer;
 use crate::line::{read, Call};
 use crate::open::stretches;
 use crate::program::Program;
 use ironbus::types::Offset;
-use std::collections::BTreeMap;
 
 /// Stretches between settled ranges, clipped at both bounds; 32 before 20, and 38 and 39 before both.
 #[test]
@@ -66,37 +65,27 @@ fn stretches_and_nearest() {
 /// What a question for stretches meets.
 fn open_kinds(consumer: &Consumer, from: u64, to: u64, room: usize) -> Vec<&'static str> {
     if from > to {
-        return vec!["32", if room == 0 { "32 without room" } else { "32 with room" }];
+        return vec![if room == 0 { "32 without room" } else { "32 with room" }];
     }
     let open = |offset: u64| !consumer.cursor.is_acked(Offset::new(offset));
     let all = stretches(&consumer.cursor, from, to);
-    let mut kinds = Vec::new();
-    let mut add = |what, holds| {
-        if holds {
-            kinds.push(what);
-        }
-    };
-    add("20 by one", all.len() == room + 1);
-    add("20 by more", all.len() > room + 1);
-    add("just room", all.len() == room && room > 0);
-    add("an empty interval", from == to);
-    add("all settled", from < to && all.is_empty());
-    add("one stretch", all.len() == 1);
-    add("three or more", all.len() >= 3);
-    add("100 or more", all.len() >= 100);
     let (first, last) = (all.first().copied(), all.last().copied());
-    add(
-        "clipped below",
-        first.is_some_and(|first| from > 0 && first.0 == from && open(from - 1)),
-    );
-    add(
-        "whole below",
-        first.is_some_and(|first| from > 0 && first.0 == from && !open(from - 1)),
-    );
-    add("clipped above", last.is_some_and(|last| last.1 == to && open(to)));
-    add("whole above", last.is_some_and(|last| last.1 == to && !open(to)));
-    add("up to the last offset", to == u64::MAX && last.is_some());
-    kinds
+    let touches = first.is_some_and(|first| from > 0 && first.0 == from);
+    holding([
+        ("20 by one", all.len() == room + 1),
+        ("20 by more", all.len() > room + 1),
+        ("just room", all.len() == room && room > 0),
+        ("an empty interval", from == to),
+        ("all settled", from < to && all.is_empty()),
+        ("one stretch", all.len() == 1),
+        ("three or more", all.len() >= 3),
+        ("100 or more", all.len() >= 100),
+        ("clipped below", touches && open(from - 1)),
+        ("whole below", touches && !open(from - 1)),
+        ("clipped above", last.is_some_and(|last| last.1 == to && open(to))),
+        ("whole above", last.is_some_and(|last| last.1 == to && !open(to))),
+        ("up to the last offset", to == u64::MAX && last.is_some()),
+    ])
 }
 
 fn nearest_kind(offset: u64, found: u64) -> &'static str {
@@ -111,7 +100,7 @@ fn nearest_kind(offset: u64, found: u64) -> &'static str {
 /// The scripts that `oracle/run compare` uses have questions of every kind.
 #[test]
 fn scripts_have_stretches() {
-    let mut met = BTreeMap::new();
+    let mut met = Met::default();
     for lines in scripts() {
         let mut program = Program::default();
         for line in lines {
@@ -124,12 +113,10 @@ fn scripts_have_stretches() {
                 }
                 _ => continue,
             };
-            for kind in kinds {
-                *met.entry(kind).or_insert(0) += 1;
-            }
+            met.add(kinds);
         }
     }
-    for (kind, least) in [
+    met.want(&[
         ("32 without room", 20),
         ("32 with room", 20),
         ("20 by one", 50),
@@ -149,7 +136,5 @@ fn scripts_have_stretches() {
         ("the last", 5),
         ("itself", 100),
         ("a later one", 50),
-    ] {
-        assert!(met.get(kind) >= Some(&least), "{kind} {met:?}");
-    }
+    ]);
 }

@@ -1,10 +1,9 @@
 //! 02, f: a whole plan in one walk.
-use super::{play, scripts};
+use super::{holding, play, scripts, Met};
 use crate::consumer::Consumer;
 use crate::line::{read, Call};
 use crate::plan::falls;
 use crate::program::Program;
-use std::collections::BTreeMap;
 
 /// Ranges 3-5 and 8-9 above a committed 2: looks and answers, 36 before 37, and 38 and 39 before both.
 #[test]
@@ -58,57 +57,49 @@ fn plans() {
     );
 }
 
-/// What a plan meets.
-fn kinds(consumer: &Consumer, room: usize, offsets: &[u64], answer: &str) -> Vec<&'static str> {
+/// What a plan that is refused meets.
+fn refused_kinds(room: usize, offsets: &[u64], answer: &str) -> Vec<&'static str> {
+    let place = answer.strip_prefix("refused 37 ");
+    holding([
+        ("36, a place too few", room + 1 == offsets.len()),
+        ("36, a place too many", room == offsets.len() + 1),
+        ("36 and falling", room != offsets.len() && falls(offsets).is_some()),
+        ("37", place == Some("1")),
+        ("37 further on", place.is_some_and(|place| place != "1")),
+    ])
+}
+
+/// What one that is answered meets, with so many looks.
+fn kinds(consumer: &Consumer, offsets: &[u64], looks: usize) -> Vec<&'static str> {
     let ranges = consumer.cursor.ahead_ranges();
-    let looks: Option<usize> = answer
-        .split(' ')
-        .nth(1)
-        .filter(|_| answer.starts_with("plan"))
-        .and_then(|word| word.parse().ok());
-    let walked = || offsets.iter().filter(|&&offset| offset >= consumer.cursor.committed().get());
-    let mut kinds = Vec::new();
-    let mut add = |what, holds| {
-        if holds {
-            kinds.push(what);
-        }
-    };
-    add("36, a place too few", room + 1 == offsets.len());
-    add("36, a place too many", room == offsets.len() + 1);
-    add("36 and falling", room != offsets.len() && falls(offsets).is_some());
-    add("37", answer == "refused 37 1");
-    add("37 further on", answer.starts_with("refused 37") && answer != "refused 37 1");
-    let Some(looks) = looks else { return kinds };
     assert!(looks <= offsets.len() + ranges.len());
-    add("empty", offsets.is_empty());
-    add("empty beside ranges", offsets.is_empty() && !ranges.is_empty());
-    add("below committed alone", !offsets.is_empty() && walked().count() == 0);
-    add("no ranges", walked().count() > 0 && ranges.is_empty());
-    add(
-        "the most looks",
-        ranges.len() > 1 && looks + 1 == offsets.len() + ranges.len(),
-    );
-    add(
-        "past the last range",
-        ranges.last().is_some_and(|last| walked().any(|&offset| offset >= last.1)),
-    );
-    add("the last offset", offsets.contains(&u64::MAX));
-    add("at a start", ranges.iter().any(|range| offsets.contains(&range.0)));
-    add("at an end", ranges.iter().any(|range| offsets.contains(&range.1)));
-    add("128 offsets", offsets.len() == 128);
-    add(
-        "100 ranges passed",
-        looks >= 100 + offsets.len() || looks >= 100 && offsets.len() < 10,
-    );
-    let again = |pair: &[u64]| pair[0] == pair[1] && ranges.iter().any(|range| range.0 <= pair[0] && pair[0] < range.1);
-    add("one range twice", offsets.windows(2).any(again));
-    kinds
+    let walked = || offsets.iter().filter(|&&offset| offset >= consumer.cursor.committed().get());
+    let past = |&offset: &u64| ranges.last().is_some_and(|last| offset >= last.1);
+    let inside = |offset: u64| ranges.iter().any(|range| range.0 <= offset && offset < range.1);
+    let twice = |pair: &[u64]| pair[0] == pair[1] && inside(pair[0]);
+    holding([
+        ("empty", offsets.is_empty()),
+        ("empty beside ranges", offsets.is_empty() && !ranges.is_empty()),
+        ("below committed alone", !offsets.is_empty() && walked().count() == 0),
+        ("no ranges", walked().count() > 0 && ranges.is_empty()),
+        (
+            "the most looks",
+            ranges.len() > 1 && looks + 1 == offsets.len() + ranges.len(),
+        ),
+        ("past the last range", walked().any(past)),
+        ("the last offset", offsets.contains(&u64::MAX)),
+        ("at a start", ranges.iter().any(|range| offsets.contains(&range.0))),
+        ("at an end", ranges.iter().any(|range| offsets.contains(&range.1))),
+        ("128 offsets", offsets.len() == 128),
+        ("100 looks by few", looks >= 100 && offsets.len() < 10),
+        ("one range twice", offsets.windows(2).any(twice)),
+    ])
 }
 
 /// The scripts that `oracle/run compare` uses have plans of every kind.
 #[test]
 fn scripts_have_plans() {
-    let mut met = BTreeMap::new();
+    let mut met = Met::default();
     for lines in scripts() {
         let mut program = Program::default();
         for line in lines {
@@ -116,14 +107,15 @@ fn scripts_have_plans() {
             let (Some(Call::Plan(room, offsets)), Some(consumer)) = (read(line), program.consumer()) else {
                 continue;
             };
-            if !matches!(&answer[..], "refused 38" | "refused 39") {
-                for kind in kinds(consumer, room, &offsets, &answer) {
-                    *met.entry(kind).or_insert(0) += 1;
-                }
+            let words: Vec<&str> = answer.split(' ').collect();
+            match words[..] {
+                ["plan", looks, _] => met.add(kinds(consumer, &offsets, looks.parse().unwrap())),
+                ["refused", "36" | "37", ..] => met.add(refused_kinds(room, &offsets, &answer)),
+                _ => (),
             }
         }
     }
-    for (kind, least) in [
+    met.want(&[
         ("36, a place too few", 20),
         ("36, a place too many", 20),
         ("36 and falling", 20),
@@ -139,9 +131,7 @@ fn scripts_have_plans() {
         ("at a start", 100),
         ("at an end", 100),
         ("128 offsets", 20),
-        ("100 ranges passed", 5),
+        ("100 looks by few", 5),
         ("one range twice", 50),
-    ] {
-        assert!(met.get(kind) >= Some(&least), "{kind} {met:?}");
-    }
+    ]);
 }

@@ -1,9 +1,8 @@
 //! 02, m: the order of the waiting list.
-use super::{play, scripts};
+use super::{holding, play, scripts, Met};
 use crate::line::{read, Call};
 use crate::program::Program;
 use lists::state::Table;
-use std::collections::BTreeMap;
 
 /// Leases by deadline, those with equal deadlines by offset; one whose deadline hasn't come isn't there.
 #[test]
@@ -67,31 +66,26 @@ fn place(table: &Table, offset: u64, now: u64) -> Option<(bool, u64, u64)> {
 /// What a list shows of its order.
 fn kinds(places: &[(bool, u64, u64)], now: u64) -> Vec<&'static str> {
     let pairs = || places.windows(2).map(|pair| (pair[0], pair[1]));
-    let mut kinds = Vec::new();
-    let mut add = |what, holds| {
-        if holds {
-            kinds.push(what);
-        }
-    };
     let leases = || pairs().filter(|(a, b)| a.0 && b.0);
     let turn = || pairs().filter(|(a, b)| !a.0 && b.0);
-    add("two carried", pairs().any(|(a, b)| !a.0 && !b.0));
-    add("carried before a lower lease", turn().any(|(a, b)| a.2 > b.2));
-    add("carried before deadline 0", turn().any(|(_, b)| b.1 == 0));
-    add("a later deadline below", leases().any(|(a, b)| a.1 < b.1 && a.2 > b.2));
-    add("equal deadlines", leases().any(|(a, b)| a.1 == b.1));
-    add(
-        "the clock's own deadline",
-        places.iter().any(|place| place.0 && place.1 == now),
-    );
-    add("more than 64", places.len() > 64);
-    kinds
+    holding([
+        ("two carried", pairs().any(|(a, b)| !a.0 && !b.0)),
+        ("carried before a lower lease", turn().any(|(a, b)| a.2 > b.2)),
+        ("carried before deadline 0", turn().any(|(_, b)| b.1 == 0)),
+        ("a later deadline below", leases().any(|(a, b)| a.1 < b.1 && a.2 > b.2)),
+        ("equal deadlines", leases().any(|(a, b)| a.1 == b.1)),
+        (
+            "the clock's own deadline",
+            places.iter().any(|place| place.0 && place.1 == now),
+        ),
+        ("more than 64", places.len() > 64),
+    ])
 }
 
 /// The scripts that `oracle/run compare` uses have lists of every kind, each of the right offsets and in order.
 #[test]
 fn scripts_have_waiting_lists() {
-    let mut met = BTreeMap::new();
+    let mut met = Met::default();
     for lines in scripts() {
         let mut program = Program::default();
         for line in lines {
@@ -105,12 +99,10 @@ fn scripts_have_waiting_lists() {
             assert!(places.windows(2).all(|pair| pair[0] < pair[1]), "{answer}");
             let come = table.leases.iter().filter(|lease| lease.deadline <= now).count();
             assert_eq!(places.len(), come + table.carried.len());
-            for kind in kinds(&places, now) {
-                *met.entry(kind).or_insert(0) += 1;
-            }
+            met.add(kinds(&places, now));
         }
     }
-    for (kind, least) in [
+    met.want(&[
         ("two carried", 100),
         ("carried before a lower lease", 100),
         ("carried before deadline 0", 20),
@@ -118,7 +110,5 @@ fn scripts_have_waiting_lists() {
         ("equal deadlines", 100),
         ("the clock's own deadline", 100),
         ("more than 64", 10),
-    ] {
-        assert!(met.get(kind) >= Some(&least), "{kind} {met:?}");
-    }
+    ]);
 }
