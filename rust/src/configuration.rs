@@ -10,7 +10,7 @@ pub struct LeaseConfig {
     /// How long a message that was handed out stays in flight.
     pub visibility_nanos: u64,
     /// How long it may stay so in all, from the start of the attempt, however often its holder extends it; and the longest that a
-    /// nack may put it off, from the nack on.
+    /// nack may put it off, from the nack on, or up to the first opening behind that.
     pub hard_cap_nanos: u64,
 }
 

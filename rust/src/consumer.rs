@@ -157,7 +157,7 @@ impl<S> Consumer<S> {
     }
 
     /// Failed: the offset can be claimed again after the delay, the one given or else the schedule's for so many hand-outs, but no
-    /// later than the hard cap from now. It answers from when on.
+    /// later than the hard cap from now, or than the first opening from then on. It answers from when on.
     ///
     /// # Errors
     /// Refusals 38, 39, 24, 40, 25 and 26.

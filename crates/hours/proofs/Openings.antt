@@ -85,7 +85,7 @@ module _ (w : Week) (now : ℕ) where
     opening-soon =
         split (openAt w now) (λ t. omega (arith, opening-now t)) (λ t. omega (arith, opening-later t, is-found))
 
-    -- beyond MAX too: an open clock is less than a week and half an hour away
+    -- beyond MAX too: an open clock is at most a week away
     pub always-opens : (t : ℕ) × (now ≤ t) × (t ≤ now + WEEK) × (openAt w t ≡ true)
     always-opens =
         split (openAt w now) (λ o. (now, omega arith, omega arith, o))
