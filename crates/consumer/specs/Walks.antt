@@ -70,7 +70,6 @@ pub record Ends (a : PlanAnswer) (r : PlanWalk) : Type 0 where
 -- an offset is left, and its looks can be counted
 pub record Ready (s : State) (z : PlanWalk) : Type 0 where
   pub left : z .place < z .len
-  pub within : z .at ≤ length (s .cursor .ahead)
   pub countable : z .looks + 1 + length (s .cursor .ahead) < 2 ^ 64
 
 -- the byte list after a turn: one byte more, once offsets are answered

@@ -140,7 +140,7 @@ module _ (g : AckCursor) (w : Whole g) where
 
   -- the offset o came from place `at` to place `to`, with so many looks
   pub record Stepping (at o to looks : ℕ) : Type 0 where
-    pub within : to ≤ g .runs
+    pub within : at ≤ g .runs → to ≤ g .runs
     pub few : looks ≤ to
     pub compared-is : looks + compared o (drop to ahead) ≡ compared o (drop at ahead)
     pub stepped-is : steppedTo o (drop to ahead) ≡ steppedTo o (drop at ahead)
@@ -148,16 +148,16 @@ module _ (g : AckCursor) (w : Whole g) where
   pub stepping-next : (at o to looks : ℕ) → Stepping at o to looks → to < g .runs → getD (g .ends) to 0 ≤ o → Stepping at o (to + 1) (looks + 1)
   stepping-next at o to looks s h k =
       record {
-        within = omega arith;
+        within = λ _. omega arith;
         few = omega (arith, s .few);
         compared-is = omega (arith, over-compared o to h k, s .compared-is);
         stepped-is = sym (over-stepped o to h k) ∙ s .stepped-is;
       }
 
-  pub step-below : (at o : ℕ) → at ≤ g .runs → o < g .committed → (r : Step) → r .at ≡ at → r .looks ≡ 0 → r .byte ≡ 1 → StepIs (view g) at o r
-  step-below at o h k r a l b =
+  pub step-below : (at o : ℕ) → o < g .committed → (r : Step) → r .at ≡ at → r .looks ≡ 0 → r .byte ≡ 1 → StepIs (view g) at o r
+  step-below at o k r a l b =
       let t = lt-ltb o (g .committed) k in
-      record { within = rw (a, runs-is g w) h; left = rw (a, t); looks = rw (l, t); byte = rw (b, t) }
+      record { within = λ h. rw a h; left = rw (a, t); looks = rw (l, t); byte = rw (b, t) }
 
   module _ (at o to looks : ℕ) (s : Stepping at o to looks) (k : g .committed ≤ o) (r : Step) (a : r .at ≡ to) where
     pub step-on : to < g .runs → o < getD (g .ends) to 0 → r .looks ≡ looks + 1 → r .byte ≡ cond (leb (getD (g .starts) to 0) o) 1 0 → StepIs (view g) at o r
@@ -165,7 +165,7 @@ module _ (g : AckCursor) (w : Whole g) where
         let t = le-ltb o (g .committed) k in
         let stands = sym (on-stepped o to h below) ∙ s .stepped-is in
         record {
-          within = rw (a, runs-is g w) (s .within);
+          within = λ i. rw (a, runs-is g w) (s .within (omega (arith, runs-is g w, i)));
           left = rw (a, t) stands;
           looks = rw (l, t) (omega (arith, on-compared o to h below, s .compared-is));
           byte = rw (b, t, ← stands, on-byte o to h);
@@ -178,7 +178,7 @@ module _ (g : AckCursor) (w : Whole g) where
         let all : looks + 0 ≡ compared o (drop at ahead) = rw none-left at (s .compared-is) in
         let stands : [] ≡ steppedTo o (drop at ahead) = rw none-left at (s .stepped-is) in
         record {
-          within = rw (a, runs-is g w) (s .within);
+          within = λ i. rw (a, runs-is g w) (s .within (omega (arith, runs-is g w, i)));
           left = rw (a, t, none-left) stands;
           looks = rw (l, t) (omega (arith, all));
           byte = rw (b, t, ← stands);
@@ -209,7 +209,7 @@ module _ (c : Cursor) (os out : List ℕ) (at looks i : ℕ) (s : Answering (c .
     pub answering-next : (looks′ : ℕ) (out′ : List ℕ) → looks′ ≡ looks + r .looks → out′ ≡ set out i (r .byte) → Answering n (c .ahead) os out′ (r .at) looks′ (i + 1)
     answering-next looks′ out′ l b =
         record {
-          within = step .within;
+          within = step .within (s .within);
           long = rw b (simp length-set (s .long));
           looks-is = omega (arith, next-looks);
           bytes-is =

@@ -93,7 +93,7 @@ bytesFrom committed rs (o ∷ os) = byteAt committed o rs ∷ bytesFrom committe
 
 -- one offset: the walk stood at place `at` of the ranges, and stands at the step's then
 pub record StepIs (c : Cursor) (at o : ℕ) (s : Step) : Type 0 where
-  pub within : s .at ≤ length (c .ahead)
+  pub within : at ≤ length (c .ahead) → s .at ≤ length (c .ahead)
   pub left : drop (s .at) (c .ahead) ≡ leftAt (c .committed) o (drop at (c .ahead))
   pub looks : s .looks ≡ looksAt (c .committed) o (drop at (c .ahead))
   pub byte : s .byte ≡ byteAt (c .committed) o (drop at (c .ahead))

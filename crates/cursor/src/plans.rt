@@ -128,7 +128,7 @@ pub fn step_to<'a>(
     at: usize,
     offset: u64,
 ) -> Step
-    requires { ⌜ Whole (ackCursor committed (now starts) (now ends) runs) × (at ≤ runs) ⌝ }
+    requires { ⌜ Whole (ackCursor committed (now starts) (now ends) runs) ⌝ }
     ensures { λ r. ⌜ StepIs (view (ackCursor committed (now (starts .entry)) (now (ends .entry)) runs)) at offset r ⌝ }
 {
     if offset < committed {

@@ -322,7 +322,7 @@ module _ {M : Type 1} (𝓤 : URA M) (H : Heap 𝓤) (A : Atoms 𝓤) (W : Given
           ahead-few = sound .cursor .valid .few
 
           ready : i < z .len → Ready (view g) z
-          ready less = record { left = less; within = walks .going less .within; countable = omega (arith, walks .going less .few, numbers-long ps, gn .1, ahead-few) }
+          ready less = record { left = less; countable = omega (arith, walks .going less .few, numbers-long ps, gn .1, ahead-few) }
 
           stepped : i < z .len → (r : PlanWalk) → Turns (view g) z (p .0) r → Walks (view g) worker os xs (bytesIn z r zs) r
           stepped less r e = e .walks worker os xs zs walks (number-at ps i none-there)

@@ -3,7 +3,6 @@ use native.Mathlib.Omega.{arith}
 use mathlib.Core.Path.{_≡_, sym, ap, _∙_}
 use mathlib.Core.Bool.{Bool, true, false, not, Bool·not-not}
 use borrow.Author.Needs.{needs}
-use Rattle.cursor.proofs.Search.{runs-is}
 use Rattle.consumer.specs.View.{view}
 use Rattle.consumer.proofs.Arrays.{cursor-whole}
 use Rattle.consumer.proofs.Walks.{turns-checking, step-few, turns-answering}
@@ -25,8 +24,7 @@ returns c =
 step-to-requires : tie.Need-step-to-requires
 step-to-requires c κs =
     let s = c .before .before .before .before .before in
-    let whole = cursor-whole (s .args .t1 .cursor) _ (s .good .0 .1 .1 .0) (s .pre .0 .cursor) in
-    (whole, omega (arith, s .pre .1 .within, runs-is (s .args .t1 .cursor) whole))
+    cursor-whole (s .args .t1 .cursor) _ (s .good .0 .1 .1 .0) (s .pre .0 .cursor)
 
 add-looks : tie.Need-add-looks
 add-looks c =

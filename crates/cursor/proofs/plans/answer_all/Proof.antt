@@ -38,7 +38,7 @@ step-to-requires : tie.Need-step-to-requires Inv-loop μ-loop
 step-to-requires c κs =
     let p = c .before .before in
     let s = p .before .before .before in
-    (s .pre .0, omega (arith, p .loop .inv .2 .within, runs-is (g s) (s .pre .0)))
+    s .pre .0
 
 -- what a turn's step leaves
 module _ (c : tie.After-struct-known Inv-loop μ-loop) where
