@@ -1,10 +1,11 @@
--- What a program does by the contracts of `Machine::start`, `Machine::off`, `call` and `cut` is the run of the same items, so demand
--- 3 holds of it. Assumes nothing.
+-- What a program does by the contracts of `Machine::start`, `Machine::off`, `call`, `Machine::plan` and `cut` is the run of the same
+-- items, so demand 3 holds of it. Assumes nothing.
 use Prim.Native.Nat.{ℕ, zero, suc}
 use native.Mathlib.Omega.{arith}
 use mathlib.Core.Path.{_≡_, refl, sym, ap, _∙_}
 use mathlib.Core.List.{List, _∷_}
 use mathlib.Core.Option.{Option, none, some}
+use lib.ListN.{length}
 use Rattle.types.specs.Refusal.{Refusal, Result, refused, done}
 use Rattle.types.proofs.Checked.{refused-not-done}
 use Rattle.types.proofs.Table.{checked-done}
@@ -21,11 +22,14 @@ use Rattle.starts.specs.declared.StartAnswer.{StartAnswer}
 use Rattle.starts.specs.declared.StartAnswer.the-variants as answers
 use Rattle.machine.specs.Calls.{Call, step, restart, Event, restarted}
 use Rattle.machine.specs.Transitions.{Phase, idle, After, gives, restartedAs, transition}
-use Rattle.machine.specs.View.{phaseAt, phaseOf, SoundAt, Sound, StartedIs, afterOf, CallKept, held, Held}
+use Rattle.machine.specs.View.{phaseAt, phaseOf, SoundAt, Sound, StartedIs, afterOf, CallKept, held, Held, plannedOf}
 use Rattle.machine.specs.declared.calls.CallAnswer.{CallAnswer}
 use Rattle.machine.specs.declared.calls.CallAnswer.the-variants as answer
 use Rattle.machine.specs.declared.Machine.{Machine}
 use Rattle.machine.specs.declared.Started.{Started}
+use Rattle.machine.specs.declared.plans.PlanCall.{PlanCall}
+use Rattle.machine.specs.declared.plans.PlanCall.the-variants as plan
+use Rattle.machine.proofs.Planned.{plan-is-call}
 use Rattle.power_cut.specs.View as power
 use Rattle.power_cut.specs.View.{CutKept}
 use Rattle.power_cut.specs.declared.CutAnswer.{CutAnswer}
@@ -33,7 +37,7 @@ use Rattle.power_cut.specs.declared.CutAnswer.the-variants as failure
 use Rattle.crash_safety.specs.Runs.{Item, call, stepOn, World, world, keepsJournal, next, after, run, ends, freshWorld}
 use Rattle.crash_safety.specs.Demand3.{Premises, Demand3}
 use Rattle.crash_safety.specs.Batch.{BatchBound}
-use Rattle.crash_safety.specs.Ran.{seen, Ran, rests, calls, strays, cuts, reopens, IsRun, RanIsRun, Demand3Ran}
+use Rattle.crash_safety.specs.Ran.{seen, Ran, rests, calls, strays, plans, cuts, reopens, IsRun, RanIsRun, Demand3Ran}
 use Rattle.crash_safety.proofs.Invariant.{Inv}
 use Rattle.crash_safety.proofs.Journals.{restart-finds}
 use Rattle.crash_safety.proofs.Reached.{reached}
@@ -82,6 +86,12 @@ module _ (m m′ : Machine) (a : List ℕ) where
   stray-leaves q b b′ out (answer.Stepped x) k = refl
   stray-leaves q b b′ out (answer.Restarted x) k = refl
   stray-leaves q b b′ out answer.NotNow k = ap (λ (h : Held). world (phaseOf (h .machine)) a) k
+
+-- a plan leaves all as it is
+plan-leaves : (m : Machine) (a os : List ℕ) (room : ℕ) (out : List ℕ) (x : PlanCall)
+    → Leaves (world (phaseOf m) a) (plannedOf x m os room out a) (world (phaseOf m) a)
+plan-leaves m a os room out (plan.Planned x) = refl
+plan-leaves m a os room out plan.NotNow = refl
 
 seen-kept : (a : List ℕ) (x : Option After) (es : List Event) → seen (keepsJournal a x) es ≡ seen x es
 seen-kept a none es = refl
@@ -132,6 +142,9 @@ runs {m} {last} {a} {end} s (strays {is = is} {es = es} b out r b′ out′ othe
     rw (← seen-kept a x es)
     (linked m (r .machine) a a (stepOn b) is es last end (keepsJournal a x) (rw other (ap (keepsJournal a) (sym (k .is))))
     (stray-leaves m (r .machine) a step b b′ out′ (r .answer) (k .kept)) (k .configuration) (runs (k .sound) rest))
+runs {m} {last} {a} {end} s (plans {is = is} {es = es} w os out r out′ g f h rest) =
+    linked m m a a _ is es last end _ (sym (h s .is a ∙ plan-is-call (configurationOf (m .configuration)) (phaseOf m) a w os out g f))
+    (plan-leaves m a os (length out) out′ r) refl (runs s rest)
 runs {m} {last} {a} {end} s (cuts {is = is} {es = es} kind bytes r a′ h rest) =
     let k = h s in
     linked m (r .machine) a a′ _ is es last end _ (sym (k .is))

@@ -1,27 +1,29 @@
 -- Demand 3 of machines, journals and answers as the code has them: what a program does through `Machine::start`, `Machine::off`,
--- `call` and `cut`, one after the other, in the words of their contracts.
+-- `call`, `Machine::plan` and `cut`, one after the other, in the words of their contracts.
 use Prim.Native.Nat.{ℕ}
 use mathlib.Core.Path.{_≡_}
-use mathlib.Core.Bool.{false}
+use mathlib.Core.Bool.{true, false}
 use mathlib.Core.List.{List, [], _∷_}
 use mathlib.Core.Option.{Option, none, some}
 use lib.Dec.{eqb}
 use lib.ListN.{length, replicate}
 use Rattle.types.specs.Limits.{MAX32}
 use Rattle.types.specs.Refusal.{Refusal}
+use Rattle.consumer.specs.Questions.{Plan}
 use Rattle.consumer.specs.declared.Configuration.{Configuration}
 use Rattle.starts.specs.Starting.{configurationOf, startFault}
 use Rattle.starts.specs.declared.StartAnswer.{StartAnswer}
 use Rattle.starts.specs.declared.StartAnswer.the-variants as start
-use Rattle.machine.specs.Calls.{step, restart, Event}
+use Rattle.machine.specs.Calls.{ask, step, restart, look, u64, questionFits, Event}
 use Rattle.machine.specs.Transitions.{After}
 use Rattle.machine.specs.Answers.{callOf}
-use Rattle.machine.specs.View.{phaseOf, Sound, StartedIs, OffIs, afterOf, CalledIs}
+use Rattle.machine.specs.View.{phaseOf, Sound, StartedIs, OffIs, afterOf, CalledIs, plannedOf, PlannedIs}
 use Rattle.machine.specs.declared.calls.Call.{Call}
 use Rattle.machine.specs.declared.calls.CallAnswer.the-variants as answer
 use Rattle.machine.specs.declared.Machine.{Machine}
 use Rattle.machine.specs.declared.Called.{Called}
 use Rattle.machine.specs.declared.Started.{Started}
+use Rattle.machine.specs.declared.plans.PlanCall.{PlanCall}
 use Rattle.power_cut.specs.View as power
 use Rattle.power_cut.specs.View.{cutOf, CutIs}
 use Rattle.power_cut.specs.declared.Kind.{Kind}
@@ -51,6 +53,12 @@ pub data Ran : Machine → List ℕ → List Item → List Event → Machine →
       → (Sound m → CalledIs m step b out r b′ out′)
       → Ran (r .machine) a is es last end
       → Ran m a (stepOn b ∷ is) (seen (afterOf step (r .answer) (r .machine) b′ out′) es) last end
+  -- a plan, lent a list of offsets, which are u64 as the worker is, and a list of bytes
+  plans : {m last : Machine} {a end : List ℕ} {is : List Item} {es : List Event}
+      (w : ℕ) (os out : List ℕ) (r : PlanCall) (out′ : List ℕ) → u64 w ≡ true → questionFits (Plan os (length out)) ≡ true
+      → (Sound m → PlannedIs m w os out r out′)
+      → Ran m a is es last end
+      → Ran m a (call (ask w (look (Plan os (length out)))) ∷ is) (seen (plannedOf r m os (length out) out′ a) es) last end
   -- a power failure in a step, lent the journal
   cuts : {m last : Machine} {a end : List ℕ} {is : List Item} {es : List Event}
       (k : Kind) (bytes : List ℕ) (r : Failed) (a′ : List ℕ)
