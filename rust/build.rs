@@ -1,23 +1,35 @@
 //! Links the proved libraries, `target/staticlib/libserver.a` and `libexports.a` of the repository, which `rt staticlib` writes.
 //! Another place can be named by the environment variable `NINOTSKEV_LIB`: the folder that has them.
+//!
+//! The crate's folder is asked for when this runs, and not when it is compiled, and what is linked are copies in cargo's folder for
+//! this script: a checkout that was copied with all that cargo had made would else go on linking the first one's libraries.
 
 use std::env;
+use std::fs;
 use std::path::PathBuf;
 
+fn variable(name: &str) -> PathBuf {
+    let value = env::var_os(name);
+    PathBuf::from(value.unwrap_or_else(|| panic!("cargo sets {name}")))
+}
+
 fn main() {
+    println!("cargo:rerun-if-changed=build.rs");
     println!("cargo:rerun-if-env-changed=NINOTSKEV_LIB");
     let folder = env::var_os("NINOTSKEV_LIB").map_or_else(
-        || PathBuf::from(env!("CARGO_MANIFEST_DIR")).join("../target/staticlib"),
+        || variable("CARGO_MANIFEST_DIR").join("../target/staticlib"),
         PathBuf::from,
     );
-    println!("cargo:rustc-link-search=native={}", folder.display());
+    let out = variable("OUT_DIR");
+    println!("cargo:rustc-link-search=native={}", out.display());
     for library in ["server", "exports"] {
-        let archive = folder.join(format!("lib{library}.a"));
+        let name = format!("lib{library}.a");
+        let archive = folder.join(&name);
         println!("cargo:rerun-if-changed={}", archive.display());
-        if !archive.is_file() {
+        if let Err(error) = fs::copy(&archive, out.join(&name)) {
             panic!(
-                "{} is missing. Write it by `rt staticlib {library}` in the folder above rust/, or name the folder that has it \
-                 by NINOTSKEV_LIB.",
+                "{} can't be had: {error}. Write it by `rt staticlib {library}` in the folder above rust/, or name the folder that \
+                 has it by NINOTSKEV_LIB.",
                 archive.display()
             );
         }

@@ -47,7 +47,7 @@ pub struct DeliveryConfig {
     allow_unlimited: bool,
     backoff_nanos: [u64; 16],
     backoff_len: usize,
-    attempts_flush_redeliveries: u32,
+    pub(crate) attempts_flush_redeliveries: u32,
 }
 
 impl DeliveryConfig {
@@ -59,8 +59,8 @@ impl DeliveryConfig {
     /// A configuration of a limit, the opt-in to none (0 or 4294967295), and the delays of failed messages: the first after
     /// the first hand-out and so on, the last after all further ones.
     ///
-    /// Nothing is refused here. Start and restart refuse what document 01 does: a limit that needs the opt-in (1), more than
-    /// 16 delays (2).
+    /// Nothing is refused here. Start and restart refuse a limit that needs the opt-in,
+    /// [`UnlimitedDeliverNotAllowed`](crate::Refusal::UnlimitedDeliverNotAllowed) (1), and more than 16 delays, [`TooManySteps`](crate::Refusal::TooManySteps) (2).
     #[must_use]
     pub fn new(max_deliver: u32, allow_unlimited: bool, backoff_nanos: &[u64]) -> DeliveryConfig {
         let mut backoffs = [0; 16];
@@ -77,7 +77,8 @@ impl DeliveryConfig {
         }
     }
 
-    /// The same with another flush threshold: after so many redeliveries a checkpoint is due. 0 is refused at the start (3).
+    /// The same with another flush threshold: after so many redeliveries a checkpoint is due. 0 is refused at the start,
+    /// [`ZeroThreshold`](crate::Refusal::ZeroThreshold) (3).
     #[must_use]
     pub fn with_attempts_flush_redeliveries(mut self, n: u32) -> DeliveryConfig {
         self.attempts_flush_redeliveries = n;

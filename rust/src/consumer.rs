@@ -3,7 +3,10 @@
 use std::fmt;
 
 use crate::configuration::Configuration;
-use crate::ffi::{Ask, Machine, Numbers};
+use crate::errors::{
+    BeginError, CheckpointError, OlderJournal, RestartAtLeastError, RestartError, StartError,
+};
+use crate::ffi::{Ask, Look, Machine, Numbers};
 use crate::journal::{Failed, Journal, JournalFile, NewJournal, Storage};
 use crate::refusal::Refusal;
 use crate::snapshot::MAX_PAIRS;
@@ -13,16 +16,73 @@ use crate::workers::WorkerId;
 /// The most stretches that [`Consumer::open_between`] answers: one before each of 128 ranges, and one behind the last.
 pub const MAX_STRETCHES: usize = 129;
 
+/// The bytes of stack that a call needs at most, with or without optimisations. A thread has 2 MiB unless it is made otherwise.
+pub const STACK: usize = 64 * 1024;
+
 /// The delivery state of one consumer: which messages are settled, who holds which until when, and how often each was handed out.
 ///
 /// It owns its journal. A call works on what the one before left, and there is no other copy: it can't be cloned, a
 /// [checkpoint](Consumer::begin) takes it away until the last block is written, and after an error of the disk only a restart is
 /// left. A refused call has changed nothing. Times are nanoseconds of any clock, which may stand still or run backwards.
 ///
-/// Every call says which worker makes it. Before all else it is refused where there is no such worker (38), and where the worker's
-/// [rights](crate::Settings::rights) don't have it (39). A token works for the worker who claimed it alone (40).
+/// Every call says which worker makes it. Before all else it is refused where there is no such worker
+/// ([`UnknownWorker`](Refusal::UnknownWorker), 38), and where the worker's [rights](crate::Settings::rights) don't have it
+/// ([`NotPermitted`](Refusal::NotPermitted), 39). A token works for the worker who claimed it alone
+/// ([`ForeignToken`](Refusal::ForeignToken), 40).
+///
+/// # Threads
+///
+/// Calls that can change it take `&mut self`, questions take `&self`. It can be sent to another thread, and not be shared by several
+/// (it isn't `Sync`). A server whose threads share one keeps it in a `Mutex<Option<Consumer>>`: a checkpoint takes it out, and puts it
+/// back.
+///
+/// ```
+/// use std::sync::Mutex;
+///
+/// use ironbus_delivery_state::{CheckpointError, Configuration, Consumer, HandOut, NewJournal, Offset, Refusal, WorkerId};
+///
+/// /// Where the threads find the consumer. It is `None` after an error of the disk.
+/// type Shared = Mutex<Option<Consumer>>;
+///
+/// fn claim(shared: &Shared, worker: WorkerId, offset: Offset, now: u64) -> Result<HandOut, Box<dyn std::error::Error>> {
+///     let mut place = shared.lock().expect("no thread has panicked");
+///     let consumer = place.as_mut().ok_or("the disk has failed")?;
+///     match consumer.claim(worker, offset, now) {
+///         Err(Refusal::CheckpointDue) => {}
+///         answer => return Ok(answer?),
+///     }
+///     // The checkpoint comes first. The lock is held while it is written, so that no other thread finds the place empty.
+///     let whole = place.take().ok_or("the disk has failed")?;
+///     let consumer = match whole.checkpoint(WorkerId::new(0)) {
+///         Ok(consumer) => place.insert(consumer),
+///         Err(CheckpointError::Refused(error)) => {
+///             let refusal = error.refusal();
+///             *place = Some(error.into_consumer());
+///             return Err(refusal.into());
+///         }
+///         Err(CheckpointError::Failed(failed)) => return Err(failed.into()),
+///     };
+///     Ok(consumer.claim(worker, offset, now)?)
+/// }
+/// # let path = std::env::temp_dir().join(format!("ironbus-doc-mutex-{}", std::process::id()));
+/// # let _ = std::fs::remove_file(&path);
+/// let journal = NewJournal::create(&path, 18)?;
+/// let shared: Shared = Mutex::new(Some(Consumer::start(&Configuration::default(), journal)?));
+/// std::thread::scope(|scope| {
+///     let first = scope.spawn(|| claim(&shared, WorkerId::new(0), Offset::from(0), 0).unwrap());
+///     let second = scope.spawn(|| claim(&shared, WorkerId::new(0), Offset::from(1), 0).unwrap());
+///     assert_ne!(first.join().unwrap().token(), second.join().unwrap().token());
+/// });
+/// # std::fs::remove_file(&path)?;
+/// # Ok::<(), Box<dyn std::error::Error>>(())
+/// ```
+///
+/// # Stack
+///
+/// A call needs at most [`STACK`](crate::STACK) bytes of stack.
+#[must_use = "a consumer that is dropped loses what was not checkpointed"]
 pub struct Consumer<S = JournalFile> {
-    machine: Box<Machine>,
+    machine: Machine,
     journal: Journal<S>,
 }
 
@@ -37,65 +97,109 @@ fn size(value: u64) -> usize {
 }
 
 impl<S: Storage> Consumer<S> {
-    /// A fresh consumer on a new journal: nothing is settled and nothing handed out. Its first claim is refused (26) until a
-    /// first checkpoint has reserved generations.
+    /// A fresh consumer on a new journal: nothing is settled and nothing handed out. Its first claim is refused
+    /// ([`CheckpointDue`](Refusal::CheckpointDue), 26) until a first checkpoint has reserved generations. See [`NewJournal`] on
+    /// what must not have been before it.
     ///
     /// # Errors
-    /// Refusals 1 to 4, with the journal.
+    /// [`UnlimitedDeliverNotAllowed`](Refusal::UnlimitedDeliverNotAllowed) (1), [`TooManySteps`](Refusal::TooManySteps) (2),
+    /// [`ZeroThreshold`](Refusal::ZeroThreshold) (3), [`BadHours`](Refusal::BadHours) (33),
+    /// [`NeverOpen`](Refusal::NeverOpen) (34) and [`BadArea`](Refusal::BadArea) (4), with the journal.
+    ///
+    /// # Panics
+    /// Where the linked library is another one: see [`check_library`](crate::check_library).
     pub fn start(
         configuration: &Configuration,
         journal: NewJournal<S>,
-    ) -> Result<Consumer<S>, (Refusal, NewJournal<S>)> {
+    ) -> Result<Consumer<S>, StartError<S>> {
         match Machine::start(configuration, journal.journal.area.len()) {
             Ok(machine) => Ok(Consumer {
                 machine,
                 journal: journal.journal,
             }),
-            Err(refusal) => Err((refusal, journal)),
+            Err(refusal) => Err(StartError { refusal, journal }),
         }
     }
 
     /// The consumer of the last finished checkpoint on a journal, or a fresh one where there is none. What was in flight can be
-    /// claimed again, and every token from before is refused from now on (24). Nothing is written.
+    /// claimed again, and every token from before is refused from now on ([`Fenced`](Refusal::Fenced), 24). Nothing is written.
     ///
     /// # Errors
-    /// Refusals 1 to 19, with the journal. None of 4 to 19 comes on a journal that only consumers of this version of the crate have
-    /// written, whenever the power failed.
+    /// [`UnlimitedDeliverNotAllowed`](Refusal::UnlimitedDeliverNotAllowed) (1), [`TooManySteps`](Refusal::TooManySteps) (2),
+    /// [`ZeroThreshold`](Refusal::ZeroThreshold) (3), [`BadHours`](Refusal::BadHours) (33),
+    /// [`NeverOpen`](Refusal::NeverOpen) (34), [`BadArea`](Refusal::BadArea) (4), [`Damaged`](Refusal::Damaged) (5); of the last
+    /// group's snapshots [`CursorBadLength`](Refusal::CursorBadLength) (7),
+    /// [`CursorUnsupportedVersion`](Refusal::CursorUnsupportedVersion) (8), [`CursorBadCrc`](Refusal::CursorBadCrc) (9),
+    /// [`EmptyRange`](Refusal::EmptyRange) (10),
+    /// [`NotSortedDisjointAndAboveCommitted`](Refusal::NotSortedDisjointAndAboveCommitted) (11), and
+    /// [`AttemptUnsupportedVersion`](Refusal::AttemptUnsupportedVersion) (14),
+    /// [`AttemptBadLength`](Refusal::AttemptBadLength) (15), [`CountMismatch`](Refusal::CountMismatch) (16),
+    /// [`AttemptBadCrc`](Refusal::AttemptBadCrc) (17), [`NotSorted`](Refusal::NotSorted) (18); each with the journal. None of 4
+    /// to 19 comes on a journal that only consumers of this version of the crate have written, whenever the power failed.
+    ///
+    /// # Panics
+    /// Where the linked library is another one: see [`check_library`](crate::check_library).
     pub fn restart(
         configuration: &Configuration,
         journal: Journal<S>,
-    ) -> Result<Consumer<S>, (Refusal, Journal<S>)> {
+    ) -> Result<Consumer<S>, RestartError<S>> {
         match Machine::restart(configuration, &journal.area) {
             Ok(machine) => Ok(Consumer { machine, journal }),
-            Err(refusal) => Err((refusal, journal)),
+            Err(refusal) => Err(RestartError { refusal, journal }),
         }
+    }
+
+    /// The same, on a journal that is no older than the server has seen it: one whose ceiling is at least the last
+    /// [ceiling](Consumer::ceiling) that the server kept apart from the journal. So a journal that was restored from a backup, or
+    /// created anew, is found before its consumer can be called. A journal that was copied, and is as new, is not.
+    ///
+    /// # Errors
+    /// Those of a [restart](Consumer::restart), and [`OlderJournal`]; each with the journal.
+    ///
+    /// # Panics
+    /// Where the linked library is another one: see [`check_library`](crate::check_library).
+    pub fn restart_at_least(
+        configuration: &Configuration,
+        journal: Journal<S>,
+        seen: Generation,
+    ) -> Result<Consumer<S>, RestartAtLeastError<S>> {
+        let consumer = Consumer::restart(configuration, journal)?;
+        let found = consumer.ceiling();
+        if found < seen {
+            let journal = consumer.journal;
+            return Err(RestartAtLeastError::Older(OlderJournal {
+                found,
+                seen,
+                journal,
+            }));
+        }
+        Ok(consumer)
     }
 
     /// Takes the consumer into the writing of a checkpoint. Nothing is written yet.
     ///
     /// # Errors
-    /// Refusals 38 and 39, and 31 where the journal has had 4294967295 checkpoints, with the consumer. It goes on, until its
-    /// generations or its redeliveries run out.
-    pub fn begin(mut self, worker: WorkerId) -> Result<Writing<S>, (Refusal, Consumer<S>)> {
+    /// [`UnknownWorker`](Refusal::UnknownWorker) (38), [`NotPermitted`](Refusal::NotPermitted) (39), and
+    /// [`JournalFull`](Refusal::JournalFull) (31) where the journal has had 4294967295 checkpoints, with the consumer. It goes
+    /// on, until its generations or its redeliveries run out.
+    pub fn begin(mut self, worker: WorkerId) -> Result<Writing<S>, BeginError<S>> {
         match self.machine.begin(worker) {
             Ok(writes) => Ok(Writing {
                 machine: self.machine,
                 journal: self.journal,
                 writes_left: size(writes),
             }),
-            Err(refusal) => Err((refusal, self)),
+            Err(refusal) => Err(BeginError::new(refusal, self)),
         }
     }
 
     /// A whole checkpoint: begin and every step.
     ///
     /// # Errors
-    /// Refusals 38, 39 and 31 with the consumer, or an error of the disk, after which only a restart is left.
+    /// [`UnknownWorker`](Refusal::UnknownWorker) (38), [`NotPermitted`](Refusal::NotPermitted) (39) and
+    /// [`JournalFull`](Refusal::JournalFull) (31) with the consumer, or an error of the disk, after which only a restart is left.
     pub fn checkpoint(self, worker: WorkerId) -> Result<Consumer<S>, CheckpointError<S>> {
-        match self.begin(worker) {
-            Ok(writing) => writing.finish().map_err(CheckpointError::Failed),
-            Err((refusal, consumer)) => Err(CheckpointError::Refused(refusal, consumer)),
-        }
+        Ok(self.begin(worker)?.finish()?)
     }
 }
 
@@ -103,7 +207,11 @@ impl<S> Consumer<S> {
     /// Hands an offset out under the next generation, which fences off whoever held it before.
     ///
     /// # Errors
-    /// Refusals 38, 39, 21, 22, 35, 23, 25, 26 and 27. After 35 the next opening has to be waited for; after 26 comes a [checkpoint](Consumer::begin).
+    /// [`UnknownWorker`](Refusal::UnknownWorker) (38), [`NotPermitted`](Refusal::NotPermitted) (39),
+    /// [`LastOffset`](Refusal::LastOffset) (21), [`Settled`](Refusal::Settled) (22), [`Closed`](Refusal::Closed) (35),
+    /// [`InFlight`](Refusal::InFlight) (23), [`Exhausted`](Refusal::Exhausted) (25),
+    /// [`CheckpointDue`](Refusal::CheckpointDue) (26) and [`Full`](Refusal::Full) (27). After 35 the next opening has to be
+    /// waited for; after 26 comes a [checkpoint](Consumer::begin).
     pub fn claim(
         &mut self,
         worker: WorkerId,
@@ -143,7 +251,8 @@ impl<S> Consumer<S> {
     /// Done: the lease goes and the offset is settled.
     ///
     /// # Errors
-    /// Refusals 38, 39, 24, 40 and 29.
+    /// [`UnknownWorker`](Refusal::UnknownWorker) (38), [`NotPermitted`](Refusal::NotPermitted) (39),
+    /// [`Fenced`](Refusal::Fenced) (24), [`ForeignToken`](Refusal::ForeignToken) (40) and [`Shed`](Refusal::Shed) (29).
     pub fn ack(&mut self, worker: WorkerId, token: LeaseToken) -> Result<(), Refusal> {
         self.under(worker, Ask::Ack, token, 0, 0).map(drop)
     }
@@ -151,7 +260,8 @@ impl<S> Consumer<S> {
     /// Given up for good: settled as by an ack.
     ///
     /// # Errors
-    /// Refusals 38, 39, 24, 40 and 29.
+    /// [`UnknownWorker`](Refusal::UnknownWorker) (38), [`NotPermitted`](Refusal::NotPermitted) (39),
+    /// [`Fenced`](Refusal::Fenced) (24), [`ForeignToken`](Refusal::ForeignToken) (40) and [`Shed`](Refusal::Shed) (29).
     pub fn term(&mut self, worker: WorkerId, token: LeaseToken) -> Result<(), Refusal> {
         self.under(worker, Ask::Term, token, 0, 0).map(drop)
     }
@@ -160,7 +270,9 @@ impl<S> Consumer<S> {
     /// later than the hard cap from now, or than the first opening from then on. It answers from when on.
     ///
     /// # Errors
-    /// Refusals 38, 39, 24, 40, 25 and 26.
+    /// [`UnknownWorker`](Refusal::UnknownWorker) (38), [`NotPermitted`](Refusal::NotPermitted) (39),
+    /// [`Fenced`](Refusal::Fenced) (24), [`ForeignToken`](Refusal::ForeignToken) (40), [`Exhausted`](Refusal::Exhausted) (25) and
+    /// [`CheckpointDue`](Refusal::CheckpointDue) (26).
     pub fn nack(
         &mut self,
         worker: WorkerId,
@@ -178,7 +290,9 @@ impl<S> Consumer<S> {
     /// answers the new deadline.
     ///
     /// # Errors
-    /// Refusals 38, 39, 24, 40 and 28.
+    /// [`UnknownWorker`](Refusal::UnknownWorker) (38), [`NotPermitted`](Refusal::NotPermitted) (39),
+    /// [`Fenced`](Refusal::Fenced) (24), [`ForeignToken`](Refusal::ForeignToken) (40) and
+    /// [`CapReached`](Refusal::CapReached) (28).
     pub fn progress(
         &mut self,
         worker: WorkerId,
@@ -189,12 +303,12 @@ impl<S> Consumer<S> {
             .progress(worker, token.offset.get(), token.generation.get(), now)
     }
 
-    /// Settles every offset below a bound, held or not, and drops their leases and counts; `false` where that was so before. Whoever held
-    /// one of them is refused (24) from then on. A restart that goes back to a checkpoint from before finds them open again, with the
-    /// counts of that checkpoint.
+    /// Settles every offset below a bound, held or not, and drops their leases and counts; `false` where that was so before.
+    /// Whoever held one of them is refused ([`Fenced`](Refusal::Fenced), 24) from then on. A restart that goes back to a
+    /// checkpoint from before finds them open again, with the counts of that checkpoint.
     ///
     /// # Errors
-    /// Refusals 38 and 39.
+    /// [`UnknownWorker`](Refusal::UnknownWorker) (38) and [`NotPermitted`](Refusal::NotPermitted) (39).
     pub fn commit(&mut self, worker: WorkerId, up_to: Offset) -> Result<bool, Refusal> {
         let mut reply = Numbers::default();
         self.machine
@@ -207,9 +321,10 @@ impl<S> Consumer<S> {
     /// its first place on, and their number is answered. 128 places are always enough.
     ///
     /// # Errors
-    /// Refusals 38 and 39, and 20 where they don't fit; then the list is as it was.
+    /// [`UnknownWorker`](Refusal::UnknownWorker) (38), [`NotPermitted`](Refusal::NotPermitted) (39), and
+    /// [`OutTooShort`](Refusal::OutTooShort) (20) where they don't fit; then the list is as it was.
     pub fn waiting(
-        &mut self,
+        &self,
         worker: WorkerId,
         now: u64,
         out: &mut [Offset],
@@ -218,37 +333,37 @@ impl<S> Consumer<S> {
     }
 
     // A question about an offset, or about none, which one number answers.
-    fn look_up(&mut self, worker: WorkerId, ask: Ask, offset: u64) -> Result<u64, Refusal> {
+    fn look_up(&self, worker: WorkerId, look: Look, offset: u64) -> Result<u64, Refusal> {
         let mut reply = Numbers::default();
         self.machine
-            .ask(worker, ask, [offset, 0, 0, 0], &mut reply)?;
+            .look(worker, look, [offset, 0, 0, 0], &mut reply)?;
         Ok(reply.values[0])
     }
 
     /// The offset below which all are settled.
     ///
     /// # Errors
-    /// Refusals 38 and 39.
-    pub fn committed(&mut self, worker: WorkerId) -> Result<Offset, Refusal> {
-        self.look_up(worker, Ask::Committed, 0).map(Offset::new)
+    /// [`UnknownWorker`](Refusal::UnknownWorker) (38) and [`NotPermitted`](Refusal::NotPermitted) (39).
+    pub fn committed(&self, worker: WorkerId) -> Result<Offset, Refusal> {
+        self.look_up(worker, Look::Committed, 0).map(Offset::new)
     }
 
     /// Whether an offset is settled.
     ///
     /// # Errors
-    /// Refusals 38 and 39.
-    pub fn is_settled(&mut self, worker: WorkerId, offset: Offset) -> Result<bool, Refusal> {
-        Ok(self.look_up(worker, Ask::IsSettled, offset.get())? != 0)
+    /// [`UnknownWorker`](Refusal::UnknownWorker) (38) and [`NotPermitted`](Refusal::NotPermitted) (39).
+    pub fn is_settled(&self, worker: WorkerId, offset: Offset) -> Result<bool, Refusal> {
+        Ok(self.look_up(worker, Look::IsSettled, offset.get())? != 0)
     }
 
     /// The lease of an offset, run out or not.
     ///
     /// # Errors
-    /// Refusals 38 and 39.
-    pub fn lease_of(&mut self, worker: WorkerId, offset: Offset) -> Result<Option<Lease>, Refusal> {
+    /// [`UnknownWorker`](Refusal::UnknownWorker) (38) and [`NotPermitted`](Refusal::NotPermitted) (39).
+    pub fn lease_of(&self, worker: WorkerId, offset: Offset) -> Result<Option<Lease>, Refusal> {
         let mut reply = Numbers::default();
         self.machine
-            .ask(worker, Ask::LeaseOf, [offset.get(), 0, 0, 0], &mut reply)?;
+            .look(worker, Look::LeaseOf, [offset.get(), 0, 0, 0], &mut reply)?;
         if reply.count == 0 {
             return Ok(None);
         }
@@ -264,16 +379,16 @@ impl<S> Consumer<S> {
     /// How often an offset was handed out, as the next checkpoint stores it.
     ///
     /// # Errors
-    /// Refusals 38 and 39.
-    pub fn count_of(&mut self, worker: WorkerId, offset: Offset) -> Result<u32, Refusal> {
-        self.look_up(worker, Ask::CountOf, offset.get()).map(count)
+    /// [`UnknownWorker`](Refusal::UnknownWorker) (38) and [`NotPermitted`](Refusal::NotPermitted) (39).
+    pub fn count_of(&self, worker: WorkerId, offset: Offset) -> Result<u32, Refusal> {
+        self.look_up(worker, Look::CountOf, offset.get()).map(count)
     }
 
     /// How often each offset was handed out, rising by offset, as the next checkpoint stores it.
     ///
     /// # Errors
-    /// Refusals 38 and 39.
-    pub fn all_attempt_counts(&mut self, worker: WorkerId) -> Result<Vec<(Offset, u32)>, Refusal> {
+    /// [`UnknownWorker`](Refusal::UnknownWorker) (38) and [`NotPermitted`](Refusal::NotPermitted) (39).
+    pub fn all_attempt_counts(&self, worker: WorkerId) -> Result<Vec<(Offset, u32)>, Refusal> {
         // At the last clock every deadline has come, so that the waiting list has every lease and every carried count: at most 128,
         // in the order in which they wait.
         let mut list = [Offset::ZERO; MAX_PAIRS];
@@ -287,18 +402,18 @@ impl<S> Consumer<S> {
     /// How many offsets are in flight, their leases run out or not.
     ///
     /// # Errors
-    /// Refusals 38 and 39.
-    pub fn in_flight(&mut self, worker: WorkerId) -> Result<usize, Refusal> {
-        self.look_up(worker, Ask::InFlight, 0).map(size)
+    /// [`UnknownWorker`](Refusal::UnknownWorker) (38) and [`NotPermitted`](Refusal::NotPermitted) (39).
+    pub fn in_flight(&self, worker: WorkerId) -> Result<usize, Refusal> {
+        self.look_up(worker, Look::InFlight, 0).map(size)
     }
 
     /// Whether a checkpoint is due, and why.
     ///
     /// # Errors
-    /// Refusals 38 and 39.
-    pub fn is_due(&mut self, worker: WorkerId) -> Result<Due, Refusal> {
+    /// [`UnknownWorker`](Refusal::UnknownWorker) (38) and [`NotPermitted`](Refusal::NotPermitted) (39).
+    pub fn is_due(&self, worker: WorkerId) -> Result<Due, Refusal> {
         let mut reply = Numbers::default();
-        self.machine.ask(worker, Ask::IsDue, [0; 4], &mut reply)?;
+        self.machine.look(worker, Look::IsDue, [0; 4], &mut reply)?;
         let [ceiling, threshold, ..] = reply.values;
         Ok(Due {
             ceiling: ceiling != 0,
@@ -310,20 +425,21 @@ impl<S> Consumer<S> {
     /// half, which is zeroed first: so many writes more.
     ///
     /// # Errors
-    /// Refusals 38 and 39.
-    pub fn blocks_left(&mut self, worker: WorkerId) -> Result<usize, Refusal> {
-        self.look_up(worker, Ask::BlocksLeft, 0).map(size)
+    /// [`UnknownWorker`](Refusal::UnknownWorker) (38) and [`NotPermitted`](Refusal::NotPermitted) (39).
+    pub fn blocks_left(&self, worker: WorkerId) -> Result<usize, Refusal> {
+        self.look_up(worker, Look::BlocksLeft, 0).map(size)
     }
 
     /// How an offset stands at a clock. A worker sees its standing alone; a supervisor, whose [rights](crate::Rights::SUPERVISOR) have
     /// the mark, sees also how often it was handed out, and its lease.
     ///
     /// # Errors
-    /// Refusals 38 and 39: the mark doesn't stand in for the right to look.
-    pub fn view(&mut self, worker: WorkerId, offset: Offset, now: u64) -> Result<View, Refusal> {
+    /// [`UnknownWorker`](Refusal::UnknownWorker) (38) and [`NotPermitted`](Refusal::NotPermitted) (39): the mark doesn't stand in
+    /// for the right to look.
+    pub fn view(&self, worker: WorkerId, offset: Offset, now: u64) -> Result<View, Refusal> {
         let mut reply = Numbers::default();
         self.machine
-            .ask(worker, Ask::ViewOf, [offset.get(), now, 0, 0], &mut reply)?;
+            .look(worker, Look::ViewOf, [offset.get(), now, 0, 0], &mut reply)?;
         let [standing, attempts, generation, deadline, holder] = reply.values;
         let shown = |place: u64, value: u64| (place < reply.count).then_some(value);
         Ok(View {
@@ -343,9 +459,11 @@ impl<S> Consumer<S> {
     /// bounds. They fill the list from its first place on, and their number is answered. [`MAX_STRETCHES`] places are always enough.
     ///
     /// # Errors
-    /// Refusals 38 and 39, 32 where `a` is above `b`, and 20 where they don't fit; then the list is as it was.
+    /// [`UnknownWorker`](Refusal::UnknownWorker) (38), [`NotPermitted`](Refusal::NotPermitted) (39),
+    /// [`BoundsReversed`](Refusal::BoundsReversed) (32) where `a` is above `b`, and [`OutTooShort`](Refusal::OutTooShort) (20)
+    /// where they don't fit; then the list is as it was.
     pub fn open_between(
-        &mut self,
+        &self,
         worker: WorkerId,
         a: Offset,
         b: Offset,
@@ -357,9 +475,10 @@ impl<S> Consumer<S> {
     /// The same in a list of its own.
     ///
     /// # Errors
-    /// Refusals 38, 39 and 32.
+    /// [`UnknownWorker`](Refusal::UnknownWorker) (38), [`NotPermitted`](Refusal::NotPermitted) (39) and
+    /// [`BoundsReversed`](Refusal::BoundsReversed) (32).
     pub fn open_stretches(
-        &mut self,
+        &self,
         worker: WorkerId,
         a: Offset,
         b: Offset,
@@ -372,9 +491,9 @@ impl<S> Consumer<S> {
     /// The nearest unsettled offset at or above one. The last offset of all is never settled, so that there always is one.
     ///
     /// # Errors
-    /// Refusals 38 and 39.
-    pub fn nearest_open(&mut self, worker: WorkerId, offset: Offset) -> Result<Offset, Refusal> {
-        self.look_up(worker, Ask::NearestOpen, offset.get())
+    /// [`UnknownWorker`](Refusal::UnknownWorker) (38) and [`NotPermitted`](Refusal::NotPermitted) (39).
+    pub fn nearest_open(&self, worker: WorkerId, offset: Offset) -> Result<Offset, Refusal> {
+        self.look_up(worker, Look::NearestOpen, offset.get())
             .map(Offset::new)
     }
 
@@ -383,9 +502,10 @@ impl<S> Consumer<S> {
     /// comparisons of an offset with a range of settled ones: at most one for each offset and one for each range.
     ///
     /// # Errors
-    /// Refusals 38 and 39, then 36 and 37; `out` is as it was.
+    /// [`UnknownWorker`](Refusal::UnknownWorker) (38), [`NotPermitted`](Refusal::NotPermitted) (39), then
+    /// [`UnequalLengths`](Refusal::UnequalLengths) (36) and [`Falling`](Refusal::Falling) (37); `out` is as it was.
     pub fn plan(
-        &mut self,
+        &self,
         worker: WorkerId,
         offsets: &[Offset],
         out: &mut [u8],
@@ -393,8 +513,23 @@ impl<S> Consumer<S> {
         self.machine.plan(worker, offsets, out)
     }
 
-    /// Gives the state up. What was not checkpointed is lost, as in a power failure, and only a restart is left.
+    /// Whether a checkpoint is due, for the server's own loop: the next claim, and where no generation is left the next nack,
+    /// would be refused ([`CheckpointDue`](Refusal::CheckpointDue), 26). [`is_due`](Consumer::is_due) says it to a worker, and
+    /// why.
     #[must_use]
+    pub fn checkpoint_due(&self) -> bool {
+        self.machine.due().is_due()
+    }
+
+    /// The ceiling of the last finished checkpoint: every generation that has been given lies below it. It never falls, and so it says
+    /// how old a journal is. A server that keeps it apart from the journal, once the checkpoint is made, hands it to the next
+    /// [restart](Consumer::restart_at_least).
+    #[must_use]
+    pub fn ceiling(&self) -> Generation {
+        Generation::new(self.machine.ceiling())
+    }
+
+    /// Gives the state up. What was not checkpointed is lost, as in a power failure, and only a restart is left.
     pub fn into_journal(self) -> Journal<S> {
         self.journal
     }
@@ -406,43 +541,16 @@ impl<S> fmt::Debug for Consumer<S> {
     }
 }
 
-/// Why a [checkpoint](Consumer::checkpoint) was not made.
-pub enum CheckpointError<S = JournalFile> {
-    /// The worker may not begin one (38, 39), or the numbers of checkpoints are used up (31). Nothing has changed, and here is the
-    /// consumer.
-    Refused(Refusal, Consumer<S>),
-    /// The disk failed: only a restart is left.
-    Failed(Failed<S>),
-}
-
-impl<S> fmt::Display for CheckpointError<S> {
-    fn fmt(&self, f: &mut fmt::Formatter<'_>) -> fmt::Result {
-        match self {
-            CheckpointError::Refused(refusal, _) => refusal.fmt(f),
-            CheckpointError::Failed(failed) => failed.fmt(f),
-        }
-    }
-}
-
-impl<S> fmt::Debug for CheckpointError<S> {
-    fn fmt(&self, f: &mut fmt::Formatter<'_>) -> fmt::Result {
-        match self {
-            CheckpointError::Refused(refusal, _) => write!(f, "Refused({refusal:?})"),
-            CheckpointError::Failed(failed) => failed.fmt(f),
-        }
-    }
-}
-
-impl<S> std::error::Error for CheckpointError<S> {}
-
 /// A checkpoint that is being written. While it is out there is no consumer to call: only its steps, or a restart.
+#[must_use = "a checkpoint counts once its last step is made"]
 pub struct Writing<S = JournalFile> {
-    machine: Box<Machine>,
+    machine: Machine,
     journal: Journal<S>,
     writes_left: usize,
 }
 
 /// What a step made, and who can be called next.
+#[must_use = "what comes next is in it"]
 pub enum Step<S = JournalFile> {
     /// A block that isn't the last.
     Wrote {
@@ -467,29 +575,19 @@ impl<S: Storage> Writing<S> {
     /// An error of the disk, after which only a restart is left.
     pub fn step(mut self) -> Result<Step<S>, Failed<S>> {
         let wrote = self.machine.step(&mut self.journal.area);
-        if let Err(error) = self.journal.put(wrote.block) {
-            return Err(Failed {
-                error,
-                storage: self.journal.storage,
-            });
-        }
-        let block = wrote.block;
+        let (machine, block) = (self.machine, wrote.block);
+        let journal = self.journal.put(block)?;
         Ok(if wrote.last {
-            Step::Finished {
-                block,
-                consumer: Consumer {
-                    machine: self.machine,
-                    journal: self.journal,
-                },
-            }
+            let consumer = Consumer { machine, journal };
+            Step::Finished { block, consumer }
         } else {
-            Step::Wrote {
-                block,
-                writing: Writing {
-                    writes_left: self.writes_left - 1,
-                    ..self
-                },
-            }
+            let writes_left = self.writes_left - 1;
+            let writing = Writing {
+                machine,
+                journal,
+                writes_left,
+            };
+            Step::Wrote { block, writing }
         })
     }
 
@@ -515,7 +613,6 @@ impl<S> Writing<S> {
     }
 
     /// Gives the checkpoint up, and the state with it: only a restart is left, from the checkpoint before.
-    #[must_use]
     pub fn into_journal(self) -> Journal<S> {
         self.journal
     }

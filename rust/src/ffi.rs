@@ -4,11 +4,21 @@
 //! and require one thing, the invariant of the state that every start, restart and call is proved to leave. So a [`Machine`] is
 //! made here by a start or a restart alone, nothing outside this file sees its fields, and the structs below are laid out as
 //! the library's, field by field, which `tests` at the end compares. The codecs of attempt snapshots, of `crates/exports/src/lib.rt`,
-//! require nothing but slices that don't overlap.
+//! require nothing but slices that don't overlap. Before the first call the library is asked whether it is the one that this file was
+//! written for (`crates/server/src/abi.rt`).
+//!
+//! A question changes nothing, and takes `&self` here, though the library's one function for questions and calls takes `&mut`, and
+//! stores numbers back that it has not changed. So the state lies in an `UnsafeCell`, as that of `std::cell::Cell` does, and for the
+//! same reason that is sound: no reference to it is ever made outside of a call, a call doesn't call back, and the type isn't `Sync`, so
+//! that no other thread is in a call at the time.
 
+use core::cell::UnsafeCell;
+use core::mem::size_of;
+
+use crate::abi::{require_library, Compared, ABI};
 use crate::configuration::{Configuration, LeaseConfig, Settings};
 use crate::refusal::Refusal;
-use crate::types::{Offset, Stretch};
+use crate::types::{Due, Offset, Stretch};
 use crate::workers::WorkerId;
 
 // cursor: AckCursor
@@ -66,15 +76,15 @@ struct Writing {
     attempt_len: usize,
 }
 
-/// The state: the consumer, or the record of a checkpoint that is being written.
+// machine: Machine. The state: the consumer, or the record of a checkpoint that is being written.
 #[repr(C)]
-pub(crate) struct Machine {
+struct State {
     configuration: Configuration,
     phase: u64,
     writing: Writing,
 }
 
-/// What a call answers: document 01's number, 0 where nothing was refused; how many values there are; and the first five.
+/// What a call answers: the number of docs/SPEC.md, 0 where nothing was refused; how many values there are; and the first five.
 #[derive(Clone, Copy, Debug, Default, PartialEq, Eq)]
 #[repr(C)]
 pub(crate) struct Numbers {
@@ -83,7 +93,8 @@ pub(crate) struct Numbers {
     pub(crate) values: [u64; 5],
 }
 
-/// The calls on a consumer, by their numbers in `crates/server/specs/Kinds.antt`. Progress, which is 5, has a function of its own.
+/// The calls that can change a consumer, by their numbers in `crates/server/specs/Kinds.antt`. Progress, which is 5, has a function of
+/// its own.
 #[derive(Clone, Copy, Debug, PartialEq, Eq)]
 #[repr(u64)]
 pub(crate) enum Ask {
@@ -93,6 +104,12 @@ pub(crate) enum Ask {
     Nack = 3,
     NackAfter = 4,
     Commit = 6,
+}
+
+/// The questions, which change nothing, likewise.
+#[derive(Clone, Copy, Debug, PartialEq, Eq)]
+#[repr(u64)]
+pub(crate) enum Look {
     Waiting = 32,
     Committed = 33,
     IsSettled = 34,
@@ -107,21 +124,23 @@ pub(crate) enum Ask {
 }
 
 extern "C" {
+    fn ninotskev_abi() -> u64;
+    fn ninotskev_abi_size(part: u64) -> u64;
     fn ninotskev_start(
-        machine: *mut Machine,
+        machine: *mut State,
         numbers: *mut Numbers,
         configuration: *const Configuration,
         area_len: usize,
     );
-    fn ninotskev_off(machine: *mut Machine, configuration: *const Configuration);
+    fn ninotskev_off(machine: *mut State, configuration: *const Configuration);
     fn ninotskev_restart(
-        machine: *mut Machine,
+        machine: *mut State,
         numbers: *mut Numbers,
         area: *const u8,
         area_len: usize,
     );
     fn ninotskev_ask(
-        machine: *mut Machine,
+        machine: *mut State,
         numbers: *mut Numbers,
         worker: u64,
         kind: u64,
@@ -133,7 +152,7 @@ extern "C" {
         out_len: usize,
     );
     fn ninotskev_progress(
-        machine: *mut Machine,
+        machine: *mut State,
         numbers: *mut Numbers,
         worker: u64,
         offset: u64,
@@ -141,7 +160,7 @@ extern "C" {
         now: u64,
     );
     fn ninotskev_plan(
-        machine: *mut Machine,
+        machine: *mut State,
         numbers: *mut Numbers,
         worker: u64,
         offsets: *const u64,
@@ -149,8 +168,8 @@ extern "C" {
         out: *mut u8,
         out_len: usize,
     );
-    fn ninotskev_begin(machine: *mut Machine, numbers: *mut Numbers, worker: u64);
-    fn ninotskev_step(machine: *mut Machine, numbers: *mut Numbers, area: *mut u8, area_len: usize);
+    fn ninotskev_begin(machine: *mut State, numbers: *mut Numbers, worker: u64);
+    fn ninotskev_step(machine: *mut State, numbers: *mut Numbers, area: *mut u8, area_len: usize);
     fn ninotskev_encode_attempts(
         offsets: *const u64,
         offsets_len: usize,
@@ -179,12 +198,38 @@ extern "C" {
     ) -> Numbers;
 }
 
+/// What the linked library says of itself, beside what stands here: the number of the interface, and the sizes of the structs that cross.
+pub(crate) fn compared() -> [Compared; 4] {
+    let size = |what, part, here: usize| Compared {
+        what,
+        // SAFETY: a number in and a number out, whichever library it is.
+        library: unsafe { ninotskev_abi_size(part) },
+        here: here as u64,
+    };
+    [
+        Compared {
+            what: "the number of the interface",
+            // SAFETY: likewise.
+            library: unsafe { ninotskev_abi() },
+            here: ABI,
+        },
+        size("the size of the machine", 0, size_of::<State>()),
+        size(
+            "the size of its configuration",
+            1,
+            size_of::<Configuration>(),
+        ),
+        size("the size of an answer", 2, size_of::<Numbers>()),
+    ]
+}
+
 /// Writes an attempt snapshot of version 1 from the start of the bytes: 19, 20.
 pub(crate) fn encode_attempts(
     offsets: &[u64],
     attempts: &[u32],
     out: &mut [u8],
 ) -> Result<(), Refusal> {
+    require_library();
     let (o, a) = (offsets.as_ptr(), attempts.as_ptr());
     // SAFETY: slices that don't overlap, of which nothing else is required.
     let numbers = unsafe {
@@ -207,6 +252,7 @@ pub(crate) fn encode_attempts_v2(
     attempts: &[u32],
     out: &mut [u8],
 ) -> Result<(), Refusal> {
+    require_library();
     let (o, a) = (offsets.as_ptr(), attempts.as_ptr());
     // SAFETY: as for `encode_attempts`.
     let numbers = unsafe {
@@ -229,6 +275,7 @@ pub(crate) fn decode_attempts(
     offsets: &mut [u64],
     attempts: &mut [u32],
 ) -> Result<u64, Refusal> {
+    require_library();
     let (o, a) = (offsets.as_mut_ptr(), attempts.as_mut_ptr());
     // SAFETY: as for `encode_attempts`.
     let numbers = unsafe {
@@ -264,74 +311,103 @@ impl Numbers {
 
     #[cold]
     fn refusal(&self) -> Refusal {
-        Refusal::of_number(self.number, self.values[0], self.values[1])
+        Refusal::from_number(self.number, [self.values[0], self.values[1]])
             .expect("the library answers the documents' numbers")
     }
 }
 
+/// The state in its place, where it stays.
+pub(crate) struct Machine(Box<UnsafeCell<State>>);
+
+// Makes a call on the consumer.
+//
+// SAFETY: the machine was made by a start or an off, and changed by calls alone, so that it meets the invariant; nobody else reads or
+// writes it or the lists during the call, and none of them overlap.
+#[inline]
+unsafe fn call(
+    machine: *mut State,
+    worker: WorkerId,
+    kind: u64,
+    [a, b, c, d]: [u64; 4],
+    out: &mut [u64],
+    numbers: &mut Numbers,
+) {
+    ninotskev_ask(
+        machine,
+        numbers,
+        worker.get(),
+        kind,
+        a,
+        b,
+        c,
+        d,
+        out.as_mut_ptr(),
+        out.len(),
+    );
+}
+
 impl Machine {
-    // Memory for a machine: an off or a start that isn't refused makes one of it.
-    fn blank() -> Box<Machine> {
+    // Memory for a machine, once the library is known to be the right one: an off or a start that isn't refused makes one of it.
+    fn blank() -> Machine {
+        require_library();
         // SAFETY: every field is a number, a bool or an array of numbers, for which zeros are a value.
-        unsafe { Box::<Machine>::new_zeroed().assume_init() }
+        Machine(unsafe { Box::<UnsafeCell<State>>::new_zeroed().assume_init() })
     }
 
     /// A fresh machine for so many zeroed bytes: 1 to 4.
     pub(crate) fn start(
         configuration: &Configuration,
         area_len: usize,
-    ) -> Result<Box<Machine>, Refusal> {
-        let mut machine = Machine::blank();
+    ) -> Result<Machine, Refusal> {
+        let machine = Machine::blank();
         let mut numbers = Numbers::default();
-        // SAFETY: three references to values of the library's layout, of which nothing is required.
-        unsafe { ninotskev_start(&mut *machine, &mut numbers, configuration, area_len) };
+        // SAFETY: three places of the library's layout, of which nothing is required.
+        unsafe { ninotskev_start(machine.0.get(), &mut numbers, configuration, area_len) };
         numbers.check()?;
         Ok(machine)
     }
 
     /// The machine of what a journal has: 1 to 19.
-    pub(crate) fn restart(
-        configuration: &Configuration,
-        area: &[u8],
-    ) -> Result<Box<Machine>, Refusal> {
-        let mut machine = Machine::blank();
+    pub(crate) fn restart(configuration: &Configuration, area: &[u8]) -> Result<Machine, Refusal> {
+        let machine = Machine::blank();
         let mut numbers = Numbers::default();
-        // SAFETY: references and a slice that don't overlap, to values of the library's layout. An off requires nothing, and the
-        // machine that it leaves meets the invariant.
+        let place = machine.0.get();
+        // SAFETY: places and a slice that don't overlap, of the library's layout. An off requires nothing, and the machine that it
+        // leaves meets the invariant.
         unsafe {
-            ninotskev_off(&mut *machine, configuration);
-            ninotskev_restart(&mut *machine, &mut numbers, area.as_ptr(), area.len());
+            ninotskev_off(place, configuration);
+            ninotskev_restart(place, &mut numbers, area.as_ptr(), area.len());
         }
         numbers.check()?;
         Ok(machine)
     }
 
-    // A call on the consumer. Whoever calls has a consumer, and no record is out.
+    // A question of the consumer. Whoever asks has a consumer, and no record is out.
     #[inline]
-    fn on_consumer(
-        &mut self,
+    fn question(
+        &self,
         worker: WorkerId,
-        ask: Ask,
-        [a, b, c, d]: [u64; 4],
+        look: Look,
+        given: [u64; 4],
         out: &mut [u64],
         numbers: &mut Numbers,
     ) {
-        // SAFETY: references and a slice that don't overlap. The machine was made by a start or an off, and changed by calls
-        // alone, so that it meets the invariant.
-        unsafe {
-            ninotskev_ask(
-                self,
-                numbers,
-                worker.get(),
-                ask as u64,
-                a,
-                b,
-                c,
-                d,
-                out.as_mut_ptr(),
-                out.len(),
-            );
-        }
+        // SAFETY: as for `call`: there is no reference into the cell, the library doesn't call back, and no other thread has this
+        // value, which isn't `Sync`.
+        unsafe { call(self.0.get(), worker, look as u64, given, out, numbers) };
+    }
+
+    /// A question that numbers answer.
+    #[inline]
+    pub(crate) fn look(
+        &self,
+        worker: WorkerId,
+        look: Look,
+        given: [u64; 4],
+        numbers: &mut Numbers,
+    ) -> Result<(), Refusal> {
+        self.question(worker, look, given, &mut [], numbers);
+        numbers.check()
     }
 
     /// A call on the consumer that answers numbers.
@@ -343,7 +419,8 @@ impl Machine {
         given: [u64; 4],
         numbers: &mut Numbers,
     ) -> Result<(), Refusal> {
-        self.on_consumer(worker, ask, given, &mut [], numbers);
+        // SAFETY: as for `call`, and this value is the caller's alone.
+        unsafe { call(self.0.get(), worker, ask as u64, given, &mut [], numbers) };
         numbers.check()
     }
 
@@ -357,8 +434,9 @@ impl Machine {
         now: u64,
     ) -> Result<u64, Refusal> {
         let mut numbers = Numbers::default();
-        // SAFETY: as for `on_consumer`.
-        unsafe { ninotskev_progress(self, &mut numbers, worker.get(), offset, generation, now) };
+        let machine = self.0.get();
+        // SAFETY: as for `ask`.
+        unsafe { ninotskev_progress(machine, &mut numbers, worker.get(), offset, generation, now) };
         numbers.check()?;
         Ok(numbers.values[0])
     }
@@ -366,7 +444,7 @@ impl Machine {
     /// The waiting list at a clock, into a list: how many there are, or 38, 39 or 20.
     #[inline]
     pub(crate) fn waiting(
-        &mut self,
+        &self,
         worker: WorkerId,
         now: u64,
         out: &mut [Offset],
@@ -375,7 +453,7 @@ impl Machine {
         let places =
             unsafe { core::slice::from_raw_parts_mut(out.as_mut_ptr().cast::<u64>(), out.len()) };
         let mut numbers = Numbers::default();
-        self.on_consumer(worker, Ask::Waiting, [now, 0, 0, 0], places, &mut numbers);
+        self.question(worker, Look::Waiting, [now, 0, 0, 0], places, &mut numbers);
         numbers.check()?;
         Ok(numbers.count)
     }
@@ -383,7 +461,7 @@ impl Machine {
     /// The open stretches between two numbers, into a list: how many there are, or 38, 39, 32 or 20.
     #[inline]
     pub(crate) fn open_between(
-        &mut self,
+        &self,
         worker: WorkerId,
         a: Offset,
         b: Offset,
@@ -396,7 +474,7 @@ impl Machine {
         };
         let mut numbers = Numbers::default();
         let bounds = [a.get(), b.get(), 0, 0];
-        self.on_consumer(worker, Ask::OpenBetween, bounds, places, &mut numbers);
+        self.question(worker, Look::OpenBetween, bounds, places, &mut numbers);
         numbers.check()?;
         Ok(numbers.count / 2)
     }
@@ -404,16 +482,16 @@ impl Machine {
     /// Which offsets of a list are settled, into a list: how many looks that took, or 38, 39, 36 or 37.
     #[inline]
     pub(crate) fn plan(
-        &mut self,
+        &self,
         worker: WorkerId,
         offsets: &[Offset],
         out: &mut [u8],
     ) -> Result<u64, Refusal> {
         let mut numbers = Numbers::default();
-        // SAFETY: as for `on_consumer`; an offset is laid out as its number.
+        // SAFETY: as for `question`; an offset is laid out as its number.
         unsafe {
             ninotskev_plan(
-                self,
+                self.0.get(),
                 &mut numbers,
                 worker.get(),
                 offsets.as_ptr().cast::<u64>(),
@@ -426,12 +504,36 @@ impl Machine {
         Ok(numbers.values[0])
     }
 
+    /// The ceiling: every generation that may be given before the next checkpoint lies below it.
+    pub(crate) fn ceiling(&self) -> u64 {
+        // SAFETY: nobody is in a call on it, as for `question`, and no reference is made.
+        unsafe { (*self.0.get()).writing.consumer.ceiling }
+    }
+
+    /// Whether a checkpoint is due, as question 38 answers it.
+    pub(crate) fn due(&self) -> Due {
+        let place = self.0.get();
+        // SAFETY: as for `ceiling`.
+        let (next, counter, threshold) = unsafe {
+            let consumer = &raw const (*place).writing.consumer;
+            (
+                (*consumer).table.next_generation,
+                (*consumer).table.redeliveries_since_flush,
+                (*consumer).settings.delivery.attempts_flush_redeliveries,
+            )
+        };
+        Due {
+            ceiling: next >= self.ceiling(),
+            threshold: counter >= threshold,
+        }
+    }
+
     /// Takes the consumer into a record: how many blocks are to be written, or 38, 39 or 31.
     #[inline]
     pub(crate) fn begin(&mut self, worker: WorkerId) -> Result<u64, Refusal> {
         let mut numbers = Numbers::default();
-        // SAFETY: as for `on_consumer`.
-        unsafe { ninotskev_begin(self, &mut numbers, worker.get()) };
+        // SAFETY: as for `ask`.
+        unsafe { ninotskev_begin(self.0.get(), &mut numbers, worker.get()) };
         numbers.check()?;
         Ok(numbers.values[0])
     }
@@ -440,8 +542,8 @@ impl Machine {
     #[inline]
     pub(crate) fn step(&mut self, area: &mut [u8]) -> Wrote {
         let mut numbers = Numbers::default();
-        // SAFETY: as for `on_consumer`.
-        unsafe { ninotskev_step(self, &mut numbers, area.as_mut_ptr(), area.len()) };
+        // SAFETY: as for `ask`.
+        unsafe { ninotskev_step(self.0.get(), &mut numbers, area.as_mut_ptr(), area.len()) };
         numbers
             .check()
             .expect("a step on its own area is not refused");
@@ -458,12 +560,12 @@ mod tests {
     use crate::configuration::DeliveryConfig;
     use crate::hours::Hours;
     use crate::workers::Rights;
-    use std::mem::{offset_of, size_of};
+    use std::mem::offset_of;
 
     // A machine with bytes behind it that nobody may touch.
     #[repr(C)]
     struct Guarded {
-        machine: Machine,
+        machine: State,
         machine_end: [u8; 64],
         numbers: Numbers,
         numbers_end: [u8; 64],
@@ -515,7 +617,7 @@ mod tests {
         }
 
         fn ask_by(&mut self, worker: u64, kind: u64, [a, b, c, d]: [u64; 4], out: &mut [u64]) {
-            // SAFETY: as for `Machine::on_consumer`; the machine was started.
+            // SAFETY: as for `call`; the machine was started.
             unsafe {
                 ninotskev_ask(
                     &mut self.machine,
@@ -603,7 +705,7 @@ mod tests {
             size_of::<LeaseTable>(),
             16 + 4 * 512 + 2 * 256 + 8 + 1024 + 512 + 8 + 8 + 8
         );
-        assert_eq!(offset_of!(Machine, writing), 248 + 8);
+        assert_eq!(offset_of!(State, writing), 248 + 8);
         assert_eq!(size_of::<Numbers>(), 56);
     }
 
@@ -677,9 +779,9 @@ mod tests {
         let tuesday = 49 * Hours::HALF_HOUR - 11;
         assert_eq!(guarded.numbers, code(35, 1, [tuesday]));
         // What is shown to a supervisor, and to another who looks.
-        guarded.ask_by(7, Ask::ViewOf as u64, [9, 149, 0, 0], &mut []);
+        guarded.ask_by(7, Look::ViewOf as u64, [9, 149, 0, 0], &mut []);
         assert_eq!(guarded.numbers, code(0, 5, [1, 1, 1, 150, 7]));
-        guarded.ask(Ask::ViewOf as u64, [9, 150, 0, 0], &mut []);
+        guarded.ask(Look::ViewOf as u64, [9, 150, 0, 0], &mut []);
         assert_eq!(guarded.numbers, code(0, 1, [2]));
         // Another's token, and one's own.
         guarded.ask(Ask::Ack as u64, [9, 1, 0, 0], &mut []);
@@ -712,7 +814,7 @@ mod tests {
         assert_eq!((table.carried_len, table.carried_offsets[0]), (1, 5));
         assert_eq!((table.carried_counts[0], table.next_generation), (1, 4098));
         assert_eq!(table.redeliveries_since_flush, 0);
-        guarded.ask(Ask::Waiting as u64, [50, 0, 0, 0], &mut out);
+        guarded.ask(Look::Waiting as u64, [50, 0, 0, 0], &mut out);
         assert_eq!(guarded.numbers, code(0, 1, [5, 0, 0, 0]));
         assert_eq!(out[0], 5);
     }
@@ -733,12 +835,13 @@ mod tests {
         guarded.start(&Configuration::default(), 512 * 20);
         guarded.begin();
         let mut list = [7; 2];
-        for ask in [Ask::Claim, Ask::Commit, Ask::Waiting, Ask::Committed] {
-            let Guarded {
-                machine, numbers, ..
-            } = &mut *guarded;
-            machine.on_consumer(WorkerId::new(0), ask, [5, 0, 0, 0], &mut list, numbers);
-            guarded.untouched();
+        for kind in [
+            Ask::Claim as u64,
+            Ask::Commit as u64,
+            Look::Waiting as u64,
+            Look::Committed as u64,
+        ] {
+            guarded.ask(kind, [5, 0, 0, 0], &mut list);
             assert_eq!(guarded.numbers, code(255, 0, [0; 4]));
         }
         assert_eq!(list, [7; 2]);

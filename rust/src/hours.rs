@@ -77,7 +77,8 @@ impl Hours {
         }
     }
 
-    /// A week with nothing open yet, whose Monday midnight is clock 0. As it stands, a start refuses it (34).
+    /// A week with nothing open yet, whose Monday midnight is clock 0. As it stands, a start refuses it,
+    /// [`NeverOpen`](crate::Refusal::NeverOpen) (34).
     #[must_use]
     pub const fn week() -> Hours {
         Hours::from_masks([0; 7], 0)
@@ -86,8 +87,8 @@ impl Hours {
     /// The hours of seven numbers, Monday's first, whose bits 0 to 47 are the half hours of a day, bit 0 the one from midnight; and of
     /// the nanoseconds by which clock 0 lies after Monday midnight.
     ///
-    /// Nothing is refused here. Start and restart refuse bits above 47 and a shift of a week or more (33), and a week in which nothing
-    /// is open (34).
+    /// Nothing is refused here. Start and restart refuse bits above 47 and a shift of a week or more, [`BadHours`](crate::Refusal::BadHours) (33),
+    /// and a week in which nothing is open, [`NeverOpen`](crate::Refusal::NeverOpen) (34).
     #[must_use]
     pub const fn from_masks(days: [u64; 7], shift_nanos: u64) -> Hours {
         Hours {

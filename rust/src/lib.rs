@@ -4,12 +4,15 @@
 //! The work is done by a library in Rattle whose every function is proved to meet its contract; this crate gives it a safe
 //! interface and a journal over a file. The names are those of IronBus.
 //!
+//! Refusals are [`Refusal`], whose variants have the numbers of `docs/SPEC.md`. What a start, a restart or a checkpoint that was not
+//! made gives back is in its error, and every error is one of `std::error::Error`, so that `?` takes it.
+//!
 //! # One state, used once
 //!
 //! The proof that no message is handed out too often, and that no token from before a restart is ever taken, has one premise
 //! about the caller: each call gets what the one before left, and nobody else writes the journal. Here the types say so, of a
 //! journal over a file. What they can't say is for the server to keep: that each restart is handed the configuration of the start,
-//! and that nobody writes, copies or removes the file by its name.
+//! that nobody writes, copies or removes the file by its name, and that a [new journal](NewJournal) is made once in a consumer's life.
 //!
 //! ```
 //! use ironbus_delivery_state::{Configuration, Consumer, HandOut, NewJournal, Offset, Refusal, WorkerId};
@@ -19,7 +22,7 @@
 //! // Every call says who makes it. Unless the settings say otherwise, worker 0 may do everything and the others nothing.
 //! let worker = WorkerId::new(0);
 //! let journal = NewJournal::create(&path, 128)?;
-//! let consumer = Consumer::start(&Configuration::default(), journal).map_err(|(refusal, _)| refusal)?;
+//! let consumer = Consumer::start(&Configuration::default(), journal)?;
 //! let mut consumer = consumer.checkpoint(worker)?;
 //! let HandOut::Deliver { token, .. } = consumer.claim(worker, Offset::new(0), 0)? else { unreachable!() };
 //! consumer.ack(worker, token)?;
@@ -90,6 +93,53 @@
 //! }
 //! ```
 //!
+//! Two threads can't ask it at once; [`Consumer`] has how several share one:
+//!
+//! ```compile_fail,E0277
+//! # use ironbus_delivery_state::Consumer;
+//! fn from_two_threads(consumer: &Consumer) {
+//!     std::thread::scope(|scope| {
+//!         scope.spawn(|| consumer.checkpoint_due());
+//!     });
+//! }
+//! ```
+//!
+//! What is left unused is warned of, a consumer, a checkpoint that is being written, and a step:
+//!
+//! ```compile_fail
+//! #![deny(unused_must_use)]
+//! # use ironbus_delivery_state::{Consumer, WorkerId};
+//! fn forgotten(consumer: Consumer, worker: WorkerId) {
+//!     consumer.checkpoint(worker).unwrap();
+//! }
+//! ```
+//!
+//! ```compile_fail
+//! #![deny(unused_must_use)]
+//! # use ironbus_delivery_state::{Consumer, WorkerId};
+//! fn never_written(consumer: Consumer, worker: WorkerId) {
+//!     consumer.begin(worker).unwrap();
+//! }
+//! ```
+//!
+//! ```compile_fail
+//! #![deny(unused_must_use)]
+//! # use ironbus_delivery_state::Writing;
+//! fn one_step_alone(writing: Writing) {
+//!     writing.step().unwrap();
+//! }
+//! ```
+//!
+//! ```
+//! #![deny(unused_must_use)]
+//! # use ironbus_delivery_state::{Consumer, Writing, WorkerId};
+//! fn given_up(consumer: Consumer, other: Consumer, writing: Writing, worker: WorkerId) {
+//!     drop(consumer.checkpoint(worker).unwrap());
+//!     drop(other.begin(worker).unwrap());
+//!     drop(writing.step().unwrap());
+//! }
+//! ```
+//!
 //! And a consumer that was given up is gone:
 //!
 //! ```compile_fail,E0382
@@ -103,8 +153,10 @@
 #![deny(unsafe_code)]
 #![deny(missing_docs)]
 
+mod abi;
 mod configuration;
 mod consumer;
+mod errors;
 #[allow(unsafe_code)]
 mod ffi;
 mod hours;
@@ -114,8 +166,12 @@ mod snapshot;
 mod types;
 mod workers;
 
+pub use abi::{check_library, WrongLibrary, ABI};
 pub use configuration::{Configuration, DeliveryConfig, LeaseConfig, Settings};
-pub use consumer::{CheckpointError, Consumer, Step, Writing, MAX_STRETCHES};
+pub use consumer::{Consumer, Step, Writing, MAX_STRETCHES, STACK};
+pub use errors::{
+    BeginError, CheckpointError, OlderJournal, RestartAtLeastError, RestartError, StartError,
+};
 pub use hours::{Hours, HoursError, TimeOfDay, Weekday};
 pub use journal::{
     Failed, Journal, JournalError, JournalFile, NewJournal, Storage, BLOCK, MAX_BLOCKS, MIN_BLOCKS,

@@ -2,7 +2,7 @@
 
 use core::fmt;
 
-/// The refusals of documents 01 and 02, by their numbers, with their values. A refused call has changed nothing.
+/// The refusals of `docs/SPEC.md`, by their numbers, with their values. A refused call has changed nothing.
 #[derive(Clone, Copy, Debug, PartialEq, Eq, Hash)]
 #[non_exhaustive]
 pub enum Refusal {
@@ -189,9 +189,19 @@ impl Refusal {
         }
     }
 
-    /// The refusal of a number and its values, or `None` where the documents have no such number.
+    /// The refusal of a [number](Refusal::number) and its [values](Refusal::values), of which those that it doesn't have count for
+    /// nothing; or `None` where the documents have no such number.
+    ///
+    /// ```
+    /// use ironbus_delivery_state::Refusal;
+    ///
+    /// assert_eq!(Refusal::from_number(24, [0, 0]), Some(Refusal::Fenced));
+    /// assert_eq!(Refusal::from_number(5, [7, 0]), Some(Refusal::Damaged { block: 7 }));
+    /// assert_eq!(Refusal::from_number(41, [0, 0]), None);
+    /// ```
     #[must_use]
-    pub const fn of_number(number: u64, first: u64, second: u64) -> Option<Refusal> {
+    pub const fn from_number(number: u64, values: [u64; 2]) -> Option<Refusal> {
+        let [first, second] = values;
         Some(match number {
             5 => Refusal::Damaged { block: first },
             7 => Refusal::CursorBadLength { len: first },
@@ -261,8 +271,9 @@ impl Refusal {
         WORDS[self.number() as usize - 1]
     }
 
-    // Its values, 0 where it has fewer.
-    const fn values(self) -> [u64; 2] {
+    /// Its values in the order in which the documents have them, 0 where it has fewer.
+    #[must_use]
+    pub const fn values(self) -> [u64; 2] {
         match self {
             Refusal::Damaged { block } => [block, 0],
             Refusal::Closed { opening } => [opening, 0],
@@ -348,18 +359,22 @@ mod tests {
     #[test]
     fn numbers_and_values_go_both_ways() {
         for number in 1..=40 {
-            let refusal = Refusal::of_number(number, 7, 9).unwrap();
+            let refusal = Refusal::from_number(number, [7, 9]).unwrap();
             assert_eq!(refusal.number(), number);
+            assert_eq!(
+                Refusal::from_number(number, refusal.values()),
+                Some(refusal)
+            );
             assert!(refusal
                 .to_string()
                 .starts_with(&format!("refused ({number}): ")));
         }
-        assert_eq!(Refusal::of_number(0, 0, 0), None);
+        assert_eq!(Refusal::from_number(0, [0, 0]), None);
         for number in [41, 255] {
-            assert_eq!(Refusal::of_number(number, 0, 0), None);
+            assert_eq!(Refusal::from_number(number, [0, 0]), None);
         }
         assert_eq!(
-            Refusal::of_number(16, 7, 9),
+            Refusal::from_number(16, [7, 9]),
             Some(Refusal::CountMismatch {
                 declared: 7,
                 actual: 9
@@ -367,9 +382,44 @@ mod tests {
         );
     }
 
+    // Where a document of this crate names a refusal by its variant, the number beside it is the variant's, and none is named by its
+    // number alone.
+    #[test]
+    fn documents_name_refusals_by_their_variants() {
+        let mut named = 0;
+        for source in [
+            include_str!("configuration.rs"),
+            include_str!("consumer.rs"),
+            include_str!("hours.rs"),
+            include_str!("snapshot.rs"),
+        ] {
+            let documents: Vec<&str> = source
+                .lines()
+                .filter_map(|line| line.trim_start().strip_prefix("/// "))
+                .collect();
+            let text = documents.join(" ");
+            assert!(!text.contains("Refusals "));
+            for link in text.split("Refusal::").skip(1) {
+                // In an example there is no link.
+                let Some((name, behind)) = link.split_once(')') else {
+                    continue;
+                };
+                let digits = behind.trim_start_matches([' ', '(', ',']);
+                let digits = digits.split(|c: char| !c.is_ascii_digit()).next();
+                if let Some(Ok(number)) = digits.map(str::parse) {
+                    let refusal = Refusal::from_number(number, [0, 0]).unwrap();
+                    let variant = format!("{refusal:?}");
+                    assert_eq!(variant.split(' ').next(), Some(name), "{number}");
+                    named += 1;
+                }
+            }
+        }
+        assert!(named > 80, "{named} are named");
+    }
+
     #[test]
     fn values_stand_in_their_places() {
-        let said = |number| Refusal::of_number(number, 7, 9).unwrap().to_string();
+        let said = |number| Refusal::from_number(number, [7, 9]).unwrap().to_string();
         assert_eq!(said(8), "refused (8): the cursor snapshot has version 7");
         assert_eq!(
             said(10),

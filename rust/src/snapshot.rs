@@ -25,7 +25,10 @@ fn columns(pairs: &[(Offset, u32)]) -> (Vec<u64>, Vec<u32>) {
 /// The pairs are written in the order given; a reader wants their offsets rising.
 ///
 /// # Errors
-/// [`Refusal::TooManyPairs`] where there are over [`MAX_PAIRS`].
+/// [`TooManyPairs`](Refusal::TooManyPairs) (19) where there are over [`MAX_PAIRS`].
+///
+/// # Panics
+/// Where the linked library is another one: see [`check_library`](crate::check_library).
 pub fn encode_attempt_snapshot(pairs: &[(Offset, u32)]) -> Result<Vec<u8>, Refusal> {
     let (offsets, attempts) = columns(pairs);
     let mut bytes = vec![0; length(pairs.len())];
@@ -34,10 +37,13 @@ pub fn encode_attempt_snapshot(pairs: &[(Offset, u32)]) -> Result<Vec<u8>, Refus
 }
 
 /// A snapshot of version 2, as journals have it: all offsets and then all attempts, so that attempts which change leave the bytes of
-/// the offsets as they are. IronBus's own server refuses it (14).
+/// the offsets as they are. IronBus's own server refuses it, as [`AttemptUnsupportedVersion`](Refusal::AttemptUnsupportedVersion) (14).
 ///
 /// # Errors
-/// [`Refusal::TooManyPairs`] where there are over [`MAX_PAIRS`].
+/// [`TooManyPairs`](Refusal::TooManyPairs) (19) where there are over [`MAX_PAIRS`].
+///
+/// # Panics
+/// Where the linked library is another one: see [`check_library`](crate::check_library).
 pub fn encode_attempt_snapshot_v2(pairs: &[(Offset, u32)]) -> Result<Vec<u8>, Refusal> {
     let (offsets, attempts) = columns(pairs);
     let mut bytes = vec![0; length(pairs.len())];
@@ -48,7 +54,14 @@ pub fn encode_attempt_snapshot_v2(pairs: &[(Offset, u32)]) -> Result<Vec<u8>, Re
 /// The pairs of a snapshot of either version.
 ///
 /// # Errors
-/// Refusals 13 to 19; 14 is for versions other than 1 and 2.
+/// [`AttemptTruncated`](Refusal::AttemptTruncated) (13),
+/// [`AttemptUnsupportedVersion`](Refusal::AttemptUnsupportedVersion) (14) for versions other than 1 and 2,
+/// [`AttemptBadLength`](Refusal::AttemptBadLength) (15), [`CountMismatch`](Refusal::CountMismatch) (16),
+/// [`AttemptBadCrc`](Refusal::AttemptBadCrc) (17), [`NotSorted`](Refusal::NotSorted) (18) and
+/// [`TooManyPairs`](Refusal::TooManyPairs) (19).
+///
+/// # Panics
+/// Where the linked library is another one: see [`check_library`](crate::check_library).
 pub fn decode_attempt_snapshot(bytes: &[u8]) -> Result<Vec<(Offset, u32)>, Refusal> {
     let mut offsets = [0; MAX_PAIRS];
     let mut attempts = [0; MAX_PAIRS];

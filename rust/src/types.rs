@@ -35,6 +35,18 @@ impl Offset {
     }
 }
 
+impl From<u64> for Offset {
+    fn from(value: u64) -> Offset {
+        Offset(value)
+    }
+}
+
+impl From<Offset> for u64 {
+    fn from(offset: Offset) -> u64 {
+        offset.0
+    }
+}
+
 /// A stretch of offsets: from `start` on, and up to `end`, which isn't in it.
 #[derive(Clone, Copy, Debug, PartialEq, Eq, Hash, Default)]
 #[repr(C)]
@@ -77,6 +89,18 @@ impl Generation {
     #[must_use]
     pub const fn get(self) -> u64 {
         self.0
+    }
+}
+
+impl From<u64> for Generation {
+    fn from(value: u64) -> Generation {
+        Generation(value)
+    }
+}
+
+impl From<Generation> for u64 {
+    fn from(generation: Generation) -> u64 {
+        generation.0
     }
 }
 

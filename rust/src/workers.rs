@@ -26,6 +26,12 @@ impl WorkerId {
     }
 }
 
+impl From<u64> for WorkerId {
+    fn from(number: u64) -> WorkerId {
+        WorkerId(number)
+    }
+}
+
 impl fmt::Debug for WorkerId {
     fn fmt(&self, f: &mut fmt::Formatter<'_>) -> fmt::Result {
         write!(f, "WorkerId({})", self.0)

@@ -2,12 +2,14 @@
 
 mod common;
 
-use std::fs;
+use std::fs::{self, File};
 use std::io::{BufRead, BufReader};
-use std::path::Path;
+use std::os::unix::fs::PermissionsExt;
+use std::path::{Path, PathBuf};
 use std::process::{Child, Command, Stdio};
+use std::time::Duration;
 
-use common::{configuration, fresh_path, WORKER};
+use common::{configuration, fresh_path, Random, WORKER};
 use ironbus_delivery_state::{
     Configuration, Consumer, HandOut, Journal, JournalError, NewJournal, Offset, Refusal, Step,
     BLOCK,
@@ -300,7 +302,7 @@ fn a_batch_is_closed_though_a_job_of_it_is_held() {
     // With a checkpoint behind it the commit stays.
     assert_eq!(consumer.commit(WORKER, Offset::new(3)), Ok(true));
     drop(consumer.checkpoint(WORKER).unwrap());
-    let mut consumer = restart(&path, &configuration);
+    let consumer = restart(&path, &configuration);
     assert_eq!(consumer.committed(WORKER), Ok(Offset::new(3)));
     assert_eq!(
         consumer.all_attempt_counts(WORKER),
@@ -326,7 +328,7 @@ fn a_checkpoint_goes_block_by_block() {
         panic!("the header comes last");
     };
     assert_eq!(fs::read(&path).unwrap()[0], 1);
-    let mut consumer = consumer.checkpoint(WORKER).unwrap();
+    let consumer = consumer.checkpoint(WORKER).unwrap();
     assert_eq!(consumer.blocks_left(WORKER).unwrap(), 5);
 }
 
@@ -336,8 +338,8 @@ fn configurations_are_refused_by_01s_numbers() {
     let mut journal = NewJournal::create(&path, 18).unwrap();
     let mut one = configuration(0, 1, 10, 25);
     let refused = |journal, configuration: &Configuration| {
-        let (refusal, journal) = Consumer::start(configuration, journal).unwrap_err();
-        (refusal.number(), journal)
+        let error = Consumer::start(configuration, journal).unwrap_err();
+        (error.refusal().number(), error.into_journal())
     };
     let number;
     (number, journal) = refused(journal, &one);
@@ -348,7 +350,7 @@ fn configurations_are_refused_by_01s_numbers() {
     assert_eq!(number, 2);
     let (number, journal) = refused(journal, &configuration(3, 0, 10, 25));
     assert_eq!(number, 3);
-    Consumer::start(&configuration(3, 1, 10, 25), journal).unwrap();
+    drop(Consumer::start(&configuration(3, 1, 10, 25), journal).unwrap());
     // Files that are no journals.
     for len in [
         0,
@@ -361,8 +363,8 @@ fn configurations_are_refused_by_01s_numbers() {
     ] {
         fs::write(&path, vec![0; len]).unwrap();
         let journal = Journal::open(&path).unwrap();
-        let (refusal, _) = Consumer::restart(&configuration(3, 1, 10, 25), journal).unwrap_err();
-        assert_eq!(refusal, Refusal::BadArea);
+        let error = Consumer::restart(&configuration(3, 1, 10, 25), journal).unwrap_err();
+        assert_eq!(error.refusal(), Refusal::BadArea);
     }
 }
 
@@ -384,11 +386,60 @@ fn a_journal_that_is_there_can_only_be_opened() {
         Err(JournalError::Exists)
     ));
     assert_eq!(fs::read(&path).unwrap(), before);
-    // Nothing else is left in the folder.
+    assert_eq!(beside(&path), [""; 0]);
+}
+
+/// What else stands in the folder under the journal's name, by what comes behind it.
+fn beside(path: &Path) -> Vec<String> {
+    let journal = path.file_name().unwrap().to_str().unwrap();
     let names = fs::read_dir(path.parent().unwrap()).unwrap();
-    assert!(!names
+    let mut names: Vec<String> = names
         .map(|entry| entry.unwrap().file_name().into_string().unwrap())
-        .any(|name| name.starts_with("there.")));
+        .filter_map(|name| name.strip_prefix(journal).map(str::to_owned))
+        .filter(|rest| !rest.is_empty())
+        .collect();
+    names.sort_unstable();
+    names
+}
+
+fn with_end(path: &Path, end: &str) -> PathBuf {
+    PathBuf::from(format!("{}{end}", path.display()))
+}
+
+#[test]
+fn a_journal_is_for_its_owner_alone() {
+    let path = fresh_path("mode");
+    drop(NewJournal::create(&path, 18).unwrap());
+    let mode = fs::metadata(&path).unwrap().permissions().mode();
+    assert_eq!(mode & 0o777, 0o600);
+}
+
+#[test]
+fn what_a_create_left_is_removed() {
+    let path = fresh_path("leftovers");
+    let [stopped, going_on, other] =
+        [".4711-0.new", ".4711-1.new", ".other.new"].map(|end| with_end(&path, end));
+    for name in [&stopped, &going_on, &other] {
+        fs::write(name, [0; 100]).unwrap();
+    }
+    // One that is going on has its file locked.
+    let held = File::open(&going_on).unwrap();
+    held.lock().unwrap();
+    drop(NewJournal::create(&path, 18).unwrap());
+    assert_eq!(beside(&path), [".4711-1.new", ".other.new"]);
+    drop(held);
+    assert!(matches!(
+        NewJournal::create(&path, 18),
+        Err(JournalError::Exists)
+    ));
+    assert_eq!(beside(&path), [".other.new"]);
+    // It was stopped when the file had the journal's name already: that is taken away, and the journal stays.
+    fs::hard_link(&path, &stopped).unwrap();
+    let journal = Journal::open(&path).unwrap();
+    assert_eq!(beside(&path), [".other.new"]);
+    assert_eq!(journal.bytes(), fs::read(&path).unwrap());
+    assert!(matches!(Journal::open(&path), Err(JournalError::Locked)));
+    fs::remove_file(&other).unwrap();
 }
 
 #[test]
@@ -400,8 +451,9 @@ fn a_damaged_journal_is_refused() {
     let mut bytes = fs::read(&path).unwrap();
     bytes[BLOCK + 20] ^= 1;
     fs::write(&path, &bytes).unwrap();
-    let (refusal, journal) =
-        Consumer::restart(&configuration, Journal::open(&path).unwrap()).unwrap_err();
+    let error = Consumer::restart(&configuration, Journal::open(&path).unwrap()).unwrap_err();
+    let refusal = error.refusal();
+    let journal = error.into_journal();
     assert_eq!(refusal, Refusal::Damaged { block: 1 });
     assert_eq!(
         refusal.to_string(),
@@ -446,8 +498,9 @@ fn restart_worn(
         bytes[BLOCK * block + 9] ^= 1;
     }
     fs::write(path, &bytes).unwrap();
-    Consumer::restart(configuration, Journal::open(path).unwrap()).map_err(|(refusal, journal)| {
-        assert_eq!(journal.bytes(), bytes);
+    Consumer::restart(configuration, Journal::open(path).unwrap()).map_err(|error| {
+        let refusal = error.refusal();
+        assert_eq!(error.into_journal().bytes(), bytes);
         assert_eq!(fs::read(path).unwrap(), bytes);
         refusal
     })
@@ -469,7 +522,7 @@ fn a_worn_header_is_refused_while_a_later_one_stands() {
         "refused (5): block 2 of the journal is damaged"
     );
     // The block put back, all is there.
-    let mut consumer = restart_worn(&path, &configuration, &bytes, &[]).unwrap();
+    let consumer = restart_worn(&path, &configuration, &bytes, &[]).unwrap();
     assert!(
         consumer.is_settled(WORKER, Offset::new(0)).unwrap()
             && consumer.is_settled(WORKER, Offset::new(1)).unwrap()
@@ -491,19 +544,19 @@ fn without_a_later_header_the_group_before_counts() {
     let configuration = configuration(3, 1, 10, 25);
     let bytes = three_groups(&path, &configuration);
     // The last group's header is worn, and then the second group's too.
-    let mut consumer = restart_worn(&path, &configuration, &bytes, &[4]).unwrap();
+    let consumer = restart_worn(&path, &configuration, &bytes, &[4]).unwrap();
     assert!(
         consumer.is_settled(WORKER, Offset::new(0)).unwrap()
             && !consumer.is_settled(WORKER, Offset::new(1)).unwrap()
     );
     drop(consumer);
-    let mut consumer = restart_worn(&path, &configuration, &bytes, &[2, 4]).unwrap();
+    let consumer = restart_worn(&path, &configuration, &bytes, &[2, 4]).unwrap();
     assert!(!consumer.is_settled(WORKER, Offset::new(0)).unwrap());
     // The next checkpoint is written over the lost ones.
     drop(consumer.checkpoint(WORKER).unwrap());
     let bytes = fs::read(&path).unwrap();
     assert_eq!((bytes[2 * BLOCK], bytes[2 * BLOCK + 4]), (1, 2));
-    restart(&path, &configuration);
+    drop(restart(&path, &configuration));
 }
 
 // ## Two processes
@@ -531,14 +584,27 @@ fn says(child: &mut Child) -> String {
     line.split("says ").nth(1).unwrap().to_owned()
 }
 
-/// What the other process does: it opens the journal, and for `hold` keeps it until it is stopped.
+fn create_without_end(path: &Path) -> ! {
+    loop {
+        drop(NewJournal::create(path, 128).unwrap());
+        fs::remove_file(path).unwrap();
+        println!("says created");
+    }
+}
+
+/// What the other process does: it opens the journal, and for `hold` keeps it until it is stopped; for `create` it makes one again and
+/// again.
 #[test]
 #[ignore = "a part of the tests below"]
 fn role() {
     let Ok(role) = std::env::var(ROLE) else {
         return;
     };
-    match Journal::open(std::env::var_os("NINOTSKEV_PATH").unwrap()) {
+    let path = std::env::var_os("NINOTSKEV_PATH").unwrap();
+    if role == "create" {
+        create_without_end(Path::new(&path));
+    }
+    match Journal::open(path) {
         Ok(_journal) => {
             println!("says open");
             // long enough for the other process to stop it
@@ -577,5 +643,32 @@ fn a_process_that_was_killed_leaves_the_journal() {
     assert!(matches!(Journal::open(&path), Err(JournalError::Locked)));
     holder.kill().unwrap();
     holder.wait().unwrap();
-    restart(&path, &configuration).checkpoint(WORKER).unwrap();
+    drop(restart(&path, &configuration).checkpoint(WORKER).unwrap());
+}
+
+#[test]
+fn a_process_that_was_killed_in_create_leaves_nothing_for_ever() {
+    let path = fresh_path("killed-in-create");
+    let mut random = Random(3);
+    let mut left = 0;
+    for _ in 0..40 {
+        let mut creator = other("create", &path);
+        says(&mut creator);
+        std::thread::sleep(Duration::from_micros(random.below(2000)));
+        creator.kill().unwrap();
+        creator.wait().unwrap();
+        left += beside(&path).len();
+        // What was there is a whole journal or none, and the next create or open removes the rest.
+        match NewJournal::create(&path, 128) {
+            Ok(journal) => drop(journal),
+            Err(JournalError::Exists) => {
+                let journal = Journal::open(&path).unwrap();
+                assert_eq!(journal.bytes(), [0; 128 * BLOCK]);
+            }
+            Err(error) => panic!("{error}"),
+        }
+        assert_eq!(beside(&path), [""; 0]);
+        fs::remove_file(&path).unwrap();
+    }
+    assert!(left > 0, "no create was stopped on the way");
 }

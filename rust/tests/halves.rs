@@ -43,14 +43,15 @@ fn file_after(name: &str, blocks: usize, checkpoints: u64) -> (PathBuf, Vec<u8>)
 /// A restart on a file of these bytes; where it is refused, the file stays.
 fn restart(path: &Path, bytes: &[u8]) -> Result<Consumer, Refusal> {
     fs::write(path, bytes).unwrap();
-    Consumer::restart(&settings(), Journal::open(path).unwrap()).map_err(|(refusal, journal)| {
-        assert_eq!(journal.bytes(), bytes);
+    Consumer::restart(&settings(), Journal::open(path).unwrap()).map_err(|error| {
+        let refusal = error.refusal();
+        assert_eq!(error.into_journal().bytes(), bytes);
         refusal
     })
 }
 
 /// How many offsets from 1 on are settled.
-fn settled(consumer: &mut Consumer) -> u64 {
+fn settled(consumer: &Consumer) -> u64 {
     (1..100)
         .take_while(|offset| consumer.is_settled(WORKER, Offset::new(*offset)).unwrap())
         .count() as u64
@@ -59,12 +60,12 @@ fn settled(consumer: &mut Consumer) -> u64 {
 #[test]
 fn a_checkpoint_that_does_not_fit_goes_to_the_other_half() {
     let path = fresh_path("other-half");
-    let mut consumer = after(&path, 18, 4);
+    let consumer = after(&path, 18, 4);
     assert_eq!(consumer.blocks_left(WORKER).unwrap(), 1);
     let mut writing = consumer.begin(WORKER).unwrap();
     assert_eq!(writing.writes_left(), 9 + 2);
     let mut written = Vec::new();
-    let mut consumer = loop {
+    let consumer = loop {
         let before = fs::read(&path).unwrap();
         match writing.step().unwrap() {
             Step::Wrote { block, writing: w } => {
@@ -82,12 +83,9 @@ fn a_checkpoint_that_does_not_fit_goes_to_the_other_half() {
     assert_eq!(written, [9, 10, 11, 12, 13, 14, 15, 16, 17, 10, 9]);
     assert_eq!(consumer.blocks_left(WORKER).unwrap(), 7);
     drop(consumer);
-    let mut consumer = Consumer::restart(&settings(), Journal::open(&path).unwrap()).unwrap();
+    let consumer = Consumer::restart(&settings(), Journal::open(&path).unwrap()).unwrap();
     assert_eq!(
-        (
-            settled(&mut consumer),
-            consumer.blocks_left(WORKER).unwrap()
-        ),
+        (settled(&consumer), consumer.blocks_left(WORKER).unwrap()),
         (3, 7)
     );
 }
@@ -95,11 +93,11 @@ fn a_checkpoint_that_does_not_fit_goes_to_the_other_half() {
 #[test]
 fn a_longer_journal_has_longer_halves() {
     let path = fresh_path("longer");
-    let mut consumer = after(&path, 128, 32);
+    let consumer = after(&path, 128, 32);
     assert_eq!(consumer.blocks_left(WORKER).unwrap(), 0);
     let writing = consumer.begin(WORKER).unwrap();
     assert_eq!(writing.writes_left(), 64 + 2);
-    let mut consumer = writing.finish().unwrap();
+    let consumer = writing.finish().unwrap();
     assert_eq!(consumer.blocks_left(WORKER).unwrap(), 62);
 }
 
@@ -109,7 +107,7 @@ fn what_is_worn_in_the_other_half_is_not_judged() {
     for block in 0..9 {
         let mut bytes = bytes.clone();
         bytes[BLOCK * block + 9] ^= 1;
-        assert_eq!(settled(&mut restart(&path, &bytes).unwrap()), 5);
+        assert_eq!(settled(&restart(&path, &bytes).unwrap()), 5);
     }
     // In the half in use it is, and the other one isn't read instead.
     for block in [10, 12] {
@@ -142,8 +140,8 @@ fn a_worn_first_block_of_the_half_in_use_brings_back_the_other() {
     drop(consumer);
     let mut bytes = fs::read(&path).unwrap();
     bytes[BLOCK * 9 + 9] ^= 1;
-    let mut consumer = restart(&path, &bytes).unwrap();
-    assert_eq!(settled(&mut consumer), 3);
+    let consumer = restart(&path, &bytes).unwrap();
+    assert_eq!(settled(&consumer), 3);
     let mut consumer = consumer.checkpoint(WORKER).unwrap();
     let again = consumer.claim(WORKER, Offset::new(6), 0).unwrap().token();
     assert!(given.contains(&again.generation));
@@ -160,12 +158,9 @@ fn without_a_first_block_in_either_half_there_is_no_group() {
     assert_eq!(refusal, Refusal::Damaged { block: 0 });
     // Where the first half was just zeroed there is none, and a fresh consumer comes of it.
     worn[..9 * BLOCK].fill(0);
-    let mut consumer = restart(&path, &worn).unwrap();
+    let consumer = restart(&path, &worn).unwrap();
     assert_eq!(
-        (
-            settled(&mut consumer),
-            consumer.blocks_left(WORKER).unwrap()
-        ),
+        (settled(&consumer), consumer.blocks_left(WORKER).unwrap()),
         (0, 9)
     );
 }
@@ -194,15 +189,12 @@ fn a_group_across_the_middle_is_refused() {
 fn zeros_behind_it_bring_all_its_groups_into_the_first_half() {
     let (path, mut bytes) = from_before("zeros-behind");
     bytes.resize(36 * BLOCK, 0);
-    let mut consumer = restart(&path, &bytes).unwrap();
+    let consumer = restart(&path, &bytes).unwrap();
     assert_eq!(
-        (
-            settled(&mut consumer),
-            consumer.blocks_left(WORKER).unwrap()
-        ),
+        (settled(&consumer), consumer.blocks_left(WORKER).unwrap()),
         (8, 0)
     );
-    let mut consumer = consumer.checkpoint(WORKER).unwrap();
+    let consumer = consumer.checkpoint(WORKER).unwrap();
     assert_eq!(consumer.blocks_left(WORKER).unwrap(), 16);
 }
 
@@ -211,22 +203,16 @@ fn a_group_that_begins_on_the_middle_is_in_use() {
     let (path, mut bytes) = from_before("on-the-middle");
     // twice the first block of the sixth group
     bytes.resize(20 * BLOCK, 0);
-    let mut consumer = restart(&path, &bytes).unwrap();
+    let consumer = restart(&path, &bytes).unwrap();
     assert_eq!(
-        (
-            settled(&mut consumer),
-            consumer.blocks_left(WORKER).unwrap()
-        ),
+        (settled(&consumer), consumer.blocks_left(WORKER).unwrap()),
         (8, 2)
     );
     drop(consumer.checkpoint(WORKER).unwrap());
     let bytes = fs::read(&path).unwrap();
-    let mut consumer = restart(&path, &bytes).unwrap();
+    let consumer = restart(&path, &bytes).unwrap();
     assert_eq!(
-        (
-            settled(&mut consumer),
-            consumer.blocks_left(WORKER).unwrap()
-        ),
+        (settled(&consumer), consumer.blocks_left(WORKER).unwrap()),
         (8, 0)
     );
 }
@@ -249,7 +235,7 @@ fn of_equal_numbers_the_first_half_is_in_use() {
     for (number, right) in [(2, 4), (1, 3), (0, 3)] {
         let mut bytes = bytes.clone();
         renumber(&mut bytes, 9, number);
-        assert_eq!(settled(&mut restart(&path, &bytes).unwrap()), right);
+        assert_eq!(settled(&restart(&path, &bytes).unwrap()), right);
     }
 }
 
@@ -258,11 +244,15 @@ fn behind_the_last_number_there_is_no_checkpoint() {
     let (path, mut bytes) = file_after("last-number", 18, 1);
     renumber(&mut bytes, 0, u32::MAX - 1);
     let consumer = restart(&path, &bytes).unwrap().checkpoint(WORKER).unwrap();
-    let (refusal, mut consumer) = consumer.begin(WORKER).unwrap_err();
-    assert_eq!(refusal, Refusal::JournalFull);
+    let error = consumer.begin(WORKER).unwrap_err();
+    assert_eq!(error.refusal(), Refusal::JournalFull);
+    let mut consumer = error.into_consumer();
     // That is no reason to stop before the generations run out.
     consumer.claim(WORKER, Offset::new(7), 0).unwrap();
     drop(consumer);
     let consumer = Consumer::restart(&settings(), Journal::open(&path).unwrap()).unwrap();
-    assert_eq!(consumer.begin(WORKER).unwrap_err().0, Refusal::JournalFull);
+    assert_eq!(
+        consumer.begin(WORKER).unwrap_err().refusal(),
+        Refusal::JournalFull
+    );
 }

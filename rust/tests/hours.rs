@@ -34,8 +34,7 @@ fn with_hours(days: [u64; 7], shift: u64) -> Configuration {
 /// A fresh consumer, which hands nothing out before its first checkpoint: an open claim is 26, and nothing changes.
 fn consumer(name: &str, days: [u64; 7], shift: u64) -> Consumer {
     let journal = NewJournal::create(fresh_path(name), 18).unwrap();
-    Consumer::start(&with_hours(days, shift), journal)
-        .unwrap_or_else(|(refusal, _)| panic!("{refusal}"))
+    Consumer::start(&with_hours(days, shift), journal).unwrap_or_else(|error| panic!("{error}"))
 }
 
 fn compare(consumer: &mut Consumer, days: [u64; 7], shift: u64, now: u64) {
@@ -131,7 +130,7 @@ fn hours_that_are_refused() {
         let journal = NewJournal::create(fresh_path(name), 18).unwrap();
         Consumer::start(configuration, journal)
             .err()
-            .map(|(refusal, _)| refusal)
+            .map(|error| error.refusal())
     };
     let bits = [0, 0, 0, 0, 0, 0, 1 << 48];
     assert_eq!(
@@ -171,16 +170,12 @@ fn a_restart_tests_the_hours() {
     let path = fresh_path("hours-restart");
     let journal = NewJournal::create(&path, 18).unwrap();
     let consumer = Consumer::start(&with_hours([1; 7], 0), journal)
-        .map_err(|(r, _)| r)
+        .map_err(|error| error.refusal())
         .unwrap();
     let journal = consumer.checkpoint(WORKER).unwrap().into_journal();
-    let (refusal, journal) = Consumer::restart(&with_hours([0; 7], 0), journal)
-        .err()
-        .unwrap();
-    assert_eq!(refusal, Refusal::NeverOpen);
-    let mut consumer = Consumer::restart(&with_hours([2; 7], 0), journal)
-        .map_err(|(r, _)| r)
-        .unwrap();
+    let error = Consumer::restart(&with_hours([0; 7], 0), journal).unwrap_err();
+    assert_eq!(error.refusal(), Refusal::NeverOpen);
+    let mut consumer = Consumer::restart(&with_hours([2; 7], 0), error.into_journal()).unwrap();
     assert_eq!(
         consumer.claim(WORKER, Offset::ZERO, 0),
         Err(Refusal::Closed { opening: HALF })
@@ -264,7 +259,7 @@ fn hours_that_people_can_read() {
     configuration.settings.hours = hours;
     let journal = NewJournal::create(fresh_path("hours-readable"), 18).unwrap();
     let consumer = Consumer::start(&configuration, journal)
-        .map_err(|(refusal, _)| refusal)
+        .map_err(|error| error.refusal())
         .unwrap();
     let mut consumer = consumer.checkpoint(WORKER).unwrap();
     // 1970-01-01 was a Thursday: closed at midnight and open from 8 on

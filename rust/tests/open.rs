@@ -25,7 +25,7 @@ fn settle(consumer: &mut Consumer, offset: u64) {
 }
 
 /// The stretches as pairs of numbers, from a list of just as many places; one place fewer is refused and changes nothing.
-fn open(consumer: &mut Consumer, a: u64, b: u64) -> Vec<(u64, u64)> {
+fn open(consumer: &Consumer, a: u64, b: u64) -> Vec<(u64, u64)> {
     let (a, b) = (Offset::new(a), Offset::new(b));
     let all = consumer.open_stretches(WORKER, a, b).unwrap();
     let untouched = Stretch::new(7, 7);
@@ -55,7 +55,7 @@ fn open(consumer: &mut Consumer, a: u64, b: u64) -> Vec<(u64, u64)> {
     all.iter().map(|s| (s.start.get(), s.end.get())).collect()
 }
 
-fn nearest(consumer: &mut Consumer, offset: u64) -> u64 {
+fn nearest(consumer: &Consumer, offset: u64) -> u64 {
     consumer
         .nearest_open(WORKER, Offset::new(offset))
         .unwrap()
@@ -64,13 +64,13 @@ fn nearest(consumer: &mut Consumer, offset: u64) -> u64 {
 
 #[test]
 fn nothing_settled() {
-    let mut consumer = start("open-none");
-    assert_eq!(open(&mut consumer, 0, 0), []);
-    assert_eq!(open(&mut consumer, 5, 9), [(5, 9)]);
-    assert_eq!(open(&mut consumer, 0, LAST), [(0, LAST)]);
-    assert_eq!(open(&mut consumer, LAST, LAST), []);
-    assert_eq!(nearest(&mut consumer, 0), 0);
-    assert_eq!(nearest(&mut consumer, LAST), LAST);
+    let consumer = start("open-none");
+    assert_eq!(open(&consumer, 0, 0), []);
+    assert_eq!(open(&consumer, 5, 9), [(5, 9)]);
+    assert_eq!(open(&consumer, 0, LAST), [(0, LAST)]);
+    assert_eq!(open(&consumer, LAST, LAST), []);
+    assert_eq!(nearest(&consumer, 0), 0);
+    assert_eq!(nearest(&consumer, LAST), LAST);
 }
 
 #[test]
@@ -92,10 +92,10 @@ fn one_range() {
         (10, 11, &[(10, 11)]),
         (12, LAST, &[(12, LAST)]),
     ] {
-        assert_eq!(open(&mut consumer, a, b), right, "[{a}, {b})");
+        assert_eq!(open(&consumer, a, b), right, "[{a}, {b})");
     }
     for (offset, right) in [(0, 5), (4, 5), (5, 5), (7, 7), (8, 10), (9, 10), (10, 10)] {
-        assert_eq!(nearest(&mut consumer, offset), right, "from {offset}");
+        assert_eq!(nearest(&consumer, offset), right, "from {offset}");
     }
 }
 
@@ -106,18 +106,18 @@ fn all_ranges() {
         settle(&mut consumer, 2 * k + 1);
     }
     let mut all: Vec<(u64, u64)> = (0..128).map(|k| (2 * k, 2 * k + 1)).collect();
-    assert_eq!(open(&mut consumer, 0, 256), all);
+    assert_eq!(open(&consumer, 0, 256), all);
     all.push((256, LAST));
     assert_eq!(all.len(), MAX_STRETCHES);
-    assert_eq!(open(&mut consumer, 0, LAST), all);
-    assert_eq!(open(&mut consumer, 1, 255), all[1..128]);
-    assert_eq!(nearest(&mut consumer, 255), 256);
+    assert_eq!(open(&consumer, 0, LAST), all);
+    assert_eq!(open(&consumer, 1, 255), all[1..128]);
+    assert_eq!(nearest(&consumer, 255), 256);
 }
 
 #[test]
 fn refusals_come_in_order() {
     let mut consumer = start("open-refused");
-    let reversed = |consumer: &mut Consumer, worker| {
+    let reversed = |consumer: &Consumer, worker| {
         let mut list = [Stretch::new(7, 7); 1];
         let answer = consumer.open_between(worker, Offset::new(2), Offset::new(1), &mut list);
         assert_eq!(list, [Stretch::new(7, 7)]);
@@ -167,11 +167,11 @@ fn as_each_offset_by_itself() {
             let mut is_open = |o: &u64| !consumer.is_settled(WORKER, Offset::new(*o)).unwrap();
             let right: Vec<u64> = (a..b).filter(&mut is_open).collect();
             let first = (a..).find(is_open).unwrap();
-            let stretches = open(&mut consumer, a, b);
+            let stretches = open(&consumer, a, b);
             let listed: Vec<u64> = stretches.iter().flat_map(|(s, e)| *s..*e).collect();
             assert_eq!(listed, right);
             assert!(stretches.windows(2).all(|two| two[0].1 < two[1].0));
-            assert_eq!(nearest(&mut consumer, a), first);
+            assert_eq!(nearest(&consumer, a), first);
         }
     }
 }

@@ -26,7 +26,7 @@ fn offsets(numbers: &[u64]) -> Vec<Offset> {
 }
 
 /// The looks and the answers.
-fn plan(consumer: &mut Consumer, numbers: &[u64]) -> (u64, Vec<u8>) {
+fn plan(consumer: &Consumer, numbers: &[u64]) -> (u64, Vec<u8>) {
     let mut out = vec![7; numbers.len()];
     let looks = consumer.plan(WORKER, &offsets(numbers), &mut out).unwrap();
     (looks, out)
@@ -35,7 +35,7 @@ fn plan(consumer: &mut Consumer, numbers: &[u64]) -> (u64, Vec<u8>) {
 #[test]
 fn looks_are_counted_as_the_walk_makes_them() {
     // committed 5, ranges [8, 10) and [12, 13)
-    let mut consumer = settled("plan-looks.journal", 5, &[8, 9, 12]);
+    let consumer = settled("plan-looks.journal", 5, &[8, 9, 12]);
     for (numbers, looks, answers) in [
         (&[][..], 0, &[][..]),
         // comparing with committed is no look
@@ -51,7 +51,7 @@ fn looks_are_counted_as_the_walk_makes_them() {
         (&[MAX], 2, &[0]),
     ] {
         assert_eq!(
-            plan(&mut consumer, numbers),
+            plan(&consumer, numbers),
             (looks, answers.to_vec()),
             "{numbers:?}"
         );
@@ -60,7 +60,7 @@ fn looks_are_counted_as_the_walk_makes_them() {
 
 #[test]
 fn refusals_come_in_order_and_write_nothing() {
-    let mut consumer = settled("plan-refused.journal", 5, &[8]);
+    let consumer = settled("plan-refused.journal", 5, &[8]);
     for (worker, numbers, room, refusal) in [
         // 38 before 36, 36 before 37, and never 20
         (8, &[9, 8][..], 3, Refusal::UnknownWorker),
@@ -81,10 +81,10 @@ fn refusals_come_in_order_and_write_nothing() {
 #[test]
 fn a_plan_answers_what_single_questions_do() {
     let acked: Vec<u64> = (1..=40).map(|i| 10 + 3 * i).collect();
-    let mut consumer = settled("plan-single.journal", 10, &acked);
+    let consumer = settled("plan-single.journal", 10, &acked);
     for first in 0..30 {
         let numbers: Vec<u64> = (0..100).map(|i| first + i * 7 / 5).collect();
-        let (looks, answers) = plan(&mut consumer, &numbers);
+        let (looks, answers) = plan(&consumer, &numbers);
         assert!(looks <= 100 + 40, "{looks}");
         for (number, answer) in numbers.iter().zip(answers) {
             let single = consumer.is_settled(WORKER, Offset::new(*number)).unwrap();

@@ -1,25 +1,37 @@
-//! Power failures at the block writes of a real file: after each, a restart finds what document 01's book says, and demand 3's
-//! three promises and the bound over the batch hold. Nothing here knows how the state is kept.
+//! Power failures and errors at the block writes of a real file: after each, a restart finds what the book of docs/SPEC.md says, and
+//! demand 3's three promises and the bound over the batch hold. Nothing here knows how the state is kept.
 
 mod common;
 
 use common::{configuration, fresh_path, Book, Cut, Cuttable, Power, Random, WORKER};
 use ironbus_delivery_state::{
-    CheckpointError, Configuration, Consumer, Journal, LeaseToken, NewJournal, Offset, Refusal,
+    CheckpointError, Configuration, Consumer, Generation, Journal, LeaseToken, NewJournal, Offset,
+    Refusal,
 };
 use std::cell::RefCell;
-use std::path::Path;
+use std::path::{Path, PathBuf};
 use std::rc::Rc;
+
+/// What comes after a write that failed: another process, as after a power failure, or the same one, which reopens the journal.
+#[derive(Clone, Copy, Debug, PartialEq, Eq)]
+enum Then {
+    AnotherProcess,
+    Reopened,
+}
 
 /// A list of calls on one journal, and what is known of it.
 struct Run {
     random: Random,
+    path: PathBuf,
+    then: Vec<Then>,
     configuration: Configuration,
     offsets: Vec<u64>,
     book: Book,
     power: Rc<RefCell<Power>>,
     cuts: u64,
     now: u64,
+    /// The ceiling of the last checkpoint that was answered.
+    seen: Generation,
     tokens: Vec<LeaseToken>,
     /// Tokens from before a restart, or of jobs that a commit closed: refused ever after.
     stale: Vec<LeaseToken>,
@@ -27,7 +39,7 @@ struct Run {
 }
 
 impl Run {
-    fn new(seed: u64) -> Run {
+    fn new(path: &Path, seed: u64, then: &[Then]) -> Run {
         let mut random = Random(seed);
         let limit = 1 + random.below(3) as u32;
         let threshold = 1 + random.below(3) as u32;
@@ -37,12 +49,15 @@ impl Run {
         offsets.extend([40, 41, 1000, u64::MAX - 1, u64::MAX]);
         Run {
             random,
+            path: path.to_owned(),
+            then: then.to_vec(),
             configuration,
             offsets,
             book: Book::default(),
             power: Rc::default(),
             cuts: 0,
             now: 0,
+            seen: Generation::new(0),
             tokens: Vec::new(),
             stale: Vec::new(),
             refused: 0,
@@ -50,10 +65,10 @@ impl Run {
     }
 
     fn restart(&mut self, journal: Journal<Cuttable>) -> Consumer<Cuttable> {
-        let mut consumer =
-            Consumer::restart(&self.configuration, journal).expect("no restart is refused");
+        let consumer = Consumer::restart_at_least(&self.configuration, journal, self.seen)
+            .expect("no restart is refused, and no journal is older than was seen");
         self.stale.append(&mut self.tokens);
-        self.book.restarted(&mut consumer, &self.offsets);
+        self.book.restarted(&consumer, &self.offsets);
         consumer
     }
 
@@ -63,16 +78,30 @@ impl Run {
         match writing.finish() {
             Ok(consumer) => {
                 self.book.header_written();
+                assert!(consumer.ceiling() >= self.seen);
+                self.seen = consumer.ceiling();
                 consumer
             }
             Err(failed) => {
                 self.cuts += 1;
-                let left_new = self.power.borrow_mut().left_new.take();
+                let [left_new, writing] = {
+                    let mut power = self.power.borrow_mut();
+                    [power.left_new.take(), power.writing.take()]
+                };
+                let (journal, found) = match self.random.pick(&self.then) {
+                    Then::AnotherProcess => {
+                        drop(failed);
+                        let file = Cuttable::again(&self.path, &self.power);
+                        (Journal::on(file).unwrap(), left_new)
+                    }
+                    // The block is written once more.
+                    Then::Reopened => (failed.reopen().unwrap(), writing),
+                };
                 // The header is the block of kind 1.
-                if left_new.is_some_and(|block| block[0] == 1) {
+                if found.is_some_and(|block| block[0] == 1) {
                     self.book.header_written();
                 }
-                self.restart(failed.reopen().unwrap())
+                self.restart(journal)
             }
         }
     }
@@ -83,6 +112,7 @@ impl Run {
             Ok(hand_out) => {
                 let token = hand_out.token();
                 assert_eq!(token.offset.get(), offset);
+                assert!(token.generation < self.seen);
                 self.book.handed_out(hand_out);
                 self.tokens.push(token);
                 false
@@ -148,6 +178,8 @@ impl Run {
             1..=4 => self.now + self.random.below(6),
             _ => self.now,
         };
+        let due = consumer.is_due(WORKER).unwrap().is_due();
+        assert_eq!(consumer.checkpoint_due(), due);
         match self.random.below(16) {
             0..=6 => {
                 if self.claim(&mut consumer) {
@@ -162,7 +194,7 @@ impl Run {
                     return self.restart(consumer.into_journal());
                 }
             }
-            _ => self.book.compare(&mut consumer, &self.offsets),
+            _ => self.book.compare(&consumer, &self.offsets),
         }
         consumer
     }
@@ -179,7 +211,7 @@ fn cut_of(random: &mut Random) -> Cut {
 
 /// A list of calls with power failures at random writes, on a journal of so many blocks; answers what was done.
 fn random_list(path: &Path, seed: u64, calls: usize, blocks: usize) -> Run {
-    let mut run = Run::new(seed);
+    let mut run = Run::new(path, seed, &[Then::AnotherProcess, Then::Reopened]);
     let journal = NewJournal::on(Cuttable::new(path, blocks, &run.power)).unwrap();
     let mut consumer = Consumer::start(&run.configuration, journal).unwrap();
     for _ in 0..calls {
@@ -219,8 +251,8 @@ fn dozens_of_changes_between_the_halves_keep_the_book() {
 }
 
 /// A list of calls that is always the same, with a checkpoint after every few: the halves change three times.
-fn fixed_list(path: &Path, cut: Option<(usize, Cut)>) -> usize {
-    let mut run = Run::new(7);
+fn fixed_list(path: &Path, cut: Option<(usize, Cut)>, then: Then) -> usize {
+    let mut run = Run::new(path, 7, &[then]);
     run.power.borrow_mut().cut = cut;
     let journal = NewJournal::on(Cuttable::new(path, 18, &run.power)).unwrap();
     let mut consumer = Consumer::start(&run.configuration, journal).unwrap();
@@ -239,7 +271,7 @@ fn fixed_list(path: &Path, cut: Option<(usize, Cut)>) -> usize {
 #[test]
 fn every_write_of_a_list_is_cut_in_every_way() {
     let path = fresh_path("every-write");
-    let writes = fixed_list(&path, None);
+    let writes = fixed_list(&path, None, Then::AnotherProcess);
     assert!(writes > 50);
     for at in 0..writes {
         for cut in [
@@ -251,7 +283,9 @@ fn every_write_of_a_list_is_cut_in_every_way() {
             Cut::Torn(511),
             Cut::Noise(at as u64),
         ] {
-            fixed_list(&path, Some((at, cut)));
+            for then in [Then::AnotherProcess, Then::Reopened] {
+                fixed_list(&path, Some((at, cut)), then);
+            }
         }
     }
 }
@@ -277,8 +311,8 @@ fn the_bound_over_the_batch_is_met() {
     let mut consumer = checkpointed(consumer, &mut book);
     hand_out_both(&mut consumer, &mut book, 0);
     hand_out_both(&mut consumer, &mut book, 10);
-    let mut consumer = Consumer::restart(&configuration, consumer.into_journal()).unwrap();
-    book.restarted(&mut consumer, &[0, 1]);
+    let consumer = Consumer::restart(&configuration, consumer.into_journal()).unwrap();
+    book.restarted(&consumer, &[0, 1]);
     let mut consumer = checkpointed(consumer, &mut book);
     hand_out_both(&mut consumer, &mut book, 20);
     hand_out_both(&mut consumer, &mut book, 30);

@@ -1,8 +1,9 @@
-//! One journal of 18 blocks for very many checkpoints, against document 01's book: in memory with power failures at its writes, and on a
-//! file with the process killed again and again.
+//! One journal of 18 blocks for very many checkpoints, against the book of docs/SPEC.md: with power failures at its writes, over many
+//! changes between the halves with each block made durable, and on a file with the process killed again and again.
 //!
-//! The long one is `cargo test --release --test soak -- --ignored a_million`. Its file stands in the folder that `NINOTSKEV_SOAK` names, or
-//! else in cargo's for tests. It doesn't matter for a process that is killed how durable a disk is, so that a folder in memory will do.
+//! The long ones are `cargo test --release --test soak -- --ignored a_million` and `.. -- --ignored an_hour`. Their files stand in the folder
+//! that `NINOTSKEV_SOAK` names, or else in cargo's for tests. It doesn't matter for a process that is killed how durable a disk is, so
+//! that a folder in memory will do.
 
 mod common;
 
@@ -12,7 +13,8 @@ use std::io::{self, BufRead, BufReader, Write};
 use std::path::{Path, PathBuf};
 use std::process::{Child, Command, Stdio};
 use std::rc::Rc;
-use std::time::Duration;
+use std::thread;
+use std::time::{Duration, Instant};
 
 use common::{configuration, fresh_path, Book, Cut, Cuttable, Power, Random, WORKER};
 use ironbus_delivery_state::{
@@ -143,10 +145,12 @@ fn twenty_thousand_checkpoints_with_power_failures() {
                 if left_new.is_some_and(|block| block[0] == 1) {
                     book.header_written();
                 }
-                consumer = Consumer::restart(&settings(), failed.reopen().unwrap())
+                drop(failed);
+                let file = Cuttable::again(&path, &power);
+                consumer = Consumer::restart(&settings(), Journal::on(file).unwrap())
                     .expect("no restart is refused");
                 let offsets = window(consumer.committed(WORKER).unwrap().get());
-                book.restarted(&mut consumer, &offsets);
+                book.restarted(&consumer, &offsets);
                 caller.tokens.clear();
             }
         }
@@ -154,6 +158,46 @@ fn twenty_thousand_checkpoints_with_power_failures() {
     book.holds_the_bounds(&settings());
     let power = power.borrow();
     assert!(power.zeroed > 20_000 && power.cut_zeros > 300 && book.restarts > 1000);
+}
+
+// ## Changes between the halves
+
+/// How many blocks are left in the half in use: more than before where the other half is in use now.
+fn changed(consumer: &Consumer, before: &mut usize) -> bool {
+    let left = consumer.blocks_left(WORKER).unwrap();
+    let changed = left > *before;
+    *before = left;
+    changed
+}
+
+/// On a journal's file, as a server has it, with a new process's restart now and then.
+#[test]
+fn hundreds_of_changes_between_the_halves() {
+    let path = fresh_path("changes");
+    let journal = NewJournal::create(&path, 18).unwrap();
+    let mut consumer = Consumer::start(&settings(), journal).unwrap();
+    let mut book = Book::default();
+    let mut caller = Caller::new(5);
+    let (mut changes, mut left) = (0, 9);
+    while changes < 300 {
+        for _ in 0..caller.random.below(4) {
+            caller.call(&mut consumer, &mut |event| tell(&mut book, event));
+        }
+        consumer = consumer.checkpoint(WORKER).unwrap();
+        book.header_written();
+        let seen = consumer.ceiling();
+        changes += u64::from(changed(&consumer, &mut left));
+        if caller.random.below(20) == 0 {
+            drop(consumer);
+            let journal = Journal::open(&path).unwrap();
+            consumer = Consumer::restart_at_least(&settings(), journal, seen).unwrap();
+            let offsets = window(consumer.committed(WORKER).unwrap().get());
+            book.restarted(&consumer, &offsets);
+            caller.tokens.clear();
+        }
+    }
+    book.holds_the_bounds(&settings());
+    assert!(book.restarts > 20, "{} restarts", book.restarts);
 }
 
 // ## Kills
@@ -237,6 +281,40 @@ fn event_of(line: &str) -> Option<Event> {
     })
 }
 
+/// What a worker said before it was killed: how many checkpoints it made, and whether one was begun and not said to be done.
+fn heard(lines: impl Iterator<Item = String>, book: &mut Book) -> (u64, bool) {
+    let (mut done, mut begun) = (0, false);
+    for event in lines.filter_map(|line| event_of(&line)) {
+        tell(book, event);
+        match event {
+            Event::Begun => begun = true,
+            Event::Done => (done, begun) = (done + 1, false),
+            _ => {}
+        }
+    }
+    (done, begun)
+}
+
+/// Kills a worker some time after it began, wherever it is.
+fn killed_after(worker: &mut Child, book: &mut Book, time: Duration) -> (u64, bool) {
+    let mut lines = BufReader::new(worker.stdout.take().unwrap());
+    // Its first line is said once it has restarted.
+    let mut first = String::new();
+    while !first.contains("says ") && lines.read_line(&mut first).unwrap() > 0 {}
+    let reader = thread::spawn(move || {
+        let mut said = vec![first];
+        let mut line = String::new();
+        while lines.read_line(&mut line).unwrap() > 0 {
+            said.push(std::mem::take(&mut line));
+        }
+        said
+    });
+    thread::sleep(time);
+    worker.kill().unwrap();
+    worker.wait().unwrap();
+    heard(reader.join().unwrap().into_iter(), book)
+}
+
 /// Reads what a worker says until it ends, and kills it some time after so many checkpoints; answers how many it made, and whether one
 /// was begun and not said to be done.
 fn watch(worker: &mut Child, book: &mut Book, kill_after: u64, later: Duration) -> (u64, bool) {
@@ -267,7 +345,7 @@ fn watch(worker: &mut Child, book: &mut Book, kill_after: u64, later: Duration) 
 }
 
 /// Whether a consumer has what a page of the book has.
-fn has_page<S: Storage>(consumer: &mut Consumer<S>, book: &Book, offsets: &[u64]) -> bool {
+fn has_page<S: Storage>(consumer: &Consumer<S>, book: &Book, offsets: &[u64]) -> bool {
     let counts = consumer.all_attempt_counts(WORKER).unwrap();
     offsets.iter().all(|offset| {
         let name = Offset::new(*offset);
@@ -280,54 +358,91 @@ fn has_page<S: Storage>(consumer: &mut Consumer<S>, book: &Book, offsets: &[u64]
     })
 }
 
-/// So many checkpoints on one file, by workers that are killed; answers how many there were.
-fn killed_again_and_again(path: &Path, checkpoints: u64, most: u64) -> u64 {
+/// What kills a worker.
+type Kill = dyn FnMut(&mut Random, &mut Child, &mut Book) -> (u64, bool);
+
+/// Checkpoints on one file, by workers that are killed, as long as there is more to do; answers how many there were, and how many kills.
+fn killed_again_and_again(path: &Path, kill: &mut Kill, more: impl Fn(u64) -> bool) -> [u64; 2] {
     drop(Consumer::start(&settings(), NewJournal::create(path, 18).unwrap()).unwrap());
     let mut book = Book::default();
     let mut random = Random(2);
     let (mut all, mut kills, mut within, mut written) = (0, 0, 0, 0);
-    while all < checkpoints {
+    while more(all) {
         let mut worker = start_worker(path);
         // The worker's restart finds what the last look did.
         book.restarts += 1;
-        let kill_after = 1 + random.below(most);
-        let later = 1 + random.below(20_000);
-        let later = Duration::from_micros(random.below(later));
-        let (done, begun) = watch(&mut worker, &mut book, kill_after, later);
+        let (done, begun) = kill(&mut random, &mut worker, &mut book);
         all += done;
         kills += 1;
-        let mut consumer = Consumer::restart(&settings(), Journal::open(path).unwrap())
+        let consumer = Consumer::restart(&settings(), Journal::open(path).unwrap())
             .expect("no restart is refused");
         let offsets = window(consumer.committed(WORKER).unwrap().get());
         // The header of a checkpoint that was begun may be written, or not.
         within += u64::from(begun);
-        if begun && has_page(&mut consumer, &book, &offsets) {
+        if begun && has_page(&consumer, &book, &offsets) {
             written += u64::from(book.page != book.copy);
             book.header_written();
         }
-        book.restarted(&mut consumer, &offsets);
+        book.restarted(&consumer, &offsets);
     }
     book.holds_the_bounds(&settings());
     let generations = book.generations.len();
     println!("{all} checkpoints, {generations} hand-outs, {kills} kills");
     println!("{within} kills in a checkpoint, {written} of them behind its header");
     fs::remove_file(path).unwrap();
-    all
+    [all, kills]
+}
+
+/// So many checkpoints, by workers that are killed some time after at most so many of them.
+fn kills_by_checkpoints(path: &Path, checkpoints: u64, most: u64) {
+    let mut kill = move |random: &mut Random, worker: &mut Child, book: &mut Book| {
+        let kill_after = 1 + random.below(most);
+        let later = 1 + random.below(20_000);
+        let later = Duration::from_micros(random.below(later));
+        watch(worker, book, kill_after, later)
+    };
+    let [all, _] = killed_again_and_again(path, &mut kill, |all| all < checkpoints);
+    assert!(all >= checkpoints);
+}
+
+/// For some time, by workers that are killed at any moment of it: answers how many kills there were.
+fn kills_by_time(path: &Path, time: Duration) -> u64 {
+    let mut kill = |random: &mut Random, worker: &mut Child, book: &mut Book| {
+        killed_after(worker, book, Duration::from_micros(random.below(30_000)))
+    };
+    let begun = Instant::now();
+    let [all, kills] = killed_again_and_again(path, &mut kill, |_| begun.elapsed() < time);
+    assert!(all > 0);
+    kills
+}
+
+/// Where a long test has its file.
+fn soak_path(name: &str) -> PathBuf {
+    match std::env::var_os("NINOTSKEV_SOAK").map(PathBuf::from) {
+        Some(folder) => folder.join(format!("ninotskev-{name}-{}", std::process::id())),
+        None => fresh_path(name),
+    }
 }
 
 #[test]
 fn some_hundred_checkpoints_with_kills() {
-    let path = fresh_path("kills");
-    assert!(killed_again_and_again(&path, 400, 40) >= 400);
+    kills_by_checkpoints(&fresh_path("kills"), 400, 40);
+}
+
+#[test]
+fn seconds_of_kills_at_any_moment() {
+    let kills = kills_by_time(&fresh_path("moments"), Duration::from_secs(5));
+    assert!(kills > 20, "{kills} kills");
+}
+
+#[test]
+#[ignore = "takes an hour"]
+fn an_hour_of_kills_at_any_moment() {
+    kills_by_time(&soak_path("hour"), Duration::from_secs(3600));
 }
 
 #[test]
 #[ignore = "takes minutes"]
 fn a_million_checkpoints_with_kills() {
-    let folder = std::env::var_os("NINOTSKEV_SOAK").map(PathBuf::from);
-    let path = match folder {
-        Some(folder) => folder.join(format!("ninotskev-soak-{}", std::process::id())),
-        None => fresh_path("million"),
-    };
-    assert!(killed_again_and_again(&path, 1_000_000, 500) >= 1_000_000);
+    kills_by_checkpoints(&soak_path("million"), 1_000_000, 500);
 }

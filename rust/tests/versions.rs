@@ -132,7 +132,7 @@ fn put_snapshot(bytes: &mut [u8], body: usize, snapshot: &[u8]) {
 }
 
 /// Settled offsets and counts of a consumer, by offset.
-fn found(consumer: &mut Consumer, offsets: u64) -> Vec<(bool, u32)> {
+fn found(consumer: &Consumer, offsets: u64) -> Vec<(bool, u32)> {
     let look = |offset| {
         let offset = Offset::new(offset);
         (
@@ -154,16 +154,16 @@ fn a_journal_from_before_version_2_restarts() {
     );
     fs::write(&path, BEFORE).unwrap();
     let right = [(false, 1), (false, 0), (true, 0), (false, 1), (false, 0)];
-    let mut consumer = restart(&path, &configuration);
-    assert_eq!(found(&mut consumer, 5), right);
+    let consumer = restart(&path, &configuration);
+    assert_eq!(found(&consumer, 5), right);
     // A restart writes nothing; the next checkpoint has version 2, behind the old groups.
     assert_eq!(fs::read(&path).unwrap(), BEFORE);
     drop(consumer.checkpoint(WORKER).unwrap());
     let bytes = fs::read(&path).unwrap();
     assert_eq!(bytes[..4 * BLOCK], BEFORE[..4 * BLOCK]);
     assert_eq!(snapshot_in(&bytes, 5, 1, 2), version_2(&[(0, 1), (3, 1)]));
-    let mut consumer = restart(&path, &configuration);
-    assert_eq!(found(&mut consumer, 5), right);
+    let consumer = restart(&path, &configuration);
+    assert_eq!(found(&consumer, 5), right);
     // The counts go on: the second hand-out of offset 3.
     let mut consumer = consumer.checkpoint(WORKER).unwrap();
     consumer.claim(WORKER, Offset::new(3), 0).unwrap();
@@ -192,26 +192,29 @@ fn what_a_restart_finds_is_the_same_in_either_version() {
     // What a clinic on IronBus's own server is sent.
     assert_eq!(counts, pairs(&numbers));
     assert_eq!(encode_attempt_snapshot(&counts), Ok(version_1(&numbers)));
-    let mut consumer = restart(&path, &configuration);
+    let consumer = restart(&path, &configuration);
     assert_eq!(consumer.all_attempt_counts(WORKER).unwrap(), counts);
-    let right = found(&mut consumer, 8);
+    let right = found(&consumer, 8);
     assert_eq!(right[4], (false, 2));
     drop(consumer);
     // The same in version 1.
     let old = version_1(&numbers);
     put_snapshot(&mut bytes, 3, &old);
     fs::write(&path, &bytes).unwrap();
-    let mut consumer = restart(&path, &configuration);
-    assert_eq!(found(&mut consumer, 8), right);
+    let consumer = restart(&path, &configuration);
+    assert_eq!(found(&consumer, 8), right);
     drop(consumer);
     // A version that there is none of is refused, and the file stays.
     let other = sealed([&[3][..], &old[1..old.len() - 4]].concat());
     put_snapshot(&mut bytes, 3, &other);
     fs::write(&path, &bytes).unwrap();
     let journal = Journal::open(&path).unwrap();
-    let (refusal, journal) = Consumer::restart(&configuration, journal).unwrap_err();
-    assert_eq!(refusal, Refusal::AttemptUnsupportedVersion { version: 3 });
-    assert_eq!(journal.bytes(), bytes);
+    let error = Consumer::restart(&configuration, journal).unwrap_err();
+    assert_eq!(
+        error.refusal(),
+        Refusal::AttemptUnsupportedVersion { version: 3 }
+    );
+    assert_eq!(error.into_journal().bytes(), bytes);
 }
 
 #[test]

@@ -140,7 +140,9 @@ fn a_checkpoint_needs_its_right_at_begin() {
         let consumer = start(&format!("begin-{i}"), &with_rights(OTHER, *operation));
         match consumer.checkpoint(OTHER) {
             Ok(_) => assert_eq!(*operation, Rights::CHECKPOINT),
-            Err(CheckpointError::Refused(refusal, mut consumer)) => {
+            Err(CheckpointError::Refused(error)) => {
+                let refusal = error.refusal();
+                let mut consumer = error.into_consumer();
                 assert_ne!(*operation, Rights::CHECKPOINT);
                 assert_eq!(refusal, Refusal::NotPermitted);
                 // It goes on with whoever may.

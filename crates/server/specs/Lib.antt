@@ -1,3 +1,4 @@
+pub mod Abi
 pub mod Kinds
 pub mod Transitions
 pub mod Parts

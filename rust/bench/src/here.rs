@@ -109,7 +109,7 @@ impl<S: Storage> Side for Here<S> {
     fn begin(self) -> Writing<S> {
         match self.0.begin(WORKER) {
             Ok(writing) => writing,
-            Err((refusal, _)) => panic!("{refusal}"),
+            Err(error) => panic!("{error}"),
         }
     }
 

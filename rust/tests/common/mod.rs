@@ -1,4 +1,4 @@
-//! What the tests share: a folder for files, random numbers, document 01's book, and a storage whose power can be cut.
+//! What the tests share: a folder for files, random numbers, the book of docs/SPEC.md, and a storage whose power can be cut.
 #![allow(dead_code)]
 
 use std::cell::RefCell;
@@ -78,7 +78,7 @@ impl Page {
     }
 }
 
-/// Document 01's book: it sees each call's arguments and answer, and whether a cut left a header block new.
+/// The book of docs/SPEC.md: it sees each call's arguments and answer, and whether a cut left a header block new.
 #[derive(Default)]
 pub struct Book {
     pub page: Page,
@@ -129,7 +129,7 @@ impl Book {
     }
 
     /// A restart goes back to the copy, and finds just that.
-    pub fn restarted<S: Storage>(&mut self, consumer: &mut Consumer<S>, offsets: &[u64]) {
+    pub fn restarted<S: Storage>(&mut self, consumer: &Consumer<S>, offsets: &[u64]) {
         self.restarts += 1;
         self.page = self.copy.clone();
         self.compare(consumer, offsets);
@@ -137,7 +137,7 @@ impl Book {
     }
 
     /// The consumer has the settled offsets and the counts of the book.
-    pub fn compare<S: Storage>(&self, consumer: &mut Consumer<S>, offsets: &[u64]) {
+    pub fn compare<S: Storage>(&self, consumer: &Consumer<S>, offsets: &[u64]) {
         for offset in offsets {
             let name = Offset::new(*offset);
             assert_eq!(
@@ -203,9 +203,12 @@ pub struct Power {
     pub cut_zeros: usize,
     /// The block that the last cut left new.
     pub left_new: Option<Vec<u8>>,
+    /// The block that was being written at the last cut.
+    pub writing: Option<Vec<u8>>,
 }
 
-/// A real file whose power fails at a write. It isn't made durable: the power fails by what is written.
+/// A real file whose power fails at a write. It isn't made durable: the power fails by what is written. After a failure the next process
+/// has the file [again](Cuttable::again).
 pub struct Cuttable {
     file: File,
     power: Rc<RefCell<Power>>,
@@ -224,6 +227,15 @@ impl Cuttable {
         file.set_len((BLOCK * blocks) as u64).unwrap();
         Cuttable {
             file,
+            power: Rc::clone(power),
+        }
+    }
+
+    /// The file that is there.
+    pub fn again(path: &Path, power: &Rc<RefCell<Power>>) -> Cuttable {
+        let file = OpenOptions::new().read(true).write(true).open(path);
+        Cuttable {
+            file: file.unwrap(),
             power: Rc::clone(power),
         }
     }
@@ -293,6 +305,7 @@ impl Storage for Cuttable {
                 power.cut = None;
                 power.cut_zeros += zeros;
                 power.left_new = (leaves == bytes).then_some(leaves);
+                power.writing = Some(bytes.to_vec());
                 return Err(io::Error::other("the power failed"));
             }
             power.cut = Some((left - 1, cut));

@@ -1,0 +1,107 @@
+//! The example as a program: a journal is created by its own command, and an error of the disk ends the server.
+
+mod common;
+
+use std::fs;
+use std::path::{Path, PathBuf};
+use std::process::{Command, Output};
+use std::sync::Once;
+
+use common::fresh_path;
+
+/// Where cargo puts it, beside the tests. It isn't built with a test alone, so that is seen to.
+fn program() -> PathBuf {
+    static BUILT: Once = Once::new();
+    BUILT.call_once(|| {
+        let mut build = Command::new(env!("CARGO"));
+        build.args(["build", "--offline", "--quiet", "--example", "server"]);
+        if !cfg!(debug_assertions) {
+            build.arg("--release");
+        }
+        build.current_dir(env!("CARGO_MANIFEST_DIR"));
+        assert!(build.status().unwrap().success());
+    });
+    let this = std::env::current_exe().unwrap();
+    let folder = this.parent().and_then(Path::parent).unwrap();
+    folder.join("examples/server")
+}
+
+fn server(arguments: &[&Path]) -> Output {
+    Command::new(program()).args(arguments).output().unwrap()
+}
+
+fn said(output: &Output) -> String {
+    String::from_utf8(output.stderr.clone()).unwrap()
+}
+
+#[test]
+fn running_creates_no_journal() {
+    let path = fresh_path("example");
+    let [init, run] = ["init", "run"].map(Path::new);
+    let output = server(&[run, &path]);
+    assert!(!output.status.success() && !path.exists());
+    assert!(said(&output).contains("No such file"), "{}", said(&output));
+    assert!(server(&[init, &path]).status.success());
+    // It is there, and stays.
+    let before = fs::read(&path).unwrap();
+    let output = server(&[init, &path]);
+    assert!(!output.status.success());
+    assert_eq!(said(&output), "server: there is a journal of that name\n");
+    assert_eq!(fs::read(&path).unwrap(), before);
+    for settled in [20, 40] {
+        let output = server(&[run, &path]);
+        let text = String::from_utf8(output.stdout).unwrap();
+        assert!(
+            text.contains(&format!("settled below {settled},")),
+            "{text}"
+        );
+    }
+    // No command, and none that there is.
+    assert!(!server(&[]).status.success());
+    assert!(!server(&[&path]).status.success());
+}
+
+#[test]
+fn a_journal_that_is_older_than_was_seen_is_not_run() {
+    let path = fresh_path("example-older");
+    let seen = fresh_path("example-seen");
+    let [init, run] = ["init", "run"].map(Path::new);
+    assert!(server(&[init, &path]).status.success());
+    assert!(server(&[run, &path, &seen]).status.success());
+    fs::remove_file(&path).unwrap();
+    assert!(server(&[init, &path]).status.success());
+    let output = server(&[run, &path, &seen]);
+    assert!(!output.status.success());
+    assert!(
+        said(&output).contains("the journal is older"),
+        "{}",
+        said(&output)
+    );
+}
+
+// No file may grow or be written from its first byte on: each write of a block fails.
+#[test]
+fn an_error_of_the_disk_ends_the_server() {
+    let path = fresh_path("example-disk");
+    let [init, run] = ["init", "run"].map(Path::new);
+    assert!(server(&[init, &path]).status.success());
+    let before = fs::read(&path).unwrap();
+    let output = Command::new("sh")
+        .args(["-c", "trap '' XFSZ; ulimit -f 0; exec \"$0\" run \"$1\""])
+        .args([&program(), &path])
+        .output()
+        .unwrap();
+    assert_eq!(output.status.code(), Some(1));
+    assert!(
+        said(&output).contains("block 1 of the journal could not be written"),
+        "{}",
+        said(&output)
+    );
+    assert!(
+        said(&output).contains("restart the machine"),
+        "{}",
+        said(&output)
+    );
+    assert_eq!(fs::read(&path).unwrap(), before);
+    assert!(server(&[run, &path]).status.success());
+}
