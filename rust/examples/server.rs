@@ -18,7 +18,7 @@ use std::time::Instant;
 
 use ironbus_delivery_state::{
     check_library, CheckpointError, Configuration, Consumer, Generation, HandOut, Journal,
-    LeaseToken, NewJournal, Offset, Refusal, WorkerId,
+    JournalError, LeaseToken, NewJournal, Offset, Refusal, WorkerId,
 };
 
 /// Who makes the calls: by default worker 0 may do everything.
@@ -103,14 +103,19 @@ fn checkpoint(consumer: Consumer, seen: &Seen) -> Result<Consumer, Box<dyn Error
     Ok(consumer)
 }
 
+/// An error with the journal's name.
+fn of(path: &Path) -> impl Fn(JournalError) -> String + '_ {
+    move |error| format!("{}: {error}", path.display())
+}
+
 fn init(path: &Path) -> Result<(), Box<dyn Error>> {
-    let journal = NewJournal::create(path, 128)?;
+    let journal = NewJournal::create(path, 128).map_err(of(path))?;
     println!("{journal:?}");
     Ok(())
 }
 
 fn run(path: &Path, seen: &Seen) -> Result<(), Box<dyn Error>> {
-    let journal = Journal::open(path)?;
+    let journal = Journal::open(path).map_err(of(path))?;
     println!("restarting from {journal:?}");
     let configuration = Configuration::default();
     let mut consumer = Consumer::restart_at_least(&configuration, journal, seen.ceiling()?)?;

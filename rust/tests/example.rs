@@ -46,7 +46,11 @@ fn running_creates_no_journal() {
     let before = fs::read(&path).unwrap();
     let output = server(&[init, &path]);
     assert!(!output.status.success());
-    assert_eq!(said(&output), "server: there is a journal of that name\n");
+    let there = format!(
+        "server: {}: there is a journal of that name\n",
+        path.display()
+    );
+    assert_eq!(said(&output), there);
     assert_eq!(fs::read(&path).unwrap(), before);
     for settled in [20, 40] {
         let output = server(&[run, &path]);
