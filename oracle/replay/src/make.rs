@@ -37,8 +37,8 @@ const NEEDS_A_START: [&str; 12] = [
     "state",
 ];
 
-/// Lines that look like calls.
-const NO_CALLS: [&str; 34] = [
+/// Lines that look like calls, and `help`, which is none and tells bad lines from then on what they should be.
+const NO_CALLS: [&str; 37] = [
     "cut",
     "cut half",
     "cut old ",
@@ -73,6 +73,9 @@ const NO_CALLS: [&str; 34] = [
     "plan",
     "plan 257",
     "plan 1 18446744073709551616",
+    "help",
+    "help 1",
+    "helps",
 ];
 
 /// A script of so many lines.

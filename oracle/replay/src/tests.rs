@@ -1,6 +1,7 @@
 //! 01's examples and the phases of the program, as scripts with their answers; and that the made scripts meet everything.
 use crate::block::{bodies_for, formed_header, seal};
 use crate::compare::{answers, bounds_of, difference};
+use crate::help;
 use crate::journal::{block_of, ends_unfit, header_behind, in_use, walk, writes, Half, Stored};
 use crate::line::{read, Call};
 use crate::make::script;
@@ -464,6 +465,20 @@ fn lines_of_a_text() {
     assert_eq!(answers(b"\n# state\n\nstate\n\0\r\n#"), "not now\nbad line\n");
     assert_eq!(answers(b"state"), "not now\n");
     assert_eq!(answers(b""), "");
+    assert_eq!(answers(b"state\r\n\r\n# \r\nstate\r"), "not now\nnot now\n");
+}
+
+/// A bad line is told the first form that begins as it does, behind `help` alone.
+#[test]
+fn help_and_bad_lines() {
+    let given = answers(b"claim 0\nhelp\nclaim 0\nnack 1\r\nrights 8 0\n claim 0 0\nhours\nhelp 1\nno");
+    let given: Vec<&str> = given.lines().collect();
+    assert_eq!((given[0], given[1 + help::count()]), ("bad line", "bad line: claim OFFSET NOW: hands an offset out"));
+    let begins = ["nack OFFSET GENERATION NOW: ", "rights WORKER MASK: ", "", "hours SHIFT MON ", "help: ", ""];
+    for (line, begins) in given[2 + help::count()..].iter().zip(begins) {
+        let told = if begins.is_empty() { "bad line".to_string() } else { format!("bad line: {begins}") };
+        assert!(line.starts_with(&told) && (!begins.is_empty() || *line == told), "{line}");
+    }
 }
 
 /// A bound that is passed is shown as a difference is.
