@@ -1,5 +1,6 @@
-//! What `help` prints, as docs/REPLAY.md has it, and what a bad line is told of it.
+//! What `help` prints, as docs/REPLAY.md has it, and what a bad line is told of it; and scenes of such lines.
 use crate::line::{bare, LINE};
+use crate::make::Maker;
 
 const DOCUMENT: &str = include_str!("../../../docs/REPLAY.md");
 
@@ -33,5 +34,18 @@ pub fn bad_line(line: &[u8], told: bool) -> String {
     match known {
         Some(form) => format!("bad line: {form}"),
         None => "bad line".to_string(),
+    }
+}
+
+/// Lines as people write them: with mistakes, with carriage returns, now and then with a look at the help.
+pub fn lines_of_people(maker: &mut Maker) {
+    for _ in 0..10 + maker.random.below(20) {
+        let line = match maker.random.below(12) {
+            0 => b"help".to_vec(),
+            1..=4 => (maker.call() + "\r").into_bytes(),
+            5..=6 => maker.no_call(),
+            _ => maker.bad_line(),
+        };
+        maker.say(line);
     }
 }

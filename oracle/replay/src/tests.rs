@@ -26,6 +26,13 @@ fn scripts() -> &'static [Vec<Vec<u8>>] {
     MADE.get_or_init(|| (1..=120).map(|seed| script(seed, 2_000)).collect())
 }
 
+/// The answers to the lines of a script but `help`.
+fn given(lines: &[Vec<u8>]) -> Vec<String> {
+    let mut program = Program::default();
+    let answers = lines.iter().map(|line| (read(line), program.answer(line)));
+    answers.filter(|(call, _)| !matches!(call, Some(Call::Help))).filter_map(|(_, answer)| answer).collect()
+}
+
 /// The names of those that hold.
 fn holding<const N: usize>(facts: [(&'static str, bool); N]) -> Vec<&'static str> {
     facts.into_iter().filter(|&(_, holds)| holds).map(|(name, _)| name).collect()
@@ -429,7 +436,7 @@ fn views() {
 fn scripts_have_views() {
     let mut met = BTreeMap::new();
     for lines in scripts() {
-        for answer in answers(&lines.join(&b'\n')).lines() {
+        for answer in given(lines) {
             if let Some(view) = answer.strip_prefix("view ") {
                 let words = view.split(' ');
                 let shape: Vec<&str> = words
@@ -479,6 +486,27 @@ fn help_and_bad_lines() {
         let told = if begins.is_empty() { "bad line".to_string() } else { format!("bad line: {begins}") };
         assert!(line.starts_with(&told) && (!begins.is_empty() || *line == told), "{line}");
     }
+}
+
+/// The scripts that `oracle/run compare` uses have calls that end in a carriage return, and bad lines before and behind `help`.
+#[test]
+fn scripts_have_lines_of_people() {
+    let mut met = Met::default();
+    for lines in scripts() {
+        let mut program = Program::default();
+        for line in lines {
+            let told = program.told;
+            let answer = program.answer(line).unwrap_or_default();
+            met.add(holding([
+                ("help", matches!(read(line), Some(Call::Help))),
+                ("returned", line.ends_with(b"\r") && read(line).is_some()),
+                ("bad", answer == "bad line" && !told),
+                ("not told", answer == "bad line" && told),
+                ("told", answer.starts_with("bad line: ")),
+            ]));
+        }
+    }
+    met.want(&[("help", 100), ("returned", 300), ("bad", 300), ("not told", 50), ("told", 300)]);
 }
 
 /// A bound that is passed is shown as a difference is.
@@ -716,7 +744,7 @@ fn scripts_have_everything() {
     let mut words = BTreeSet::new();
     let mut refusals = BTreeSet::new();
     for lines in scripts() {
-        for answer in answers(&lines.join(&b'\n')).lines() {
+        for answer in given(lines) {
             let mut parts = answer.split(' ');
             words.insert(parts.next().unwrap().to_string());
             if answer.starts_with("refused") {
