@@ -1,9 +1,11 @@
 // Prints what a file has, for people: a journal's area, a cursor snapshot or an attempt snapshot, as the first argument says. The
-// file is opened for reading and never changed. What can't be read is said on standard error.
+// first line is the verdict. The file is opened for reading and never changed. What can't be read is said on standard error.
 use libc::STDERR_FILENO;
 use text::output;
 use text::words::same;
 
+mod blocks;
+mod facts;
 mod faults;
 mod journals;
 mod listing;
@@ -35,7 +37,13 @@ enum Behind {
 fn usage() {
     io::write_all(
         STDERR_FILENO,
-        b"usage: inspect journal|cursor|attempts FILE\n",
+        b"usage: inspect journal FILE     a consumer's journal: what a restart finds, or why it is refused; then its blocks\n\
+        \x20      inspect cursor FILE      a cursor snapshot: which offsets are settled\n\
+        \x20      inspect attempts FILE    an attempt snapshot: how often each offset was handed out\n\
+        It only reads. A program of this language has no exit status: a script looks at what is printed, which begins with\n\
+        'a restart finds' or 'sound' where all is well. A line that begins with 'beware' wants a look before a restart:\n\
+        \x20      inspect journal FILE >found; grep -q '^a restart finds' found && ! grep -q '^beware' found\n\
+        \x20      inspect cursor FILE | grep -q '^sound'\n",
     );
 }
 
@@ -88,7 +96,11 @@ fn report_of(kind: Kind, bytes: &[u8], out: &mut [u8]) -> usize {
         Kind::Cursor => snapshots::cursor(out, 0, bytes),
         Kind::Attempts => snapshots::attempts(out, 0, bytes),
         Kind::Oversized => journals::oversized(out, 0, bytes),
-        Kind::TooLong => output::put(out, 0, b"longer than 65536 bytes: no snapshot is\n"),
+        Kind::TooLong => output::put(
+            out,
+            0,
+            b"refused: it has more than 65536 bytes, and no snapshot has more than 2061\n",
+        ),
         Kind::None => 0,
     }
 }

@@ -104,7 +104,7 @@ fn lost(out: &mut [u8], at: usize, next: u64, headers: Headers) -> usize {
     fill(
         out,
         at,
-        b"out of reach: groups # to #, checkpoints at least #\n|\
+        b"out of reach: groups # to #; checkpoints lost: at least #\n|\
         out of reach: groups that can't be told, as none of these blocks names group # or one after it\n",
         said.template,
         numbers,
@@ -123,9 +123,15 @@ pub fn missed(out: &mut [u8], at: usize, area: &[u8], hi: usize, next: u64, bloc
     let said = fill(
         out,
         at,
-        b"it should not end there: block # has the kind of a header and a right check, and names group #; such blocks behind the walk #\n",
+        b"why: no sound header at block #, where the groups end; but block #, behind it, has the kind of a header and a right check, and \
+        names group #; such blocks: #\n",
         0,
-        [first as u64, group_at(area, first), headers.count as u64, 0],
+        [
+            block as u64,
+            first as u64,
+            group_at(area, first),
+            headers.count as u64,
+        ],
     );
     lost(out, said, next, headers)
 }

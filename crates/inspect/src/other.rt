@@ -70,9 +70,16 @@ pub fn other(out: &mut [u8], at: usize, area: &[u8], next: u64) -> usize {
     warned(out, at, other_said(area, other_half(area), next, 1))
 }
 
-// Of a walk that met an unsound body: all headers of the half in use count, those behind that body too.
-pub fn other_unsound(out: &mut [u8], at: usize, area: &[u8]) -> usize {
+// Of a walk that met an unsound body at a block: all headers of the half in use count, those behind that body too.
+pub fn other_unsound(out: &mut [u8], at: usize, area: &[u8], block: usize) -> usize {
+    let why = fill(
+        out,
+        at,
+        b"why: the header of a group is sound, and its body at block # is not\n",
+        0,
+        [block as u64, 0, 0, 0],
+    );
     let used = headers_behind(area, starts::origin(area).block, starts::limit(area));
     let next = saturating_add(used.number, 1);
-    warned(out, at, other_said(area, other_half(area), next, 3))
+    warned(out, why, other_said(area, other_half(area), next, 3))
 }

@@ -43,3 +43,27 @@ pub fn refused(out: &mut [u8], at: usize, numbers: Numbers) -> usize {
         [numbers.2, numbers.3, 0, 0],
     )
 }
+
+// Which advice a refusal gets: that of 4, of 5, of a version that isn't known, or of bytes that nobody here writes.
+fn advice_template(number: u64) -> usize {
+    match number {
+        4 => 0,
+        5 => 1,
+        8 | 14 => 2,
+        _ => 3,
+    }
+}
+
+// What to do about a refusal.
+pub fn advice(out: &mut [u8], at: usize, number: u64) -> usize {
+    fill(
+        out,
+        at,
+        b"to do: see that the file is whole: a journal has an even number of blocks of 512 bytes, from 18 to 128\n|\
+        to do: keep a copy of this file, and stop all workers before anything else; then see docs/OPERATING.md, After a fault of the disk\n|\
+        to do: see who wrote it: this reader doesn't know that version\n|\
+        to do: see who wrote it, and have a snapshot sent again: no checkpoint and no encoder leaves such bytes\n",
+        advice_template(number),
+        [0, 0, 0, 0],
+    )
+}

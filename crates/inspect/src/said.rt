@@ -12,6 +12,25 @@ pub fn says(template: usize, first: u64, second: u64) -> Said {
     }
 }
 
+// Whether two are printed alike.
+pub fn same(a: Said, b: Said) -> bool {
+    let x = a.numbers;
+    let y = b.numbers;
+    if a.template != b.template {
+        return false;
+    }
+    if x[0] != y[0] {
+        return false;
+    }
+    if x[1] != y[1] {
+        return false;
+    }
+    if x[2] != y[2] {
+        return false;
+    }
+    x[3] == y[3]
+}
+
 // A byte as a u64.
 fn wide(x: u8) -> u64 {
     x as u64

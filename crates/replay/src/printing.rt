@@ -78,6 +78,8 @@ pub const STATE: usize = 35;
 
 pub const HOURS: usize = 36;
 
+pub const HELP: usize = 37;
+
 // An answer: a template and its numbers. Behind those of a list, a plan, a block and the state stand their entries.
 pub struct Said {
     pub template: usize,
@@ -256,7 +258,45 @@ fn block(out: &mut [u8], at: usize, area: &[u8], from: usize) -> usize {
     output::put(out, next, b"\n")
 }
 
-// An answer; `list` has the waiting list, the stretches, or the answers of a plan.
+// The end of a bad line's answer: the form that it should have had, by its place in the table, where that is known and to be told.
+fn bad_line(out: &mut [u8], at: usize, expected: usize) -> usize {
+    if script::BAD <= expected {
+        return output::put(out, at, b"\n");
+    }
+    let mut next = output::put(out, at, b": ");
+    next = templates::fill(out, next, &script::FORMS, expected, [0; 4]);
+    output::put(out, next, b"\n")
+}
+
+// A line for each form of the table.
+fn forms(out: &mut [u8], at: usize) -> usize {
+    let mut next = at;
+    let mut k: usize = 0;
+    while k < script::BAD {
+        next = templates::fill(out, next, &script::FORMS, k, [0; 4]);
+        next = output::put(out, next, b"\n");
+        k += 1;
+    }
+    next
+}
+
+fn help(out: &mut [u8], at: usize) -> usize {
+    let mut next = output::put(
+        out,
+        at,
+        b"A line is a word and decimal numbers, with one space between. An empty line, and one that begins with #, asks for nothing.\n",
+    );
+    next = forms(out, next);
+    output::put(
+        out,
+        next,
+        b"A call that is refused answers refused NUMBER VALUE..., one that can't be made where it stands not now, any other line bad line.\n\
+        A program of this language has no exit status: a script asks its answers, as in: replay FILE | grep -q '^bad line'\n",
+    )
+}
+
+// An answer; `list` has the waiting list, the stretches, or the answers of a plan, and `expected` is the place of the form that a bad line
+// is told.
 pub fn print<'a>(
     out: &'a mut [u8],
     at: usize,
@@ -264,6 +304,7 @@ pub fn print<'a>(
     list: &'a [u64],
     area: &'a [u8],
     session: Session,
+    expected: usize,
 ) -> usize {
     let machine = session.machine;
     let writing = machine.writing;
@@ -273,7 +314,7 @@ pub fn print<'a>(
     let next = templates::fill(
         out,
         at,
-        b"|bad line\n|not now\n|refused #\n|refused # #\n|refused # # #\n|started\n|deliver # # #\n|deadletter # # #\n|settled\n|requeued #\n|extended #\n|committed\n|unchanged\n|waiting|begun #\n|wrote #\n|done #\n|restarted\n|cut #\n|poked\n|worker #\n|rights\n|view settled\n|view held\n|view waiting\n|view settled none none none none\n|view waiting # none none none\n|view held # # # #\n|view waiting # # # #\n|open|nearest #\n|plan # none\n|plan #|block ||hours\n",
+        b"|bad line|not now\n|refused #\n|refused # #\n|refused # # #\n|started\n|deliver # # #\n|deadletter # # #\n|settled\n|requeued #\n|extended #\n|committed\n|unchanged\n|waiting|begun #\n|wrote #\n|done #\n|restarted\n|cut #\n|poked\n|worker #\n|rights\n|view settled\n|view held\n|view waiting\n|view settled none none none none\n|view waiting # none none none\n|view held # # # #\n|view waiting # # # #\n|open|nearest #\n|plan # none\n|plan #|block ||hours\n|",
         template,
         numbers,
     );
@@ -283,6 +324,8 @@ pub fn print<'a>(
         PLAN => plan(out, next, list, numbers[1] as usize),
         BLOCK => block(out, next, area, numbers[0] as usize),
         STATE => shown::state(out, next, consumer),
+        BAD_LINE => bad_line(out, next, expected),
+        HELP => help(out, next),
         _ => next,
     }
 }

@@ -545,6 +545,7 @@ fn seen(session: Session, line: Line, area: &mut [u8], list: &mut [u64]) -> Said
     let v = line.numbers;
     match form {
         script::NOTHING => printing::plain(printing::SILENT),
+        script::HELP => printing::plain(printing::HELP),
         script::STATE => state(session.machine),
         script::PEEK => blocks::peek(session.len, v[0]),
         script::POKE => blocks::poke(session.len, v[0], v[1], v[2], area),

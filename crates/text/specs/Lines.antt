@@ -14,6 +14,9 @@ use Rattle.text.specs.declared.lines.Taken.{Taken}
 abbrev pub NEWLINE : ℕ
 NEWLINE = 10
 
+abbrev pub RETURN : ℕ
+RETURN = 13
+
 -- what is still to be taken lies in a buffer of n bytes
 pub record Within (n : ℕ) (i : Input) : Type 0 where
   pub ordered : i .from ≤ i .to
@@ -68,6 +71,16 @@ pub record Took (buf : List ℕ) (i : Input) (r : Taken) : Type 0 where
   pub is : r ≡ taken buf i
   pub lies : Lies (length buf) (r .found)
   pub left : Within (length buf) (r .input)
+
+-- how much of a line stands before the carriage return that may end it
+abbrev pub withoutReturn : List ℕ → ℕ
+withoutReturn line =
+    cond (eqb (length line) 0) 0
+    (cond (eqb (getD line (length line - 1) 0) RETURN) (length line - 1) (length line))
+
+pub record Shortened (line : List ℕ) (r : ℕ) : Type 0 where
+  pub is : r ≡ withoutReturn line
+  pub inside : r ≤ length line
 
 -- what is still to be taken with bytes behind it that came; where none came, nothing comes any more
 abbrev pub withMore : Input → ℕ → Input

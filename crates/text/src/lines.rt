@@ -3,7 +3,7 @@
 ghost use mathlib.Core.Path.{_≡_};
 ghost use Prim.Native.Nat.{_-_, _≤_};
 ghost use lib.ListN.{length, take, drop, getD};
-ghost use Rattle.text.specs.Lines.{Within, nothing, lineAt, after, lastLine, forMore, Took, Refilled};
+ghost use Rattle.text.specs.Lines.{Within, nothing, lineAt, after, lastLine, forMore, Took, Shortened, Refilled};
 use crate::words::find;
 
 // The bytes of the buffer that are still to be taken: from a place up to another. `long`: they go on with a line that was too
@@ -148,6 +148,21 @@ pub fn take_line(buf: &[u8], input: Input) -> Taken
         found: Found::More,
         input: for_more(input, buf.len(), byte_at(buf, from)),
     }
+}
+
+// How many bytes a line has without the carriage return that may stand before its line end.
+pub fn without_return(line: &[u8]) -> usize
+    ensures { λ r. ⌜ Shortened (now (line .entry)) r ⌝ }
+{
+    let len = line.len();
+    if len == 0 {
+        return 0;
+    }
+    let last = len - 1;
+    if line[last] == 13 {
+        return last;
+    }
+    len
 }
 
 // Copies the bytes from a place up to another to the front.

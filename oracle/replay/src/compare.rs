@@ -1,5 +1,7 @@
 //! Runs the model and a program on the same scripts.
 use crate::bounds::Bounds;
+use crate::help;
+use crate::line::{asks, read, Call};
 use crate::make::script;
 use crate::program::{lines, Program};
 use std::io::Write;
@@ -20,10 +22,13 @@ pub fn answers(text: &[u8]) -> String {
 /// The first answer to a text, the model's or another's, with which a list passes a bound.
 pub fn bounds_of(text: &[u8], given: &str) -> Result<(), String> {
     let mut bounds = Bounds::default();
-    let asked = lines(text)
-        .enumerate()
-        .filter(|(_, line)| !line.is_empty() && line[0] != b'#');
-    for ((i, line), answer) in asked.zip(given.lines()) {
+    let mut given = given.lines();
+    for (i, line) in lines(text).enumerate().filter(|(_, line)| asks(line)) {
+        if matches!(read(line), Some(Call::Help)) {
+            given.nth(help::count() - 1);
+            continue;
+        }
+        let Some(answer) = given.next() else { break };
         bounds
             .see(line, answer)
             .map_err(|said| format!("line {}: {}\n  {said}", i + 1, shown(line)))?;
@@ -77,7 +82,8 @@ pub fn difference(text: &[u8], given: &str) -> Result<usize, String> {
     let mut answered = 0;
     for (i, line) in lines(text).enumerate() {
         let Some(right) = program.answer(line) else { continue };
-        let got = given.next().unwrap_or("nothing");
+        let got: Vec<&str> = given.by_ref().take(right.lines().count()).collect();
+        let got = if got.is_empty() { "nothing".to_string() } else { got.join("\n") };
         if got != right {
             let from = before.len().saturating_sub(SHOWN);
             return Err(format!(

@@ -6,6 +6,7 @@ pub mod compare;
 pub mod consumer;
 pub mod halves;
 pub mod headers;
+pub mod help;
 pub mod hours;
 pub mod journal;
 pub mod line;

@@ -52,6 +52,17 @@ pub enum Call {
     State,
     Poke(u64, u64, u64),
     Peek(u64),
+    Help,
+}
+
+/// A line without the carriage return that may stand before its line end.
+pub fn bare(line: &[u8]) -> &[u8] {
+    line.strip_suffix(b"\r").unwrap_or(line)
+}
+
+/// Whether a line asks for something: it is neither empty nor a comment.
+pub fn asks(line: &[u8]) -> bool {
+    !matches!(bare(line), [] | [b'#', ..])
 }
 
 /// One or more digits whose number a u64 can hold.
@@ -108,6 +119,7 @@ pub fn read(line: &[u8]) -> Option<Call> {
     if line.len() > LINE {
         return None;
     }
+    let line = bare(line);
     match line {
         b"cut old" => return Some(Call::Cut(Left::Old)),
         b"cut new" => return Some(Call::Cut(Left::New)),
@@ -140,13 +152,14 @@ pub fn read(line: &[u8]) -> Option<Call> {
         ("state", &[]) => Call::State,
         ("poke", &[block, byte, value]) => Call::Poke(block, byte, value),
         ("peek", &[block]) => Call::Peek(block),
+        ("help", &[]) => Call::Help,
         (word, numbers) => return question(word, numbers),
     })
 }
 
 #[cfg(test)]
 mod tests {
-    use super::{read, Call, Hours, LINE, PLAN};
+    use super::{asks, read, Call, Hours, LINE, PLAN};
 
     fn is_none(line: &str) -> bool {
         read(line.as_bytes()).is_none()
@@ -172,6 +185,13 @@ mod tests {
     }
 
     #[test]
+    fn carriage_returns() {
+        assert!(matches!(read(b"claim 1 2\r"), Some(Call::Claim(1, 2))));
+        assert!(matches!(read(b"cut torn\r"), Some(Call::Cut(_))));
+        assert!(!asks(b"") && !asks(b"\r") && !asks(b"#\r") && asks(b"\r\r") && asks(b"x"));
+    }
+
+    #[test]
     fn one_space_between_words() {
         for line in [
             "claim 1",
@@ -179,7 +199,8 @@ mod tests {
             "claim  1 2",
             " claim 1 2",
             "claim 1 2 ",
-            "claim 1 2\r",
+            "claim 1 2\r\r",
+            "claim 1\r 2",
             "claim\t1 2",
             "Claim 1 2",
             " ",
@@ -303,5 +324,7 @@ mod tests {
         let line = |length: usize| format!("peek {}", "0".repeat(length - 5));
         assert!(matches!(read(line(LINE).as_bytes()), Some(Call::Peek(0))));
         assert!(is_none(&line(LINE + 1)));
+        assert!(matches!(read(format!("{}\r", line(LINE - 1)).as_bytes()), Some(Call::Peek(0))));
+        assert!(is_none(&format!("{}\r", line(LINE))));
     }
 }

@@ -3,7 +3,7 @@ use crate::hours::Hours;
 use crate::line::LINE;
 use crate::program::{Phase, Program};
 use crate::workers::Crew;
-use crate::{bounds, commits, halves, headers, hours, nacks, open, plan, scenes, versions, views, waiting, wear, workers};
+use crate::{bounds, commits, halves, headers, help, hours, nacks, open, plan, scenes, versions, views, waiting, wear, workers};
 use lists::random::Random;
 use lists::state::Table;
 
@@ -37,8 +37,8 @@ const NEEDS_A_START: [&str; 12] = [
     "state",
 ];
 
-/// Lines that look like calls.
-const NO_CALLS: [&str; 34] = [
+/// Lines that look like calls, and `help`, which is none and tells bad lines from then on what they should be.
+const NO_CALLS: [&str; 37] = [
     "cut",
     "cut half",
     "cut old ",
@@ -73,6 +73,9 @@ const NO_CALLS: [&str; 34] = [
     "plan",
     "plan 257",
     "plan 1 18446744073709551616",
+    "help",
+    "help 1",
+    "helps",
 ];
 
 /// A script of so many lines.
@@ -95,7 +98,7 @@ pub fn script(seed: u64, lines: usize) -> Vec<Vec<u8>> {
 
 /// Any scene.
 fn scene(maker: &mut Maker) {
-    match maker.random.below(58) {
+    match maker.random.below(60) {
         0..=5 => scenes::life(maker),
         6..=7 => scenes::cuts(maker),
         8 => scenes::full(maker),
@@ -122,6 +125,7 @@ fn scene(maker: &mut Maker) {
         46..=47 => plan::plans(maker),
         48..=50 => hours::hours(maker),
         51..=54 => bounds::bounds(maker),
+        55..=56 => help::lines_of_people(maker),
         _ => wear::forged(maker),
     }
 }
@@ -296,6 +300,11 @@ impl Maker {
         }
     }
 
+    /// A line that looks like a call.
+    pub fn no_call(&mut self) -> Vec<u8> {
+        self.random.pick(&NO_CALLS).into()
+    }
+
     /// A line that is none, or nearly one.
     pub fn bad_line(&mut self) -> Vec<u8> {
         let mut line = self.call().into_bytes();
@@ -312,7 +321,7 @@ impl Maker {
             8 => line.truncate(at),
             9 => line.insert(0, self.random.pick(b" #")),
             10 => line = b"claim 00000000000000000000000000000000 18446744073709551615".to_vec(),
-            11 => line = self.random.pick(&NO_CALLS).into(),
+            11 => line = self.no_call(),
             12 => line = (0..self.random.below(300)).map(|_| self.random.below(256) as u8).collect(),
             _ if self.random.below(20) == 0 => line = long_line(&mut self.random),
             _ => line = b"#".repeat(self.random.below(200) as usize),

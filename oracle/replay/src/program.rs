@@ -1,8 +1,9 @@
 //! The program: what stands where, which calls can be made there, and the line that answers each.
 use crate::block::BLOCK;
 use crate::consumer::{Consumer, Handed, Settings, Writing};
+use crate::help;
 use crate::journal::{area_length, block_of};
-use crate::line::{read, Call, Left, Start};
+use crate::line::{asks, read, Call, Left, Start};
 use crate::rights::Rights;
 use ironbus::lease::LeaseConfig;
 use lists::codecs::Code;
@@ -30,6 +31,8 @@ pub struct Program {
     pub worker: u64,
     /// What the next start or restart hands in.
     pub handed: Handed,
+    /// Whether bad lines are told what they should be: once `help` was asked for.
+    pub told: bool,
 }
 
 impl Default for Program {
@@ -41,6 +44,7 @@ impl Default for Program {
                 rights: Rights::FIRST,
                 hours: None,
             },
+            told: false,
         }
     }
 }
@@ -273,13 +277,17 @@ impl Started {
 }
 
 impl Program {
-    /// The answer to a line, or nothing for an empty line and a comment.
+    /// The answer to a line, which is several lines for `help`, or nothing for an empty line and a comment.
     pub fn answer(&mut self, line: &[u8]) -> Option<String> {
-        if line.is_empty() || line[0] == b'#' {
+        if !asks(line) {
             return None;
         }
         Some(match read(line) {
-            None => "bad line".to_string(),
+            None => help::bad_line(line, self.told),
+            Some(Call::Help) => {
+                self.told = true;
+                help::text()
+            }
             Some(Call::Worker(worker)) => {
                 self.worker = worker;
                 format!("worker {worker}")

@@ -1,6 +1,7 @@
 //! 01's examples and the phases of the program, as scripts with their answers; and that the made scripts meet everything.
 use crate::block::{bodies_for, formed_header, seal};
 use crate::compare::{answers, bounds_of, difference};
+use crate::help;
 use crate::journal::{block_of, ends_unfit, header_behind, in_use, walk, writes, Half, Stored};
 use crate::line::{read, Call};
 use crate::make::script;
@@ -23,6 +24,13 @@ mod waiting;
 fn scripts() -> &'static [Vec<Vec<u8>>] {
     static MADE: OnceLock<Vec<Vec<Vec<u8>>>> = OnceLock::new();
     MADE.get_or_init(|| (1..=120).map(|seed| script(seed, 2_000)).collect())
+}
+
+/// The answers to the lines of a script but `help`.
+fn given(lines: &[Vec<u8>]) -> Vec<String> {
+    let mut program = Program::default();
+    let answers = lines.iter().map(|line| (read(line), program.answer(line)));
+    answers.filter(|(call, _)| !matches!(call, Some(Call::Help))).filter_map(|(_, answer)| answer).collect()
 }
 
 /// The names of those that hold.
@@ -428,7 +436,7 @@ fn views() {
 fn scripts_have_views() {
     let mut met = BTreeMap::new();
     for lines in scripts() {
-        for answer in answers(&lines.join(&b'\n')).lines() {
+        for answer in given(lines) {
             if let Some(view) = answer.strip_prefix("view ") {
                 let words = view.split(' ');
                 let shape: Vec<&str> = words
@@ -464,6 +472,41 @@ fn lines_of_a_text() {
     assert_eq!(answers(b"\n# state\n\nstate\n\0\r\n#"), "not now\nbad line\n");
     assert_eq!(answers(b"state"), "not now\n");
     assert_eq!(answers(b""), "");
+    assert_eq!(answers(b"state\r\n\r\n# \r\nstate\r"), "not now\nnot now\n");
+}
+
+/// A bad line is told the first form that begins as it does, behind `help` alone.
+#[test]
+fn help_and_bad_lines() {
+    let given = answers(b"claim 0\nhelp\nclaim 0\nnack 1\r\nrights 8 0\n claim 0 0\nhours\nhelp 1\nno");
+    let given: Vec<&str> = given.lines().collect();
+    assert_eq!((given[0], given[1 + help::count()]), ("bad line", "bad line: claim OFFSET NOW: hands an offset out"));
+    let begins = ["nack OFFSET GENERATION NOW: ", "rights WORKER MASK: ", "", "hours SHIFT MON ", "help: ", ""];
+    for (line, begins) in given[2 + help::count()..].iter().zip(begins) {
+        let told = if begins.is_empty() { "bad line".to_string() } else { format!("bad line: {begins}") };
+        assert!(line.starts_with(&told) && (!begins.is_empty() || *line == told), "{line}");
+    }
+}
+
+/// The scripts that `oracle/run compare` uses have calls that end in a carriage return, and bad lines before and behind `help`.
+#[test]
+fn scripts_have_lines_of_people() {
+    let mut met = Met::default();
+    for lines in scripts() {
+        let mut program = Program::default();
+        for line in lines {
+            let told = program.told;
+            let answer = program.answer(line).unwrap_or_default();
+            met.add(holding([
+                ("help", matches!(read(line), Some(Call::Help))),
+                ("returned", line.ends_with(b"\r") && read(line).is_some()),
+                ("bad", answer == "bad line" && !told),
+                ("not told", answer == "bad line" && told),
+                ("told", answer.starts_with("bad line: ")),
+            ]));
+        }
+    }
+    met.want(&[("help", 100), ("returned", 300), ("bad", 300), ("not told", 50), ("told", 300)]);
 }
 
 /// A bound that is passed is shown as a difference is.
@@ -701,7 +744,7 @@ fn scripts_have_everything() {
     let mut words = BTreeSet::new();
     let mut refusals = BTreeSet::new();
     for lines in scripts() {
-        for answer in answers(&lines.join(&b'\n')).lines() {
+        for answer in given(lines) {
             let mut parts = answer.split(' ');
             words.insert(parts.next().unwrap().to_string());
             if answer.starts_with("refused") {

@@ -9,12 +9,12 @@ use Rattle.replay.proofs.run.Statement.{statement}
 use Rattle.replay.proofs.run.Tie as tie
 
 abbrev Inv-loop : tie.InvT-loop
-Inv-loop buf₀ out₀ area₀ state₀ turns₀ buf out area state turns =
+Inv-loop fd told buf₀ out₀ area₀ state₀ turns₀ buf out area state turns =
     (length buf ≡ length buf₀) × (length out ≡ length out₀) × (length area ≡ length area₀) ×
     Going (length buf₀) (length area₀) state
 
 abbrev μ-loop : tie.MeasureT-loop
-μ-loop buf₀ out₀ area₀ state₀ turns₀ buf out area state turns = turns
+μ-loop fd told buf₀ out₀ area₀ state₀ turns₀ buf out area state turns = turns
 
 nothing-read-requires : tie.Need-nothing-read-requires Inv-loop μ-loop
 nothing-read-requires c κs = search needs

@@ -8,10 +8,10 @@ use Rattle.inspect.proofs.snapshots.pairs.Statement.{statement}
 use Rattle.inspect.proofs.snapshots.pairs.Tie as tie
 
 abbrev Inv-loop : tie.InvT-loop
-Inv-loop out₀ at decoded n next₀ i₀ t11 out next i = (n ≤ 128) × (length out ≡ length out₀)
+Inv-loop out₀ at decoded n next₀ i₀ out next i = (n ≤ 128) × (length out ≡ length out₀)
 
 abbrev μ-loop : tie.MeasureT-loop
-μ-loop out₀ at decoded n next₀ i₀ t11 out next i = n - i
+μ-loop out₀ at decoded n next₀ i₀ out next i = n - i
 
 shorter-requires : tie.Need-shorter-requires Inv-loop μ-loop
 shorter-requires c κs = search needs
@@ -28,11 +28,11 @@ element-copy-out-pair c = omega arith
 wide-requires : tie.Need-wide-requires Inv-loop μ-loop
 wide-requires c κs = search needs
 
-slice-aggregate-fill : tie.Need-slice-aggregate-fill Inv-loop μ-loop
-slice-aggregate-fill c = search needs
+count-said-requires : tie.Need-count-said-requires Inv-loop μ-loop
+count-said-requires c κs = search needs
 
-fill-requires : tie.Need-fill-requires Inv-loop μ-loop
-fill-requires c κs = search needs
+count-requires : tie.Need-count-requires Inv-loop μ-loop
+count-requires c κs = search needs
 
 add-i : tie.Need-add-i Inv-loop μ-loop
 add-i c = omega arith
@@ -60,8 +60,8 @@ pairs-spec =
     mul-pair
     element-copy-out-pair
     wide-requires
-    slice-aggregate-fill
-    fill-requires
+    count-said-requires
+    count-requires
     add-i
     loop-less
     loop-again

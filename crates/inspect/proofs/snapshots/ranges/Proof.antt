@@ -8,10 +8,10 @@ use Rattle.inspect.proofs.snapshots.ranges.Statement.{statement}
 use Rattle.inspect.proofs.snapshots.ranges.Tie as tie
 
 abbrev Inv-loop : tie.InvT-loop
-Inv-loop out₀ at cursor n next₀ i₀ t9 out next i = (n ≤ 128) × (length out ≡ length out₀)
+Inv-loop out₀ at cursor n next₀ i₀ out next i = (n ≤ 128) × (length out ≡ length out₀)
 
 abbrev μ-loop : tie.MeasureT-loop
-μ-loop out₀ at cursor n next₀ i₀ t9 out next i = n - i
+μ-loop out₀ at cursor n next₀ i₀ out next i = n - i
 
 shorter-requires : tie.Need-shorter-requires Inv-loop μ-loop
 shorter-requires c κs = search needs
@@ -19,23 +19,23 @@ shorter-requires c κs = search needs
 loop-holds : tie.Need-loop-holds Inv-loop μ-loop
 loop-holds c = (omega (arith, c .shorter .ensures), refl)
 
-mul-t12 : tie.Need-mul-t12 Inv-loop μ-loop
-mul-t12 c = omega arith
+mul-range-said : tie.Need-mul-range-said Inv-loop μ-loop
+mul-range-said c = omega arith
 
-element-copy-out-t15 : tie.Need-element-copy-out-t15 Inv-loop μ-loop
-element-copy-out-t15 c = omega arith
+element-copy-out-range-said : tie.Need-element-copy-out-range-said Inv-loop μ-loop
+element-copy-out-range-said c = omega arith
 
-mul-t16 : tie.Need-mul-t16 Inv-loop μ-loop
-mul-t16 c = omega arith
+mul-range-said-2 : tie.Need-mul-range-said-2 Inv-loop μ-loop
+mul-range-said-2 c = omega arith
 
-element-copy-out-t19 : tie.Need-element-copy-out-t19 Inv-loop μ-loop
-element-copy-out-t19 c = omega arith
+element-copy-out-range-said-2 : tie.Need-element-copy-out-range-said-2 Inv-loop μ-loop
+element-copy-out-range-said-2 c = omega arith
 
-slice-aggregate-fill : tie.Need-slice-aggregate-fill Inv-loop μ-loop
-slice-aggregate-fill c = search needs
+range-said-requires : tie.Need-range-said-requires Inv-loop μ-loop
+range-said-requires c κs = search needs
 
-fill-requires : tie.Need-fill-requires Inv-loop μ-loop
-fill-requires c κs = search needs
+range-requires : tie.Need-range-requires Inv-loop μ-loop
+range-requires c κs = search needs
 
 add-i : tie.Need-add-i Inv-loop μ-loop
 add-i c = omega arith
@@ -60,12 +60,12 @@ ranges-spec =
     μ-loop
     shorter-requires
     loop-holds
-    mul-t12
-    element-copy-out-t15
-    mul-t16
-    element-copy-out-t19
-    slice-aggregate-fill
-    fill-requires
+    mul-range-said
+    element-copy-out-range-said
+    mul-range-said-2
+    element-copy-out-range-said-2
+    range-said-requires
+    range-requires
     add-i
     loop-less
     loop-again

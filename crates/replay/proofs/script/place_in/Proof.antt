@@ -18,17 +18,17 @@ loop-holds c = omega arith
 find-requires : tie.Need-find-requires Inv-loop μ-loop
 find-requires c κs = search needs
 
-sub-is-form : tie.Need-sub-is-form Inv-loop μ-loop
-sub-is-form c = search needs
+sub-is-entry : tie.Need-sub-is-entry Inv-loop μ-loop
+sub-is-entry c = search needs
 
-part-is-form-start : tie.Need-part-is-form-start Inv-loop μ-loop
-part-is-form-start c = search needs
+part-is-entry-start : tie.Need-part-is-entry-start Inv-loop μ-loop
+part-is-entry-start c = search needs
 
-part-is-form-end : tie.Need-part-is-form-end Inv-loop μ-loop
-part-is-form-end c = search needs
+part-is-entry-end : tie.Need-part-is-entry-end Inv-loop μ-loop
+part-is-entry-end c = search needs
 
-is-form-requires : tie.Need-is-form-requires Inv-loop μ-loop
-is-form-requires c κs = search needs
+is-entry-requires : tie.Need-is-entry-requires Inv-loop μ-loop
+is-entry-requires c κs = search needs
 
 returns : tie.Need-returns Inv-loop μ-loop
 returns c = search needs
@@ -56,10 +56,10 @@ place-in-spec =
     μ-loop
     loop-holds
     find-requires
-    sub-is-form
-    part-is-form-start
-    part-is-form-end
-    is-form-requires
+    sub-is-entry
+    part-is-entry-start
+    part-is-entry-end
+    is-entry-requires
     returns
     add-place
     add-from

@@ -1,0 +1,167 @@
+// What an operator asks of a journal: how long it is, which half is in use and how much of it is left, which groups it has, and how
+// its generations stand.
+use crate::said::Said;
+use crate::said::says;
+use consumer::halves::half_blocks;
+use journal::LastGroup;
+use journal::Walked;
+use text::output::put;
+use text::templates::fill;
+
+// How long the file is, and the bytes that are no whole block, where there are any.
+fn file(out: &mut [u8], at: usize, len: usize) -> usize {
+    let rest = len % 512;
+    let mut template: usize = 0;
+    if rest != 0 {
+        template = 1;
+    }
+    fill(
+        out,
+        at,
+        b"\nfile: # bytes, # blocks of 512 bytes in two halves of #\n|\
+        \nfile: # bytes, # blocks of 512 bytes in two halves of #, and # bytes behind the last whole block\n",
+        template,
+        [
+            len as u64,
+            (len / 512) as u64,
+            half_blocks(len) as u64,
+            rest as u64,
+        ],
+    )
+}
+
+// A number less another, 0 where it is not above it.
+fn less(a: u64, b: u64) -> u64 {
+    if a < b {
+        return 0;
+    }
+    a - b
+}
+
+// Which half is in use: the one that begins at block `first`, and ends before block `hi`.
+fn half(out: &mut [u8], at: usize, first: u64, hi: u64) -> usize {
+    let mut template: usize = 0;
+    if first != 0 {
+        template = 1;
+    }
+    fill(
+        out,
+        at,
+        b"half in use: the first, blocks # to #|half in use: the second, blocks # to #",
+        template,
+        [first, less(hi, 1), 0, 0],
+    )
+}
+
+// How much of it is left from the block on where the walk ended.
+fn left_said(hi: u64, walked: Walked) -> Said {
+    if let Walked::Stopped { block, .. } = walked {
+        return says(1, less(hi, block as u64), 0);
+    }
+    says(0, 0, 0)
+}
+
+fn left(out: &mut [u8], at: usize, said: Said) -> usize {
+    let numbers = said.numbers;
+    fill(
+        out,
+        at,
+        b"\n|; blocks left in it: #, and a checkpoint takes 2 to 9\n",
+        said.template,
+        numbers,
+    )
+}
+
+// The groups of the half in use, which begins with group `first`.
+fn groups_said(first: u64, walked: Walked) -> Said {
+    match walked {
+        Walked::Stopped {
+            last,
+            number,
+            block,
+        } => stop_said(first, last, number, block as u64),
+        Walked::BadArea => says(3, 0, 0),
+        Walked::Damaged(block) => says(2, block as u64, 0),
+    }
+}
+
+fn stop_said(first: u64, last: LastGroup, number: u64, block: u64) -> Said {
+    match last {
+        LastGroup::At(header) => Said {
+            template: 0,
+            numbers: [less(number, first), less(number, 1), header as u64, block],
+        },
+        LastGroup::None => says(1, number, block),
+    }
+}
+
+fn groups(out: &mut [u8], at: usize, said: Said) -> usize {
+    let numbers = said.numbers;
+    fill(
+        out,
+        at,
+        b"groups in it: #; the last is group #, with its header at block #; the next would stand at block #\n|\
+        groups in it: none; group # would be the first, at block #\n|\
+        groups in it: not known from block # on, where a body of one is unsound\n|",
+        said.template,
+        numbers,
+    )
+}
+
+// The ceiling that the header at a block has; 0 where there is no such block.
+fn ceiling_at(area: &[u8], i: usize) -> u64 {
+    if area.len() / 512 <= i {
+        return 0;
+    }
+    let from = 512 * i;
+    let to = from + 512;
+    let header = journal::read_header(&area[from..to]);
+    header.ceiling
+}
+
+// The ceiling of the last group that the walk reached. No generation below it is left, as far as the file says.
+fn generations_said(area: &[u8], walked: Walked) -> Said {
+    let Walked::Stopped { last, .. } = walked else {
+        return says(0, 0, 0);
+    };
+    match last {
+        LastGroup::At(header) => says(1, ceiling_at(area, header), 0),
+        LastGroup::None => says(2, 0, 0),
+    }
+}
+
+fn generations(out: &mut [u8], at: usize, said: Said) -> usize {
+    let numbers = said.numbers;
+    fill(
+        out,
+        at,
+        b"\n|\
+        generations left below the ceiling, #: none, as far as the file says; after a restart the first claim waits for a checkpoint\n\n|\
+        generations left below the ceiling, 0: none; after a restart the first claim waits for a checkpoint\n\n",
+        said.template,
+        numbers,
+    )
+}
+
+// The half in use, how much of it is left, its groups and its generations.
+fn contents(out: &mut [u8], at: usize, area: &[u8], walked: Walked) -> usize {
+    let from = starts::origin(area);
+    let hi = starts::limit(area) as u64;
+    let mut next = half(out, at, from.block as u64, hi);
+    next = left(out, next, left_said(hi, walked));
+    next = groups(out, next, groups_said(from.number, walked));
+    generations(out, next, generations_said(area, walked))
+}
+
+// Of an area and the walk over it, with an empty line in front and behind.
+pub fn facts(out: &mut [u8], at: usize, area: &[u8], walked: Walked) -> usize {
+    let next = file(out, at, area.len());
+    if let Walked::BadArea = walked {
+        return put(
+            out,
+            next,
+            b"blocks: listed in halves as if it were a journal\n\n",
+        );
+    }
+    contents(out, next, area, walked)
+}
