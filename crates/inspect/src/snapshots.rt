@@ -19,6 +19,18 @@ fn no_snapshot(out: &mut [u8], at: usize, read: Numbers) -> usize {
     advice(out, next, read.0)
 }
 
+fn no_cursor(out: &mut [u8], at: usize, len: u64, read: Numbers) -> usize {
+    let next = no_snapshot(out, at, read);
+    let numbers = [len, 0, 0, 0];
+    fill(
+        out,
+        next,
+        b"file: # bytes, read as a cursor snapshot\n",
+        0,
+        numbers,
+    )
+}
+
 // The offsets of a range, whose end is not among them.
 fn range_said(start: u64, end: u64) -> Said {
     if end <= start {
@@ -61,15 +73,7 @@ pub fn cursor(out: &mut [u8], at: usize, bytes: &[u8]) -> usize {
     let read = answers::of_decode_cursor(outcome, decoded.cursor.committed, decoded.cursor.runs);
     let len = bytes.len() as u64;
     if read.0 != 0 {
-        let next = no_snapshot(out, at, read);
-        let numbers = [len, 0, 0, 0];
-        return fill(
-            out,
-            next,
-            b"file: # bytes, read as a cursor snapshot\n",
-            0,
-            numbers,
-        );
+        return no_cursor(out, at, len, read);
     }
     let next = fill(
         out,

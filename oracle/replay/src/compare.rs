@@ -83,7 +83,11 @@ pub fn difference(text: &[u8], given: &str) -> Result<usize, String> {
     for (i, line) in lines(text).enumerate() {
         let Some(right) = program.answer(line) else { continue };
         let got: Vec<&str> = given.by_ref().take(right.lines().count()).collect();
-        let got = if got.is_empty() { "nothing".to_string() } else { got.join("\n") };
+        let got = if got.is_empty() {
+            "nothing".to_string()
+        } else {
+            got.join("\n")
+        };
         if got != right {
             let from = before.len().saturating_sub(SHOWN);
             return Err(format!(

@@ -324,7 +324,10 @@ mod tests {
         let line = |length: usize| format!("peek {}", "0".repeat(length - 5));
         assert!(matches!(read(line(LINE).as_bytes()), Some(Call::Peek(0))));
         assert!(is_none(&line(LINE + 1)));
-        assert!(matches!(read(format!("{}\r", line(LINE - 1)).as_bytes()), Some(Call::Peek(0))));
+        assert!(matches!(
+            read(format!("{}\r", line(LINE - 1)).as_bytes()),
+            Some(Call::Peek(0))
+        ));
         assert!(is_none(&format!("{}\r", line(LINE))));
     }
 }

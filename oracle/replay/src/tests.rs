@@ -30,7 +30,10 @@ fn scripts() -> &'static [Vec<Vec<u8>>] {
 fn given(lines: &[Vec<u8>]) -> Vec<String> {
     let mut program = Program::default();
     let answers = lines.iter().map(|line| (read(line), program.answer(line)));
-    answers.filter(|(call, _)| !matches!(call, Some(Call::Help))).filter_map(|(_, answer)| answer).collect()
+    answers
+        .filter(|(call, _)| !matches!(call, Some(Call::Help)))
+        .filter_map(|(_, answer)| answer)
+        .collect()
 }
 
 /// The names of those that hold.
@@ -480,10 +483,24 @@ fn lines_of_a_text() {
 fn help_and_bad_lines() {
     let given = answers(b"claim 0\nhelp\nclaim 0\nnack 1\r\nrights 8 0\n claim 0 0\nhours\nhelp 1\nno");
     let given: Vec<&str> = given.lines().collect();
-    assert_eq!((given[0], given[1 + help::count()]), ("bad line", "bad line: claim OFFSET NOW: hands an offset out"));
-    let begins = ["nack OFFSET GENERATION NOW: ", "rights WORKER MASK: ", "", "hours SHIFT MON ", "help: ", ""];
+    assert_eq!(
+        (given[0], given[1 + help::count()]),
+        ("bad line", "bad line: claim OFFSET NOW: hands an offset out")
+    );
+    let begins = [
+        "nack OFFSET GENERATION NOW: ",
+        "rights WORKER MASK: ",
+        "",
+        "hours SHIFT MON ",
+        "help: ",
+        "",
+    ];
     for (line, begins) in given[2 + help::count()..].iter().zip(begins) {
-        let told = if begins.is_empty() { "bad line".to_string() } else { format!("bad line: {begins}") };
+        let told = if begins.is_empty() {
+            "bad line".to_string()
+        } else {
+            format!("bad line: {begins}")
+        };
         assert!(line.starts_with(&told) && (!begins.is_empty() || *line == told), "{line}");
     }
 }
@@ -506,7 +523,13 @@ fn scripts_have_lines_of_people() {
             ]));
         }
     }
-    met.want(&[("help", 100), ("returned", 300), ("bad", 300), ("not told", 50), ("told", 300)]);
+    met.want(&[
+        ("help", 100),
+        ("returned", 300),
+        ("bad", 300),
+        ("not told", 50),
+        ("told", 300),
+    ]);
 }
 
 /// A bound that is passed is shown as a difference is.
