@@ -12,6 +12,14 @@ use Rattle.types.specs.Limits.{LEASES}
 pub one-more : {i : ℕ} → i < LEASES → Fits w64 (i + 1)
 one-more h = record { fits = omega (arith, h) }
 
+-- a slot: a time, a count
+module _ {i : ℕ} (h : i < LEASES) where
+  pub time-at : Fits w64 (i * 8)
+  time-at = record { fits = omega (arith, h) }
+
+  pub count-at : Fits w64 (i * 4)
+  count-at = record { fits = omega (arith, h) }
+
 -- before the end of what is in use: an offset, a time, a count
 module _ {i n : ℕ} (h : i < n) (k : n ≤ LEASES) where
   pub in-use : i < LEASES

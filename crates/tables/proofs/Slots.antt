@@ -8,7 +8,7 @@ use mathlib.Core.Path.{_≡_, refl, sym, ap, _∙_}
 use mathlib.Core.Bool.{cond}
 use mathlib.Core.List.{List, [], _∷_, _++_, map, append-nil, append-assoc}
 use lib.Dec.{ltb, eqb}
-use lib.ListN.{length, take, drop, getD, set, length-append, length-take, length-drop, length-map, take-append-drop}
+use lib.ListN.{length, take, drop, getD, set, length-append, length-take, length-drop, length-map, take-append-drop, List·getD-map}
 use lib.Seq.{drop-cons, drop-drop, getD-take, take-take, getD-set-same, getD-set-other, set-at, take-at, append-snoc, drop-append-add, paste}
 use borrow.Author.Tests.{ltb-true, ltb-false, lt-ltb, le-ltb, eqb-true, eqb-false, eq-eqb}
 use Rattle.types.specs.Lists.{times}
@@ -221,3 +221,25 @@ front-aside m k l h r {l′} e {l″} c =
     ∙ ap (λ (x : List ℕ). x ++ take k l ++ drop (m - k + k) l′) front
     ∙ ap (λ (x : List ℕ). removed 0 k t ++ take k l ++ x) tail
     ∙ ap (λ (x : List ℕ). removed 0 k t ++ x ++ drop m l) (sym (take-take k m l h) ∙ ap (λ (i : ℕ). take i t) u)
+
+-- ## every element changed
+module _ {A B : Type 0} (f : A → B) (d : A) where
+  -- what is told of the elements is told of the column
+  pub through-told : (slots : List ℕ) (column : List A) → map f (through d slots column) ≡ through (f d) slots (map f column)
+  unfolding through
+  through-told [] column = refl
+  through-told (x ∷ slots) column = rw (List·getD-map f column x d, through-told slots column)
+
+module _ {A : Type 0} (f : A → A) (d : A) where
+  mapped-at : (column : List A) (i : ℕ) → i < length column → getD (map f column) i d ≡ f (getD column i d)
+  mapped-at [] i h = absurd (omega arith)
+  mapped-at (x ∷ column) zero h = refl
+  mapped-at (x ∷ column) (suc i) h = mapped-at column i (omega arith)
+
+  mapped-within : (slots : List ℕ) (column : List A) → ((i : ℕ) → i < length slots → getD slots i 0 < length column) → through d slots (map f column) ≡ map f (through d slots column)
+  unfolding through
+  mapped-within [] column h = refl
+  mapped-within (x ∷ slots) column h = rw (mapped-at column x (h 0 (omega arith)), mapped-within slots column (λ i k. h (suc i) (omega arith)))
+
+  pub through-mapped : {n : ℕ} {slots : List ℕ} → Permutes n slots → (column : List A) → n ≤ length column → through d slots (map f column) ≡ map f (through d slots column)
+  through-mapped {slots = slots} p column fits = mapped-within slots column (λ i h. let b = slot-below p i h in omega arith)
