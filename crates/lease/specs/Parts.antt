@@ -71,6 +71,10 @@ listing n ks slots ns t = counting n ks slots (t .generations) ns (t .workers) t
 abbrev pub carrying : ℕ → List ℕ → List ℕ → LeaseTable → LeaseTable
 carrying m cks cvs t = releasing (t .len) m (t .offsets) (t .slots) cks cvs t
 
+-- how many leases and carried counts there are, with the carried ones
+abbrev pub sized : ℕ → ℕ → List ℕ → List ℕ → LeaseTable → LeaseTable
+sized n m cks cvs t = releasing n m (t .offsets) (t .slots) cks cvs t
+
 abbrev pub listingAll : ℕ → ℕ → List ℕ → List ℕ → List ℕ → List ℕ → List ℕ → LeaseTable → LeaseTable
 listingAll n m ks slots ns cks cvs t = carrying m cks cvs (listing n ks slots ns t)
 
