@@ -41,6 +41,7 @@ fn ask_on(
     starts: &mut [u64; RANGES],
     ends: &mut [u64; RANGES],
     offsets: &mut [u64; LEASES],
+    slots: &mut [u32; LEASES],
     generations: &mut [u64; LEASES],
     attempt_starts: &mut [u64; LEASES],
     deadlines: &mut [u64; LEASES],
@@ -52,9 +53,9 @@ fn ask_on(
     rights: &mut [u8; WORKERS],
     out: &mut [u64],
 ) -> AskDone
-    requires { ⌜ AskableIn phase (consumerOf fixed figures (now starts) (now ends) (now offsets) (now generations) (now «attempt_starts») (now deadlines) (now deliveries) (now workers) (now «carried_offsets») (now «carried_counts») (now «backoff_nanos») (now rights)) ⌝ }
-    ensures { λ r. ⌜ AskedIn phase (consumerOf fixed figures (now (starts .entry)) (now (ends .entry)) (now (offsets .entry)) (now (generations .entry)) (now («attempt_starts» .entry)) (now (deadlines .entry)) (now (deliveries .entry)) (now (workers .entry)) (now («carried_offsets» .entry)) (now («carried_counts» .entry)) (now («backoff_nanos» .entry)) (now (rights .entry))) worker kind a b c d (now (out .entry))
-        (r .numbers) (consumerOf fixed (r .figures) (now (starts .exit)) (now (ends .exit)) (now (offsets .exit)) (now (generations .exit)) (now («attempt_starts» .exit)) (now (deadlines .exit)) (now (deliveries .exit)) (now (workers .exit)) (now («carried_offsets» .exit)) (now («carried_counts» .exit)) (now («backoff_nanos» .entry)) (now (rights .exit))) (now (out .exit)) ⌝ }
+    requires { ⌜ AskableIn phase (consumerOf fixed figures (now starts) (now ends) (now offsets) (now slots) (now generations) (now «attempt_starts») (now deadlines) (now deliveries) (now workers) (now «carried_offsets») (now «carried_counts») (now «backoff_nanos») (now rights)) ⌝ }
+    ensures { λ r. ⌜ AskedIn phase (consumerOf fixed figures (now (starts .entry)) (now (ends .entry)) (now (offsets .entry)) (now (slots .entry)) (now (generations .entry)) (now («attempt_starts» .entry)) (now (deadlines .entry)) (now (deliveries .entry)) (now (workers .entry)) (now («carried_offsets» .entry)) (now («carried_counts» .entry)) (now («backoff_nanos» .entry)) (now (rights .entry))) worker kind a b c d (now (out .entry))
+        (r .numbers) (consumerOf fixed (r .figures) (now (starts .exit)) (now (ends .exit)) (now (offsets .exit)) (now (slots .exit)) (now (generations .exit)) (now («attempt_starts» .exit)) (now (deadlines .exit)) (now (deliveries .exit)) (now (workers .exit)) (now («carried_offsets» .exit)) (now («carried_counts» .exit)) (now («backoff_nanos» .entry)) (now (rights .exit))) (now (out .exit)) ⌝ }
 {
     if phase != 0 {
         return AskDone {
@@ -77,6 +78,7 @@ fn ask_on(
         starts,
         ends,
         offsets,
+        slots,
         generations,
         attempt_starts,
         deadlines,
@@ -122,6 +124,7 @@ pub fn ask_in_place(
     starts: &mut [u64; RANGES],
     ends: &mut [u64; RANGES],
     offsets: &mut [u64; LEASES],
+    slots: &mut [u32; LEASES],
     generations: &mut [u64; LEASES],
     attempt_starts: &mut [u64; LEASES],
     deadlines: &mut [u64; LEASES],
@@ -133,9 +136,9 @@ pub fn ask_in_place(
     rights: &mut [u8; WORKERS],
     out: &mut [u64],
 ) -> AskDone
-    requires { ⌜ AskableIn phase (consumerOf (fixedAs config hours ceiling block «area_len» «max_deliver» «backoff_len» threshold) (figuresAs committed runs len «carried_len» «next_generation» redeliveries) (now starts) (now ends) (now offsets) (now generations) (now «attempt_starts») (now deadlines) (now deliveries) (now workers) (now «carried_offsets») (now «carried_counts») (now «backoff_nanos») (now rights)) ⌝ }
-    ensures { λ r. ⌜ AskedIn phase (consumerOf (fixedAs config hours ceiling block «area_len» «max_deliver» «backoff_len» threshold) (figuresAs committed runs len «carried_len» «next_generation» redeliveries) (now (starts .entry)) (now (ends .entry)) (now (offsets .entry)) (now (generations .entry)) (now («attempt_starts» .entry)) (now (deadlines .entry)) (now (deliveries .entry)) (now (workers .entry)) (now («carried_offsets» .entry)) (now («carried_counts» .entry)) (now («backoff_nanos» .entry)) (now (rights .entry))) worker kind a b c d (now (out .entry))
-        (r .numbers) (consumerOf (fixedAs config hours ceiling block «area_len» «max_deliver» «backoff_len» threshold) (r .figures) (now (starts .exit)) (now (ends .exit)) (now (offsets .exit)) (now (generations .exit)) (now («attempt_starts» .exit)) (now (deadlines .exit)) (now (deliveries .exit)) (now (workers .exit)) (now («carried_offsets» .exit)) (now («carried_counts» .exit)) (now («backoff_nanos» .entry)) (now (rights .exit))) (now (out .exit)) ⌝ }
+    requires { ⌜ AskableIn phase (consumerOf (fixedAs config hours ceiling block «area_len» «max_deliver» «backoff_len» threshold) (figuresAs committed runs len «carried_len» «next_generation» redeliveries) (now starts) (now ends) (now offsets) (now slots) (now generations) (now «attempt_starts») (now deadlines) (now deliveries) (now workers) (now «carried_offsets») (now «carried_counts») (now «backoff_nanos») (now rights)) ⌝ }
+    ensures { λ r. ⌜ AskedIn phase (consumerOf (fixedAs config hours ceiling block «area_len» «max_deliver» «backoff_len» threshold) (figuresAs committed runs len «carried_len» «next_generation» redeliveries) (now (starts .entry)) (now (ends .entry)) (now (offsets .entry)) (now (slots .entry)) (now (generations .entry)) (now («attempt_starts» .entry)) (now (deadlines .entry)) (now (deliveries .entry)) (now (workers .entry)) (now («carried_offsets» .entry)) (now («carried_counts» .entry)) (now («backoff_nanos» .entry)) (now (rights .entry))) worker kind a b c d (now (out .entry))
+        (r .numbers) (consumerOf (fixedAs config hours ceiling block «area_len» «max_deliver» «backoff_len» threshold) (r .figures) (now (starts .exit)) (now (ends .exit)) (now (offsets .exit)) (now (slots .exit)) (now (generations .exit)) (now («attempt_starts» .exit)) (now (deadlines .exit)) (now (deliveries .exit)) (now (workers .exit)) (now («carried_offsets» .exit)) (now («carried_counts» .exit)) (now («backoff_nanos» .entry)) (now (rights .exit))) (now (out .exit)) ⌝ }
 {
     let figures = Figures {
         committed,
@@ -168,6 +171,7 @@ pub fn ask_in_place(
         starts,
         ends,
         offsets,
+        slots,
         generations,
         attempt_starts,
         deadlines,
@@ -192,15 +196,16 @@ pub fn progress_in_place(
     len: usize,
     rights: &[u8; WORKERS],
     offsets: &mut [u64; LEASES],
+    slots: &mut [u32; LEASES],
     generations: &mut [u64; LEASES],
     attempt_starts: &mut [u64; LEASES],
     deadlines: &mut [u64; LEASES],
     deliveries: &mut [u32; LEASES],
     workers: &mut [u32; LEASES],
 ) -> Numbers
-    requires { ⌜ AskableIn phase (progressing (rights .now) config len (offsets .now) (generations .now) («attempt_starts» .now) (deadlines .now) (deliveries .now) (workers .now)) ⌝ }
-    ensures { λ r. ⌜ ProgressedIn phase (progressing (rights .entry .now) config len (offsets .entry .now) (generations .entry .now) («attempt_starts» .entry .now) (deadlines .entry .now) (deliveries .entry .now) (workers .entry .now)) worker offset generation now
-        r (progressing (rights .entry .now) config len (offsets .exit .now) (generations .exit .now) («attempt_starts» .exit .now) (deadlines .exit .now) (deliveries .exit .now) (workers .exit .now)) ⌝ }
+    requires { ⌜ AskableIn phase (progressing (rights .now) config len (offsets .now) (slots .now) (generations .now) («attempt_starts» .now) (deadlines .now) (deliveries .now) (workers .now)) ⌝ }
+    ensures { λ r. ⌜ ProgressedIn phase (progressing (rights .entry .now) config len (offsets .entry .now) (slots .entry .now) (generations .entry .now) («attempt_starts» .entry .now) (deadlines .entry .now) (deliveries .entry .now) (workers .entry .now)) worker offset generation now
+        r (progressing (rights .entry .now) config len (offsets .exit .now) (slots .exit .now) (generations .exit .now) («attempt_starts» .exit .now) (deadlines .exit .now) (deliveries .exit .now) (workers .exit .now)) ⌝ }
 {
     if phase != 0 {
         return Numbers(255, 0, 0, 0, 0, 0, 0);
@@ -214,6 +219,7 @@ pub fn progress_in_place(
         now,
         rights,
         offsets,
+        slots,
         generations,
         attempt_starts,
         deadlines,
@@ -305,14 +311,15 @@ pub fn begin_in_place(
     starts: &mut [u64; RANGES],
     ends: &mut [u64; RANGES],
     offsets: &mut [u64; LEASES],
+    slots: &mut [u32; LEASES],
     deliveries: &mut [u32; LEASES],
     carried_offsets: &mut [u64; CARRIED],
     carried_counts: &mut [u32; CARRIED],
     payload: &mut [u8; 3606],
 ) -> BeginDone
-    requires { ⌜ Beginnable phase (toBegin written «cursor_len» «attempt_len» (now payload) (beginning (now rights) (ackCursor committed (now starts) (now ends) runs) (listingAll len «carried_len» (now offsets) (now deliveries) (now «carried_offsets») (now «carried_counts»)) number block «area_len»)) ⌝ }
-    ensures { λ r. ⌜ BegunOn phase (toBegin written «cursor_len» «attempt_len» (now (payload .entry)) (beginning (now (rights .entry)) (ackCursor committed (now (starts .entry)) (now (ends .entry)) runs) (listingAll len «carried_len» (now (offsets .entry)) (now (deliveries .entry)) (now («carried_offsets» .entry)) (now («carried_counts» .entry))) number block «area_len»)) worker
-        (r .numbers) (r .phase) (toBegin (r .written) (r .«cursor_len») (r .«attempt_len») (now (payload .exit)) (beginning (now (rights .entry)) (ackCursor committed (now (starts .exit)) (now (ends .exit)) runs) (listingAll len «carried_len» (now (offsets .exit)) (now (deliveries .exit)) (now («carried_offsets» .exit)) (now («carried_counts» .exit))) number block «area_len»)) ⌝ }
+    requires { ⌜ Beginnable phase (toBegin written «cursor_len» «attempt_len» (now payload) (beginning (now rights) (ackCursor committed (now starts) (now ends) runs) (listingAll len «carried_len» (now offsets) (now slots) (now deliveries) (now «carried_offsets») (now «carried_counts»)) number block «area_len»)) ⌝ }
+    ensures { λ r. ⌜ BegunOn phase (toBegin written «cursor_len» «attempt_len» (now (payload .entry)) (beginning (now (rights .entry)) (ackCursor committed (now (starts .entry)) (now (ends .entry)) runs) (listingAll len «carried_len» (now (offsets .entry)) (now (slots .entry)) (now (deliveries .entry)) (now («carried_offsets» .entry)) (now («carried_counts» .entry))) number block «area_len»)) worker
+        (r .numbers) (r .phase) (toBegin (r .written) (r .«cursor_len») (r .«attempt_len») (now (payload .exit)) (beginning (now (rights .entry)) (ackCursor committed (now (starts .exit)) (now (ends .exit)) runs) (listingAll len «carried_len» (now (offsets .exit)) (now (slots .exit)) (now (deliveries .exit)) (now («carried_offsets» .exit)) (now («carried_counts» .exit))) number block «area_len»)) ⌝ }
 {
     if phase != 0 {
         return BeginDone {
@@ -339,6 +346,7 @@ pub fn begin_in_place(
         starts,
         ends,
         offsets,
+        slots,
         deliveries,
         carried_offsets,
         carried_counts,

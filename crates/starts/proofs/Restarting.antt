@@ -86,6 +86,7 @@ module _ (a : List ℕ) where
           beside =
               record {
                 cursor = f .cursor;
+                slots = f .table .slots;
                 leases = f .table .len;
                 carried = f .table .carried-len;
                 settings = f .settings;
@@ -186,7 +187,7 @@ module _ (s : Configuration) (a : List ℕ) (d : StartAnswer) (e : startFault d 
     parts-sound c p v =
         record {
           cursor = p .cursor;
-          table = record { len = p .leases; carried-len = p .carried; valid = v .table };
+          table = record { len = p .leases; carried-len = p .carried; slots = p .slots; valid = v .table };
           settings = settings-sound s (length a) full f passed (c .settings) (p .settings);
           valid = v;
         }

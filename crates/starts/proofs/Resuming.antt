@@ -113,6 +113,7 @@ module _ (s : Configuration) (size : ℕ) (cb ab : List ℕ) (ceiling : ℕ) (ne
               rw (e, q .bytes)
               (record {
                 cursor = sound;
+                slots = g .slots;
                 leases = omega (arith, g .none);
                 carried = omega (arith, g .len, h .few);
                 settings = refl;

@@ -23,6 +23,7 @@ use Rattle.attempt.specs.Codec.{attemptError}
 use Rattle.delivery.specs.declared.DeliveryConfig.{DeliveryConfig}
 use Rattle.delivery.specs.Policy.{policy}
 use Rattle.hours.specs.View as hours
+use Rattle.tables.specs.Slots.{Permutes}
 use Rattle.lease.specs.State as lease
 use Rattle.lease.specs.State.{startingAt, withCarried}
 use Rattle.lease.specs.declared.LeaseConfig.{LeaseConfig}
@@ -111,6 +112,7 @@ pub record CarriedIs (counts : List (Entry ℕ)) (r : Carried) : Type 0 where
 -- a table that carries them, without leases
 pub record TableIs (c : LeaseConfig) (ceiling : ℕ) (carried : Carried) (r : LeaseTable) : Type 0 where
   pub is : lease.view r ≡ withCarried (startingAt c ceiling) (entries (take (carried .len) (carried .offsets)) (take (carried .len) (carried .counts)))
+  pub slots : Permutes LEASES (r .slots)
   pub none : r .len ≡ 0
   pub len : r .«carried_len» ≡ carried .len
 
@@ -147,6 +149,7 @@ LastLies a None = Unit {0}
 -- the parts of a consumer that goes on from a journal
 pub record Parts (s : Configuration) (c : Consumer) : Type 0 where
   pub cursor : cursor.Sound (c .cursor)
+  pub slots : Permutes LEASES (c .table .slots)
   pub leases : c .table .len ≤ LEASES
   pub carried : c .table .«carried_len» ≤ CARRIED
   pub settings : c .settings ≡ s .settings

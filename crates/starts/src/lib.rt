@@ -180,6 +180,7 @@ fn resumed_table(config: LeaseConfig, ceiling: u64, carried: Carried) -> LeaseTa
     LeaseTable {
         config: config,
         offsets: [0; LEASES],
+        slots: tables::slots_64(),
         generations: [0; LEASES],
         attempt_starts: [0; LEASES],
         deadlines: [0; LEASES],
