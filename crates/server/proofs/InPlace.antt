@@ -39,9 +39,9 @@ use Rattle.server.proofs.InNumbers.{idle-sound, idle-asked, ask-some, c
 pub whole : (k : ℕ) (x : Consumer) → k ≡ 0 → Askable k x → Whole x
 whole k x e h = record { full = h .sized .table; sound = idle-sound k x e (h .sound) }
 
-pub ready : (k : ℕ) (f : Fixed) (n : Figures) (starts ends ks gs ss ds ns ws cks cvs backoffs rights : List ℕ) (x : Consumer)
-    → let y = consumerOf f n starts ends ks gs ss ds ns ws cks cvs backoffs rights x in k ≡ 0 → Askable k y → Ready f n starts ends ks gs ss ds ns ws cks cvs backoffs
-ready k f n starts ends ks gs ss ds ns ws cks cvs backoffs rights x e h =
+pub ready : (k : ℕ) (f : Fixed) (n : Figures) (starts ends ks slots gs ss ds ns ws cks cvs backoffs rights : List ℕ) (x : Consumer)
+    → let y = consumerOf f n starts ends ks slots gs ss ds ns ws cks cvs backoffs rights x in k ≡ 0 → Askable k y → Ready f n starts ends ks slots gs ss ds ns ws cks cvs backoffs
+ready k f n starts ends ks slots gs ss ds ns ws cks cvs backoffs rights x e h =
     let z = h .sized in
     let ok = idle-sound k _ e (h .sound) in
     record {
