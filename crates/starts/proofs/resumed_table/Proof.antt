@@ -4,7 +4,7 @@ use Rattle.starts.proofs.resumed_table.Statement.{statement}
 use Rattle.starts.proofs.resumed_table.Tie as tie
 
 returns : tie.Need-returns
-returns c = record { is = refl; none = refl; len = refl }
+returns c = refl
 
 pub resumed-table-spec : {M : Type 1} → statement M
 resumed-table-spec = tie.close (tie.spec returns)
