@@ -51,6 +51,8 @@ use Rattle.walks.proofs.Paths.{Path, here, into, placeIn, fieldsIn, Fetch, copi
 use Rattle.walks.proofs.Apart.{fieldTys}
 use Rattle.walks.proofs.Columns.{Column, val, column-is}
 use Rattle.walks.proofs.Told.{Typed, number, truth, column, told-struct, all-typed}
+use Rattle.starts.specs.Parts.{Long}
+use Rattle.starts.specs.Parts.{columns as columnsOf}
 use Rattle.server.specs.Parts.{Sized, Askable, Lendable}
 use Rattle.server.proofs.InNumbers.{sound-if}
 use Rattle.machine.specs.View.{Sound}
@@ -71,8 +73,14 @@ in-cursor p = in-consumer (into {τ = TCursor′.mir} {d = 0} 0 refl p)
 abbrev in-table : Path TTable′.mir → OfMachine
 in-table p = in-consumer (into {τ = TTable′.mir} {d = 2064} 1 refl p)
 
+abbrev pub configuration : OfMachine
+configuration = into {τ = TConfiguration′.mir} {d = 0} 0 refl here
+
 abbrev in-settings : Path TSettings′.mir → OfMachine
 in-settings p = in-consumer (into {τ = TSettings′.mir} {d = 6496} 5 refl p)
+
+abbrev pub settings : OfMachine
+settings = in-settings here
 
 abbrev in-delivery : Path TDelivery′.mir → OfMachine
 in-delivery p = in-settings (into {τ = TDelivery′.mir} {d = 0} 0 refl p)
@@ -236,7 +244,7 @@ delivery-told x t =
 pub hours-told : (x : Hours) → Typed THours′.mir (THours′.lowered x) → Is THours.the-row x (THours′.lowered x ∷ [])
 hours-told x t = told-struct THours.struct THours.propositions THours′.the-laws (truth, (number w64, (column w64 7, tt))) x (all-typed (fieldTys THours′.mir) (fieldsIn (THours′.lowered x)) t)
 
-settings-told : (x : Settings) → Typed TSettings′.mir (TSettings′.lowered x) → Is TSettings.the-row x (TSettings′.lowered x ∷ [])
+pub settings-told : (x : Settings) → Typed TSettings′.mir (TSettings′.lowered x) → Is TSettings.the-row x (TSettings′.lowered x ∷ [])
 settings-told x t = told-struct TSettings.struct TSettings.propositions TSettings′.the-laws (delivery-told, (column w8 8, (hours-told, tt))) x (all-typed (fieldTys TSettings′.mir) (fieldsIn (TSettings′.lowered x)) t)
 
 pub configuration-told : (x : Configuration) → Typed TConfiguration′.mir (TConfiguration′.lowered x) → Is TConfiguration.the-row x (TConfiguration′.lowered x ∷ [])
@@ -267,14 +275,20 @@ numbers-told x t =
     told-struct TNumbers.struct TNumbers.propositions TNumbers′.the-laws (number w64, (number w64, (number w64, (number w64, (number w64, (number w64, (number w64, tt))))))) x
     (all-typed (fieldTys TNumbers′.mir) (fieldsIn (TNumbers′.lowered x)) t)
 
--- its hours, which are copied whole
-pub hours-typed : (m : Machine) → Typed TMachine′.mir (TMachine′.lowered m) → Typed THours′.mir (THours′.lowered (m .writing .consumer .settings .hours))
-hours-typed m t =
+-- its configuration, its settings and its hours, which are copied whole
+pub configuration-typed : (m : Machine) → Typed TMachine′.mir (TMachine′.lowered m) → Typed TConfiguration′.mir (TConfiguration′.lowered (m .configuration))
+configuration-typed m t = all-typed (fieldTys TMachine′.mir) (fieldsIn (TMachine′.lowered m)) t .0
+
+pub settings-typed : (m : Machine) → Typed TMachine′.mir (TMachine′.lowered m) → Typed TSettings′.mir (TSettings′.lowered (m .writing .consumer .settings))
+settings-typed m t =
     let x = m .writing .consumer in
     let writing = all-typed (fieldTys TWriting′.mir) (fieldsIn (TWriting′.lowered (m .writing))) (all-typed (fieldTys TMachine′.mir) (fieldsIn (TMachine′.lowered m)) t .1 .1 .0) in
     let consumer = all-typed (fieldTys TConsumer′.mir) (fieldsIn (TConsumer′.lowered x)) (writing .0) in
-    let settings = all-typed (fieldTys TSettings′.mir) (fieldsIn (TSettings′.lowered (x .settings))) (consumer .1 .1 .1 .1 .1 .0) in
-    settings .1 .1 .0
+    consumer .1 .1 .1 .1 .1 .0
+
+pub hours-typed : (m : Machine) → Typed TMachine′.mir (TMachine′.lowered m) → Typed THours′.mir (THours′.lowered (m .writing .consumer .settings .hours))
+hours-typed m t =
+    all-typed (fieldTys TSettings′.mir) (fieldsIn (TSettings′.lowered (m .writing .consumer .settings))) (settings-typed m t) .1 .1 .0
 
 -- two tests that hold
 pub both-hold : (a b : Bool) → T a → T b → T (a && b)
@@ -316,6 +330,12 @@ sized-told m t =
       },
       long w8 3606 (m .writing .payload) (writing .1 .1 .0),
     )
+
+pub long-told : (m : Machine) → Typed TMachine′.mir (TMachine′.lowered m)
+    → let c = m .writing .consumer in Long (columnsOf (c .cursor .starts) (c .cursor .ends) (c .table .«carried_offsets») (c .table .«carried_counts»))
+long-told m t =
+    let z = sized-told m t .0 in
+    record { starts = z .starts; ends = z .ends; offsets = z .table .carried-offsets; counts = z .table .carried-counts }
 
 pub askable-told : (m : Machine) → Sound m → Typed TMachine′.mir (TMachine′.lowered m) → Askable (m .phase) (m .writing .consumer)
 askable-told m sound t = record { sized = sized-told m t .0; sound = sound-if (m .configuration) (m .writing) (m .phase) sound }

@@ -4,17 +4,21 @@ ghost use Rattle.cursor.specs.View.{ackCursor};
 ghost use Rattle.lease.specs.Parts.{listingAll};
 ghost use Rattle.consumer.specs.Parts.{progressing, planning};
 ghost use Rattle.checkpoint.specs.Parts.{beginning, parts};
+ghost use Rattle.starts.specs.Parts.{columns, Long};
 ghost use Rattle.machine.specs.Parts.{consumerOf};
-ghost use Rattle.server.specs.Parts.{fixedAs, figuresAs, AskableIn, AskedIn, ProgressedIn, PlannedIn, toBegin, Beginnable, phaseBegun, BegunOn, Steppable, SteppedOn};
+ghost use Rattle.server.specs.Parts.{fixedAs, figuresAs, AskableIn, AskedIn, ProgressedIn, PlannedIn, toBegin, Beginnable, phaseBegun, BegunOn, toRestart, restartedBy, RestartedOn, Steppable, SteppedOn};
 ghost use mathlib.Core.Path.{_≡_};
 use crate::kinds;
 use crate::kinds::Asking;
 use answers::Numbers;
 use checkpoint::BeginAnswer;
+use consumer::Configuration;
+use consumer::Settings;
 use hours::Hours;
 use lease::LeaseConfig;
 use machine::in_place::Figures;
 use machine::in_place::Fixed;
+use starts::StartAnswer;
 use types::limits::CARRIED;
 use types::limits::LEASES;
 use types::limits::RANGES;
@@ -279,6 +283,101 @@ pub struct StepDone {
     pub number: u64,
     pub block: usize,
     pub redeliveries: u32,
+}
+
+// What a restart answers, and the numbers of the machine that it changes.
+pub struct RestartDone {
+    pub numbers: Numbers,
+    pub phase: u64,
+    pub committed: u64,
+    pub runs: usize,
+    pub len: usize,
+    pub carried_len: usize,
+    pub next_generation: u64,
+    pub redeliveries: u32,
+    pub ceiling: u64,
+    pub number: u64,
+    pub block: usize,
+    pub area_len: usize,
+    pub config: LeaseConfig,
+    pub settings: Settings,
+}
+
+// Call 18, in whatever phase, of a machine of this configuration: its consumer's numbers and columns are those that the journal has.
+// Refused, nothing changes.
+pub fn restart_in_place(
+    phase: u64,
+    committed: u64,
+    runs: usize,
+    len: usize,
+    carried_len: usize,
+    next_generation: u64,
+    redeliveries: u32,
+    ceiling: u64,
+    number: u64,
+    block: usize,
+    area_len: usize,
+    config: LeaseConfig,
+    settings: Settings,
+    configuration: Configuration,
+    starts: &mut [u64; RANGES],
+    ends: &mut [u64; RANGES],
+    slots: &mut [u32; LEASES],
+    carried_offsets: &mut [u64; CARRIED],
+    carried_counts: &mut [u32; CARRIED],
+    area: &[u8],
+) -> RestartDone
+    requires { ⌜ Long (columns (now starts) (now ends) (now «carried_offsets») (now «carried_counts»)) ⌝ }
+    ensures { λ r. ⌜ RestartedOn phase configuration (toRestart committed runs len «carried_len» «next_generation» redeliveries ceiling number block «area_len» config settings (now (slots .entry)) (columns (now (starts .entry)) (now (ends .entry)) (now («carried_offsets» .entry)) (now («carried_counts» .entry)))) (now (area .entry))
+        (r .numbers) (r .phase) (restartedBy r (now (slots .exit)) (columns (now (starts .exit)) (now (ends .exit)) (now («carried_offsets» .exit)) (now («carried_counts» .exit)))) ⌝ }
+{
+    let done = starts::in_place::restart_in_place(
+        configuration,
+        area,
+        starts,
+        ends,
+        carried_offsets,
+        carried_counts,
+    );
+    let answer = done.answer;
+    let numbers = answers::of_start(answer);
+    let StartAnswer::Started = answer else {
+        return RestartDone {
+            numbers: numbers,
+            phase: phase,
+            committed: committed,
+            runs: runs,
+            len: len,
+            carried_len: carried_len,
+            next_generation: next_generation,
+            redeliveries: redeliveries,
+            ceiling: ceiling,
+            number: number,
+            block: block,
+            area_len: area_len,
+            config: config,
+            settings: settings,
+        };
+    };
+    starts::in_place::free_slots(slots);
+    let lease = configuration.lease;
+    let given = configuration.settings;
+    RestartDone {
+        numbers: numbers,
+        phase: 0,
+        committed: done.committed,
+        runs: done.runs,
+        len: 0,
+        carried_len: done.carried_len,
+        next_generation: done.ceiling,
+        redeliveries: 0,
+        ceiling: done.ceiling,
+        number: done.number,
+        block: done.block,
+        area_len: area.len(),
+        config: lease,
+        settings: given,
+    }
 }
 
 // The phase that a begin leaves.

@@ -1,5 +1,5 @@
 // What a Rust server calls: a machine, whose state stays in one place. Calls come as numbers (`kinds`), what each makes is said of the
-// parts that it is lent (`in_place`), of a start and a restart by value (`transitions`), and the exported functions are thin over that
+// parts that it is lent (`in_place`), of a start by value (`transitions`), and the exported functions are thin over that
 // (`calls`).
 pub mod calls;
 pub mod in_place;

@@ -7,7 +7,7 @@ slots-64-requires : tie.Need-slots-64-requires
 slots-64-requires c κs = tt
 
 returns : tie.Need-returns
-returns c = record { is = refl; slots = c .slots-64 .ensures; none = refl; len = refl }
+returns c = (refl, c .slots-64 .ensures)
 
 pub resumed-table-spec : {M : Type 1} → statement M
 resumed-table-spec = tie.close (tie.spec slots-64-requires returns)

@@ -8,20 +8,17 @@ use borrow.Author.Tests.{lt-ltb, le-ltb}
 use Rattle.journal.proofs.Area.{part-is}
 use Rattle.starts.specs.Restart.{limit}
 use Rattle.starts.proofs.Halves.{limit-within}
-use Rattle.starts.proofs.unfit_at.Statement.{statement}
-use Rattle.starts.proofs.unfit_at.Tie as tie
-
-limit-requires : tie.Need-limit-requires
-limit-requires c κs = search needs
+use Rattle.starts.proofs.in_place.unfit_at.Statement.{statement}
+use Rattle.starts.proofs.in_place.unfit_at.Tie as tie
 
 returns : tie.Need-returns
 returns c =
-    let s = c .before .before .before in
-    rw (le-ltb (s .args .block) (limit (s .args .area .now)) (omega (arith, c .before .limit .ensures)))
+    let s = c .before .before in
+    rw (le-ltb (s .args .block) (limit (s .args .area .now)) (omega (arith, s .pre)))
 
 -- the block lies in the area
-fits : (c : tie.Else1) → let a = c .before .before .before .args in 512 * a .block + 512 ≤ length (a .area .now)
-fits c = let a = c .before .before .before .args in omega (arith, c .before .limit .ensures, limit-within (a .area .now))
+fits : (c : tie.Else1) → let a = c .before .before .args in 512 * a .block + 512 ≤ length (a .area .now)
+fits c = let s = c .before .before in omega (arith, s .pre, limit-within (s .args .area .now))
 
 mul-from : tie.Need-mul-from
 mul-from c = omega (arith, fits c)
@@ -44,16 +41,15 @@ is-sound-but-fit-requires c κs = search needs
 returns-2 : tie.Need-returns-2
 returns-2 c =
     let e = c .before .before in
-    let s = e .before .before .before in
+    let s = e .before .before in
     let a = s .args .area .now in
     c .is-sound-but-fit .ensures
-    ∙ rw (part-is a (s .args .block), lt-ltb (s .args .block) (limit a) (omega (arith, e .before .limit .ensures)))
+    ∙ rw (part-is a (s .args .block), lt-ltb (s .args .block) (limit a) (omega (arith, s .pre)))
 
 pub unfit-at-spec : {M : Type 1} → statement M
 unfit-at-spec =
     tie.close
     (tie.spec
-    limit-requires
     returns
     mul-from
     add-to

@@ -3,13 +3,13 @@ use native.Mathlib.Omega.{arith}
 use mathlib.Core.Path.{sym}
 use lib.Seq.{length-take-le}
 use borrow.Author.Needs.{needs}
-use Rattle.starts.proofs.read_both.Statement.{statement}
-use Rattle.starts.proofs.read_both.Tie as tie
+use Rattle.starts.proofs.in_place.read_both.Statement.{statement}
+use Rattle.starts.proofs.in_place.read_both.Tie as tie
 
 slice-aggregate-read-snapshots : tie.Need-slice-aggregate-read-snapshots
 slice-aggregate-read-snapshots c =
-    sym
-    (length-take-le (c .before .before .args .middle) (c .before .before .args .bytes .now) (omega (arith, c .before .before .pre)))
+    let s = c .before .before in
+    sym (length-take-le (s .args .middle) (s .args .bytes .now) (omega (arith, s .pre .0, s .pre .1)))
 
 sub-read-snapshots : tie.Need-sub-read-snapshots
 sub-read-snapshots c = search needs
