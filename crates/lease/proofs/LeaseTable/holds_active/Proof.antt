@@ -1,6 +1,6 @@
 -- `LeaseTable::holds_active` meets its contract.
 -- Assumes nothing.
-use Prim.Native.Nat.{_≤_, _<_}
+use Prim.Native.Nat.{_<_}
 use lib.ListN.{take}
 use Rattle.lease.specs.Parts.{Full, OwnedAt}
 use Rattle.lease.proofs.Whole.{filled}

@@ -1,12 +1,11 @@
 -- `ack_at` meets its contract: that of `LeaseTable::ack`, on every table that has the parts that it is lent, and with every token that
 -- owns the lease at the place.
 -- Assumes nothing.
-use Prim.Native.Nat.{_+_, _-_, _≤_}
+use Prim.Native.Nat.{_+_, _-_}
 use Prim.Native.Nat.{ℕ}
 use mathlib.Core.Path.{ap}
 use mathlib.Core.List.{List}
 use lib.ListN.{getD, set}
-use Rattle.types.specs.Limits.{LEASES}
 use Rattle.tables.proofs.Columns.{taken-out-front}
 use Rattle.lease.specs.Parts.{removing}
 use Rattle.lease.proofs.Bounds.{in-use, next-place, count-in-memory, some-left, up-one, up-to, within}

@@ -1,6 +1,5 @@
 -- `lease_at` meets its contract: each number is read at the slot.
 -- Assumes nothing.
-use Rattle.lease.proofs.Bounds.{time-at, count-at}
 use borrow.Author.Needs.{needs}
 use Rattle.lease.proofs.in_place.lease_at.Statement.{statement}
 use Rattle.lease.proofs.in_place.lease_at.Tie as tie
