@@ -331,7 +331,7 @@ impl Consumer {
         let mut slots = table.slots;
         let mut carried_offsets = table.carried_offsets;
         let mut carried_counts = table.carried_counts;
-        let done = in_place::commit_in_place(
+        let left = in_place::commit_in_place(
             self.cursor.committed,
             self.cursor.runs,
             table.len,
@@ -346,19 +346,19 @@ impl Consumer {
             &mut carried_offsets,
             &mut carried_counts,
         );
-        let answer = done.answer;
+        let answer = left.answer;
         let cursor = AckCursor {
-            committed: done.committed,
+            committed: left.committed,
             starts,
             ends,
-            runs: done.runs,
+            runs: left.runs,
         };
         table.offsets = offsets;
         table.slots = slots;
-        table.len = done.len;
+        table.len = left.len;
         table.carried_offsets = carried_offsets;
         table.carried_counts = carried_counts;
-        table.carried_len = done.carried_len;
+        table.carried_len = left.carried_len;
         Committed {
             answer,
             consumer: self.with_both(cursor, table),

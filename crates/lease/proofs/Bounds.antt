@@ -37,6 +37,10 @@ module _ {i n : ℕ} (h : i < n) (k : n ≤ LEASES) where
   pub count-in-memory : Fits w64 (i * 4)
   count-in-memory = record { fits = omega (arith, h, k) }
 
+-- the last one in use
+pub last-place : {i n : ℕ} → i < n → n ≤ LEASES → n - 1 < LEASES
+last-place h k = omega (arith, h, k)
+
 -- ## steps
 pub up-one : (i : ℕ) → i ≤ i + 1
 up-one i = omega arith

@@ -99,10 +99,6 @@ pub record Whole (t : LeaseTable) : Type 0 where
   pub full : Full t
   pub sound : Sound t
 
--- what a call in place answers, on every table that has these parts
-abbrev pub AnswersIn : {A : Type 0} → Result A → (LeaseTable → LeaseTable) → (LeaseTable → LeaseTable) → (Table → Answer A Table) → Type 0
-AnswersIn outcome before after right = (t : LeaseTable) → Whole (before t) → Answers outcome (before t) (after t) (right (view (before t)))
-
 -- where a lease is stored: the slot at a place, which is below 64 in every table that the functions make
 abbrev pub slotIn : List ℕ → ℕ → ℕ
 slotIn slots at = getD slots at 0 % LEASES

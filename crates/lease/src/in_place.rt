@@ -214,15 +214,15 @@ fn claim_first(
     let left = carried_len - (prior.to - prior.from);
     let count = numbers::saturating_next(prior.count);
     let deadline = config.deadline(now, now);
-    let free = slots[len];
-    let slot = slot_at(slots, len);
+    let taken = slots[len];
+    let free = slot_at(slots, len);
     tables::insert_64(offsets, len, at, offset);
-    tables::insert_count_64(slots, len, at, free);
-    generations[slot] = next;
-    attempt_starts[slot] = now;
-    deadlines[slot] = deadline;
-    deliveries[slot] = count;
-    workers[slot] = worker;
+    tables::insert_count_64(slots, len, at, taken);
+    generations[free] = next;
+    attempt_starts[free] = now;
+    deadlines[free] = deadline;
+    deliveries[free] = count;
+    workers[free] = worker;
     granted(offset, next, count, len + 1, left, redeliveries)
 }
 

@@ -1,6 +1,6 @@
 -- `claim_in_place` meets its contract: the test refuses, or the grant after it takes effect, on every consumer that has the parts that it
 -- is lent. Assumes nothing.
-use Prim.Native.Nat.{_≤_, _<_}
+use Prim.Native.Nat.{_≤_}
 use native.Mathlib.Omega.{arith}
 use mathlib.Core.Path.{sym, ap, _∙_, subst}
 use lib.ListN.{take}

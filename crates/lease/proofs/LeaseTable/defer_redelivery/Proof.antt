@@ -1,6 +1,6 @@
 -- `LeaseTable::defer_redelivery` meets its contract.
 -- Assumes nothing.
-use Prim.Native.Nat.{_≤_, _<_}
+use Prim.Native.Nat.{_<_}
 use Rattle.types.specs.Limits.{LEASES}
 use Rattle.lease.specs.State.{view}
 use Rattle.lease.specs.Parts.{Full}

@@ -1,17 +1,15 @@
 -- `ack_at` meets its contract: that of `LeaseTable::ack`, on every table that has the parts that it is lent, and with every token that
 -- owns the lease at the place.
 -- Assumes nothing.
-use Prim.Native.Nat.{_+_, _-_, _≤_}
+use Prim.Native.Nat.{_+_, _-_}
 use Prim.Native.Nat.{ℕ}
 use mathlib.Core.Path.{ap}
 use mathlib.Core.List.{List}
 use lib.ListN.{getD, set}
-use Rattle.types.specs.Limits.{LEASES}
 use Rattle.tables.proofs.Columns.{taken-out-front}
 use Rattle.lease.specs.Parts.{removing}
-use Rattle.lease.proofs.Bounds.{in-use, next-place, count-in-memory, some-left, up-one, up-to, within}
+use Rattle.lease.proofs.Bounds.{in-use, next-place, count-in-memory, count-at, last-place, some-left, up-one, up-to, within}
 use Rattle.lease.proofs.Tokens.{acked}
-use borrow.Author.Needs.{needs}
 use Rattle.lease.proofs.in_place.ack_at.Statement.{statement}
 use Rattle.lease.proofs.in_place.ack_at.Tie as tie
 
@@ -34,10 +32,10 @@ remove-counts-64-requires : tie.Need-remove-counts-64-requires
 remove-counts-64-requires c κs = tt
 
 mul-slots : tie.Need-mul-slots
-mul-slots c = search needs
+mul-slots c = let s = c .before .before .before .before .before in count-at (last-place (s .pre .0) (s .pre .1))
 
 element-write-slots : tie.Need-element-write-slots
-element-write-slots c = search needs
+element-write-slots c = let s = c .before .before .before .before .before in last-place (s .pre .0) (s .pre .1)
 
 returns : tie.Need-returns
 returns c t w o g p =

@@ -6,7 +6,7 @@ use native.Mathlib.Omega.{arith}
 use mathlib.Core.Path.{_≡_, refl, ap, _∙_}
 use lib.ListN.{getD, set}
 use borrow.Author.Tests.{lt-ltb, le-ltb}
-use Rattle.types.specs.Limits.{MAX, LEASES, sat32}
+use Rattle.types.specs.Limits.{MAX, sat32}
 use Rattle.lease.specs.State.{nil, storedIn, leasesIn}
 use Rattle.lease.specs.Operations.{lease}
 use Rattle.lease.specs.Helpers.{regranting}

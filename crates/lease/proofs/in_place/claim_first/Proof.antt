@@ -83,11 +83,11 @@ saturating-next-requires c κs = tt
 deadline-requires : tie.Need-deadline-requires
 deadline-requires c κs = tt
 
-mul-free : tie.Need-mul-free
-mul-free c = count-at (room (counted c) .if2 .left)
+mul-taken : tie.Need-mul-taken
+mul-taken c = count-at (room (counted c) .if2 .left)
 
-element-copy-out-free : tie.Need-element-copy-out-free
-element-copy-out-free c = room (counted c) .if2 .left
+element-copy-out-taken : tie.Need-element-copy-out-taken
+element-copy-out-taken c = room (counted c) .if2 .left
 
 slot-at-requires : tie.Need-slot-at-requires
 slot-at-requires c κs = room (counted (c .before .before)) .if2 .left
@@ -181,8 +181,8 @@ claim-first-spec =
     sub-left-2
     saturating-next-requires
     deadline-requires
-    mul-free
-    element-copy-out-free
+    mul-taken
+    element-copy-out-taken
     slot-at-requires
     insert-64-requires
     insert-count-64-requires

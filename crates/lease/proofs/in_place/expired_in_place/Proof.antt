@@ -1,11 +1,9 @@
 -- `expired_in_place` meets its contract, on every table that has the parts that it is lent. The loop's invariant: the offsets of expired
 -- leases before i are listed.
 -- Assumes nothing.
-use Prim.Native.Nat.{_-_, _≤_, _<_}
+use Prim.Native.Nat.{_-_, _≤_}
 use native.Mathlib.Omega.{arith}
-use lib.ListN.{getD}
 use Rattle.types.specs.Limits.{LEASES}
-use Rattle.lease.specs.Parts.{slotIn}
 use Rattle.lease.proofs.Bounds.{in-use, next-place, offset-in-memory, time-at}
 use Rattle.lease.proofs.Lists.{Listing, listing-none, listing-expired, listing-running, expired-listed}
 use Rattle.lease.proofs.in_place.expired_in_place.Statement.{statement}

@@ -1,6 +1,6 @@
 -- `hold_in_place` meets its contract, on every table that has the parts that it is lent.
 -- Assumes nothing.
-use Prim.Native.Nat.{_≤_, _<_}
+use Prim.Native.Nat.{_<_}
 use native.Mathlib.Omega.{arith}
 use lib.ListN.{take}
 use Rattle.types.specs.Limits.{LEASES}

@@ -1,7 +1,6 @@
 -- `is_claimable_at` meets its contract: that of `LeaseTable::is_claimable`, on every table that has the parts that it is lent and the
 -- offset at the place, or where it belongs.
 -- Assumes nothing.
-use Prim.Native.Nat.{_<_}
 use mathlib.Core.Path.{subst}
 use Rattle.types.specs.Limits.{LEASES}
 use Rattle.lease.specs.State.{view}

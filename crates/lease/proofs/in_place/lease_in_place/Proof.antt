@@ -1,6 +1,6 @@
 -- `lease_in_place` meets its contract: that of `LeaseTable::lease_of`, on every table that has the parts that it is lent.
 -- Assumes nothing.
-use Prim.Native.Nat.{_≤_, _<_}
+use Prim.Native.Nat.{_<_}
 use native.Mathlib.Omega.{arith}
 use Rattle.types.specs.Limits.{LEASES}
 use Rattle.tables.proofs.Search.{found-used}
