@@ -35,6 +35,7 @@ struct AckCursor {
 struct LeaseTable {
     config: LeaseConfig,
     offsets: [u64; 64],
+    slots: [u32; 64],
     generations: [u64; 64],
     attempt_starts: [u64; 64],
     deadlines: [u64; 64],
@@ -703,7 +704,7 @@ mod tests {
         assert_eq!(size_of::<AckCursor>(), 8 + 1024 + 1024 + 8);
         assert_eq!(
             size_of::<LeaseTable>(),
-            16 + 4 * 512 + 2 * 256 + 8 + 1024 + 512 + 8 + 8 + 8
+            16 + 4 * 512 + 3 * 256 + 8 + 1024 + 512 + 8 + 8 + 8
         );
         assert_eq!(offset_of!(State, writing), 248 + 8);
         assert_eq!(size_of::<Numbers>(), 56);

@@ -171,7 +171,7 @@ module _ (p : Parts) (within : Writing) (s : SoundWriting (withParts p within)) 
           let t = s .consumer .table in
           record {
             cursor = s .consumer .cursor;
-            table = record { len = t .len; carried-len = t .carried-len; valid = rw cleared (valid-flushed (lease.view (w .consumer .table)) (t .valid)) };
+            table = record { len = t .len; carried-len = t .carried-len; slots = t .slots; valid = rw cleared (valid-flushed (lease.view (w .consumer .table)) (t .valid)) };
             settings = s .consumer .settings;
             valid = rw flushed-is (flushed-valid st (s .valid .numbered) (s .consumer .valid));
           }

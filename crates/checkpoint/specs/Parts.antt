@@ -105,7 +105,7 @@ parts w lc la size g c r n b bytes =
 -- a table with another next generation and another counter
 abbrev pub tabled : (generation redeliveries : ℕ) → LeaseTable → LeaseTable
 tabled g r t =
-    gathered (t .config) (t .len) (t .«carried_len») g r (t .offsets) (t .generations) (t .«attempt_starts») (t .deadlines) (t .deliveries) (t .workers) (t .«carried_offsets») (t .«carried_counts»)
+    gathered (t .config) (t .len) (t .«carried_len») g r (t .offsets) (t .slots) (t .generations) (t .«attempt_starts») (t .deadlines) (t .deliveries) (t .workers) (t .«carried_offsets») (t .«carried_counts»)
 
 -- the record with these parts in their places
 abbrev pub withParts : Parts → Writing → Writing

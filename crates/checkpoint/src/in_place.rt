@@ -120,13 +120,14 @@ pub fn begin_in_place<'a>(
     starts: &'a [u64; RANGES],
     ends: &'a [u64; RANGES],
     offsets: &'a [u64; LEASES],
+    slots: &'a [u32; LEASES],
     deliveries: &'a [u32; LEASES],
     carried_offsets: &'a [u64; CARRIED],
     carried_counts: &'a [u32; CARRIED],
     payload: &mut [u8; 3606],
 ) -> BegunAt
-    requires { ⌜ Beginnable (beginning (now rights) (ackCursor committed (now starts) (now ends) runs) (listingAll len «carried_len» (now offsets) (now deliveries) (now «carried_offsets») (now «carried_counts»)) number block «area_len») (now payload) ⌝ }
-    ensures { λ r. ⌜ BegunIn (r .answer) worker (beginning (now (rights .entry)) (ackCursor committed (now (starts .entry)) (now (ends .entry)) runs) (listingAll len «carried_len» (now (offsets .entry)) (now (deliveries .entry)) (now («carried_offsets» .entry)) (now («carried_counts» .entry))) number block «area_len»)
+    requires { ⌜ Beginnable (beginning (now rights) (ackCursor committed (now starts) (now ends) runs) (listingAll len «carried_len» (now offsets) (now slots) (now deliveries) (now «carried_offsets») (now «carried_counts»)) number block «area_len») (now payload) ⌝ }
+    ensures { λ r. ⌜ BegunIn (r .answer) worker (beginning (now (rights .entry)) (ackCursor committed (now (starts .entry)) (now (ends .entry)) runs) (listingAll len «carried_len» (now (offsets .entry)) (now (slots .entry)) (now (deliveries .entry)) (now («carried_offsets» .entry)) (now («carried_counts» .entry))) number block «area_len»)
         (recording written «cursor_len» «attempt_len» (now (payload .entry))) (recording (r .written) (r .«cursor_len») (r .«attempt_len») (now (payload .exit))) ⌝ }
 {
     let permission = rights::permission_of(rights, worker, CHECKPOINT);
@@ -157,6 +158,7 @@ pub fn begin_in_place<'a>(
             starts,
             ends,
             offsets,
+            slots,
             deliveries,
             carried_offsets,
             carried_counts,
@@ -181,13 +183,14 @@ fn begin_permitted<'a>(
     starts: &'a [u64; RANGES],
     ends: &'a [u64; RANGES],
     offsets: &'a [u64; LEASES],
+    slots: &'a [u32; LEASES],
     deliveries: &'a [u32; LEASES],
     carried_offsets: &'a [u64; CARRIED],
     carried_counts: &'a [u32; CARRIED],
     payload: &mut [u8; 3606],
 ) -> BegunAt
-    requires { ⌜ Beginnable (fitting (ackCursor committed (now starts) (now ends) runs) (listingAll len «carried_len» (now offsets) (now deliveries) (now «carried_offsets») (now «carried_counts»)) number block «area_len») (now payload) ⌝ }
-    ensures { λ r. ⌜ PermittedIn (r .answer) (fitting (ackCursor committed (now (starts .entry)) (now (ends .entry)) runs) (listingAll len «carried_len» (now (offsets .entry)) (now (deliveries .entry)) (now («carried_offsets» .entry)) (now («carried_counts» .entry))) number block «area_len»)
+    requires { ⌜ Beginnable (fitting (ackCursor committed (now starts) (now ends) runs) (listingAll len «carried_len» (now offsets) (now slots) (now deliveries) (now «carried_offsets») (now «carried_counts»)) number block «area_len») (now payload) ⌝ }
+    ensures { λ r. ⌜ PermittedIn (r .answer) (fitting (ackCursor committed (now (starts .entry)) (now (ends .entry)) runs) (listingAll len «carried_len» (now (offsets .entry)) (now (slots .entry)) (now (deliveries .entry)) (now («carried_offsets» .entry)) (now («carried_counts» .entry))) number block «area_len»)
         (recording written «cursor_len» «attempt_len» (now (payload .entry))) (recording (r .written) (r .«cursor_len») (r .«attempt_len») (now (payload .exit))) ⌝ }
 {
     if (MAX32 as u64) < number {
@@ -202,6 +205,7 @@ fn begin_permitted<'a>(
         len,
         carried_len,
         offsets,
+        slots,
         deliveries,
         carried_offsets,
         carried_counts,

@@ -68,6 +68,7 @@ pub fn begin(consumer: Consumer, worker: u64) -> Begun
         &consumer.cursor.starts,
         &consumer.cursor.ends,
         &consumer.table.offsets,
+        &consumer.table.slots,
         &consumer.table.deliveries,
         &consumer.table.carried_offsets,
         &consumer.table.carried_counts,

@@ -19,6 +19,7 @@ pub table-full : (t : LeaseTable) (vs : List Val) → shadow (T.the-field .row .
 table-full t vs g =
     record {
       offsets = search needs;
+      slots = search needs;
       leases = record { generations = search needs; starts = search needs; deadlines = search needs; counts = search needs; workers = search needs };
       carried-offsets = search needs;
       carried-counts = search needs;

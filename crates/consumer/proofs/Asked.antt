@@ -18,14 +18,16 @@ use Rattle.tables.specs.Columns.{putIn}
 use Rattle.tables.specs.Search.{Boundary}
 use Rattle.tables.proofs.Columns.{put-in, put-in-front}
 use Rattle.tables.proofs.Search.{boundary-inside}
+use Rattle.tables.proofs.Slots.{through-length}
 use Rattle.lease.specs.declared.Lease.{Lease}
 use Rattle.lease.specs.declared.LeaseTable.{LeaseTable}
-use Rattle.lease.specs.State.{carriedOf, leasesOf, leasesIn}
+use Rattle.lease.specs.State.{carriedOf, leasesOf, nil, storedIn, leasesIn}
 use Rattle.lease.specs.Operations.{leaseOf, timesHandedOut}
 use Rattle.lease.specs.Rest.{deliveriesOf}
+use Rattle.lease.specs.Parts.{slotIn}
 use Rattle.lease.specs.Parts as lease
-use Rattle.lease.proofs.Leases.{nil, column-length, column-at}
-use Rattle.lease.proofs.Slots.{in-flight, carried-length}
+use Rattle.lease.proofs.Leases.{column-at}
+use Rattle.lease.proofs.Slots.{in-flight, carried-length, stored-at}
 use Rattle.consumer.specs.State.{State}
 use Rattle.consumer.specs.Questions.{keysOf, waitingAt, countOf}
 use Rattle.consumer.specs.Waiting.{expiredDeadlines, longestFirst}
@@ -100,22 +102,22 @@ module _ (t : LeaseTable) (w : lease.Whole t) (now : ℕ) where
   fits = omega (arith, w .full .offsets, w .sound .len)
 
   fits′ : t .len ≤ length (leasesIn t)
-  fits′ = omega (arith, column-length (w .full .leases), w .sound .len)
+  fits′ = omega (arith, through-length nil (t .slots) (storedIn t), w .full .slots, w .sound .len)
 
   module _ (i : ℕ) (h : i < t .len) where
     from : drop i (leasesOf t) ≡ entry (getD (t .offsets) i 0) (getD (leasesIn t) i nil) ∷ drop (i + 1) (leasesOf t)
     from = drop-used nil (t .len) (t .offsets) (leasesIn t) fits fits′ i h
 
-    due : getD (leasesIn t) i nil .deadline ≡ getD (t .deadlines) i 0
-    due = ap (λ (l : Lease). l .deadline) (column-at (w .full .leases) i)
+    due : getD (leasesIn t) i nil .deadline ≡ getD (t .deadlines) (slotIn (t .slots) i) 0
+    due = ap (λ (l : Lease). l .deadline) (stored-at t (w .full) (w .sound) i (omega (arith, w .sound .len)) ∙ column-at (w .full .leases) (slotIn (t .slots) i))
 
     -- one more comes in at the boundary of its deadline
-    comes-in : (at : ℕ) → getD (t .deadlines) i 0 ≤ now → Boundary (getD (t .deadlines) i 0) (deadlinesOf (orderedFrom t now (i + 1))) at
-        → orderedFrom t now i ≡ inserted at (entry (getD (t .offsets) i 0) (getD (t .deadlines) i 0)) (orderedFrom t now (i + 1))
+    comes-in : (at : ℕ) → getD (t .deadlines) (slotIn (t .slots) i) 0 ≤ now → Boundary (getD (t .deadlines) (slotIn (t .slots) i) 0) (deadlinesOf (orderedFrom t now (i + 1))) at
+        → orderedFrom t now i ≡ inserted at (entry (getD (t .offsets) i 0) (getD (t .deadlines) (slotIn (t .slots) i) 0)) (orderedFrom t now (i + 1))
     comes-in at d b =
         let r = rw from at (rising-drop 0 i (leasesOf t) (w .sound .valid .rising)) in
-        rw (from, due, le-ltb now (getD (t .deadlines) i 0) d)
-        (takes-place now (entry (getD (t .offsets) i 0) (getD (t .deadlines) i 0)) at (drop (i + 1) (leasesOf t)) (r .1) b)
+        rw (from, due, le-ltb now (getD (t .deadlines) (slotIn (t .slots) i) 0) d)
+        (takes-place now (entry (getD (t .offsets) i 0) (getD (t .deadlines) (slotIn (t .slots) i) 0)) at (drop (i + 1) (leasesOf t)) (r .1) b)
 
   pub behind-none : (times : List ℕ) → Behind t now (t .«carried_offsets») times 0 (t .len)
   behind-none times =
@@ -124,22 +126,22 @@ module _ (t : LeaseTable) (w : lease.Whole t) (now : ℕ) where
       record { full = w .full .carried-offsets; is = rw (none-left, e) (sym (append-nil (take (t .«carried_len») (t .«carried_offsets»)))); deadlines = rw none-left }
 
   module _ {listed times : List ℕ} {n i : ℕ} (h : i < t .len) (inv : Behind t now listed times n (i + 1)) where
-    pub behind-running : now < getD (t .deadlines) i 0 → Behind t now listed times n i
+    pub behind-running : now < getD (t .deadlines) (slotIn (t .slots) i) 0 → Behind t now listed times n i
     behind-running d =
         record {
           full = inv .full;
-          is = rw (from i h, due i h, lt-ltb now (getD (t .deadlines) i 0) d) (inv .is);
-          deadlines = rw (from i h, due i h, lt-ltb now (getD (t .deadlines) i 0) d) (inv .deadlines);
+          is = rw (from i h, due i h, lt-ltb now (getD (t .deadlines) (slotIn (t .slots) i) 0) d) (inv .is);
+          deadlines = rw (from i h, due i h, lt-ltb now (getD (t .deadlines) (slotIn (t .slots) i) 0) d) (inv .deadlines);
         }
 
-    pub behind-expired : (at : ℕ) {listed′ times′ : List ℕ} → getD (t .deadlines) i 0 ≤ now → Boundary (getD (t .deadlines) i 0) (take n times) at
+    pub behind-expired : (at : ℕ) {listed′ times′ : List ℕ} → getD (t .deadlines) (slotIn (t .slots) i) 0 ≤ now → Boundary (getD (t .deadlines) (slotIn (t .slots) i) 0) (take n times) at
         → n < length times → t .«carried_len» + n < length listed
-        → times′ ≡ putIn n at (getD (t .deadlines) i 0) times → listed′ ≡ putIn (t .«carried_len» + n) (t .«carried_len» + at) (getD (t .offsets) i 0) listed
+        → times′ ≡ putIn n at (getD (t .deadlines) (slotIn (t .slots) i) 0) times → listed′ ≡ putIn (t .«carried_len» + n) (t .«carried_len» + at) (getD (t .offsets) i 0) listed
         → Behind t now listed′ times′ (n + 1) i
     behind-expired at d b room room′ p q =
         let m = t .«carried_len» in
         let k = getD (t .offsets) i 0 in
-        let v = getD (t .deadlines) i 0 in
+        let v = getD (t .deadlines) (slotIn (t .slots) i) 0 in
         let l = orderedFrom t now (i + 1) in
         let in-use : at ≤ n = boundary-inside v n times b in
         let step = comes-in i h at d (rw (inv .deadlines) at b) in
@@ -156,49 +158,49 @@ module _ (t : LeaseTable) (w : lease.Whole t) (now : ℕ) where
         }
 
 -- ## the loop: on every consumer with these parts, they stand there from place i on
-pub record Waits (len m now : ℕ) (ks ds cks listed times : List ℕ) (n i : ℕ) : Type 0 where
+pub record Waits (len m now : ℕ) (ks slots ds cks listed times : List ℕ) (n i : ℕ) : Type 0 where
   pub inside : n + i ≤ len
   pub full : length times ≡ LEASES
-  pub behind : (c : Consumer) → Whole (awaiting len m ks ds cks c) → Behind (awaiting len m ks ds cks c .table) now listed times n i
+  pub behind : (c : Consumer) → Whole (awaiting len m ks slots ds cks c) → Behind (awaiting len m ks slots ds cks c .table) now listed times n i
 
 -- there is room for one more
 room-behind : (c : Consumer) → Whole c → (n i : ℕ) → n + i ≤ c .table .len → 0 < i → c .table .«carried_len» + n < CARRIED
 room-behind c w n i h k =
     omega (arith, in-flight (c .table) (w .full) (w .sound .table), carried-length (c .table) (w .full) (w .sound .table), w .sound .valid .together)
 
-module _ (len m now : ℕ) (ks ds cks : List ℕ) where
-  pub waits-none : (times : List ℕ) → length times ≡ LEASES → Waits len m now ks ds cks cks times 0 len
+module _ (len m now : ℕ) (ks slots ds cks : List ℕ) where
+  pub waits-none : (times : List ℕ) → length times ≡ LEASES → Waits len m now ks slots ds cks cks times 0 len
   waits-none times e =
-      record { inside = omega arith; full = e; behind = λ c w. behind-none (awaiting len m ks ds cks c .table) (table-whole w) now times }
+      record { inside = omega arith; full = e; behind = λ c w. behind-none (awaiting len m ks slots ds cks c .table) (table-whole w) now times }
 
-  module _ {listed times : List ℕ} {n i : ℕ} (inv : Waits len m now ks ds cks listed times n i) where
+  module _ {listed times : List ℕ} {n i : ℕ} (inv : Waits len m now ks slots ds cks listed times n i) where
     module _ (few : len ≤ LEASES) (some-left : 0 < i) where
-      from-next : (c : Consumer) → Whole (awaiting len m ks ds cks c) → Behind (awaiting len m ks ds cks c .table) now listed times n (i - 1 + 1)
+      from-next : (c : Consumer) → Whole (awaiting len m ks slots ds cks c) → Behind (awaiting len m ks slots ds cks c .table) now listed times n (i - 1 + 1)
       from-next c w = let e : i - 1 + 1 ≡ i = omega arith in rw e (inv .behind c w)
 
-      pub waits-running : now < getD ds (i - 1) 0 → Waits len m now ks ds cks listed times n (i - 1)
+      pub waits-running : now < getD ds (slotIn slots (i - 1)) 0 → Waits len m now ks slots ds cks listed times n (i - 1)
       waits-running d =
           record {
             inside = omega (arith, inv .inside);
             full = inv .full;
-            behind = λ c w. behind-running (awaiting len m ks ds cks c .table) (table-whole w) now (omega (arith, inv .inside)) (from-next c w) d;
+            behind = λ c w. behind-running (awaiting len m ks slots ds cks c .table) (table-whole w) now (omega (arith, inv .inside)) (from-next c w) d;
           }
 
-      pub waits-expired : (at : ℕ) {listed′ times′ : List ℕ} → getD ds (i - 1) 0 ≤ now → Boundary (getD ds (i - 1) 0) (take n times) at
-          → times′ ≡ putIn n at (getD ds (i - 1) 0) times → listed′ ≡ putIn (m + n) (m + at) (getD ks (i - 1) 0) listed
-          → Waits len m now ks ds cks listed′ times′ (n + 1) (i - 1)
+      pub waits-expired : (at : ℕ) {listed′ times′ : List ℕ} → getD ds (slotIn slots (i - 1)) 0 ≤ now → Boundary (getD ds (slotIn slots (i - 1)) 0) (take n times) at
+          → times′ ≡ putIn n at (getD ds (slotIn slots (i - 1)) 0) times → listed′ ≡ putIn (m + n) (m + at) (getD ks (i - 1) 0) listed
+          → Waits len m now ks slots ds cks listed′ times′ (n + 1) (i - 1)
       waits-expired at d b p q =
           let room : n < length times = omega (arith, inv .inside, inv .full) in
           record {
             inside = omega (arith, inv .inside);
-            full = put-in-length n at (getD ds (i - 1) 0) times (boundary-inside (getD ds (i - 1) 0) n times b) room p ∙ inv .full;
+            full = put-in-length n at (getD ds (slotIn slots (i - 1)) 0) times (boundary-inside (getD ds (slotIn slots (i - 1)) 0) n times b) room p ∙ inv .full;
             behind = λ c w.
-                let room′ : m + n < length listed = omega (arith, room-behind (awaiting len m ks ds cks c) w n i (inv .inside) some-left, inv .behind c w .full) in
-                behind-expired (awaiting len m ks ds cks c .table) (table-whole w) now (omega (arith, inv .inside)) (from-next c w) at d b room room′ p q;
+                let room′ : m + n < length listed = omega (arith, room-behind (awaiting len m ks slots ds cks c) w n i (inv .inside) some-left, inv .behind c w .full) in
+                behind-expired (awaiting len m ks slots ds cks c .table) (table-whole w) now (omega (arith, inv .inside)) (from-next c w) at d b room room′ p q;
           }
 
-    pub all-wait : i ≤ 0 → (c : Consumer) → Whole (awaiting len m ks ds cks c) → take (m + n) listed ≡ waitingAt (view (awaiting len m ks ds cks c)) now
+    pub all-wait : i ≤ 0 → (c : Consumer) → Whole (awaiting len m ks slots ds cks c) → take (m + n) listed ≡ waitingAt (view (awaiting len m ks slots ds cks c)) now
     all-wait h c w =
         let e : i ≡ 0 = omega arith in
-        let t = awaiting len m ks ds cks c .table in
+        let t = awaiting len m ks slots ds cks c .table in
         both-listed t m (sym (carried-length t (w .full) (w .sound .table))) n _ listed (rw e at (inv .behind c w .is))

@@ -1,9 +1,8 @@
 -- What a claim owes its contract: each of its tests in 01's order, what the whole test says, and the grant after it.
 -- Assumes nothing.
 use Prim.Native.Nat.{ℕ, _+_, _≤_, _<_}
-use native.Mathlib.Omega.{arith}
 use mathlib.Core.Path.{_≡_, refl, sym, ap, _∙_}
-use mathlib.Core.Bool.{Bool, true, false, not, _&&_, _||_, true≢false}
+use mathlib.Core.Bool.{Bool, true, false, not, _&&_, true≢false}
 use mathlib.Core.List.{List}
 use mathlib.Core.Option.{Option, none, some, Option·none-ne-some}
 use lib.Dec.{leb}
@@ -24,7 +23,6 @@ use Rattle.lease.specs.State.{Table}
 use Rattle.lease.specs.State as state
 use Rattle.lease.specs.Operations.{Grant, grantOf, granted, grant, leaseOf, isNone, running}
 use Rattle.lease.specs.Operations as leases
-use Rattle.lease.specs.Rest.{deliveriesOf}
 use Rattle.lease.specs.Answers as answers
 use Rattle.consumer.specs.State.{State, withTable}
 use Rattle.consumer.specs.Rights.{claiming}
@@ -38,24 +36,28 @@ use Rattle.consumer.proofs.Valid.{claimed-valid}
 use Rattle.consumer.proofs.CallsReturns.{sound-with, refuses, takes-effect}
 
 -- ## 27
+both-false : (b : Bool) → (b && false) ≡ false
+both-false true = refl
+both-false false = refl
+
 module _ (t : Table) (o : ℕ) where
-  pub full-leased : (n : ℕ) → deliveriesOf (leaseOf t o) ≡ some n → false ≡ isFull t o
-  full-leased n e = go (leaseOf t o) e
-    where
-      go : (x : Option Lease) → deliveriesOf x ≡ some n → false ≡ (isNone x && (leb LEASES (length (t .leases)) || (isNone (lookup o (t .carried)) && leb CARRIED (length (t .leases) + length (t .carried)))))
-      go none q = absurd (Option·none-ne-some n q)
-      go (some l) q = refl
+  pub full-leased : (l : Lease) → leaseOf t o ≡ some l → false ≡ isFull t o
+  full-leased l e = rw e
 
   module _ (free : leaseOf t o ≡ none) where
     pub full-leases : LEASES ≤ length (t .leases) → true ≡ isFull t o
     full-leases h = rw (free, le-leb LEASES (length (t .leases)) h)
 
     module _ (h : length (t .leases) < LEASES) where
+      -- there is plainly room, whatever is carried
+      pub full-room : length (t .leases) + length (t .carried) < CARRIED → false ≡ isFull t o
+      full-room k = rw (free, lt-leb LEASES (length (t .leases)) h, lt-leb CARRIED (length (t .leases) + length (t .carried)) k) (sym (both-false (isNone (lookup o (t .carried)))))
+
       pub full-counted : (n : ℕ) → lookup o (t .carried) ≡ some n → false ≡ isFull t o
       full-counted n e = rw (free, lt-leb LEASES (length (t .leases)) h, e)
 
-      pub full-counts : (n m : ℕ) → length (t .leases) ≡ n → length (t .carried) ≡ m → lookup o (t .carried) ≡ none → leb CARRIED (n + m) ≡ isFull t o
-      full-counts n m p q e = rw (← p, ← q, free, lt-leb LEASES (length (t .leases)) h, e)
+      pub full-counts : CARRIED ≤ length (t .leases) + length (t .carried) → lookup o (t .carried) ≡ none → true ≡ isFull t o
+      full-counts k e = rw (free, lt-leb LEASES (length (t .leases)) h, e, le-leb CARRIED (length (t .leases) + length (t .carried)) k)
 
 -- ## the tests, each after those before it that failed
 -- whether a claim may go on, from what the table calls claimable

@@ -16,10 +16,11 @@ use Rattle.cursor.specs.declared.AckCursor.{AckCursor}
 use Rattle.delivery.specs.Policy.{destination}
 use Rattle.delivery.specs.declared.DeliveryConfig.{DeliveryConfig}
 use Rattle.hours.specs.declared.Hours.{Hours}
+use Rattle.tables.specs.Search.{Placed}
 use Rattle.lease.specs.declared.LeaseConfig.{LeaseConfig}
 use Rattle.lease.specs.declared.LeaseTable.{LeaseTable}
 use Rattle.lease.specs.Operations.{Grant}
-use Rattle.lease.specs.Parts.{Full, gathered, leasing, extending, requeuing, releasing, listingAll, timing, carrying}
+use Rattle.lease.specs.Parts.{Full, OwnedAt, gathered, leasing, extending, requeuing, releasing, listingAll, timing, carrying}
 use Rattle.lease.specs.Parts as lease
 use Rattle.consumer.specs.State.{State}
 use Rattle.consumer.specs.Rights.{Operation, bitOf}
@@ -31,6 +32,7 @@ use Rattle.consumer.specs.declared.Consumer.{Consumer}
 use Rattle.consumer.specs.declared.plans.PlanAnswer.{PlanAnswer}
 use Rattle.consumer.specs.declared.views.View as code
 use Rattle.consumer.specs.declared.steps.ClaimTest.{ClaimTest}
+use Rattle.consumer.specs.declared.steps.ClaimTest.the-variants as claims
 use Rattle.consumer.specs.declared.steps.TokenRefusal.{TokenRefusal}
 use Rattle.consumer.specs.declared.steps.TokenRefusal.the-variants as token
 use Rattle.consumer.specs.declared.steps.TokenTest.{TokenTest}
@@ -108,35 +110,35 @@ abbrev pub claiming : List ℕ → Hours → ℕ → ℕ → ℕ → AckCursor �
 claiming rights hours ceiling limit threshold cursor table =
     permitted rights (inHours hours (λ c. made ceiling (limiting limit threshold (c .settings .delivery)) cursor table c))
 
--- its test: the same without the rights, the limit, the configuration of the leases and three of their columns
+-- its test: the same without the rights, the limit, the configuration of the leases and four of their columns
 abbrev pub testing : Hours → ℕ → ℕ → AckCursor → ℕ → ℕ → ℕ → ℕ → List ℕ → List ℕ → List ℕ → List ℕ → List ℕ → Consumer → Consumer
-testing hours ceiling threshold cursor n m g r ks ds ns cks cvs c =
+testing hours ceiling threshold cursor n m g r ks slots ds cks cvs c =
     claiming (c .settings .rights) hours ceiling (c .settings .delivery .«max_deliver») threshold cursor
-    (gathered (c .table .config) n m g r ks (c .table .generations) (c .table .«attempt_starts») ds ns (c .table .workers) cks cvs) c
+    (gathered (c .table .config) n m g r ks slots (c .table .generations) (c .table .«attempt_starts») ds (c .table .deliveries) (c .table .workers) cks cvs) c
 
--- the test of a token: the rights, and the number and four columns of the leases
-abbrev pub owning : List ℕ → ℕ → List ℕ → List ℕ → List ℕ → List ℕ → Consumer → Consumer
-owning rights n ks gs ns ws = permitted rights (λ c. holding c (lease.counting n ks gs ns ws (c .table)))
+-- the test of a token: the rights, and the number and five columns of the leases
+abbrev pub owning : List ℕ → ℕ → List ℕ → List ℕ → List ℕ → List ℕ → List ℕ → Consumer → Consumer
+owning rights n ks slots gs ns ws = permitted rights (λ c. holding c (lease.counting n ks slots gs ns ws (c .table)))
 
--- Ack and Term: the rights, the cursor, and the number and the columns of the leases
-abbrev pub settling : List ℕ → AckCursor → ℕ → List ℕ → List ℕ → List ℕ → List ℕ → List ℕ → List ℕ → Consumer → Consumer
-settling rights cursor n ks gs ss ds ns ws = permitted rights (λ c. holdingBoth c cursor (leasing n ks gs ss ds ns ws (c .table)))
+-- Ack and Term: the same and the cursor
+abbrev pub settling : List ℕ → AckCursor → ℕ → List ℕ → List ℕ → List ℕ → List ℕ → List ℕ → Consumer → Consumer
+settling rights cursor n ks slots gs ns ws = permitted rights (λ c. holdingBoth c cursor (lease.counting n ks slots gs ns ws (c .table)))
 
--- Nack: the rights, the hours, the ceiling, the schedule, the configuration of the leases, the next generation, and the number and five
+-- Nack: the rights, the hours, the ceiling, the schedule, the configuration of the leases, the next generation, and the number and six
 -- columns of the leases
-abbrev pub nacking : List ℕ → Hours → ℕ → List ℕ → ℕ → LeaseConfig → ℕ → ℕ → List ℕ → List ℕ → List ℕ → List ℕ → List ℕ → Consumer → Consumer
-nacking rights hours ceiling backoffs m config n g ks gs ds ns ws =
+abbrev pub nacking : List ℕ → Hours → ℕ → List ℕ → ℕ → LeaseConfig → ℕ → ℕ → List ℕ → List ℕ → List ℕ → List ℕ → List ℕ → List ℕ → Consumer → Consumer
+nacking rights hours ceiling backoffs m config n g ks slots gs ds ns ws =
     permitted rights
     (inHours hours
     (λ c.
     made ceiling (delaying backoffs m (c .settings .delivery)) (c .cursor)
-    (requeuing n g ks gs ds
-    (extending config n ks gs (c .table .«attempt_starts») ds (leasing n ks gs (c .table .«attempt_starts») ds ns ws (c .table)))) c))
+    (requeuing g slots gs ds
+    (extending config slots (c .table .«attempt_starts») ds (leasing n ks slots gs (c .table .«attempt_starts») ds ns ws (c .table)))) c))
 
 -- Progress: the rights, the configuration of the leases, their number and their columns
-abbrev pub progressing : List ℕ → LeaseConfig → ℕ → List ℕ → List ℕ → List ℕ → List ℕ → List ℕ → List ℕ → Consumer → Consumer
-progressing rights config n ks gs ss ds ns ws =
-    permitted rights (λ c. holding c (extending config n ks gs ss ds (leasing n ks gs ss ds ns ws (c .table))))
+abbrev pub progressing : List ℕ → LeaseConfig → ℕ → List ℕ → List ℕ → List ℕ → List ℕ → List ℕ → List ℕ → List ℕ → Consumer → Consumer
+progressing rights config n ks slots gs ss ds ns ws =
+    permitted rights (λ c. holding c (extending config slots ss ds (leasing n ks slots gs ss ds ns ws (c .table))))
 
 -- the test of a commit: the rights and committed
 abbrev pub deciding : List ℕ → ℕ → Consumer → Consumer
@@ -144,22 +146,23 @@ deciding rights committed =
     permitted rights
     (λ c. holdingBoth c (ackCursor committed (c .cursor .starts) (c .cursor .ends) (c .cursor .runs)) (c .table))
 
--- Commit: the rights, the cursor, and the numbers and the columns of the leases and of the carried counts
-abbrev pub committing : List ℕ → AckCursor → ℕ → ℕ → List ℕ → List ℕ → List ℕ → List ℕ → List ℕ → List ℕ → List ℕ → List ℕ → Consumer → Consumer
-committing rights cursor n m ks gs ss ds ns ws cks cvs =
-    permitted rights (λ c. holdingBoth c cursor (releasing n m ks gs ss ds ns ws cks cvs (c .table)))
+-- Commit: the rights, the cursor, the numbers, offsets and slots of the leases, and the carried counts
+abbrev pub committing : List ℕ → AckCursor → ℕ → ℕ → List ℕ → List ℕ → List ℕ → List ℕ → Consumer → Consumer
+committing rights cursor n m ks slots cks cvs =
+    permitted rights (λ c. holdingBoth c cursor (releasing n m ks slots cks cvs (c .table)))
 
--- the count of an offset: the offsets and the counts of the leases, and the carried counts
-abbrev pub counting : ℕ → ℕ → List ℕ → List ℕ → List ℕ → List ℕ → Consumer → Consumer
-counting n m ks ns cks cvs c = holding c (listingAll n m ks ns cks cvs (c .table))
+-- the count of an offset: the offsets, slots and counts of the leases, and the carried counts
+abbrev pub counting : ℕ → ℕ → List ℕ → List ℕ → List ℕ → List ℕ → List ℕ → Consumer → Consumer
+counting n m ks slots ns cks cvs c = holding c (listingAll n m ks slots ns cks cvs (c .table))
 
--- the waiting list: the offsets and the deadlines of the leases, and the carried offsets
-abbrev pub awaiting : ℕ → ℕ → List ℕ → List ℕ → List ℕ → Consumer → Consumer
-awaiting n m ks ds cks c = holding c (carrying m cks (c .table .«carried_counts») (timing n ks ds (c .table)))
+-- the waiting list: the offsets, slots and deadlines of the leases, and the carried offsets
+abbrev pub awaiting : ℕ → ℕ → List ℕ → List ℕ → List ℕ → List ℕ → Consumer → Consumer
+awaiting n m ks slots ds cks c = holding c (carrying m cks (c .table .«carried_counts») (timing n ks slots ds (c .table)))
 
--- what is shown of an offset: the same that a commit looks at
-abbrev pub showing : List ℕ → AckCursor → ℕ → ℕ → List ℕ → List ℕ → List ℕ → List ℕ → List ℕ → List ℕ → List ℕ → List ℕ → Consumer → Consumer
-showing rights cursor n m ks gs ss ds ns ws cks cvs = committing rights cursor n m ks gs ss ds ns ws cks cvs
+-- what is shown of an offset: the rights, the cursor, and the numbers and the columns of the leases and of the carried counts
+abbrev pub showing : List ℕ → AckCursor → ℕ → ℕ → List ℕ → List ℕ → List ℕ → List ℕ → List ℕ → List ℕ → List ℕ → List ℕ → List ℕ → Consumer → Consumer
+showing rights cursor n m ks slots gs ss ds ns ws cks cvs =
+    permitted rights (λ c. holdingBoth c cursor (releasing n m ks slots cks cvs (leasing n ks slots gs ss ds ns ws (c .table))))
 
 -- a plan: the rights and the cursor
 abbrev pub planning : List ℕ → AckCursor → Consumer → Consumer
@@ -220,6 +223,11 @@ pub record TestsIn (r : ClaimTest) (with : Consumer → Consumer) (w o now : ℕ
   pub known : testOf r ≡ none → w < WORKERS
   pub is : (c : Consumer) → Whole (with c) → testOf r ≡ asResult (first (claimTable (view (with c)) w o now))
 
+-- where the offset of an open claim stands, or belongs
+abbrev pub OpenAt : ℕ → List ℕ → ClaimTest → Type 0
+OpenAt o ks (claims.Open place) = Placed o ks place
+OpenAt o ks (claims.Refused a) = Unit {0}
+
 -- the test of a token: how often its lease was handed out, where the worker holds it
 abbrev pub tokenRefusalOf : TokenRefusal → Refusal
 tokenRefusalOf token.UnknownWorker = refusal.UnknownWorker
@@ -228,8 +236,13 @@ tokenRefusalOf token.Fenced = refusal.Fenced
 tokenRefusalOf token.ForeignToken = refusal.ForeignToken
 
 abbrev pub tokenOf : TokenTest → Result ℕ
-tokenOf (test.Held n) = done n
+tokenOf (test.Held h) = done (h .deliveries)
 tokenOf (test.Refused r) = refused (tokenRefusalOf r)
+
+-- and where that lease stands
+abbrev pub TokenAt : ℕ → ℕ → List ℕ → List ℕ → List ℕ → TokenTest → Type 0
+TokenAt o g ks slots gs (test.Held h) = OwnedAt o g ks slots gs (h .at)
+TokenAt o g ks slots gs (test.Refused r) = Unit {0}
 
 abbrev pub TokenIn : TokenTest → (Consumer → Consumer) → ℕ → ℕ → ℕ → ℕ → Type 0
 TokenIn r with w bit o g =

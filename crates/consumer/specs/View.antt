@@ -122,7 +122,7 @@ claimOf claim.NotPermitted = refused refusal.NotPermitted
 
 -- the test of a claim: nothing, or what it is refused with
 abbrev pub testOf : ClaimTest → Option (Result HandOut)
-testOf test.Open = none
+testOf (test.Open place) = none
 testOf (test.Refused a) = some (claimOf a)
 
 abbrev pub asResult : Option Refusal → Option (Result HandOut)

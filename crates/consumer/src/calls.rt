@@ -137,6 +137,7 @@ impl Consumer {
         let config = self.table.config;
         let hours = self.settings.hours;
         let mut offsets = self.table.offsets;
+        let mut slots = self.table.slots;
         let mut generations = self.table.generations;
         let mut attempt_starts = self.table.attempt_starts;
         let mut deadlines = self.table.deadlines;
@@ -163,6 +164,7 @@ impl Consumer {
             &self.cursor.starts,
             &self.cursor.ends,
             &mut offsets,
+            &mut slots,
             &mut generations,
             &mut attempt_starts,
             &mut deadlines,
@@ -175,6 +177,7 @@ impl Consumer {
         let table = LeaseTable {
             config,
             offsets,
+            slots,
             generations,
             attempt_starts,
             deadlines,
@@ -202,11 +205,7 @@ impl Consumer {
         let mut ends = self.cursor.ends;
         let mut table = self.table;
         let mut offsets = table.offsets;
-        let mut generations = table.generations;
-        let mut attempt_starts = table.attempt_starts;
-        let mut deadlines = table.deadlines;
-        let mut deliveries = table.deliveries;
-        let mut workers = table.workers;
+        let mut slots = table.slots;
         let done = in_place::settle_in_place(
             self.cursor.committed,
             self.cursor.runs,
@@ -218,11 +217,10 @@ impl Consumer {
             &mut starts,
             &mut ends,
             &mut offsets,
-            &mut generations,
-            &mut attempt_starts,
-            &mut deadlines,
-            &mut deliveries,
-            &mut workers,
+            &mut slots,
+            &self.table.generations,
+            &self.table.deliveries,
+            &self.table.workers,
         );
         let answer = done.answer;
         let cursor = AckCursor {
@@ -232,11 +230,7 @@ impl Consumer {
             runs: done.runs,
         };
         table.offsets = offsets;
-        table.generations = generations;
-        table.attempt_starts = attempt_starts;
-        table.deadlines = deadlines;
-        table.deliveries = deliveries;
-        table.workers = workers;
+        table.slots = slots;
         table.len = done.len;
         Settled {
             answer,
@@ -278,6 +272,7 @@ impl Consumer {
             &self.settings.rights,
             &self.settings.delivery.backoff_nanos,
             &self.table.offsets,
+            &self.table.slots,
             &mut generations,
             &mut deadlines,
             &self.table.deliveries,
@@ -310,6 +305,7 @@ impl Consumer {
             now,
             &self.settings.rights,
             &self.table.offsets,
+            &self.table.slots,
             &self.table.generations,
             &self.table.attempt_starts,
             &mut deadlines,
@@ -330,57 +326,39 @@ impl Consumer {
     {
         let mut starts = self.cursor.starts;
         let mut ends = self.cursor.ends;
-        let mut offsets = self.table.offsets;
-        let mut generations = self.table.generations;
-        let mut attempt_starts = self.table.attempt_starts;
-        let mut deadlines = self.table.deadlines;
-        let mut deliveries = self.table.deliveries;
-        let mut workers = self.table.workers;
-        let mut carried_offsets = self.table.carried_offsets;
-        let mut carried_counts = self.table.carried_counts;
-        let done = in_place::commit_in_place(
+        let mut table = self.table;
+        let mut offsets = table.offsets;
+        let mut slots = table.slots;
+        let mut carried_offsets = table.carried_offsets;
+        let mut carried_counts = table.carried_counts;
+        let left = in_place::commit_in_place(
             self.cursor.committed,
             self.cursor.runs,
-            self.table.len,
-            self.table.carried_len,
+            table.len,
+            table.carried_len,
             worker,
             bound.0,
             &self.settings.rights,
             &mut starts,
             &mut ends,
             &mut offsets,
-            &mut generations,
-            &mut attempt_starts,
-            &mut deadlines,
-            &mut deliveries,
-            &mut workers,
+            &mut slots,
             &mut carried_offsets,
             &mut carried_counts,
         );
-        let answer = done.answer;
+        let answer = left.answer;
         let cursor = AckCursor {
-            committed: done.committed,
+            committed: left.committed,
             starts,
             ends,
-            runs: done.runs,
+            runs: left.runs,
         };
-        let config = self.table.config;
-        let next_generation = self.table.next_generation;
-        let table = LeaseTable {
-            config,
-            offsets,
-            generations,
-            attempt_starts,
-            deadlines,
-            deliveries,
-            workers,
-            len: done.len,
-            carried_offsets,
-            carried_counts,
-            carried_len: done.carried_len,
-            next_generation,
-            redeliveries_since_flush: self.table.redeliveries_since_flush,
-        };
+        table.offsets = offsets;
+        table.slots = slots;
+        table.len = left.len;
+        table.carried_offsets = carried_offsets;
+        table.carried_counts = carried_counts;
+        table.carried_len = left.carried_len;
         Committed {
             answer,
             consumer: self.with_both(cursor, table),

@@ -69,6 +69,7 @@ pub fn claim_in_place<'a>(
     starts: &'a [u64; RANGES],
     ends: &'a [u64; RANGES],
     offsets: &mut [u64; LEASES],
+    slots: &mut [u32; LEASES],
     generations: &mut [u64; LEASES],
     attempt_starts: &mut [u64; LEASES],
     deadlines: &mut [u64; LEASES],
@@ -77,10 +78,10 @@ pub fn claim_in_place<'a>(
     carried_offsets: &mut [u64; CARRIED],
     carried_counts: &mut [u32; CARRIED],
 ) -> ClaimedAt
-    requires { ⌜ cursor.Whole (ackCursor committed (starts .now) (ends .now) runs) × lease.Whole (gathered config len «carried_len» «next_generation» redeliveries (offsets .now) (generations .now) («attempt_starts» .now) (deadlines .now) (deliveries .now) (workers .now) («carried_offsets» .now) («carried_counts» .now)) ⌝ }
+    requires { ⌜ cursor.Whole (ackCursor committed (starts .now) (ends .now) runs) × lease.Whole (gathered config len «carried_len» «next_generation» redeliveries (offsets .now) (slots .now) (generations .now) («attempt_starts» .now) (deadlines .now) (deliveries .now) (workers .now) («carried_offsets» .now) («carried_counts» .now)) ⌝ }
     ensures { λ r. ⌜ AnswersIn (claimOf (r .answer))
-        (claiming (rights .entry .now) hours ceiling «max_deliver» threshold (ackCursor committed (starts .entry .now) (ends .entry .now) runs) (gathered config len «carried_len» «next_generation» redeliveries (offsets .entry .now) (generations .entry .now) («attempt_starts» .entry .now) (deadlines .entry .now) (deliveries .entry .now) (workers .entry .now) («carried_offsets» .entry .now) («carried_counts» .entry .now)))
-        (claiming (rights .entry .now) hours ceiling «max_deliver» threshold (ackCursor committed (starts .entry .now) (ends .entry .now) runs) (gathered config (r .len) (r .«carried_len») (r .«next_generation») (r .redeliveries) (offsets .exit .now) (generations .exit .now) («attempt_starts» .exit .now) (deadlines .exit .now) (deliveries .exit .now) (workers .exit .now) («carried_offsets» .exit .now) («carried_counts» .exit .now)))
+        (claiming (rights .entry .now) hours ceiling «max_deliver» threshold (ackCursor committed (starts .entry .now) (ends .entry .now) runs) (gathered config len «carried_len» «next_generation» redeliveries (offsets .entry .now) (slots .entry .now) (generations .entry .now) («attempt_starts» .entry .now) (deadlines .entry .now) (deliveries .entry .now) (workers .entry .now) («carried_offsets» .entry .now) («carried_counts» .entry .now)))
+        (claiming (rights .entry .now) hours ceiling «max_deliver» threshold (ackCursor committed (starts .entry .now) (ends .entry .now) runs) (gathered config (r .len) (r .«carried_len») (r .«next_generation») (r .redeliveries) (offsets .exit .now) (slots .exit .now) (generations .exit .now) («attempt_starts» .exit .now) (deadlines .exit .now) (deliveries .exit .now) (workers .exit .now) («carried_offsets» .exit .now) («carried_counts» .exit .now)))
         (λ s. claim s worker offset now) ⌝ }
 {
     let test = steps::claim_test(
@@ -100,22 +101,26 @@ pub fn claim_in_place<'a>(
         starts,
         ends,
         offsets,
+        slots,
         deadlines,
-        deliveries,
         carried_offsets,
         carried_counts,
     );
-    if let ClaimTest::Refused(answer) = test {
-        return ClaimedAt {
-            answer,
-            len,
-            carried_len,
-            next_generation,
-            redeliveries,
-        };
-    }
-    let claimed = lease::in_place::claim_in_place(
+    let place = match test {
+        ClaimTest::Open(place) => place,
+        ClaimTest::Refused(answer) => {
+            return ClaimedAt {
+                answer,
+                len,
+                carried_len,
+                next_generation,
+                redeliveries,
+            };
+        }
+    };
+    let claimed = lease::in_place::claim_at(
         config,
+        place,
         len,
         carried_len,
         next_generation,
@@ -124,6 +129,7 @@ pub fn claim_in_place<'a>(
         offset,
         now,
         offsets,
+        slots,
         generations,
         attempt_starts,
         deadlines,
@@ -163,16 +169,15 @@ pub fn settle_in_place<'a>(
     starts: &mut [u64; RANGES],
     ends: &mut [u64; RANGES],
     offsets: &mut [u64; LEASES],
-    generations: &mut [u64; LEASES],
-    attempt_starts: &mut [u64; LEASES],
-    deadlines: &mut [u64; LEASES],
-    deliveries: &mut [u32; LEASES],
-    workers: &mut [u32; LEASES],
+    slots: &mut [u32; LEASES],
+    generations: &'a [u64; LEASES],
+    deliveries: &'a [u32; LEASES],
+    workers: &'a [u32; LEASES],
 ) -> SettledAt
     requires { ⌜ cursor.Whole (ackCursor committed (starts .now) (ends .now) runs) × (len ≤ LEASES) ⌝ }
     ensures { λ r. ⌜ AnswersIn (settleOf (r .answer))
-        (settling (rights .entry .now) (ackCursor committed (starts .entry .now) (ends .entry .now) runs) len (offsets .entry .now) (generations .entry .now) («attempt_starts» .entry .now) (deadlines .entry .now) (deliveries .entry .now) (workers .entry .now))
-        (settling (rights .entry .now) (ackCursor (r .committed) (starts .exit .now) (ends .exit .now) (r .runs)) (r .len) (offsets .exit .now) (generations .exit .now) («attempt_starts» .exit .now) (deadlines .exit .now) (deliveries .exit .now) (workers .exit .now))
+        (settling (rights .entry .now) (ackCursor committed (starts .entry .now) (ends .entry .now) runs) len (offsets .entry .now) (slots .entry .now) (generations .entry .now) (deliveries .entry .now) (workers .entry .now))
+        (settling (rights .entry .now) (ackCursor (r .committed) (starts .exit .now) (ends .exit .now) (r .runs)) (r .len) (offsets .exit .now) (slots .exit .now) (generations .entry .now) (deliveries .entry .now) (workers .entry .now))
         (λ s. ack s worker offset generation) ⌝ }
 {
     let test = steps::token_test(
@@ -183,18 +188,22 @@ pub fn settle_in_place<'a>(
         generation,
         rights,
         offsets,
+        slots,
         generations,
         deliveries,
         workers,
     );
-    if let TokenTest::Refused(refusal) = test {
-        return SettledAt {
-            answer: steps::not_settled(refusal),
-            committed,
-            runs,
-            len,
-        };
-    }
+    let held = match test {
+        TokenTest::Held(held) => held,
+        TokenTest::Refused(refusal) => {
+            return SettledAt {
+                answer: steps::not_settled(refusal),
+                committed,
+                runs,
+                len,
+            };
+        }
+    };
     let noted = cursor::in_place::ack_in_place(committed, starts, ends, runs, offset, RANGES);
     let outcome = noted.outcome;
     if steps::is_shed(outcome) {
@@ -205,22 +214,12 @@ pub fn settle_in_place<'a>(
             len,
         };
     }
-    let removed = lease::in_place::ack_in_place(
-        len,
-        offset,
-        generation,
-        offsets,
-        generations,
-        attempt_starts,
-        deadlines,
-        deliveries,
-        workers,
-    );
+    let left = lease::in_place::ack_at(held.at, len, offsets, slots);
     SettledAt {
         answer: SettleAnswer::Settled,
         committed: noted.committed,
         runs: noted.runs,
-        len: removed.len,
+        len: left,
     }
 }
 
@@ -246,6 +245,7 @@ pub fn nack_in_place<'a>(
     rights: &'a [u8; WORKERS],
     backoff_nanos: &'a [u64; 16],
     offsets: &'a [u64; LEASES],
+    slots: &'a [u32; LEASES],
     generations: &mut [u64; LEASES],
     deadlines: &mut [u64; LEASES],
     deliveries: &'a [u32; LEASES],
@@ -253,8 +253,8 @@ pub fn nack_in_place<'a>(
 ) -> NackedAt
     requires { ⌜ LentBackoffs («backoff_nanos» .now) «backoff_len» × (len ≤ LEASES) ⌝ }
     ensures { λ r. ⌜ AnswersIn (nackOf (r .answer))
-        (nacking (rights .entry .now) hours ceiling («backoff_nanos» .entry .now) «backoff_len» config len «next_generation» (offsets .entry .now) (generations .entry .now) (deadlines .entry .now) (deliveries .entry .now) (workers .entry .now))
-        (nacking (rights .entry .now) hours ceiling («backoff_nanos» .entry .now) «backoff_len» config len (r .«next_generation») (offsets .entry .now) (generations .exit .now) (deadlines .exit .now) (deliveries .entry .now) (workers .entry .now))
+        (nacking (rights .entry .now) hours ceiling («backoff_nanos» .entry .now) «backoff_len» config len «next_generation» (offsets .entry .now) (slots .entry .now) (generations .entry .now) (deadlines .entry .now) (deliveries .entry .now) (workers .entry .now))
+        (nacking (rights .entry .now) hours ceiling («backoff_nanos» .entry .now) «backoff_len» config len (r .«next_generation») (offsets .entry .now) (slots .entry .now) (generations .exit .now) (deadlines .exit .now) (deliveries .entry .now) (workers .entry .now))
         (λ s. nack s worker offset generation now (delayOf delay)) ⌝ }
 {
     let test = steps::token_test(
@@ -265,12 +265,13 @@ pub fn nack_in_place<'a>(
         generation,
         rights,
         offsets,
+        slots,
         generations,
         deliveries,
         workers,
     );
-    let attempt = match test {
-        TokenTest::Held(count) => count,
+    let held = match test {
+        TokenTest::Held(held) => held,
         TokenTest::Refused(refusal) => {
             return NackedAt {
                 answer: steps::not_nacked(refusal),
@@ -293,19 +294,17 @@ pub fn nack_in_place<'a>(
     let capped_nanos = delivery::nack_delay_in_place(
         backoff_nanos,
         backoff_len,
-        attempt,
+        held.deliveries,
         delay,
         config.hard_cap_nanos,
     );
     let delay_nanos = steps::delay_in_hours(hours, now, capped_nanos);
-    let nacked = lease::in_place::nack_in_place(
-        len,
+    let nacked = lease::in_place::nack_at(
+        held.at,
         next_generation,
-        offset,
-        generation,
         now,
         delay_nanos,
-        offsets,
+        slots,
         generations,
         deadlines,
     );
@@ -326,6 +325,7 @@ pub fn progress_in_place<'a>(
     now: u64,
     rights: &'a [u8; WORKERS],
     offsets: &'a [u64; LEASES],
+    slots: &'a [u32; LEASES],
     generations: &'a [u64; LEASES],
     attempt_starts: &'a [u64; LEASES],
     deadlines: &mut [u64; LEASES],
@@ -334,8 +334,8 @@ pub fn progress_in_place<'a>(
 ) -> ProgressAnswer
     requires { ⌜ len ≤ LEASES ⌝ }
     ensures { λ r. ⌜ AnswersIn (progressOf r)
-        (progressing (rights .entry .now) config len (offsets .entry .now) (generations .entry .now) («attempt_starts» .entry .now) (deadlines .entry .now) (deliveries .entry .now) (workers .entry .now))
-        (progressing (rights .entry .now) config len (offsets .entry .now) (generations .entry .now) («attempt_starts» .entry .now) (deadlines .exit .now) (deliveries .entry .now) (workers .entry .now))
+        (progressing (rights .entry .now) config len (offsets .entry .now) (slots .entry .now) (generations .entry .now) («attempt_starts» .entry .now) (deadlines .entry .now) (deliveries .entry .now) (workers .entry .now))
+        (progressing (rights .entry .now) config len (offsets .entry .now) (slots .entry .now) (generations .entry .now) («attempt_starts» .entry .now) (deadlines .exit .now) (deliveries .entry .now) (workers .entry .now))
         (λ s. progress s worker offset generation now) ⌝ }
 {
     let test = steps::token_test(
@@ -346,21 +346,22 @@ pub fn progress_in_place<'a>(
         generation,
         rights,
         offsets,
+        slots,
         generations,
         deliveries,
         workers,
     );
-    if let TokenTest::Refused(refusal) = test {
-        return steps::not_extended(refusal);
-    }
-    let outcome = lease::in_place::extend_in_place(
+    let held = match test {
+        TokenTest::Held(held) => held,
+        TokenTest::Refused(refusal) => {
+            return steps::not_extended(refusal);
+        }
+    };
+    let outcome = lease::in_place::extend_at(
         config,
-        len,
-        offset,
-        generation,
+        held.at,
         now,
-        offsets,
-        generations,
+        slots,
         attempt_starts,
         deadlines,
     );
@@ -388,18 +389,14 @@ pub fn commit_in_place<'a>(
     starts: &mut [u64; RANGES],
     ends: &mut [u64; RANGES],
     offsets: &mut [u64; LEASES],
-    generations: &mut [u64; LEASES],
-    attempt_starts: &mut [u64; LEASES],
-    deadlines: &mut [u64; LEASES],
-    deliveries: &mut [u32; LEASES],
-    workers: &mut [u32; LEASES],
+    slots: &mut [u32; LEASES],
     carried_offsets: &mut [u64; CARRIED],
     carried_counts: &mut [u32; CARRIED],
 ) -> CommittedAt
     requires { ⌜ cursor.Whole (ackCursor committed (starts .now) (ends .now) runs) × (len ≤ LEASES) × («carried_len» ≤ CARRIED) ⌝ }
     ensures { λ r. ⌜ CommitsIn (commitOf (r .answer))
-        (committing (rights .entry .now) (ackCursor committed (starts .entry .now) (ends .entry .now) runs) len «carried_len» (offsets .entry .now) (generations .entry .now) («attempt_starts» .entry .now) (deadlines .entry .now) (deliveries .entry .now) (workers .entry .now) («carried_offsets» .entry .now) («carried_counts» .entry .now))
-        (committing (rights .entry .now) (ackCursor (r .committed) (starts .exit .now) (ends .exit .now) (r .runs)) (r .len) (r .«carried_len») (offsets .exit .now) (generations .exit .now) («attempt_starts» .exit .now) (deadlines .exit .now) (deliveries .exit .now) (workers .exit .now) («carried_offsets» .exit .now) («carried_counts» .exit .now))
+        (committing (rights .entry .now) (ackCursor committed (starts .entry .now) (ends .entry .now) runs) len «carried_len» (offsets .entry .now) (slots .entry .now) («carried_offsets» .entry .now) («carried_counts» .entry .now))
+        (committing (rights .entry .now) (ackCursor (r .committed) (starts .exit .now) (ends .exit .now) (r .runs)) (r .len) (r .«carried_len») (offsets .exit .now) (slots .exit .now) («carried_offsets» .exit .now) («carried_counts» .exit .now))
         (λ s. commit s worker bound) ⌝ }
 {
     let test = steps::commit_test(committed, worker, bound, rights);
@@ -418,11 +415,7 @@ pub fn commit_in_place<'a>(
         carried_len,
         bound,
         offsets,
-        generations,
-        attempt_starts,
-        deadlines,
-        deliveries,
-        workers,
+        slots,
         carried_offsets,
         carried_counts,
     );
@@ -441,14 +434,15 @@ pub fn count_in_place<'a>(
     carried_len: usize,
     offset: u64,
     offsets: &'a [u64; LEASES],
+    slots: &'a [u32; LEASES],
     deliveries: &'a [u32; LEASES],
     carried_offsets: &'a [u64; CARRIED],
     carried_counts: &'a [u32; CARRIED],
 ) -> u32
     requires { ⌜ (len ≤ LEASES) × («carried_len» ≤ CARRIED) ⌝ }
-    ensures { λ r. ⌜ RepliesIn (done (r ∷ [])) (counting len «carried_len» (offsets .entry .now) (deliveries .entry .now) («carried_offsets» .entry .now) («carried_counts» .entry .now)) (CountOf offset) ⌝ }
+    ensures { λ r. ⌜ RepliesIn (done (r ∷ [])) (counting len «carried_len» (offsets .entry .now) (slots .entry .now) (deliveries .entry .now) («carried_offsets» .entry .now) («carried_counts» .entry .now)) (CountOf offset) ⌝ }
 {
-    let leased = lease::in_place::count_in_place(len, offset, offsets, deliveries);
+    let leased = lease::in_place::count_in_place(len, offset, offsets, slots, deliveries);
     if let Attempts::Some(count) = leased {
         return count;
     }
@@ -471,13 +465,22 @@ pub fn waiting_in_place<'a>(
     carried_len: usize,
     now: u64,
     offsets: &'a [u64; LEASES],
+    slots: &'a [u32; LEASES],
     deadlines: &'a [u64; LEASES],
     carried_offsets: &'a [u64; CARRIED],
     out: &mut [u64],
 ) -> Listed
     requires { ⌜ (len ≤ LEASES) × («carried_len» ≤ CARRIED) ⌝ }
-    ensures { λ r. ⌜ ListsIn (listedOf r) (awaiting len «carried_len» (offsets .entry .now) (deadlines .entry .now) («carried_offsets» .entry .now)) now (out .entry .now) (out .exit .now) ⌝ }
+    ensures { λ r. ⌜ ListsIn (listedOf r) (awaiting len «carried_len» (offsets .entry .now) (slots .entry .now) (deadlines .entry .now) («carried_offsets» .entry .now)) now (out .entry .now) (out .exit .now) ⌝ }
 {
-    let list = steps::waiting_list(len, carried_len, now, offsets, deadlines, carried_offsets);
+    let list = steps::waiting_list(
+        len,
+        carried_len,
+        now,
+        offsets,
+        slots,
+        deadlines,
+        carried_offsets,
+    );
     lent::list_numbers(list, out)
 }

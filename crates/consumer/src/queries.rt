@@ -57,6 +57,7 @@ impl Consumer {
                 self.table.carried_len,
                 now,
                 &self.table.offsets,
+                &self.table.slots,
                 &self.table.deadlines,
                 &self.table.carried_offsets,
             ),

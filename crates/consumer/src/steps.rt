@@ -3,6 +3,7 @@
 ghost use mathlib.Core.Path.{_≡_};
 ghost use Prim.Native.Nat.{_≤_};
 ghost use mathlib.Core.List.{[]};
+ghost use lib.ListN.{take};
 ghost use Rattle.types.specs.Limits.{LEASES, CARRIED, sat64};
 ghost use Rattle.types.specs.Refusal.{refused};
 ghost use Rattle.types.specs.Lists.{offsetsIn};
@@ -15,7 +16,7 @@ ghost use Rattle.lease.specs.Answers as answers;
 ghost use Rattle.lease.specs.Parts as lease;
 ghost use Rattle.consumer.specs.Calls.{isFull, isShed};
 ghost use Rattle.consumer.specs.View.{claimOf, settleOf, nackOf, progressOf};
-ghost use Rattle.consumer.specs.Parts.{testing, permitted, owning, deciding, awaiting, OpensIn, TestsIn, TokenIn, DecidesIn, WaitsIn, handedOut, tokenRefusalOf};
+ghost use Rattle.consumer.specs.Parts.{testing, permitted, owning, deciding, awaiting, OpensIn, TestsIn, OpenAt, TokenIn, TokenAt, DecidesIn, WaitsIn, handedOut, tokenRefusalOf};
 use crate::calls::ClaimAnswer;
 use crate::calls::CommitAnswer;
 use crate::calls::NackAnswer;
@@ -33,6 +34,7 @@ use lease::Claim;
 use lease::ExtendOutcome;
 use lease::NackOutcome;
 use lease::in_place::Hold;
+use tables::Place;
 use types::lent::OffsetList;
 use types::limits::CARRIED;
 use types::limits::LEASES;
@@ -41,9 +43,9 @@ use types::limits::RANGES;
 use types::limits::WORKERS;
 use types::numbers;
 
-// Whether a claim is open, or what it is refused with.
+// A claim is open, its offset at this place or missing there, or what it is refused with.
 pub enum ClaimTest {
-    Open,
+    Open(Place),
     Refused(ClaimAnswer),
 }
 
@@ -65,13 +67,13 @@ pub fn claim_test<'a, 'b>(
     starts: &'a [u64; RANGES],
     ends: &'a [u64; RANGES],
     offsets: &'b [u64; LEASES],
+    slots: &'b [u32; LEASES],
     deadlines: &'b [u64; LEASES],
-    deliveries: &'b [u32; LEASES],
     carried_offsets: &'b [u64; CARRIED],
     carried_counts: &'b [u32; CARRIED],
 ) -> ClaimTest
     requires { ⌜ cursor.Whole (ackCursor committed (starts .now) (ends .now) runs) × (len ≤ LEASES) × («carried_len» ≤ CARRIED) ⌝ }
-    ensures { λ r. ⌜ TestsIn r (permitted (rights .entry .now) (testing hours ceiling threshold (ackCursor committed (starts .entry .now) (ends .entry .now) runs) len «carried_len» «next_generation» redeliveries (offsets .entry .now) (deadlines .entry .now) (deliveries .entry .now) («carried_offsets» .entry .now) («carried_counts» .entry .now))) worker offset now ⌝ }
+    ensures { λ r. ⌜ TestsIn r (permitted (rights .entry .now) (testing hours ceiling threshold (ackCursor committed (starts .entry .now) (ends .entry .now) runs) len «carried_len» «next_generation» redeliveries (offsets .entry .now) (slots .entry .now) (deadlines .entry .now) («carried_offsets» .entry .now) («carried_counts» .entry .now))) worker offset now × OpenAt offset (take len (offsets .entry .now)) r ⌝ }
 {
     let permission = rights::permission_of(rights, worker, CLAIM);
     match permission {
@@ -92,8 +94,8 @@ pub fn claim_test<'a, 'b>(
             starts,
             ends,
             offsets,
+            slots,
             deadlines,
-            deliveries,
             carried_offsets,
             carried_counts,
         ),
@@ -116,13 +118,13 @@ fn offset_test<'a, 'b>(
     starts: &'a [u64; RANGES],
     ends: &'a [u64; RANGES],
     offsets: &'b [u64; LEASES],
+    slots: &'b [u32; LEASES],
     deadlines: &'b [u64; LEASES],
-    deliveries: &'b [u32; LEASES],
     carried_offsets: &'b [u64; CARRIED],
     carried_counts: &'b [u32; CARRIED],
 ) -> ClaimTest
     requires { ⌜ cursor.Whole (ackCursor committed (starts .now) (ends .now) runs) × (len ≤ LEASES) × («carried_len» ≤ CARRIED) ⌝ }
-    ensures { λ r. ⌜ OpensIn r (testing hours ceiling threshold (ackCursor committed (starts .entry .now) (ends .entry .now) runs) len «carried_len» «next_generation» redeliveries (offsets .entry .now) (deadlines .entry .now) (deliveries .entry .now) («carried_offsets» .entry .now) («carried_counts» .entry .now)) offset now ⌝ }
+    ensures { λ r. ⌜ OpensIn r (testing hours ceiling threshold (ackCursor committed (starts .entry .now) (ends .entry .now) runs) len «carried_len» «next_generation» redeliveries (offsets .entry .now) (slots .entry .now) (deadlines .entry .now) («carried_offsets» .entry .now) («carried_counts» .entry .now)) offset now × OpenAt offset (take len (offsets .entry .now)) r ⌝ }
 {
     if offset == MAX {
         return ClaimTest::Refused(ClaimAnswer::LastOffset);
@@ -135,7 +137,8 @@ fn offset_test<'a, 'b>(
             opening: hours.next_opening(now),
         });
     }
-    if !lease::in_place::is_claimable_in_place(len, offset, now, offsets, deadlines) {
+    let place = tables::find(offsets, len, offset);
+    if !lease::in_place::is_claimable_at(place, now, slots, deadlines) {
         return ClaimTest::Refused(ClaimAnswer::InFlight);
     }
     if next_generation == MAX {
@@ -148,38 +151,38 @@ fn offset_test<'a, 'b>(
         return ClaimTest::Refused(ClaimAnswer::CheckpointDue);
     }
     if is_full(
+        place,
         len,
         carried_len,
         offset,
-        offsets,
-        deliveries,
         carried_offsets,
         carried_counts,
     ) {
         return ClaimTest::Refused(ClaimAnswer::Full);
     }
-    ClaimTest::Open
+    ClaimTest::Open(place)
 }
 
-// Whether there is no room for a lease of an offset, or for its count.
+// Whether there is no room for a lease of an offset, which stands at a place or belongs there, or for its count.
 fn is_full<'a>(
+    place: Place,
     len: usize,
     carried_len: usize,
     offset: u64,
-    offsets: &'a [u64; LEASES],
-    deliveries: &'a [u32; LEASES],
     carried_offsets: &'a [u64; CARRIED],
     carried_counts: &'a [u32; CARRIED],
 ) -> bool
     requires { ⌜ (len ≤ LEASES) × («carried_len» ≤ CARRIED) ⌝ }
-    ensures { λ r. ⌜ lease.HoldsIn (lease.listingAll len «carried_len» (offsets .entry .now) (deliveries .entry .now) («carried_offsets» .entry .now) («carried_counts» .entry .now)) (λ s. r ≡ isFull s offset) ⌝ }
+    ensures { λ r. ⌜ lease.HoldsAt offset place (lease.sized len «carried_len» («carried_offsets» .entry .now) («carried_counts» .entry .now)) (λ s. r ≡ isFull s offset) ⌝ }
 {
-    let leased = lease::in_place::count_in_place(len, offset, offsets, deliveries);
-    let Attempts::None = leased else {
+    let Place::Missing(_) = place else {
         return false;
     };
     if LEASES <= len {
         return true;
+    }
+    if len + carried_len < CARRIED {
+        return false;
     }
     let carried = lease::in_place::carried_in_place(
         carried_len,
@@ -187,10 +190,10 @@ fn is_full<'a>(
         carried_offsets,
         carried_counts,
     );
-    let Attempts::None = carried else {
-        return false;
-    };
-    CARRIED <= len + carried_len
+    match carried {
+        Attempts::Some(_) => false,
+        Attempts::None => true,
+    }
 }
 
 // What a claim answers for the table's answer: a count above the limit is for the dead letters.
@@ -219,9 +222,15 @@ pub enum TokenRefusal {
     ForeignToken,
 }
 
-// How often the lease of a token was handed out, or what the call is refused with.
+// The lease that a token owns: how often it was handed out, and its place.
+pub struct HeldAt {
+    pub deliveries: u32,
+    pub at: usize,
+}
+
+// The lease of a token, or what the call is refused with.
 pub enum TokenTest {
-    Held(u32),
+    Held(HeldAt),
     Refused(TokenRefusal),
 }
 
@@ -234,12 +243,13 @@ pub fn token_test<'a, 'b>(
     generation: u64,
     rights: &'a [u8; WORKERS],
     offsets: &'b [u64; LEASES],
+    slots: &'b [u32; LEASES],
     generations: &'b [u64; LEASES],
     deliveries: &'b [u32; LEASES],
     workers: &'b [u32; LEASES],
 ) -> TokenTest
     requires { ⌜ len ≤ LEASES ⌝ }
-    ensures { λ r. ⌜ TokenIn r (owning (rights .entry .now) len (offsets .entry .now) (generations .entry .now) (deliveries .entry .now) (workers .entry .now)) worker bit offset generation ⌝ }
+    ensures { λ r. ⌜ TokenIn r (owning (rights .entry .now) len (offsets .entry .now) (slots .entry .now) (generations .entry .now) (deliveries .entry .now) (workers .entry .now)) worker bit offset generation × TokenAt offset generation (take len (offsets .entry .now)) (slots .entry .now) (generations .entry .now) r ⌝ }
 {
     let permission = rights::permission_of(rights, worker, bit);
     match permission {
@@ -251,6 +261,7 @@ pub fn token_test<'a, 'b>(
                 offset,
                 generation,
                 offsets,
+                slots,
                 generations,
                 deliveries,
                 workers,
@@ -258,6 +269,7 @@ pub fn token_test<'a, 'b>(
             let Hold::Held {
                 deliveries: count,
                 worker: holder,
+                at,
             } = hold
             else {
                 return TokenTest::Refused(TokenRefusal::Fenced);
@@ -265,7 +277,10 @@ pub fn token_test<'a, 'b>(
             if holder as u64 != worker {
                 return TokenTest::Refused(TokenRefusal::ForeignToken);
             }
-            TokenTest::Held(count)
+            TokenTest::Held(HeldAt {
+                deliveries: count,
+                at,
+            })
         }
     }
 }
@@ -375,11 +390,12 @@ pub fn waiting_list<'a>(
     carried_len: usize,
     now: u64,
     offsets: &'a [u64; LEASES],
+    slots: &'a [u32; LEASES],
     deadlines: &'a [u64; LEASES],
     carried_offsets: &'a [u64; CARRIED],
 ) -> OffsetList
     requires { ⌜ (len ≤ LEASES) × («carried_len» ≤ CARRIED) ⌝ }
-    ensures { λ r. ⌜ WaitsIn r (awaiting len «carried_len» (offsets .entry .now) (deadlines .entry .now) («carried_offsets» .entry .now)) now ⌝ }
+    ensures { λ r. ⌜ WaitsIn r (awaiting len «carried_len» (offsets .entry .now) (slots .entry .now) (deadlines .entry .now) («carried_offsets» .entry .now)) now ⌝ }
 {
     let mut listed = *carried_offsets;
     let mut by_deadline = [0u64; LEASES];
@@ -387,7 +403,8 @@ pub fn waiting_list<'a>(
     let mut i = len;
     while 0 < i {
         i -= 1;
-        let deadline = deadlines[i];
+        let slot = lease::in_place::slot_at(slots, i);
+        let deadline = deadlines[slot];
         if deadline <= now {
             let at = tables::position(&by_deadline, n, deadline);
             tables::insert_64(&mut by_deadline, n, at, deadline);

@@ -70,6 +70,7 @@ pub fn view_in_place<'a>(
     starts: &'a [u64; RANGES],
     ends: &'a [u64; RANGES],
     offsets: &'a [u64; LEASES],
+    slots: &'a [u32; LEASES],
     generations: &'a [u64; LEASES],
     attempt_starts: &'a [u64; LEASES],
     deadlines: &'a [u64; LEASES],
@@ -79,7 +80,7 @@ pub fn view_in_place<'a>(
     carried_counts: &'a [u32; CARRIED],
 ) -> View
     requires { ⌜ cursor.Whole (ackCursor committed (starts .now) (ends .now) runs) × (len ≤ LEASES) × («carried_len» ≤ CARRIED) ⌝ }
-    ensures { λ r. ⌜ ShowsIn r (showing (rights .entry .now) (ackCursor committed (starts .entry .now) (ends .entry .now) runs) len «carried_len» (offsets .entry .now) (generations .entry .now) («attempt_starts» .entry .now) (deadlines .entry .now) (deliveries .entry .now) (workers .entry .now) («carried_offsets» .entry .now) («carried_counts» .entry .now)) worker offset now ⌝ }
+    ensures { λ r. ⌜ ShowsIn r (showing (rights .entry .now) (ackCursor committed (starts .entry .now) (ends .entry .now) runs) len «carried_len» (offsets .entry .now) (slots .entry .now) (generations .entry .now) («attempt_starts» .entry .now) (deadlines .entry .now) (deliveries .entry .now) (workers .entry .now) («carried_offsets» .entry .now) («carried_counts» .entry .now)) worker offset now ⌝ }
 {
     if cursor::in_place::is_acked_in_place(committed, starts, ends, runs, offset) {
         return View::Plain(Standing::Settled);
@@ -88,6 +89,7 @@ pub fn view_in_place<'a>(
         len,
         offset,
         offsets,
+        slots,
         generations,
         attempt_starts,
         deadlines,

@@ -12,6 +12,14 @@ use Rattle.types.specs.Limits.{LEASES}
 pub one-more : {i : ℕ} → i < LEASES → Fits w64 (i + 1)
 one-more h = record { fits = omega (arith, h) }
 
+-- a slot: a time, a count
+module _ {i : ℕ} (h : i < LEASES) where
+  pub time-at : Fits w64 (i * 8)
+  time-at = record { fits = omega (arith, h) }
+
+  pub count-at : Fits w64 (i * 4)
+  count-at = record { fits = omega (arith, h) }
+
 -- before the end of what is in use: an offset, a time, a count
 module _ {i n : ℕ} (h : i < n) (k : n ≤ LEASES) where
   pub in-use : i < LEASES
@@ -28,6 +36,10 @@ module _ {i n : ℕ} (h : i < n) (k : n ≤ LEASES) where
 
   pub count-in-memory : Fits w64 (i * 4)
   count-in-memory = record { fits = omega (arith, h, k) }
+
+-- the last one in use
+pub last-place : {i n : ℕ} → i < n → n ≤ LEASES → n - 1 < LEASES
+last-place h k = omega (arith, h, k)
 
 -- ## steps
 pub up-one : (i : ℕ) → i ≤ i + 1

@@ -80,5 +80,5 @@ module _ (s : Table) (o g : ℕ) {r : Hold} (p : holdIn r ≡ hold s o g) where
   pub not-held : r ≡ holds.None → owns (leaseOf s o) g ≡ false
   not-held e = no-hold (leaseOf s o) g (sym (ap holdIn e) ∙ p)
 
-  pub held-by : {n w : ℕ} → r ≡ Held n w → HeldBy (leaseOf s o) g n w
+  pub held-by : {n w at : ℕ} → r ≡ Held n w at → HeldBy (leaseOf s o) g n w
   held-by {n} {w} e = a-hold (leaseOf s o) g n w (sym (ap holdIn e) ∙ p)

@@ -11,7 +11,7 @@ mod Bounds
 mod Returns
 mod Whole
 mod Claims
-mod Tokens
+pub mod Tokens
 pub mod Found
 mod Questions
 mod Changes

@@ -22,13 +22,13 @@ use Rattle.lease.specs.Operations.{leaseOf, owns, withDeadline}
 use Rattle.lease.specs.Rest.{resealedAs, resealFromTo, isExpired, deferRedelivery, isClaimable, pendingRedeliveryAttempt}
 use Rattle.lease.specs.Answers.{Tries}
 use Rattle.lease.specs.Helpers.{Owned}
-use Rattle.lease.specs.Parts.{Full, leasing, timing}
+use Rattle.lease.specs.Parts.{Full, slotIn, OwnedAt, leasing, timing}
 use Rattle.lease.specs.declared.Lease.{Lease}
 use Rattle.lease.specs.declared.LeaseTable.{LeaseTable}
 use Rattle.lease.proofs.Leases.{column-deadline, column-resealed}
 use Rattle.lease.proofs.Slots.{lease-at, updated}
 use Rattle.lease.proofs.Returns.{Shows, sound-as}
-use Rattle.lease.proofs.Tokens.{there, owned}
+use Rattle.lease.proofs.Tokens.{owned}
 use Rattle.lease.proofs.Valid.{valid-update}
 
 -- ## a lease that has run out
@@ -71,23 +71,23 @@ module _ (t : LeaseTable) (full : Full t) (ok : Sound t) (o : ℕ) where
     unfolding resealFromTo
     not-resealed h = record { is = rw h; sound = ok; kept = λ _. refl }
 
-    pub resealed : {at : ℕ} {r : Place} → Owned o from (take (t .len) (t .offsets)) (t .generations) r → r ≡ Found at
-        → Tries true t (leasing (t .len) (t .offsets) (set (t .generations) at to) (t .«attempt_starts») (t .deadlines) (t .deliveries) (t .workers) t) (resealFromTo (view t) o from to)
+    pub resealed : {at : ℕ} → OwnedAt o from (take (t .len) (t .offsets)) (t .slots) (t .generations) at
+        → Tries true t (leasing (t .len) (t .offsets) (t .slots) (set (t .generations) (slotIn (t .slots) at) to) (t .«attempt_starts») (t .deadlines) (t .deliveries) (t .workers) t) (resealFromTo (view t) o from to)
     unfolding resealFromTo
-    resealed {at} p e =
+    resealed {at} p =
         changed (resealedAs to) (λ l. refl)
-        (record { len = ok .len; carried-len = ok .carried-len; is = ap (withLeases (view t)) (updated t full ok o (there t full ok o from p e .0) refl (resealedAs to) _ (column-resealed (full .leases) at to)) })
-        (rw (owned t full ok o from p e))
+        (record { len = ok .len; carried-len = ok .carried-len; slots = ok .slots; is = ap (withLeases (view t)) (updated t full ok o (p .0) refl (resealedAs to) _ (column-resealed (full .leases) (slotIn (t .slots) at) to)) })
+        (rw (owned t full ok o from p))
 
   module _ (now delay : ℕ) where
     pub not-deferred : isExpired (leaseOf (view t) o) now ≡ false → Tries false t t (deferRedelivery (view t) o now delay)
     unfolding deferRedelivery
     not-deferred h = record { is = rw h; sound = ok; kept = λ _. refl }
 
-    pub deferred : {at : ℕ} {r : Place} → Placed o (take (t .len) (t .offsets)) r → r ≡ Found at → getD (t .deadlines) at 0 ≤ now → (d : ℕ) → d ≡ sat64 now delay
-        → Tries true t (timing (t .len) (t .offsets) (set (t .deadlines) at d) t) (deferRedelivery (view t) o now delay)
+    pub deferred : {at : ℕ} {r : Place} → Placed o (take (t .len) (t .offsets)) r → r ≡ Found at → getD (t .deadlines) (slotIn (t .slots) at) 0 ≤ now → (d : ℕ) → d ≡ sat64 now delay
+        → Tries true t (timing (t .len) (t .offsets) (t .slots) (set (t .deadlines) (slotIn (t .slots) at) d) t) (deferRedelivery (view t) o now delay)
     unfolding deferRedelivery
     deferred {at} p e h d is-d =
         changed (withDeadline d) (λ l. refl)
-        (record { len = ok .len; carried-len = ok .carried-len; is = ap (withLeases (view t)) (updated t full ok o p e (withDeadline d) _ (column-deadline (full .leases) at d)) })
+        (record { len = ok .len; carried-len = ok .carried-len; slots = ok .slots; is = ap (withLeases (view t)) (updated t full ok o p e (withDeadline d) _ (column-deadline (full .leases) (slotIn (t .slots) at) d)) })
         (rw (run-out (view t) o now _ (lease-at t full ok o p e) h, is-d))

@@ -9,6 +9,7 @@ use Rattle.types.specs.Limits.{LEASES, CARRIED}
 use Rattle.types.specs.Refusal.{Refusal, refused, done}
 use Rattle.types.specs.Table.{Row, first, Passed, Answer, answer, guarded}
 use Rattle.types.proofs.Table.{guarded-passed, guarded-refused}
+use Rattle.tables.specs.Slots.{Permutes}
 use Rattle.lease.specs.State.{Table, Valid, Sound, view}
 use Rattle.lease.specs.Answers.{Answers, Becomes}
 use Rattle.lease.specs.declared.LeaseTable.{LeaseTable}
@@ -17,10 +18,11 @@ use Rattle.lease.specs.declared.LeaseTable.{LeaseTable}
 pub record Shows (t : LeaseTable) (s : Table) : Type 0 where
   pub len : t .len ≤ LEASES
   pub carried-len : t .«carried_len» ≤ CARRIED
+  pub slots : Permutes LEASES (t .slots)
   pub is : view t ≡ s
 
 pub sound-as : {t : LeaseTable} {s : Table} → Shows t s → Valid s → Sound t
-sound-as h v = record { len = h .len; carried-len = h .carried-len; valid = subst Valid (sym (h .is)) v }
+sound-as h v = record { len = h .len; carried-len = h .carried-len; slots = h .slots; valid = subst Valid (sym (h .is)) v }
 
 module _ {A : Type 0} (t : LeaseTable) (ok : Sound t) (ws : List Row) where
   pub refuses : (r : Refusal) (right : Answer A Table) → first ws ≡ some r → Answers (refused r) t t (guarded ws (view t) right)

@@ -15,6 +15,7 @@ module _ {t : LeaseTable} (is : Is the-row t (val the-type the-laws t ∷ [])) w
   filled =
       record {
         offsets = search needs;
+        slots = search needs;
         leases = record { generations = search needs; starts = search needs; deadlines = search needs; counts = search needs; workers = search needs };
         carried-offsets = search needs;
         carried-counts = search needs;

@@ -16,7 +16,7 @@ use Rattle.tables.specs.declared.Place.the-variants.{Found, Missing}
 use Rattle.tables.specs.declared.counts.Carried.{Carried}
 use Rattle.lease.specs.State.{Table, view, carriedOf, withCarried}
 use Rattle.lease.specs.Answers.{Answers}
-use Rattle.lease.specs.Parts.{gathered, Whole}
+use Rattle.lease.specs.Parts.{gathered, Whole, slotIn, OwnedAt}
 use Rattle.lease.specs.declared.Claim.the-variants as claim
 use Rattle.lease.specs.declared.LeaseConfig.{LeaseConfig}
 use Rattle.lease.specs.declared.LeaseTable.{LeaseTable}
@@ -35,8 +35,8 @@ grantedAt o g d n m r =
     }
 
 -- a table with other values in the parts that a claim of an offset with a lease looks at
-abbrev pub regranting : LeaseConfig → ℕ → ℕ → ℕ → ℕ → List ℕ → List ℕ → List ℕ → List ℕ → List ℕ → LeaseTable → LeaseTable
-regranting c n m g r gs ss ds ns ws t = gathered c n m g r (t .offsets) gs ss ds ns ws (t .«carried_offsets») (t .«carried_counts»)
+abbrev pub regranting : LeaseConfig → ℕ → ℕ → ℕ → ℕ → List ℕ → List ℕ → List ℕ → List ℕ → List ℕ → List ℕ → LeaseTable → LeaseTable
+regranting c n m g r slots gs ss ds ns ws t = gathered c n m g r (t .offsets) slots gs ss ds ns ws (t .«carried_offsets») (t .«carried_counts»)
 
 -- what a call answers on every table that has these parts and the lease of offset o at a place
 abbrev pub AnswersAt : {A : Type 0} → ℕ → ℕ → Result A → (LeaseTable → LeaseTable) → (LeaseTable → LeaseTable) → (Table → Answer A Table) → Type 0
@@ -45,19 +45,19 @@ AnswersAt o at outcome before after right =
 
 -- ## a token of generation g, among the generations of leases
 -- it does not own what stands at a place
-abbrev pub Differs : ℕ → List ℕ → Place → Type 0
-Differs g gs (Found at) = getD gs at 0 ≡ g → ⊥
-Differs g gs (Missing at) = Unit {0}
+abbrev pub Differs : ℕ → List ℕ → List ℕ → Place → Type 0
+Differs g slots gs (Found at) = getD gs (slotIn slots at) 0 ≡ g → ⊥
+Differs g slots gs (Missing at) = Unit {0}
 
 -- it owns the lease of offset o at a place, or it owns none
-pub record Unowned (o g : ℕ) (ks gs : List ℕ) : Type 0 where
+pub record Unowned (o g : ℕ) (ks slots gs : List ℕ) : Type 0 where
   pub place : Place
   pub placed : Placed o ks place
-  pub differs : Differs g gs place
+  pub differs : Differs g slots gs place
 
-abbrev pub Owned : ℕ → ℕ → List ℕ → List ℕ → Place → Type 0
-Owned o g ks gs (Found at) = Placed o ks (Found at) × (getD gs at 0 ≡ g)
-Owned o g ks gs (Missing at) = Unowned o g ks gs
+abbrev pub Owned : ℕ → ℕ → List ℕ → List ℕ → List ℕ → Place → Type 0
+Owned o g ks slots gs (Found at) = OwnedAt o g ks slots gs at
+Owned o g ks slots gs (Missing at) = Unowned o g ks slots gs
 
 -- ## times
 abbrev pub laterBy : ℕ → ℕ → ℕ

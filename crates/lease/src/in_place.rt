@@ -1,7 +1,7 @@
 // The calls on a table that are made often, in place: each takes the numbers of a table by value and lent columns, and answers
 // the numbers that changed. A table by value, and one that lies in another's memory, are served by the same function.
 ghost use mathlib.Core.Path.{_≡_};
-ghost use Prim.Native.Nat.{_≤_, _<_};
+ghost use Prim.Native.Nat.{ℕ, _≤_, _<_};
 ghost use lib.ListN.{take, getD};
 ghost use Rattle.types.specs.Limits.{MAX, LEASES, CARRIED};
 ghost use Rattle.types.specs.Refusal.{done, optional};
@@ -13,11 +13,10 @@ ghost use Rattle.lease.specs.State.{view};
 ghost use Rattle.lease.specs.Operations.{lease, leaseOf, claim, ack, extend, nack};
 ghost use Rattle.lease.specs.Rest.{releaseBelow, isClaimable, deliveriesOf, hold, expired};
 ghost use Rattle.lease.specs.Counts.{attemptCounts, allAttemptCounts};
-ghost use Rattle.lease.specs.Answers.{claimOf, ackOf, extendOf, nackOf, attemptsOf, Answers};
-ghost use Rattle.lease.specs.Lookup.{leaseIn, holdIn};
+ghost use Rattle.lease.specs.Answers.{claimOf, extendOf, nackOf, attemptsOf, Answers};
+ghost use Rattle.lease.specs.Lookup.{leaseIn, holdIn, HeldAt};
 ghost use Rattle.lease.specs.Helpers.{grantedAt, regranting, AnswersAt, Owned};
-ghost use Rattle.lease.specs.Parts.{gathered, Whole, AnswersIn, BecomesIn, HoldsIn, leasing, extending, requeuing, releasing, counting, timing, listing, listingAll, carrying};
-use crate::AckOutcome;
+ghost use Rattle.lease.specs.Parts.{gathered, Whole, slotIn, AnswersOwned, BecomesIn, HoldsIn, HoldsAt, PlaceWithin, leasing, removing, extending, requeuing, releasing, counting, due, timing, listing, listingAll, carrying};
 use crate::Attempts;
 use crate::Claim;
 use crate::ExtendOutcome;
@@ -47,9 +46,10 @@ pub struct ClaimedAt {
     pub redeliveries: u32,
 }
 
-// What `LeaseTable::claim` does to the parts of a table.
-pub fn claim_in_place(
+// What `LeaseTable::claim` does to the parts of a table, where the offset stands at a place or belongs there.
+pub fn claim_at(
     config: LeaseConfig,
+    place: Place,
     len: usize,
     carried_len: usize,
     next: u64,
@@ -58,6 +58,7 @@ pub fn claim_in_place(
     offset: u64,
     now: u64,
     offsets: &mut [u64; LEASES],
+    slots: &mut [u32; LEASES],
     generations: &mut [u64; LEASES],
     attempt_starts: &mut [u64; LEASES],
     deadlines: &mut [u64; LEASES],
@@ -66,13 +67,12 @@ pub fn claim_in_place(
     carried_offsets: &mut [u64; CARRIED],
     carried_counts: &mut [u32; CARRIED],
 ) -> ClaimedAt
-    requires { ⌜ Whole (gathered config len «carried_len» next redeliveries (offsets .now) (generations .now) («attempt_starts» .now) (deadlines .now) (deliveries .now) (workers .now) («carried_offsets» .now) («carried_counts» .now)) ⌝ }
+    requires { ⌜ Whole (gathered config len «carried_len» next redeliveries (offsets .now) (slots .now) (generations .now) («attempt_starts» .now) (deadlines .now) (deliveries .now) (workers .now) («carried_offsets» .now) («carried_counts» .now)) × Placed offset (take len (offsets .now)) place ⌝ }
     ensures { λ r. ⌜ Answers (claimOf (r .outcome))
-        (gathered config len «carried_len» next redeliveries (offsets .entry .now) (generations .entry .now) («attempt_starts» .entry .now) (deadlines .entry .now) (deliveries .entry .now) (workers .entry .now) («carried_offsets» .entry .now) («carried_counts» .entry .now))
-        (gathered config (r .len) (r .«carried_len») (r .«next_generation») (r .redeliveries) (offsets .exit .now) (generations .exit .now) («attempt_starts» .exit .now) (deadlines .exit .now) (deliveries .exit .now) (workers .exit .now) («carried_offsets» .exit .now) («carried_counts» .exit .now))
-        (claim (view (gathered config len «carried_len» next redeliveries (offsets .entry .now) (generations .entry .now) («attempt_starts» .entry .now) (deadlines .entry .now) (deliveries .entry .now) (workers .entry .now) («carried_offsets» .entry .now) («carried_counts» .entry .now))) worker offset now) ⌝ }
+        (gathered config len «carried_len» next redeliveries (offsets .entry .now) (slots .entry .now) (generations .entry .now) («attempt_starts» .entry .now) (deadlines .entry .now) (deliveries .entry .now) (workers .entry .now) («carried_offsets» .entry .now) («carried_counts» .entry .now))
+        (gathered config (r .len) (r .«carried_len») (r .«next_generation») (r .redeliveries) (offsets .exit .now) (slots .exit .now) (generations .exit .now) («attempt_starts» .exit .now) (deadlines .exit .now) (deliveries .exit .now) (workers .exit .now) («carried_offsets» .exit .now) («carried_counts» .exit .now))
+        (claim (view (gathered config len «carried_len» next redeliveries (offsets .entry .now) (slots .entry .now) (generations .entry .now) («attempt_starts» .entry .now) (deadlines .entry .now) (deliveries .entry .now) (workers .entry .now) («carried_offsets» .entry .now) («carried_counts» .entry .now))) worker offset now) ⌝ }
 {
-    let place = tables::find(offsets, len, offset);
     match place {
         Place::Found(at) => claim_again(
             config,
@@ -84,6 +84,7 @@ pub fn claim_in_place(
             worker,
             offset,
             now,
+            slots,
             generations,
             attempt_starts,
             deadlines,
@@ -101,6 +102,7 @@ pub fn claim_in_place(
             offset,
             now,
             offsets,
+            slots,
             generations,
             attempt_starts,
             deadlines,
@@ -123,6 +125,7 @@ fn claim_again(
     worker: u32,
     offset: u64,
     now: u64,
+    slots: &[u32; LEASES],
     generations: &mut [u64; LEASES],
     attempt_starts: &mut [u64; LEASES],
     deadlines: &mut [u64; LEASES],
@@ -130,9 +133,10 @@ fn claim_again(
     workers: &mut [u32; LEASES],
 ) -> ClaimedAt
     requires { ⌜ at < LEASES ⌝ }
-    ensures { λ r. ⌜ AnswersAt offset at (claimOf (r .outcome)) (regranting config len «carried_len» generation redeliveries (generations .entry .now) («attempt_starts» .entry .now) (deadlines .entry .now) (deliveries .entry .now) (workers .entry .now)) (regranting config (r .len) (r .«carried_len») (r .«next_generation») (r .redeliveries) (generations .exit .now) («attempt_starts» .exit .now) (deadlines .exit .now) (deliveries .exit .now) (workers .exit .now)) (λ s. claim s worker offset now) ⌝ }
+    ensures { λ r. ⌜ AnswersAt offset at (claimOf (r .outcome)) (regranting config len «carried_len» generation redeliveries (slots .entry .now) (generations .entry .now) («attempt_starts» .entry .now) (deadlines .entry .now) (deliveries .entry .now) (workers .entry .now)) (regranting config (r .len) (r .«carried_len») (r .«next_generation») (r .redeliveries) (slots .entry .now) (generations .exit .now) («attempt_starts» .exit .now) (deadlines .exit .now) (deliveries .exit .now) (workers .exit .now)) (λ s. claim s worker offset now) ⌝ }
 {
-    if now < deadlines[at] {
+    let slot = slot_at(slots, at);
+    if now < deadlines[slot] {
         return ClaimedAt {
             outcome: Claim::InFlight,
             len,
@@ -150,16 +154,16 @@ fn claim_again(
             redeliveries,
         };
     }
-    let count = numbers::saturating_next(deliveries[at]);
-    generations[at] = generation;
-    attempt_starts[at] = now;
-    deadlines[at] = config.deadline(now, now);
-    deliveries[at] = count;
-    workers[at] = worker;
+    let count = numbers::saturating_next(deliveries[slot]);
+    generations[slot] = generation;
+    attempt_starts[slot] = now;
+    deadlines[slot] = config.deadline(now, now);
+    deliveries[slot] = count;
+    workers[slot] = worker;
     granted(offset, generation, count, len, carried_len, redeliveries)
 }
 
-// Claims an offset that has no lease, and whose lease belongs at a place.
+// Claims an offset that has no lease, and whose lease belongs at a place: it takes the first slot that is free.
 fn claim_first(
     config: LeaseConfig,
     at: usize,
@@ -171,6 +175,7 @@ fn claim_first(
     offset: u64,
     now: u64,
     offsets: &mut [u64; LEASES],
+    slots: &mut [u32; LEASES],
     generations: &mut [u64; LEASES],
     attempt_starts: &mut [u64; LEASES],
     deadlines: &mut [u64; LEASES],
@@ -179,11 +184,11 @@ fn claim_first(
     carried_offsets: &mut [u64; CARRIED],
     carried_counts: &mut [u32; CARRIED],
 ) -> ClaimedAt
-    requires { ⌜ Whole (gathered config len «carried_len» next redeliveries (offsets .now) (generations .now) («attempt_starts» .now) (deadlines .now) (deliveries .now) (workers .now) («carried_offsets» .now) («carried_counts» .now)) × Placed offset (take len (offsets .now)) (Missing at) ⌝ }
+    requires { ⌜ Whole (gathered config len «carried_len» next redeliveries (offsets .now) (slots .now) (generations .now) («attempt_starts» .now) (deadlines .now) (deliveries .now) (workers .now) («carried_offsets» .now) («carried_counts» .now)) × Placed offset (take len (offsets .now)) (Missing at) ⌝ }
     ensures { λ r. ⌜ Answers (claimOf (r .outcome))
-        (gathered config len «carried_len» next redeliveries (offsets .entry .now) (generations .entry .now) («attempt_starts» .entry .now) (deadlines .entry .now) (deliveries .entry .now) (workers .entry .now) («carried_offsets» .entry .now) («carried_counts» .entry .now))
-        (gathered config (r .len) (r .«carried_len») (r .«next_generation») (r .redeliveries) (offsets .exit .now) (generations .exit .now) («attempt_starts» .exit .now) (deadlines .exit .now) (deliveries .exit .now) (workers .exit .now) («carried_offsets» .exit .now) («carried_counts» .exit .now))
-        (claim (view (gathered config len «carried_len» next redeliveries (offsets .entry .now) (generations .entry .now) («attempt_starts» .entry .now) (deadlines .entry .now) (deliveries .entry .now) (workers .entry .now) («carried_offsets» .entry .now) («carried_counts» .entry .now))) worker offset now) ⌝ }
+        (gathered config len «carried_len» next redeliveries (offsets .entry .now) (slots .entry .now) (generations .entry .now) («attempt_starts» .entry .now) (deadlines .entry .now) (deliveries .entry .now) (workers .entry .now) («carried_offsets» .entry .now) («carried_counts» .entry .now))
+        (gathered config (r .len) (r .«carried_len») (r .«next_generation») (r .redeliveries) (offsets .exit .now) (slots .exit .now) (generations .exit .now) («attempt_starts» .exit .now) (deadlines .exit .now) (deliveries .exit .now) (workers .exit .now) («carried_offsets» .exit .now) («carried_counts» .exit .now))
+        (claim (view (gathered config len «carried_len» next redeliveries (offsets .entry .now) (slots .entry .now) (generations .entry .now) («attempt_starts» .entry .now) (deadlines .entry .now) (deliveries .entry .now) (workers .entry .now) («carried_offsets» .entry .now) («carried_counts» .entry .now))) worker offset now) ⌝ }
 {
     if next == MAX {
         return ClaimedAt {
@@ -209,12 +214,15 @@ fn claim_first(
     let left = carried_len - (prior.to - prior.from);
     let count = numbers::saturating_next(prior.count);
     let deadline = config.deadline(now, now);
+    let taken = slots[len];
+    let free = slot_at(slots, len);
     tables::insert_64(offsets, len, at, offset);
-    tables::insert_64(generations, len, at, next);
-    tables::insert_64(attempt_starts, len, at, now);
-    tables::insert_64(deadlines, len, at, deadline);
-    tables::insert_count_64(deliveries, len, at, count);
-    tables::insert_count_64(workers, len, at, worker);
+    tables::insert_count_64(slots, len, at, taken);
+    generations[free] = next;
+    attempt_starts[free] = now;
+    deadlines[free] = deadline;
+    deliveries[free] = count;
+    workers[free] = worker;
     granted(offset, next, count, len + 1, left, redeliveries)
 }
 
@@ -254,87 +262,62 @@ pub(crate) fn owned<'a>(
     offset: u64,
     generation: u64,
     offsets: &'a [u64; LEASES],
+    slots: &'a [u32; LEASES],
     generations: &'a [u64; LEASES],
 ) -> Place
     requires { ⌜ len ≤ LEASES ⌝ }
-    ensures { λ r. ⌜ Owned offset generation (take len (offsets .entry .now)) (generations .entry .now) r ⌝ }
+    ensures { λ r. ⌜ Owned offset generation (take len (offsets .entry .now)) (slots .entry .now) (generations .entry .now) r ⌝ }
 {
     let place = tables::find(offsets, len, offset);
     let Place::Found(at) = place else {
         return Place::Missing(len);
     };
-    if generations[at] == generation {
+    let slot = slot_at(slots, at);
+    if generations[slot] == generation {
         return Place::Found(at);
     }
     Place::Missing(len)
 }
 
-// What an ack answers, and how many leases there are after it.
-pub struct AckedAt {
-    pub outcome: AckOutcome,
-    pub len: usize,
-}
-
-// What `LeaseTable::ack` does to the parts of a table that it looks at, whatever the others are.
-pub fn ack_in_place(
+// What `LeaseTable::ack` does where the token owns the lease at a place: the lease goes, and its slot to the free ones. It answers
+// how many leases are left.
+pub fn ack_at(
+    at: usize,
     len: usize,
-    offset: u64,
-    generation: u64,
     offsets: &mut [u64; LEASES],
-    generations: &mut [u64; LEASES],
-    attempt_starts: &mut [u64; LEASES],
-    deadlines: &mut [u64; LEASES],
-    deliveries: &mut [u32; LEASES],
-    workers: &mut [u32; LEASES],
-) -> AckedAt
-    requires { ⌜ len ≤ LEASES ⌝ }
-    ensures { λ r. ⌜ AnswersIn (ackOf (r .outcome)) (leasing len (offsets .entry .now) (generations .entry .now) («attempt_starts» .entry .now) (deadlines .entry .now) (deliveries .entry .now) (workers .entry .now)) (leasing (r .len) (offsets .exit .now) (generations .exit .now) («attempt_starts» .exit .now) (deadlines .exit .now) (deliveries .exit .now) (workers .exit .now)) (λ s. ack s offset generation) ⌝ }
+    slots: &mut [u32; LEASES],
+) -> usize
+    requires { ⌜ (at < len) × (len ≤ LEASES) ⌝ }
+    ensures { λ r. ⌜ AnswersOwned at (done tt) (removing len (offsets .entry .now) (slots .entry .now)) (removing r (offsets .exit .now) (slots .exit .now)) (λ o g s. ack s o g) ⌝ }
 {
-    let place = owned(len, offset, generation, offsets, generations);
-    let Place::Found(at) = place else {
-        return AckedAt {
-            outcome: AckOutcome::Fenced,
-            len,
-        };
-    };
+    let freed = slots[at];
     let next = at + 1;
+    let last = len - 1;
     tables::remove_64(offsets, len, at, next);
-    tables::remove_64(generations, len, at, next);
-    tables::remove_64(attempt_starts, len, at, next);
-    tables::remove_64(deadlines, len, at, next);
-    tables::remove_counts_64(deliveries, len, at, next);
-    tables::remove_counts_64(workers, len, at, next);
-    AckedAt {
-        outcome: AckOutcome::Acked,
-        len: len - 1,
-    }
+    tables::remove_counts_64(slots, len, at, next);
+    slots[last] = freed;
+    last
 }
 
-// What `LeaseTable::extend` does to the parts of a table that it looks at, whatever the others are.
-pub fn extend_in_place<'a>(
+// What `LeaseTable::extend` does where the token owns the lease at a place.
+pub fn extend_at<'a>(
     config: LeaseConfig,
-    len: usize,
-    offset: u64,
-    generation: u64,
+    at: usize,
     now: u64,
-    offsets: &'a [u64; LEASES],
-    generations: &'a [u64; LEASES],
+    slots: &'a [u32; LEASES],
     attempt_starts: &'a [u64; LEASES],
     deadlines: &mut [u64; LEASES],
 ) -> ExtendOutcome
-    requires { ⌜ len ≤ LEASES ⌝ }
-    ensures { λ r. ⌜ AnswersIn (extendOf r) (extending config len (offsets .entry .now) (generations .entry .now) («attempt_starts» .entry .now) (deadlines .entry .now)) (extending config len (offsets .entry .now) (generations .entry .now) («attempt_starts» .entry .now) (deadlines .exit .now)) (λ s. extend s offset generation now) ⌝ }
+    requires { ⌜ at < LEASES ⌝ }
+    ensures { λ r. ⌜ AnswersOwned at (extendOf r) (extending config (slots .entry .now) («attempt_starts» .entry .now) (deadlines .entry .now)) (extending config (slots .entry .now) («attempt_starts» .entry .now) (deadlines .exit .now)) (λ o g s. extend s o g now) ⌝ }
 {
-    let place = owned(len, offset, generation, offsets, generations);
-    let Place::Found(at) = place else {
-        return ExtendOutcome::Fenced;
-    };
-    let start = attempt_starts[at];
+    let slot = slot_at(slots, at);
+    let start = attempt_starts[slot];
     if config.cap(start) <= now {
         return ExtendOutcome::CapReached;
     }
     let deadline = config.deadline(start, now);
-    deadlines[at] = deadline;
+    deadlines[slot] = deadline;
     ExtendOutcome::Extended(deadline)
 }
 
@@ -344,37 +327,29 @@ pub struct NackedAt {
     pub next_generation: u64,
 }
 
-// What `LeaseTable::nack` does to the parts of a table that it looks at, whatever the others are.
-pub fn nack_in_place(
-    len: usize,
+// What `LeaseTable::nack` does where the token owns the lease at a place.
+pub fn nack_at(
+    at: usize,
     next_generation: u64,
-    offset: u64,
-    generation: u64,
     now: u64,
     delay_nanos: u64,
-    offsets: &[u64; LEASES],
+    slots: &[u32; LEASES],
     generations: &mut [u64; LEASES],
     deadlines: &mut [u64; LEASES],
 ) -> NackedAt
-    requires { ⌜ len ≤ LEASES ⌝ }
-    ensures { λ r. ⌜ AnswersIn (nackOf (r .outcome)) (requeuing len «next_generation» (offsets .entry .now) (generations .entry .now) (deadlines .entry .now)) (requeuing len (r .«next_generation») (offsets .entry .now) (generations .exit .now) (deadlines .exit .now)) (λ s. nack s offset generation now «delay_nanos») ⌝ }
+    requires { ⌜ at < LEASES ⌝ }
+    ensures { λ r. ⌜ AnswersOwned at (nackOf (r .outcome)) (requeuing «next_generation» (slots .entry .now) (generations .entry .now) (deadlines .entry .now)) (requeuing (r .«next_generation») (slots .entry .now) (generations .exit .now) (deadlines .exit .now)) (λ o g s. nack s o g now «delay_nanos») ⌝ }
 {
-    let place = owned(len, offset, generation, offsets, generations);
-    let Place::Found(at) = place else {
-        return NackedAt {
-            outcome: NackOutcome::Fenced,
-            next_generation,
-        };
-    };
     if next_generation == MAX {
         return NackedAt {
             outcome: NackOutcome::Exhausted,
             next_generation,
         };
     }
+    let slot = slot_at(slots, at);
     let deadline = numbers::saturating_add(now, delay_nanos);
-    generations[at] = next_generation;
-    deadlines[at] = deadline;
+    generations[slot] = next_generation;
+    deadlines[slot] = deadline;
     NackedAt {
         outcome: NackOutcome::Requeued { deadline: deadline },
         next_generation: next_generation + 1,
@@ -387,23 +362,20 @@ pub struct ReleasedAt {
     pub carried_len: usize,
 }
 
-// What `LeaseTable::release_below` does to the parts of a table.
+// What `LeaseTable::release_below` does to the parts of a table. The slots of the leases that go are free then.
 pub fn release_below_in_place(
     len: usize,
     carried_len: usize,
     up_to: u64,
     offsets: &mut [u64; LEASES],
-    generations: &mut [u64; LEASES],
-    attempt_starts: &mut [u64; LEASES],
-    deadlines: &mut [u64; LEASES],
-    deliveries: &mut [u32; LEASES],
-    workers: &mut [u32; LEASES],
+    slots: &mut [u32; LEASES],
     carried_offsets: &mut [u64; CARRIED],
     carried_counts: &mut [u32; CARRIED],
 ) -> ReleasedAt
+    requires { ⌜ len ≤ LEASES ⌝ }
     ensures { λ r. ⌜ BecomesIn
-        (releasing len «carried_len» (offsets .entry .now) (generations .entry .now) («attempt_starts» .entry .now) (deadlines .entry .now) (deliveries .entry .now) (workers .entry .now) («carried_offsets» .entry .now) («carried_counts» .entry .now))
-        (releasing (r .len) (r .«carried_len») (offsets .exit .now) (generations .exit .now) («attempt_starts» .exit .now) (deadlines .exit .now) (deliveries .exit .now) (workers .exit .now) («carried_offsets» .exit .now) («carried_counts» .exit .now))
+        (releasing len «carried_len» (offsets .entry .now) (slots .entry .now) («carried_offsets» .entry .now) («carried_counts» .entry .now))
+        (releasing (r .len) (r .«carried_len») (offsets .exit .now) (slots .exit .now) («carried_offsets» .exit .now) («carried_counts» .exit .now))
         (λ s. releaseBelow s «up_to») ⌝ }
 {
     let carried = tables::position(carried_offsets, carried_len, up_to);
@@ -411,20 +383,25 @@ pub fn release_below_in_place(
     tables::remove_counts_128(carried_counts, carried_len, 0, carried);
     let first = tables::position(offsets, len, up_to);
     tables::remove_64(offsets, len, 0, first);
-    tables::remove_64(generations, len, 0, first);
-    tables::remove_64(attempt_starts, len, 0, first);
-    tables::remove_64(deadlines, len, 0, first);
-    tables::remove_counts_64(deliveries, len, 0, first);
-    tables::remove_counts_64(workers, len, 0, first);
+    tables::set_aside_64(slots, len, first);
     ReleasedAt {
         len: len - first,
         carried_len: carried_len - carried,
     }
 }
 
-// The lease at a place of the columns.
+// The slot at a place: where the other columns have its lease.
+pub fn slot_at(slots: &[u32; LEASES], at: usize) -> usize
+    requires { ⌜ at < LEASES ⌝ }
+    ensures { λ r. ⌜ (r ≡ slotIn (slots .entry .now) at) × (r < LEASES) ⌝ }
+{
+    numbers::wide(slots[at]) as usize % LEASES
+}
+
+// The lease at a place of the table.
 pub fn lease_at<'a>(
     at: usize,
+    slots: &'a [u32; LEASES],
     generations: &'a [u64; LEASES],
     attempt_starts: &'a [u64; LEASES],
     deadlines: &'a [u64; LEASES],
@@ -432,15 +409,16 @@ pub fn lease_at<'a>(
     workers: &'a [u32; LEASES],
 ) -> Lease
     requires { ⌜ at < LEASES ⌝ }
-    ensures { λ r. ⌜ r ≡ lease (getD (generations .entry .now) at 0) (getD («attempt_starts» .entry .now) at 0) (getD (deadlines .entry .now) at 0) (getD (deliveries .entry .now) at 0) (getD (workers .entry .now) at 0) ⌝ }
+    ensures { λ r. ⌜ r ≡ lease (getD (generations .entry .now) (slotIn (slots .entry .now) at) 0) (getD («attempt_starts» .entry .now) (slotIn (slots .entry .now) at) 0) (getD (deadlines .entry .now) (slotIn (slots .entry .now) at) 0) (getD (deliveries .entry .now) (slotIn (slots .entry .now) at) 0) (getD (workers .entry .now) (slotIn (slots .entry .now) at) 0) ⌝ }
 {
-    let generation = Generation(generations[at]);
+    let slot = slot_at(slots, at);
+    let generation = Generation(generations[slot]);
     Lease {
         generation,
-        attempt_start: attempt_starts[at],
-        deadline: deadlines[at],
-        deliveries: deliveries[at],
-        worker: workers[at],
+        attempt_start: attempt_starts[slot],
+        deadline: deadlines[slot],
+        deliveries: deliveries[slot],
+        worker: workers[slot],
     }
 }
 
@@ -449,6 +427,7 @@ pub fn lease_in_place<'a>(
     len: usize,
     offset: u64,
     offsets: &'a [u64; LEASES],
+    slots: &'a [u32; LEASES],
     generations: &'a [u64; LEASES],
     attempt_starts: &'a [u64; LEASES],
     deadlines: &'a [u64; LEASES],
@@ -456,7 +435,7 @@ pub fn lease_in_place<'a>(
     workers: &'a [u32; LEASES],
 ) -> LeaseAt
     requires { ⌜ len ≤ LEASES ⌝ }
-    ensures { λ r. ⌜ HoldsIn (leasing len (offsets .entry .now) (generations .entry .now) («attempt_starts» .entry .now) (deadlines .entry .now) (deliveries .entry .now) (workers .entry .now)) (λ s. leaseIn r ≡ leaseOf s offset) ⌝ }
+    ensures { λ r. ⌜ HoldsIn (leasing len (offsets .entry .now) (slots .entry .now) (generations .entry .now) («attempt_starts» .entry .now) (deadlines .entry .now) (deliveries .entry .now) (workers .entry .now)) (λ s. leaseIn r ≡ leaseOf s offset) ⌝ }
 {
     let place = tables::find(offsets, len, offset);
     let Place::Found(at) = place else {
@@ -464,6 +443,7 @@ pub fn lease_in_place<'a>(
     };
     LeaseAt::Some(lease_at(
         at,
+        slots,
         generations,
         attempt_starts,
         deadlines,
@@ -472,9 +452,14 @@ pub fn lease_in_place<'a>(
     ))
 }
 
-// The lease that a token owns, where it owns one: how often it was handed out, and the worker who claimed it.
+// The lease that a token owns, where it owns one: how often it was handed out, the worker who claimed it, and its place, where a call
+// with the token finds it again.
 pub enum Hold {
-    Held { deliveries: u32, worker: u32 },
+    Held {
+        deliveries: u32,
+        worker: u32,
+        at: usize,
+    },
     None,
 }
 
@@ -484,21 +469,24 @@ pub fn hold_in_place<'a>(
     offset: u64,
     generation: u64,
     offsets: &'a [u64; LEASES],
+    slots: &'a [u32; LEASES],
     generations: &'a [u64; LEASES],
     deliveries: &'a [u32; LEASES],
     workers: &'a [u32; LEASES],
 ) -> Hold
     requires { ⌜ len ≤ LEASES ⌝ }
-    ensures { λ r. ⌜ HoldsIn (counting len (offsets .entry .now) (generations .entry .now) (deliveries .entry .now) (workers .entry .now)) (λ s. holdIn r ≡ hold s offset generation) ⌝ }
+    ensures { λ r. ⌜ HoldsIn (counting len (offsets .entry .now) (slots .entry .now) (generations .entry .now) (deliveries .entry .now) (workers .entry .now)) (λ s. holdIn r ≡ hold s offset generation) × HeldAt offset generation (take len (offsets .entry .now)) (slots .entry .now) (generations .entry .now) r ⌝ }
 {
-    let place = owned(len, offset, generation, offsets, generations);
+    let place = owned(len, offset, generation, offsets, slots, generations);
     let Place::Found(at) = place else {
         return Hold::None;
     };
-    let worker = workers[at];
+    let slot = slot_at(slots, at);
+    let worker = workers[slot];
     Hold::Held {
-        deliveries: deliveries[at],
+        deliveries: deliveries[slot],
         worker,
+        at,
     }
 }
 
@@ -507,34 +495,35 @@ pub fn count_in_place<'a>(
     len: usize,
     offset: u64,
     offsets: &'a [u64; LEASES],
+    slots: &'a [u32; LEASES],
     deliveries: &'a [u32; LEASES],
 ) -> Attempts
     requires { ⌜ len ≤ LEASES ⌝ }
-    ensures { λ r. ⌜ HoldsIn (listing len (offsets .entry .now) (deliveries .entry .now)) (λ s. attemptsOf r ≡ done (optional (deliveriesOf (leaseOf s offset)))) ⌝ }
+    ensures { λ r. ⌜ HoldsIn (listing len (offsets .entry .now) (slots .entry .now) (deliveries .entry .now)) (λ s. attemptsOf r ≡ done (optional (deliveriesOf (leaseOf s offset)))) ⌝ }
 {
     let place = tables::find(offsets, len, offset);
     let Place::Found(at) = place else {
         return Attempts::None;
     };
-    Attempts::Some(deliveries[at])
+    let slot = slot_at(slots, at);
+    Attempts::Some(deliveries[slot])
 }
 
-// What `LeaseTable::is_claimable` answers.
-pub fn is_claimable_in_place<'a>(
-    len: usize,
-    offset: u64,
+// What `LeaseTable::is_claimable` answers, where the offset stands at a place or belongs there.
+pub fn is_claimable_at<'a>(
+    place: Place,
     now: u64,
-    offsets: &'a [u64; LEASES],
+    slots: &'a [u32; LEASES],
     deadlines: &'a [u64; LEASES],
 ) -> bool
-    requires { ⌜ len ≤ LEASES ⌝ }
-    ensures { λ r. ⌜ HoldsIn (timing len (offsets .entry .now) (deadlines .entry .now)) (λ s. r ≡ isClaimable s offset now) ⌝ }
+    requires { ⌜ PlaceWithin LEASES place ⌝ }
+    ensures { λ r. ⌜ ((o : ℕ) → HoldsAt o place (due (slots .entry .now) (deadlines .entry .now)) (λ s. r ≡ isClaimable s o now)) ⌝ }
 {
-    let place = tables::find(offsets, len, offset);
     let Place::Found(at) = place else {
         return true;
     };
-    deadlines[at] <= now
+    let slot = slot_at(slots, at);
+    deadlines[slot] <= now
 }
 
 // What `LeaseTable::carried_count` answers.
@@ -558,17 +547,19 @@ pub fn carried_in_place<'a>(
 pub fn lease_counts_in_place<'a>(
     len: usize,
     offsets: &'a [u64; LEASES],
+    slots: &'a [u32; LEASES],
     deliveries: &'a [u32; LEASES],
 ) -> AttemptCounts
     requires { ⌜ len ≤ LEASES ⌝ }
-    ensures { λ r. ⌜ HoldsIn (listing len (offsets .entry .now) (deliveries .entry .now)) (λ s. ListsCounts r (attemptCounts s)) ⌝ }
+    ensures { λ r. ⌜ HoldsIn (listing len (offsets .entry .now) (slots .entry .now) (deliveries .entry .now)) (λ s. ListsCounts r (attemptCounts s)) ⌝ }
 {
     let mut listed = [0u64; COUNTS];
     let mut attempts = [0u32; COUNTS];
     let mut i: usize = 0;
     while i < len {
         listed[i] = offsets[i];
-        attempts[i] = deliveries[i];
+        let slot = slot_at(slots, i);
+        attempts[i] = deliveries[slot];
         i += 1;
     }
     AttemptCounts {
@@ -583,14 +574,15 @@ pub fn all_counts_in_place<'a>(
     len: usize,
     carried_len: usize,
     offsets: &'a [u64; LEASES],
+    slots: &'a [u32; LEASES],
     deliveries: &'a [u32; LEASES],
     carried_offsets: &'a [u64; CARRIED],
     carried_counts: &'a [u32; CARRIED],
 ) -> AttemptCounts
     requires { ⌜ len ≤ LEASES ⌝ }
-    ensures { λ r. ⌜ HoldsIn (listingAll len «carried_len» (offsets .entry .now) (deliveries .entry .now) («carried_offsets» .entry .now) («carried_counts» .entry .now)) (λ s. ListsCounts r (allAttemptCounts s)) ⌝ }
+    ensures { λ r. ⌜ HoldsIn (listingAll len «carried_len» (offsets .entry .now) (slots .entry .now) (deliveries .entry .now) («carried_offsets» .entry .now) («carried_counts» .entry .now)) (λ s. ListsCounts r (allAttemptCounts s)) ⌝ }
 {
-    let leased = lease_counts_in_place(len, offsets, deliveries);
+    let leased = lease_counts_in_place(len, offsets, slots, deliveries);
     counts::merged(leased, carried_offsets, carried_counts, carried_len)
 }
 
@@ -599,10 +591,11 @@ pub fn expired_in_place<'a>(
     len: usize,
     now: u64,
     offsets: &'a [u64; LEASES],
+    slots: &'a [u32; LEASES],
     deadlines: &'a [u64; LEASES],
 ) -> OffsetList
     requires { ⌜ len ≤ LEASES ⌝ }
-    ensures { λ r. ⌜ HoldsIn (timing len (offsets .entry .now) (deadlines .entry .now)) (λ s. ListsOffsets r (expired s now)) ⌝ }
+    ensures { λ r. ⌜ HoldsIn (timing len (offsets .entry .now) (slots .entry .now) (deadlines .entry .now)) (λ s. ListsOffsets r (expired s now)) ⌝ }
 {
     let mut listed = [0u64; CARRIED];
     let mut n: usize = 0;
@@ -610,7 +603,8 @@ pub fn expired_in_place<'a>(
     while i < len {
         let at = i;
         i += 1;
-        if deadlines[at] <= now {
+        let slot = slot_at(slots, at);
+        if deadlines[slot] <= now {
             listed[n] = offsets[at];
             n += 1;
         }

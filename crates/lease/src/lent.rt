@@ -116,7 +116,7 @@ impl LeaseTable {
         requires { ⌜ Sound self ⌝ }
         ensures { λ r. ⌜ ListsCounts r (attemptCounts (view self)) ⌝ }
     {
-        in_place::lease_counts_in_place(self.len, &self.offsets, &self.deliveries)
+        in_place::lease_counts_in_place(self.len, &self.offsets, &self.slots, &self.deliveries)
     }
 
     // The counts of all messages that were handed out and are not done, in arrays.
@@ -128,6 +128,7 @@ impl LeaseTable {
             self.len,
             self.carried_len,
             &self.offsets,
+            &self.slots,
             &self.deliveries,
             &self.carried_offsets,
             &self.carried_counts,
@@ -139,6 +140,6 @@ impl LeaseTable {
         requires { ⌜ Sound self ⌝ }
         ensures { λ r. ⌜ ListsOffsets r (expired (view self) now) ⌝ }
     {
-        in_place::expired_in_place(self.len, now, &self.offsets, &self.deadlines)
+        in_place::expired_in_place(self.len, now, &self.offsets, &self.slots, &self.deadlines)
     }
 }

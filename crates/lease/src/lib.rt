@@ -4,8 +4,7 @@
 // clock: it may stand still or run backwards.
 ghost use mathlib.Core.Path.{_≡_};
 ghost use mathlib.Core.List.{map};
-ghost use Prim.Native.Nat.{_≤_};
-ghost use lib.ListN.{length, take};
+ghost use lib.ListN.{length};
 ghost use Rattle.types.specs.Limits.{LEASES};
 ghost use Rattle.types.specs.Refusal.{done, optional};
 ghost use Rattle.lease.specs.Config.{nanos, fromMillis, defaultConfig};
@@ -140,12 +139,15 @@ pub enum Attempts {
     None,
 }
 
-// At most 64 leases and 128 carried attempt counts, each sorted by offset: the offsets in one array, what belongs to them
-// at the same places of another.
+// At most 64 leases and 128 carried attempt counts, each sorted by offset: the offsets in one array, and at the same places of another
+// the counts, or the slots of the leases.
 #[repr(C)]
 pub struct LeaseTable {
     pub config: LeaseConfig,
     pub offsets: [u64; LEASES],
+    // Where the columns below have the lease of each offset, and behind those in use the slots that are free. A lease stays at its slot
+    // while offsets come and go, so that a claim and an ack move these two arrays alone.
+    pub slots: [u32; LEASES],
     // The leases, in a column for each of their numbers.
     pub generations: [u64; LEASES],
     pub attempt_starts: [u64; LEASES],
@@ -217,6 +219,7 @@ impl LeaseTable {
         LeaseTable {
             config: config,
             offsets: [0; LEASES],
+            slots: tables::slots_64(),
             generations: [0; LEASES],
             attempt_starts: [0; LEASES],
             deadlines: [0; LEASES],
@@ -261,11 +264,7 @@ impl LeaseTable {
         ensures { λ r. ⌜ Becomes r (releaseBelow (view self) («up_to» .0)) ⌝ }
     {
         let mut offsets = self.offsets;
-        let mut generations = self.generations;
-        let mut attempt_starts = self.attempt_starts;
-        let mut deadlines = self.deadlines;
-        let mut deliveries = self.deliveries;
-        let mut workers = self.workers;
+        let mut slots = self.slots;
         let mut carried_offsets = self.carried_offsets;
         let mut carried_counts = self.carried_counts;
         let left = in_place::release_below_in_place(
@@ -273,20 +272,12 @@ impl LeaseTable {
             self.carried_len,
             up_to.0,
             &mut offsets,
-            &mut generations,
-            &mut attempt_starts,
-            &mut deadlines,
-            &mut deliveries,
-            &mut workers,
+            &mut slots,
             &mut carried_offsets,
             &mut carried_counts,
         );
         self.offsets = offsets;
-        self.generations = generations;
-        self.attempt_starts = attempt_starts;
-        self.deadlines = deadlines;
-        self.deliveries = deliveries;
-        self.workers = workers;
+        self.slots = slots;
         self.len = left.len;
         self.carried_offsets = carried_offsets;
         self.carried_counts = carried_counts;
@@ -301,7 +292,9 @@ impl LeaseTable {
         requires { ⌜ Sound self ⌝ }
         ensures { λ r. ⌜ Answers (claimOf (r .outcome)) self (r .table) (claim (view self) worker (offset .0) now) ⌝ }
     {
+        let place = tables::find(&self.offsets, self.len, offset.0);
         let mut offsets = self.offsets;
+        let mut slots = self.slots;
         let mut generations = self.generations;
         let mut attempt_starts = self.attempt_starts;
         let mut deadlines = self.deadlines;
@@ -309,8 +302,9 @@ impl LeaseTable {
         let mut workers = self.workers;
         let mut carried_offsets = self.carried_offsets;
         let mut carried_counts = self.carried_counts;
-        let claimed = in_place::claim_in_place(
+        let claimed = in_place::claim_at(
             self.config,
+            place,
             self.len,
             self.carried_len,
             self.next_generation.0,
@@ -319,6 +313,7 @@ impl LeaseTable {
             offset.0,
             now,
             &mut offsets,
+            &mut slots,
             &mut generations,
             &mut attempt_starts,
             &mut deadlines,
@@ -328,6 +323,7 @@ impl LeaseTable {
             &mut carried_counts,
         );
         self.offsets = offsets;
+        self.slots = slots;
         self.generations = generations;
         self.attempt_starts = attempt_starts;
         self.deadlines = deadlines;
@@ -359,14 +355,22 @@ impl LeaseTable {
         requires { ⌜ Sound self ⌝ }
         ensures { λ r. ⌜ Tries (r .changed) self (r .table) (resealFromTo (view self) (offset .0) (from .0) (generation .0)) ⌝ }
     {
-        let place = in_place::owned(self.len, offset.0, from.0, &self.offsets, &self.generations);
+        let place = in_place::owned(
+            self.len,
+            offset.0,
+            from.0,
+            &self.offsets,
+            &self.slots,
+            &self.generations,
+        );
         let Place::Found(at) = place else {
             return Changed {
                 changed: false,
                 table: self,
             };
         };
-        self.generations[at] = generation.0;
+        let slot = in_place::slot_at(&self.slots, at);
+        self.generations[slot] = generation.0;
         Changed {
             changed: true,
             table: self,
@@ -378,7 +382,8 @@ impl LeaseTable {
         requires { ⌜ Sound self ⌝ }
         ensures { λ r. ⌜ r ≡ isClaimable (view self) (offset .0) now ⌝ }
     {
-        in_place::is_claimable_in_place(self.len, offset.0, now, &self.offsets, &self.deadlines)
+        let place = tables::find(&self.offsets, self.len, offset.0);
+        in_place::is_claimable_at(place, now, &self.slots, &self.deadlines)
     }
 
     // Acks the lease that the token owns: the message is in flight no longer.
@@ -386,33 +391,28 @@ impl LeaseTable {
         requires { ⌜ Sound self ⌝ }
         ensures { λ r. ⌜ Answers (ackOf (r .outcome)) self (r .table) (ack (view self) (token .offset .0) (token .generation .0)) ⌝ }
     {
-        let mut offsets = self.offsets;
-        let mut generations = self.generations;
-        let mut attempt_starts = self.attempt_starts;
-        let mut deadlines = self.deadlines;
-        let mut deliveries = self.deliveries;
-        let mut workers = self.workers;
-        let done = in_place::ack_in_place(
+        let place = in_place::owned(
             self.len,
             token.offset.0,
             token.generation.0,
-            &mut offsets,
-            &mut generations,
-            &mut attempt_starts,
-            &mut deadlines,
-            &mut deliveries,
-            &mut workers,
+            &self.offsets,
+            &self.slots,
+            &self.generations,
         );
+        let Place::Found(at) = place else {
+            return Acked {
+                outcome: AckOutcome::Fenced,
+                table: self,
+            };
+        };
+        let mut offsets = self.offsets;
+        let mut slots = self.slots;
+        let len = in_place::ack_at(at, self.len, &mut offsets, &mut slots);
         self.offsets = offsets;
-        self.generations = generations;
-        self.attempt_starts = attempt_starts;
-        self.deadlines = deadlines;
-        self.deliveries = deliveries;
-        self.workers = workers;
-        self.len = done.len;
-        let outcome = done.outcome;
+        self.slots = slots;
+        self.len = len;
         Acked {
-            outcome,
+            outcome: AckOutcome::Acked,
             table: self,
         }
     }
@@ -422,18 +422,28 @@ impl LeaseTable {
         requires { ⌜ Sound self ⌝ }
         ensures { λ r. ⌜ Answers (extendOf (r .outcome)) self (r .table) (extend (view self) (token .offset .0) (token .generation .0) now) ⌝ }
     {
-        let offsets = self.offsets;
-        let generations = self.generations;
-        let attempt_starts = self.attempt_starts;
-        let mut deadlines = self.deadlines;
-        let outcome = in_place::extend_in_place(
-            self.config,
+        let place = in_place::owned(
             self.len,
             token.offset.0,
             token.generation.0,
+            &self.offsets,
+            &self.slots,
+            &self.generations,
+        );
+        let Place::Found(at) = place else {
+            return Extended {
+                outcome: ExtendOutcome::Fenced,
+                table: self,
+            };
+        };
+        let slots = self.slots;
+        let attempt_starts = self.attempt_starts;
+        let mut deadlines = self.deadlines;
+        let outcome = in_place::extend_at(
+            self.config,
+            at,
             now,
-            &offsets,
-            &generations,
+            &slots,
             &attempt_starts,
             &mut deadlines,
         );
@@ -454,6 +464,7 @@ impl LeaseTable {
             token.offset.0,
             token.generation.0,
             &self.offsets,
+            &self.slots,
             &self.generations,
             &self.deliveries,
             &self.workers,
@@ -462,6 +473,7 @@ impl LeaseTable {
             Hold::Held {
                 deliveries,
                 worker: _,
+                at: _,
             } => Attempts::Some(deliveries),
             Hold::None => Attempts::None,
         }
@@ -477,12 +489,14 @@ impl LeaseTable {
             token.offset.0,
             token.generation.0,
             &self.offsets,
+            &self.slots,
             &self.generations,
         );
         let Place::Found(at) = place else {
             return false;
         };
-        now < self.deadlines[at]
+        let slot = in_place::slot_at(&self.slots, at);
+        now < self.deadlines[slot]
     }
 
     // Gives the lease that the token owns up: the message can be claimed again after the delay, which no cap bounds, since it belongs
@@ -492,17 +506,29 @@ impl LeaseTable {
         requires { ⌜ Sound self ⌝ }
         ensures { λ r. ⌜ Answers (nackOf (r .outcome)) self (r .table) (nack (view self) (token .offset .0) (token .generation .0) now «delay_nanos») ⌝ }
     {
-        let offsets = self.offsets;
-        let mut generations = self.generations;
-        let mut deadlines = self.deadlines;
-        let done = in_place::nack_in_place(
+        let place = in_place::owned(
             self.len,
-            self.next_generation.0,
             token.offset.0,
             token.generation.0,
+            &self.offsets,
+            &self.slots,
+            &self.generations,
+        );
+        let Place::Found(at) = place else {
+            return Nacked {
+                outcome: NackOutcome::Fenced,
+                table: self,
+            };
+        };
+        let slots = self.slots;
+        let mut generations = self.generations;
+        let mut deadlines = self.deadlines;
+        let done = in_place::nack_at(
+            at,
+            self.next_generation.0,
             now,
             delay_nanos,
-            &offsets,
+            &slots,
             &mut generations,
             &mut deadlines,
         );
@@ -544,13 +570,14 @@ impl LeaseTable {
                 table: self,
             };
         };
-        if now < self.deadlines[at] {
+        let slot = in_place::slot_at(&self.slots, at);
+        if now < self.deadlines[slot] {
             return Changed {
                 changed: false,
                 table: self,
             };
         }
-        self.deadlines[at] = numbers::saturating_add(now, delay_nanos);
+        self.deadlines[slot] = numbers::saturating_add(now, delay_nanos);
         Changed {
             changed: true,
             table: self,
@@ -562,20 +589,19 @@ impl LeaseTable {
         requires { ⌜ Sound self ⌝ }
         ensures { λ r. ⌜ Becomes r (shiftDeadlines (view self) delta) ⌝ }
     {
-        let len = self.len;
-        shift(&mut self.attempt_starts, len, delta);
-        shift(&mut self.deadlines, len, delta);
+        shift(&mut self.attempt_starts, delta);
+        shift(&mut self.deadlines, delta);
         self
     }
 }
 
-// Moves the first `len` times of a column forward.
-fn shift(times: &mut [u64; LEASES], len: usize, delta: u64)
-    requires { ⌜ (len ≤ LEASES) × (len ≤ length (times .now)) ⌝ }
-    ensures { λ _. ⌜ take len (times .exit .now) ≡ map (laterBy delta) (take len (times .entry .now)) ⌝ }
+// Moves the times of a column forward, those that no lease has too.
+fn shift(times: &mut [u64; LEASES], delta: u64)
+    requires { ⌜ length (times .now) ≡ LEASES ⌝ }
+    ensures { λ _. ⌜ times .exit .now ≡ map (laterBy delta) (times .entry .now) ⌝ }
 {
     let mut i: usize = 0;
-    while i < len {
+    while i < LEASES {
         times[i] = numbers::saturating_add(times[i], delta);
         i += 1;
     }

@@ -29,6 +29,7 @@ impl LeaseTable {
             self.len,
             offset.0,
             &self.offsets,
+            &self.slots,
             &self.generations,
             &self.attempt_starts,
             &self.deadlines,

@@ -29,8 +29,9 @@ use Rattle.checkpoint.specs.declared.Stepped.{Stepped}
 use Rattle.checkpoint.specs.declared.StepAnswer.{StepAnswer}
 use Rattle.checkpoint.specs.declared.StepAnswer.the-variants as steps
 use Rattle.starts.specs.Restart as restarts
-use Rattle.starts.specs.Starting.{configurationOf, StartedIs}
+use Rattle.starts.specs.Starting.{configurationOf, startOf, StartedIs}
 use Rattle.starts.specs.declared.Started.{Started}
+use Rattle.starts.specs.declared.StartAnswer.{StartAnswer}
 use Rattle.starts.specs.declared.StartAnswer.the-variants as starts
 use Rattle.starts.proofs.Restarting.{Other, other-faulty}
 use Rattle.machine.specs.Calls.{Ask, Call, ask, begin, step, restart, u64, fits}
@@ -215,22 +216,32 @@ module _ (m : Machine) (e : m .phase ≡ 1) (a a′ : List ℕ) (r : Stepped) (h
       })
 
 -- ## restart
+module _ (m : Machine) (a out : List ℕ) (d : StartAnswer) (c : Consumer) (h : startOf d (view c) ≡ restarts.restart (configurationOf (m .configuration)) a) where
+  pub restart-kept : Sound m → Other d → CalledIs m restart a out (record { answer = calls.Restarted d; machine = m }) a out
+  unfolding transition
+  restart-kept ok o =
+      let f = other-faulty d o in
+      let w : refused (f .refusal) ≡ restarts.restart (configurationOf (m .configuration)) a = rw (f .is) at h in
+      record { is = rw (← w, f .is); sound = ok; configuration = refl; kept = rw (f .is); lists = rw (← w) }
+
+  pub restart-made : d ≡ starts.Started → consumer.Sound c → (m′ : Machine) → Rests (m .configuration) 0 c m′
+      → CalledIs m restart a out (record { answer = calls.Restarted d; machine = m′ }) a out
+  unfolding transition
+  restart-made p s m′ i =
+      let w : done (view c) ≡ restarts.restart (configurationOf (m .configuration)) a = rw p at h in
+      record { is = rw (p, ← w, i .phase, i .consumer); sound = rw (i .phase, i .consumer) s; configuration = i .configuration; kept = rw p tt; lists = rw (← w) }
+
 module _ (m : Machine) (ok : Sound m) (a out : List ℕ) (size : ℕ) (r : Started)
     (h : StartedIs (m .configuration) size (restarts.restart (configurationOf (m .configuration)) a) r) where
   pub restart-refused : Other (r .answer) → CalledIs m restart a out (record { answer = calls.Restarted (r .answer); machine = m }) a out
-  unfolding transition
-  restart-refused o =
-      let f = other-faulty (r .answer) o in
-      let w : refused (f .refusal) ≡ restarts.restart (configurationOf (m .configuration)) a = rw (f .is) at (h .is) in
-      record { is = rw (← w, f .is); sound = ok; configuration = refl; kept = rw (f .is); lists = rw (← w) }
+  restart-refused = restart-kept m a out (r .answer) (r .consumer) (h .is) ok
 
   pub restart-done : r .answer ≡ starts.Started → (m′ : Machine) → Rests (m .configuration) 0 (r .consumer) m′
       → CalledIs m restart a out (record { answer = calls.Restarted (r .answer); machine = m′ }) a out
-  unfolding transition
   restart-done p m′ i =
       let w : done (view (r .consumer)) ≡ restarts.restart (configurationOf (m .configuration)) a = rw p at (h .is) in
       let s : consumer.Sound (r .consumer) = rw (← w) at (h .beside) in
-      record { is = rw (p, ← w, i .phase, i .consumer); sound = rw (i .phase, i .consumer) s; configuration = i .configuration; kept = rw p tt; lists = rw (← w) }
+      restart-made m a out (r .answer) (r .consumer) (h .is) p s m′ i
 
 -- ## start
 module _ (s : Configuration) (size : ℕ) (r : Started) (h : StartedIs s size (restarts.start (configurationOf s) size) r) (m : Machine) where

@@ -13,11 +13,11 @@ use Rattle.machine.specs.declared.in_place.Fixed.{Fixed}
 use Rattle.machine.specs.declared.in_place.Figures.{Figures}
 
 -- a consumer with these numbers and columns in their places
-abbrev pub consumerOf : Fixed → Figures → List ℕ → List ℕ → List ℕ → List ℕ → List ℕ → List ℕ → List ℕ → List ℕ → List ℕ → List ℕ → List ℕ → List ℕ → Consumer → Consumer
-consumerOf f n starts ends ks gs ss ds ns ws cks cvs backoffs rights x =
+abbrev pub consumerOf : Fixed → Figures → List ℕ → List ℕ → List ℕ → List ℕ → List ℕ → List ℕ → List ℕ → List ℕ → List ℕ → List ℕ → List ℕ → List ℕ → List ℕ → Consumer → Consumer
+consumerOf f n starts ends ks slots gs ss ds ns ws cks cvs backoffs rights x =
     record {
       cursor = ackCursor (n .committed) starts ends (n .runs);
-      table = gathered (f .config) (n .len) (n .«carried_len») (n .«next_generation») (n .redeliveries) ks gs ss ds ns ws cks cvs;
+      table = gathered (f .config) (n .len) (n .«carried_len») (n .«next_generation») (n .redeliveries) ks slots gs ss ds ns ws cks cvs;
       ceiling = record { 0 = f .ceiling };
       next = record { number = x .next .number; block = f .block };
       «area_len» = f .«area_len»;
@@ -55,8 +55,8 @@ abbrev pub left : AskAnswer → Consumer → Asked
 left a x = record { answer = a; consumer = x }
 
 -- what the calls need of the parts that they are lent
-pub record Ready (f : Fixed) (n : Figures) (starts ends ks gs ss ds ns ws cks cvs backoffs : List ℕ) : Type 0 where
+pub record Ready (f : Fixed) (n : Figures) (starts ends ks slots gs ss ds ns ws cks cvs backoffs : List ℕ) : Type 0 where
   pub cursor : cursor.Whole (ackCursor (n .committed) starts ends (n .runs))
-  pub table : lease.Whole (gathered (f .config) (n .len) (n .«carried_len») (n .«next_generation») (n .redeliveries) ks gs ss ds ns ws cks cvs)
+  pub table : lease.Whole (gathered (f .config) (n .len) (n .«carried_len») (n .«next_generation») (n .redeliveries) ks slots gs ss ds ns ws cks cvs)
   pub schedule : LentBackoffs backoffs (f .«backoff_len»)
   pub blocks : f .block ≤ f .«area_len» / 512

@@ -50,6 +50,7 @@ pub fn ask(consumer: Consumer, worker: u64, ask: Ask, out: &mut [u64]) -> Asked
     let mut starts = cursor.starts;
     let mut ends = cursor.ends;
     let mut offsets = table.offsets;
+    let mut slots = table.slots;
     let mut generations = table.generations;
     let mut attempt_starts = table.attempt_starts;
     let mut deadlines = table.deadlines;
@@ -65,6 +66,7 @@ pub fn ask(consumer: Consumer, worker: u64, ask: Ask, out: &mut [u64]) -> Asked
         &mut starts,
         &mut ends,
         &mut offsets,
+        &mut slots,
         &mut generations,
         &mut attempt_starts,
         &mut deadlines,
@@ -90,6 +92,7 @@ pub fn ask(consumer: Consumer, worker: u64, ask: Ask, out: &mut [u64]) -> Asked
             table: LeaseTable {
                 config,
                 offsets,
+                slots,
                 generations,
                 attempt_starts,
                 deadlines,

@@ -80,6 +80,7 @@ fn ask_claim<'a>(
     starts: &'a [u64; RANGES],
     ends: &'a [u64; RANGES],
     offsets: &mut [u64; LEASES],
+    slots: &mut [u32; LEASES],
     generations: &mut [u64; LEASES],
     attempt_starts: &mut [u64; LEASES],
     deadlines: &mut [u64; LEASES],
@@ -89,8 +90,8 @@ fn ask_claim<'a>(
     carried_counts: &mut [u32; CARRIED],
     rights: &'a [u8; WORKERS],
 ) -> AskedAt
-    requires { ⌜ cursor.Whole (ackCursor (figures .committed) (starts .now) (ends .now) (figures .runs)) × lease.Whole (gathered (fixed .config) (figures .len) (figures .«carried_len») (figures .«next_generation») (figures .redeliveries) (offsets .now) (generations .now) («attempt_starts» .now) (deadlines .now) (deliveries .now) (workers .now) («carried_offsets» .now) («carried_counts» .now)) ⌝ }
-    ensures { λ r. ⌜ ((x : Consumer) (out : List ℕ) → Whole (consumerOf fixed figures (starts .entry .now) (ends .entry .now) (offsets .entry .now) (generations .entry .now) («attempt_starts» .entry .now) (deadlines .entry .now) (deliveries .entry .now) (workers .entry .now) («carried_offsets» .entry .now) («carried_counts» .entry .now) (x .settings .delivery .«backoff_nanos») (rights .entry .now) x) → AskedIs (consumerOf fixed figures (starts .entry .now) (ends .entry .now) (offsets .entry .now) (generations .entry .now) («attempt_starts» .entry .now) (deadlines .entry .now) (deliveries .entry .now) (workers .entry .now) («carried_offsets» .entry .now) («carried_counts» .entry .now) (x .settings .delivery .«backoff_nanos») (rights .entry .now) x) worker (claim (offset .0) now) out (left (r .answer) (consumerOf fixed (r .figures) (starts .entry .now) (ends .entry .now) (offsets .exit .now) (generations .exit .now) («attempt_starts» .exit .now) (deadlines .exit .now) (deliveries .exit .now) (workers .exit .now) («carried_offsets» .exit .now) («carried_counts» .exit .now) (x .settings .delivery .«backoff_nanos») (rights .entry .now) x)) out) ⌝ }
+    requires { ⌜ cursor.Whole (ackCursor (figures .committed) (starts .now) (ends .now) (figures .runs)) × lease.Whole (gathered (fixed .config) (figures .len) (figures .«carried_len») (figures .«next_generation») (figures .redeliveries) (offsets .now) (slots .now) (generations .now) («attempt_starts» .now) (deadlines .now) (deliveries .now) (workers .now) («carried_offsets» .now) («carried_counts» .now)) ⌝ }
+    ensures { λ r. ⌜ ((x : Consumer) (out : List ℕ) → Whole (consumerOf fixed figures (starts .entry .now) (ends .entry .now) (offsets .entry .now) (slots .entry .now) (generations .entry .now) («attempt_starts» .entry .now) (deadlines .entry .now) (deliveries .entry .now) (workers .entry .now) («carried_offsets» .entry .now) («carried_counts» .entry .now) (x .settings .delivery .«backoff_nanos») (rights .entry .now) x) → AskedIs (consumerOf fixed figures (starts .entry .now) (ends .entry .now) (offsets .entry .now) (slots .entry .now) (generations .entry .now) («attempt_starts» .entry .now) (deadlines .entry .now) (deliveries .entry .now) (workers .entry .now) («carried_offsets» .entry .now) («carried_counts» .entry .now) (x .settings .delivery .«backoff_nanos») (rights .entry .now) x) worker (claim (offset .0) now) out (left (r .answer) (consumerOf fixed (r .figures) (starts .entry .now) (ends .entry .now) (offsets .exit .now) (slots .exit .now) (generations .exit .now) («attempt_starts» .exit .now) (deadlines .exit .now) (deliveries .exit .now) (workers .exit .now) («carried_offsets» .exit .now) («carried_counts» .exit .now) (x .settings .delivery .«backoff_nanos») (rights .entry .now) x)) out) ⌝ }
 {
     let done = consumer::in_place::claim_in_place(
         fixed.config,
@@ -111,6 +112,7 @@ fn ask_claim<'a>(
         starts,
         ends,
         offsets,
+        slots,
         generations,
         attempt_starts,
         deadlines,
@@ -141,15 +143,14 @@ fn ask_ack<'a>(
     starts: &mut [u64; RANGES],
     ends: &mut [u64; RANGES],
     offsets: &mut [u64; LEASES],
-    generations: &mut [u64; LEASES],
-    attempt_starts: &mut [u64; LEASES],
-    deadlines: &mut [u64; LEASES],
-    deliveries: &mut [u32; LEASES],
-    workers: &mut [u32; LEASES],
+    slots: &mut [u32; LEASES],
+    generations: &'a [u64; LEASES],
+    deliveries: &'a [u32; LEASES],
+    workers: &'a [u32; LEASES],
     rights: &'a [u8; WORKERS],
 ) -> AskedAt
     requires { ⌜ cursor.Whole (ackCursor (figures .committed) (starts .now) (ends .now) (figures .runs)) × (figures .len ≤ LEASES) ⌝ }
-    ensures { λ r. ⌜ ((x : Consumer) (out : List ℕ) → Whole (consumerOf (fixedOf x) figures (starts .entry .now) (ends .entry .now) (offsets .entry .now) (generations .entry .now) («attempt_starts» .entry .now) (deadlines .entry .now) (deliveries .entry .now) (workers .entry .now) (x .table .«carried_offsets») (x .table .«carried_counts») (x .settings .delivery .«backoff_nanos») (rights .entry .now) x) → AskedIs (consumerOf (fixedOf x) figures (starts .entry .now) (ends .entry .now) (offsets .entry .now) (generations .entry .now) («attempt_starts» .entry .now) (deadlines .entry .now) (deliveries .entry .now) (workers .entry .now) (x .table .«carried_offsets») (x .table .«carried_counts») (x .settings .delivery .«backoff_nanos») (rights .entry .now) x) worker (ack (token .offset .0) (token .generation .0)) out (left (r .answer) (consumerOf (fixedOf x) (r .figures) (starts .exit .now) (ends .exit .now) (offsets .exit .now) (generations .exit .now) («attempt_starts» .exit .now) (deadlines .exit .now) (deliveries .exit .now) (workers .exit .now) (x .table .«carried_offsets») (x .table .«carried_counts») (x .settings .delivery .«backoff_nanos») (rights .entry .now) x)) out) ⌝ }
+    ensures { λ r. ⌜ ((x : Consumer) (out : List ℕ) → Whole (consumerOf (fixedOf x) figures (starts .entry .now) (ends .entry .now) (offsets .entry .now) (slots .entry .now) (generations .entry .now) (x .table .«attempt_starts») (x .table .deadlines) (deliveries .entry .now) (workers .entry .now) (x .table .«carried_offsets») (x .table .«carried_counts») (x .settings .delivery .«backoff_nanos») (rights .entry .now) x) → AskedIs (consumerOf (fixedOf x) figures (starts .entry .now) (ends .entry .now) (offsets .entry .now) (slots .entry .now) (generations .entry .now) (x .table .«attempt_starts») (x .table .deadlines) (deliveries .entry .now) (workers .entry .now) (x .table .«carried_offsets») (x .table .«carried_counts») (x .settings .delivery .«backoff_nanos») (rights .entry .now) x) worker (ack (token .offset .0) (token .generation .0)) out (left (r .answer) (consumerOf (fixedOf x) (r .figures) (starts .exit .now) (ends .exit .now) (offsets .exit .now) (slots .exit .now) (generations .entry .now) (x .table .«attempt_starts») (x .table .deadlines) (deliveries .entry .now) (workers .entry .now) (x .table .«carried_offsets») (x .table .«carried_counts») (x .settings .delivery .«backoff_nanos») (rights .entry .now) x)) out) ⌝ }
 {
     let done = consumer::in_place::settle_in_place(
         figures.committed,
@@ -162,9 +163,8 @@ fn ask_ack<'a>(
         starts,
         ends,
         offsets,
+        slots,
         generations,
-        attempt_starts,
-        deadlines,
         deliveries,
         workers,
     );
@@ -190,15 +190,14 @@ fn ask_term<'a>(
     starts: &mut [u64; RANGES],
     ends: &mut [u64; RANGES],
     offsets: &mut [u64; LEASES],
-    generations: &mut [u64; LEASES],
-    attempt_starts: &mut [u64; LEASES],
-    deadlines: &mut [u64; LEASES],
-    deliveries: &mut [u32; LEASES],
-    workers: &mut [u32; LEASES],
+    slots: &mut [u32; LEASES],
+    generations: &'a [u64; LEASES],
+    deliveries: &'a [u32; LEASES],
+    workers: &'a [u32; LEASES],
     rights: &'a [u8; WORKERS],
 ) -> AskedAt
     requires { ⌜ cursor.Whole (ackCursor (figures .committed) (starts .now) (ends .now) (figures .runs)) × (figures .len ≤ LEASES) ⌝ }
-    ensures { λ r. ⌜ ((x : Consumer) (out : List ℕ) → Whole (consumerOf (fixedOf x) figures (starts .entry .now) (ends .entry .now) (offsets .entry .now) (generations .entry .now) («attempt_starts» .entry .now) (deadlines .entry .now) (deliveries .entry .now) (workers .entry .now) (x .table .«carried_offsets») (x .table .«carried_counts») (x .settings .delivery .«backoff_nanos») (rights .entry .now) x) → AskedIs (consumerOf (fixedOf x) figures (starts .entry .now) (ends .entry .now) (offsets .entry .now) (generations .entry .now) («attempt_starts» .entry .now) (deadlines .entry .now) (deliveries .entry .now) (workers .entry .now) (x .table .«carried_offsets») (x .table .«carried_counts») (x .settings .delivery .«backoff_nanos») (rights .entry .now) x) worker (term (token .offset .0) (token .generation .0)) out (left (r .answer) (consumerOf (fixedOf x) (r .figures) (starts .exit .now) (ends .exit .now) (offsets .exit .now) (generations .exit .now) («attempt_starts» .exit .now) (deadlines .exit .now) (deliveries .exit .now) (workers .exit .now) (x .table .«carried_offsets») (x .table .«carried_counts») (x .settings .delivery .«backoff_nanos») (rights .entry .now) x)) out) ⌝ }
+    ensures { λ r. ⌜ ((x : Consumer) (out : List ℕ) → Whole (consumerOf (fixedOf x) figures (starts .entry .now) (ends .entry .now) (offsets .entry .now) (slots .entry .now) (generations .entry .now) (x .table .«attempt_starts») (x .table .deadlines) (deliveries .entry .now) (workers .entry .now) (x .table .«carried_offsets») (x .table .«carried_counts») (x .settings .delivery .«backoff_nanos») (rights .entry .now) x) → AskedIs (consumerOf (fixedOf x) figures (starts .entry .now) (ends .entry .now) (offsets .entry .now) (slots .entry .now) (generations .entry .now) (x .table .«attempt_starts») (x .table .deadlines) (deliveries .entry .now) (workers .entry .now) (x .table .«carried_offsets») (x .table .«carried_counts») (x .settings .delivery .«backoff_nanos») (rights .entry .now) x) worker (term (token .offset .0) (token .generation .0)) out (left (r .answer) (consumerOf (fixedOf x) (r .figures) (starts .exit .now) (ends .exit .now) (offsets .exit .now) (slots .exit .now) (generations .entry .now) (x .table .«attempt_starts») (x .table .deadlines) (deliveries .entry .now) (workers .entry .now) (x .table .«carried_offsets») (x .table .«carried_counts») (x .settings .delivery .«backoff_nanos») (rights .entry .now) x)) out) ⌝ }
 {
     let done = consumer::in_place::settle_in_place(
         figures.committed,
@@ -211,9 +210,8 @@ fn ask_term<'a>(
         starts,
         ends,
         offsets,
+        slots,
         generations,
-        attempt_starts,
-        deadlines,
         deliveries,
         workers,
     );
@@ -240,6 +238,7 @@ fn ask_nack<'a>(
     now: u64,
     delay: Delay,
     offsets: &'a [u64; LEASES],
+    slots: &'a [u32; LEASES],
     generations: &mut [u64; LEASES],
     deadlines: &mut [u64; LEASES],
     deliveries: &'a [u32; LEASES],
@@ -248,7 +247,7 @@ fn ask_nack<'a>(
     rights: &'a [u8; WORKERS],
 ) -> AskedAt
     requires { ⌜ LentBackoffs («backoff_nanos» .now) (fixed .«backoff_len») × (figures .len ≤ LEASES) ⌝ }
-    ensures { λ r. ⌜ ((x : Consumer) (out : List ℕ) → Whole (consumerOf fixed figures (x .cursor .starts) (x .cursor .ends) (offsets .entry .now) (generations .entry .now) (x .table .«attempt_starts») (deadlines .entry .now) (deliveries .entry .now) (workers .entry .now) (x .table .«carried_offsets») (x .table .«carried_counts») («backoff_nanos» .entry .now) (rights .entry .now) x) → AskedIs (consumerOf fixed figures (x .cursor .starts) (x .cursor .ends) (offsets .entry .now) (generations .entry .now) (x .table .«attempt_starts») (deadlines .entry .now) (deliveries .entry .now) (workers .entry .now) (x .table .«carried_offsets») (x .table .«carried_counts») («backoff_nanos» .entry .now) (rights .entry .now) x) worker (nack (token .offset .0) (token .generation .0) now (delayOf delay)) out (left (r .answer) (consumerOf fixed (r .figures) (x .cursor .starts) (x .cursor .ends) (offsets .entry .now) (generations .exit .now) (x .table .«attempt_starts») (deadlines .exit .now) (deliveries .entry .now) (workers .entry .now) (x .table .«carried_offsets») (x .table .«carried_counts») («backoff_nanos» .entry .now) (rights .entry .now) x)) out) ⌝ }
+    ensures { λ r. ⌜ ((x : Consumer) (out : List ℕ) → Whole (consumerOf fixed figures (x .cursor .starts) (x .cursor .ends) (offsets .entry .now) (slots .entry .now) (generations .entry .now) (x .table .«attempt_starts») (deadlines .entry .now) (deliveries .entry .now) (workers .entry .now) (x .table .«carried_offsets») (x .table .«carried_counts») («backoff_nanos» .entry .now) (rights .entry .now) x) → AskedIs (consumerOf fixed figures (x .cursor .starts) (x .cursor .ends) (offsets .entry .now) (slots .entry .now) (generations .entry .now) (x .table .«attempt_starts») (deadlines .entry .now) (deliveries .entry .now) (workers .entry .now) (x .table .«carried_offsets») (x .table .«carried_counts») («backoff_nanos» .entry .now) (rights .entry .now) x) worker (nack (token .offset .0) (token .generation .0) now (delayOf delay)) out (left (r .answer) (consumerOf fixed (r .figures) (x .cursor .starts) (x .cursor .ends) (offsets .entry .now) (slots .entry .now) (generations .exit .now) (x .table .«attempt_starts») (deadlines .exit .now) (deliveries .entry .now) (workers .entry .now) (x .table .«carried_offsets») (x .table .«carried_counts») («backoff_nanos» .entry .now) (rights .entry .now) x)) out) ⌝ }
 {
     let done = consumer::in_place::nack_in_place(
         fixed.config,
@@ -265,6 +264,7 @@ fn ask_nack<'a>(
         rights,
         backoff_nanos,
         offsets,
+        slots,
         generations,
         deadlines,
         deliveries,
@@ -292,6 +292,7 @@ fn ask_progress<'a>(
     token: LeaseToken,
     now: u64,
     offsets: &'a [u64; LEASES],
+    slots: &'a [u32; LEASES],
     generations: &'a [u64; LEASES],
     attempt_starts: &'a [u64; LEASES],
     deadlines: &mut [u64; LEASES],
@@ -300,7 +301,7 @@ fn ask_progress<'a>(
     rights: &'a [u8; WORKERS],
 ) -> AskedAt
     requires { ⌜ figures .len ≤ LEASES ⌝ }
-    ensures { λ r. ⌜ ((x : Consumer) (out : List ℕ) → Whole (consumerOf fixed figures (x .cursor .starts) (x .cursor .ends) (offsets .entry .now) (generations .entry .now) («attempt_starts» .entry .now) (deadlines .entry .now) (deliveries .entry .now) (workers .entry .now) (x .table .«carried_offsets») (x .table .«carried_counts») (x .settings .delivery .«backoff_nanos») (rights .entry .now) x) → AskedIs (consumerOf fixed figures (x .cursor .starts) (x .cursor .ends) (offsets .entry .now) (generations .entry .now) («attempt_starts» .entry .now) (deadlines .entry .now) (deliveries .entry .now) (workers .entry .now) (x .table .«carried_offsets») (x .table .«carried_counts») (x .settings .delivery .«backoff_nanos») (rights .entry .now) x) worker (progress (token .offset .0) (token .generation .0) now) out (left (r .answer) (consumerOf fixed (r .figures) (x .cursor .starts) (x .cursor .ends) (offsets .entry .now) (generations .entry .now) («attempt_starts» .entry .now) (deadlines .exit .now) (deliveries .entry .now) (workers .entry .now) (x .table .«carried_offsets») (x .table .«carried_counts») (x .settings .delivery .«backoff_nanos») (rights .entry .now) x)) out) ⌝ }
+    ensures { λ r. ⌜ ((x : Consumer) (out : List ℕ) → Whole (consumerOf fixed figures (x .cursor .starts) (x .cursor .ends) (offsets .entry .now) (slots .entry .now) (generations .entry .now) («attempt_starts» .entry .now) (deadlines .entry .now) (deliveries .entry .now) (workers .entry .now) (x .table .«carried_offsets») (x .table .«carried_counts») (x .settings .delivery .«backoff_nanos») (rights .entry .now) x) → AskedIs (consumerOf fixed figures (x .cursor .starts) (x .cursor .ends) (offsets .entry .now) (slots .entry .now) (generations .entry .now) («attempt_starts» .entry .now) (deadlines .entry .now) (deliveries .entry .now) (workers .entry .now) (x .table .«carried_offsets») (x .table .«carried_counts») (x .settings .delivery .«backoff_nanos») (rights .entry .now) x) worker (progress (token .offset .0) (token .generation .0) now) out (left (r .answer) (consumerOf fixed (r .figures) (x .cursor .starts) (x .cursor .ends) (offsets .entry .now) (slots .entry .now) (generations .entry .now) («attempt_starts» .entry .now) (deadlines .exit .now) (deliveries .entry .now) (workers .entry .now) (x .table .«carried_offsets») (x .table .«carried_counts») (x .settings .delivery .«backoff_nanos») (rights .entry .now) x)) out) ⌝ }
 {
     let answer = consumer::in_place::progress_in_place(
         fixed.config,
@@ -311,6 +312,7 @@ fn ask_progress<'a>(
         now,
         rights,
         offsets,
+        slots,
         generations,
         attempt_starts,
         deadlines,
@@ -331,17 +333,13 @@ fn ask_commit<'a>(
     starts: &mut [u64; RANGES],
     ends: &mut [u64; RANGES],
     offsets: &mut [u64; LEASES],
-    generations: &mut [u64; LEASES],
-    attempt_starts: &mut [u64; LEASES],
-    deadlines: &mut [u64; LEASES],
-    deliveries: &mut [u32; LEASES],
-    workers: &mut [u32; LEASES],
+    slots: &mut [u32; LEASES],
     carried_offsets: &mut [u64; CARRIED],
     carried_counts: &mut [u32; CARRIED],
     rights: &'a [u8; WORKERS],
 ) -> AskedAt
     requires { ⌜ cursor.Whole (ackCursor (figures .committed) (starts .now) (ends .now) (figures .runs)) × (figures .len ≤ LEASES) × (figures .«carried_len» ≤ CARRIED) ⌝ }
-    ensures { λ r. ⌜ ((x : Consumer) (out : List ℕ) → Whole (consumerOf (fixedOf x) figures (starts .entry .now) (ends .entry .now) (offsets .entry .now) (generations .entry .now) («attempt_starts» .entry .now) (deadlines .entry .now) (deliveries .entry .now) (workers .entry .now) («carried_offsets» .entry .now) («carried_counts» .entry .now) (x .settings .delivery .«backoff_nanos») (rights .entry .now) x) → AskedIs (consumerOf (fixedOf x) figures (starts .entry .now) (ends .entry .now) (offsets .entry .now) (generations .entry .now) («attempt_starts» .entry .now) (deadlines .entry .now) (deliveries .entry .now) (workers .entry .now) («carried_offsets» .entry .now) («carried_counts» .entry .now) (x .settings .delivery .«backoff_nanos») (rights .entry .now) x) worker (commit (bound .0)) out (left (r .answer) (consumerOf (fixedOf x) (r .figures) (starts .exit .now) (ends .exit .now) (offsets .exit .now) (generations .exit .now) («attempt_starts» .exit .now) (deadlines .exit .now) (deliveries .exit .now) (workers .exit .now) («carried_offsets» .exit .now) («carried_counts» .exit .now) (x .settings .delivery .«backoff_nanos») (rights .entry .now) x)) out) ⌝ }
+    ensures { λ r. ⌜ ((x : Consumer) (out : List ℕ) → Whole (consumerOf (fixedOf x) figures (starts .entry .now) (ends .entry .now) (offsets .entry .now) (slots .entry .now) (x .table .generations) (x .table .«attempt_starts») (x .table .deadlines) (x .table .deliveries) (x .table .workers) («carried_offsets» .entry .now) («carried_counts» .entry .now) (x .settings .delivery .«backoff_nanos») (rights .entry .now) x) → AskedIs (consumerOf (fixedOf x) figures (starts .entry .now) (ends .entry .now) (offsets .entry .now) (slots .entry .now) (x .table .generations) (x .table .«attempt_starts») (x .table .deadlines) (x .table .deliveries) (x .table .workers) («carried_offsets» .entry .now) («carried_counts» .entry .now) (x .settings .delivery .«backoff_nanos») (rights .entry .now) x) worker (commit (bound .0)) out (left (r .answer) (consumerOf (fixedOf x) (r .figures) (starts .exit .now) (ends .exit .now) (offsets .exit .now) (slots .exit .now) (x .table .generations) (x .table .«attempt_starts») (x .table .deadlines) (x .table .deliveries) (x .table .workers) («carried_offsets» .exit .now) («carried_counts» .exit .now) (x .settings .delivery .«backoff_nanos») (rights .entry .now) x)) out) ⌝ }
 {
     let done = consumer::in_place::commit_in_place(
         figures.committed,
@@ -354,11 +352,7 @@ fn ask_commit<'a>(
         starts,
         ends,
         offsets,
-        generations,
-        attempt_starts,
-        deadlines,
-        deliveries,
-        workers,
+        slots,
         carried_offsets,
         carried_counts,
     );
@@ -385,6 +379,7 @@ fn reply<'a>(
     starts: &'a [u64; RANGES],
     ends: &'a [u64; RANGES],
     offsets: &'a [u64; LEASES],
+    slots: &'a [u32; LEASES],
     generations: &'a [u64; LEASES],
     attempt_starts: &'a [u64; LEASES],
     deadlines: &'a [u64; LEASES],
@@ -396,7 +391,7 @@ fn reply<'a>(
     out: &mut [u64],
 ) -> Reply
     requires { ⌜ cursor.Whole (ackCursor (figures .committed) (starts .now) (ends .now) (figures .runs)) × (figures .len ≤ LEASES) × (figures .«carried_len» ≤ CARRIED) × (fixed .block ≤ fixed .«area_len» / 512) ⌝ }
-    ensures { λ r. ⌜ ((x : Consumer) → Whole (consumerOf fixed figures (starts .entry .now) (ends .entry .now) (offsets .entry .now) (generations .entry .now) («attempt_starts» .entry .now) (deadlines .entry .now) (deliveries .entry .now) (workers .entry .now) («carried_offsets» .entry .now) («carried_counts» .entry .now) (x .settings .delivery .«backoff_nanos») (rights .entry .now) x) → LookedIs (questions.reply (view (consumerOf fixed figures (starts .entry .now) (ends .entry .now) (offsets .entry .now) (generations .entry .now) («attempt_starts» .entry .now) (deadlines .entry .now) (deliveries .entry .now) (workers .entry .now) («carried_offsets» .entry .now) («carried_counts» .entry .now) (x .settings .delivery .«backoff_nanos») (rights .entry .now) x)) worker (questionOf (length (now (out .entry))) question)) (questionOf (length (now (out .entry))) question) (now (out .entry)) r (now (out .exit))) ⌝ }
+    ensures { λ r. ⌜ ((x : Consumer) → Whole (consumerOf fixed figures (starts .entry .now) (ends .entry .now) (offsets .entry .now) (slots .entry .now) (generations .entry .now) («attempt_starts» .entry .now) (deadlines .entry .now) (deliveries .entry .now) (workers .entry .now) («carried_offsets» .entry .now) («carried_counts» .entry .now) (x .settings .delivery .«backoff_nanos») (rights .entry .now) x) → LookedIs (questions.reply (view (consumerOf fixed figures (starts .entry .now) (ends .entry .now) (offsets .entry .now) (slots .entry .now) (generations .entry .now) («attempt_starts» .entry .now) (deadlines .entry .now) (deliveries .entry .now) (workers .entry .now) («carried_offsets» .entry .now) («carried_counts» .entry .now) (x .settings .delivery .«backoff_nanos») (rights .entry .now) x)) worker (questionOf (length (now (out .entry))) question)) (questionOf (length (now (out .entry))) question) (now (out .entry)) r (now (out .exit))) ⌝ }
 {
     match question {
         Question::Waiting { now } => {
@@ -405,6 +400,7 @@ fn reply<'a>(
                 figures.carried_len,
                 now,
                 offsets,
+                slots,
                 deadlines,
                 carried_offsets,
                 out,
@@ -425,6 +421,7 @@ fn reply<'a>(
                 figures.len,
                 offset.0,
                 offsets,
+                slots,
                 generations,
                 attempt_starts,
                 deadlines,
@@ -439,6 +436,7 @@ fn reply<'a>(
                 figures.carried_len,
                 offset.0,
                 offsets,
+                slots,
                 deliveries,
                 carried_offsets,
                 carried_counts,
@@ -462,6 +460,7 @@ fn reply<'a>(
                 starts,
                 ends,
                 offsets,
+                slots,
                 generations,
                 attempt_starts,
                 deadlines,
@@ -504,6 +503,7 @@ fn look<'a>(
     starts: &'a [u64; RANGES],
     ends: &'a [u64; RANGES],
     offsets: &'a [u64; LEASES],
+    slots: &'a [u32; LEASES],
     generations: &'a [u64; LEASES],
     attempt_starts: &'a [u64; LEASES],
     deadlines: &'a [u64; LEASES],
@@ -515,7 +515,7 @@ fn look<'a>(
     out: &mut [u64],
 ) -> Reply
     requires { ⌜ cursor.Whole (ackCursor (figures .committed) (starts .now) (ends .now) (figures .runs)) × (figures .len ≤ LEASES) × (figures .«carried_len» ≤ CARRIED) × (fixed .block ≤ fixed .«area_len» / 512) ⌝ }
-    ensures { λ r. ⌜ ((x : Consumer) → Whole (consumerOf fixed figures (starts .entry .now) (ends .entry .now) (offsets .entry .now) (generations .entry .now) («attempt_starts» .entry .now) (deadlines .entry .now) (deliveries .entry .now) (workers .entry .now) («carried_offsets» .entry .now) («carried_counts» .entry .now) (x .settings .delivery .«backoff_nanos») (rights .entry .now) x) → LookedIs (questions.look (view (consumerOf fixed figures (starts .entry .now) (ends .entry .now) (offsets .entry .now) (generations .entry .now) («attempt_starts» .entry .now) (deadlines .entry .now) (deliveries .entry .now) (workers .entry .now) («carried_offsets» .entry .now) («carried_counts» .entry .now) (x .settings .delivery .«backoff_nanos») (rights .entry .now) x)) worker (questionOf (length (now (out .entry))) question)) (questionOf (length (now (out .entry))) question) (now (out .entry)) r (now (out .exit))) ⌝ }
+    ensures { λ r. ⌜ ((x : Consumer) → Whole (consumerOf fixed figures (starts .entry .now) (ends .entry .now) (offsets .entry .now) (slots .entry .now) (generations .entry .now) («attempt_starts» .entry .now) (deadlines .entry .now) (deliveries .entry .now) (workers .entry .now) («carried_offsets» .entry .now) («carried_counts» .entry .now) (x .settings .delivery .«backoff_nanos») (rights .entry .now) x) → LookedIs (questions.look (view (consumerOf fixed figures (starts .entry .now) (ends .entry .now) (offsets .entry .now) (slots .entry .now) (generations .entry .now) («attempt_starts» .entry .now) (deadlines .entry .now) (deliveries .entry .now) (workers .entry .now) («carried_offsets» .entry .now) («carried_counts» .entry .now) (x .settings .delivery .«backoff_nanos») (rights .entry .now) x)) worker (questionOf (length (now (out .entry))) question)) (questionOf (length (now (out .entry))) question) (now (out .entry)) r (now (out .exit))) ⌝ }
 {
     let permission = rights::permission_of(rights, worker, LOOK);
     match permission {
@@ -527,6 +527,7 @@ fn look<'a>(
             starts,
             ends,
             offsets,
+            slots,
             generations,
             attempt_starts,
             deadlines,
@@ -579,6 +580,7 @@ pub fn ask_in_place<'a>(
     starts: &mut [u64; RANGES],
     ends: &mut [u64; RANGES],
     offsets: &mut [u64; LEASES],
+    slots: &mut [u32; LEASES],
     generations: &mut [u64; LEASES],
     attempt_starts: &mut [u64; LEASES],
     deadlines: &mut [u64; LEASES],
@@ -590,8 +592,8 @@ pub fn ask_in_place<'a>(
     rights: &'a [u8; WORKERS],
     out: &mut [u64],
 ) -> AskedAt
-    requires { ⌜ Ready fixed figures (starts .now) (ends .now) (offsets .now) (generations .now) («attempt_starts» .now) (deadlines .now) (deliveries .now) (workers .now) («carried_offsets» .now) («carried_counts» .now) («backoff_nanos» .now) ⌝ }
-    ensures { λ r. ⌜ ((x : Consumer) → Whole (consumerOf fixed figures (starts .entry .now) (ends .entry .now) (offsets .entry .now) (generations .entry .now) («attempt_starts» .entry .now) (deadlines .entry .now) (deliveries .entry .now) (workers .entry .now) («carried_offsets» .entry .now) («carried_counts» .entry .now) («backoff_nanos» .entry .now) (rights .entry .now) x) → AskedIs (consumerOf fixed figures (starts .entry .now) (ends .entry .now) (offsets .entry .now) (generations .entry .now) («attempt_starts» .entry .now) (deadlines .entry .now) (deliveries .entry .now) (workers .entry .now) («carried_offsets» .entry .now) («carried_counts» .entry .now) («backoff_nanos» .entry .now) (rights .entry .now) x) worker (askOf (length (now (out .entry))) ask) (now (out .entry)) (left (r .answer) (consumerOf fixed (r .figures) (starts .exit .now) (ends .exit .now) (offsets .exit .now) (generations .exit .now) («attempt_starts» .exit .now) (deadlines .exit .now) (deliveries .exit .now) (workers .exit .now) («carried_offsets» .exit .now) («carried_counts» .exit .now) («backoff_nanos» .entry .now) (rights .entry .now) x)) (now (out .exit))) ⌝ }
+    requires { ⌜ Ready fixed figures (starts .now) (ends .now) (offsets .now) (slots .now) (generations .now) («attempt_starts» .now) (deadlines .now) (deliveries .now) (workers .now) («carried_offsets» .now) («carried_counts» .now) («backoff_nanos» .now) ⌝ }
+    ensures { λ r. ⌜ ((x : Consumer) → Whole (consumerOf fixed figures (starts .entry .now) (ends .entry .now) (offsets .entry .now) (slots .entry .now) (generations .entry .now) («attempt_starts» .entry .now) (deadlines .entry .now) (deliveries .entry .now) (workers .entry .now) («carried_offsets» .entry .now) («carried_counts» .entry .now) («backoff_nanos» .entry .now) (rights .entry .now) x) → AskedIs (consumerOf fixed figures (starts .entry .now) (ends .entry .now) (offsets .entry .now) (slots .entry .now) (generations .entry .now) («attempt_starts» .entry .now) (deadlines .entry .now) (deliveries .entry .now) (workers .entry .now) («carried_offsets» .entry .now) («carried_counts» .entry .now) («backoff_nanos» .entry .now) (rights .entry .now) x) worker (askOf (length (now (out .entry))) ask) (now (out .entry)) (left (r .answer) (consumerOf fixed (r .figures) (starts .exit .now) (ends .exit .now) (offsets .exit .now) (slots .exit .now) (generations .exit .now) («attempt_starts» .exit .now) (deadlines .exit .now) (deliveries .exit .now) (workers .exit .now) («carried_offsets» .exit .now) («carried_counts» .exit .now) («backoff_nanos» .entry .now) (rights .entry .now) x)) (now (out .exit))) ⌝ }
 {
     match ask {
         Ask::Claim { offset, now } => ask_claim(
@@ -603,6 +605,7 @@ pub fn ask_in_place<'a>(
             starts,
             ends,
             offsets,
+            slots,
             generations,
             attempt_starts,
             deadlines,
@@ -619,9 +622,8 @@ pub fn ask_in_place<'a>(
             starts,
             ends,
             offsets,
+            slots,
             generations,
-            attempt_starts,
-            deadlines,
             deliveries,
             workers,
             rights,
@@ -633,9 +635,8 @@ pub fn ask_in_place<'a>(
             starts,
             ends,
             offsets,
+            slots,
             generations,
-            attempt_starts,
-            deadlines,
             deliveries,
             workers,
             rights,
@@ -648,6 +649,7 @@ pub fn ask_in_place<'a>(
             now,
             delay,
             offsets,
+            slots,
             generations,
             deadlines,
             deliveries,
@@ -662,6 +664,7 @@ pub fn ask_in_place<'a>(
             token,
             now,
             offsets,
+            slots,
             generations,
             attempt_starts,
             deadlines,
@@ -676,11 +679,7 @@ pub fn ask_in_place<'a>(
             starts,
             ends,
             offsets,
-            generations,
-            attempt_starts,
-            deadlines,
-            deliveries,
-            workers,
+            slots,
             carried_offsets,
             carried_counts,
             rights,
@@ -694,6 +693,7 @@ pub fn ask_in_place<'a>(
                 starts,
                 ends,
                 offsets,
+                slots,
                 generations,
                 attempt_starts,
                 deadlines,

@@ -69,6 +69,7 @@ fn leases(before: u32, table: LeaseTable) -> u32 {
         }
         let held = lease_at(
             i,
+            &table.slots,
             &table.generations,
             &table.attempt_starts,
             &table.deadlines,

@@ -171,13 +171,13 @@ module _ {M : Type 1} {𝓤 : URA M} {H : Heap 𝓤} {A : Atoms 𝓤} (W : Given
           rewrite ! 0 (λ (Q : SProp 𝓤). raw Q) (at .lie-again ws) refl $ move ! (0 ∷ 2 ∷ []) $
           use2 W (‵ (fat fullShare TMachine′.mir b1 o1 (returned ps cs X v ws))) (fields-back W b1 o1 ps v (valsOf (endeds X cs ws)) (at .fill ws) (at .whole ws)) $ s)
 
-      -- what it returned is stored in local j
-      pub calls-lending : {rest : Body} {q : Post 𝓤 H} (ps : List OfMachine) (u v : Val) → AtEnds ps cs X u
+      -- what it returned, which is of its type, is stored in local j
+      pub calls-typed : {rest : Body} {q : Post 𝓤 H} (ps : List OfMachine) (u v : Val) → AtEnds ps cs X u
           → (ss : List Slot) (ks : List ℕ) → T (all-full ss ks) → ((ns : Names cs) → valuesIn ss ks ≡ G .contract .args (G .to ns)) → (j : ℕ) → T (has ss j) → G .lowers .mir ≡ typeIn 𝓤 H E j
-          → ((r : G .row .Denot) (ws : Endings cs X) → G .Said r ws → WT (G .lowers .lowered r)
+          → ((r : G .row .Denot) (ws : Endings cs X) → G .Said r ws → Typed (G .lowers .mir) (G .lowers .lowered r)
           → Sq W (Walking E (with-value ss j (G .lowers .lowered r)) (returned ps cs X u ws) v (sep 𝓤 P (sem 𝓤 H A (G .left ws)))) (runs C Λ E rest q))
           → Sq W (Walking E ss u v (sep 𝓤 P (sem 𝓤 H A (G .handed)))) (runs C Λ E (seq (call g (copies ks) (place j [])) rest) q)
-      calls-lending ps u v at ss ks full-ks args-are j has-j j-is k =
+      calls-typed ps u v at ss ks full-ks args-are j has-j j-is k =
           move ! (1 ∷ 9 ∷ []) $ lending ps u at (λ ns.
           -- [what the call asks; the lender's parts; the rest of the machine; the locals; the numbers' cell; the borrows' six]
           calls-at ! fm (G .contract) known (G .to ns) (loads W E ss 3 refl ks full-ks (args-are ns)) (λ y.
@@ -189,7 +189,15 @@ module _ {M : Type 1} {𝓤 : URA M} {H : Heap 𝓤} {A : Atoms 𝓤} (W : Given
           let typed = subst (λ (τs : List Ty). denoted.Typed τs (y ∷ [])) (G .lowers .layout-is) (G .lawful .typed r (y ∷ []) is) .0 in
           let same = ap only (G .lowers .val-is r (y ∷ []) is) in
           move ! (2 ∷ []) $ land ! (from ! (stop !)) (sets W E ss j y has-j (subst (λ (τ : Ty). Typed τ y) j-is typed)) $ rewrite ! 0 (λ (w : Val). raw (Frame 𝓤 H E (with-value ss j w))) same refl $
-          move ! (0 ∷ 1 ∷ 3 ∷ 4 ∷ 5 ∷ 6 ∷ 7 ∷ 8 ∷ 9 ∷ []) $ k r ws said (subst WT same (typed .1))))))))
+          move ! (0 ∷ 1 ∷ 3 ∷ 4 ∷ 5 ∷ 6 ∷ 7 ∷ 8 ∷ 9 ∷ []) $ k r ws said (subst (Typed (G .lowers .mir)) same typed)))))))
+
+      -- the same where only its value is of use
+      pub calls-lending : {rest : Body} {q : Post 𝓤 H} (ps : List OfMachine) (u v : Val) → AtEnds ps cs X u
+          → (ss : List Slot) (ks : List ℕ) → T (all-full ss ks) → ((ns : Names cs) → valuesIn ss ks ≡ G .contract .args (G .to ns)) → (j : ℕ) → T (has ss j) → G .lowers .mir ≡ typeIn 𝓤 H E j
+          → ((r : G .row .Denot) (ws : Endings cs X) → G .Said r ws → WT (G .lowers .lowered r)
+          → Sq W (Walking E (with-value ss j (G .lowers .lowered r)) (returned ps cs X u ws) v (sep 𝓤 P (sem 𝓤 H A (G .left ws)))) (runs C Λ E rest q))
+          → Sq W (Walking E ss u v (sep 𝓤 P (sem 𝓤 H A (G .handed)))) (runs C Λ E (seq (call g (copies ks) (place j [])) rest) q)
+      calls-lending ps u v at ss ks full-ks args-are j has-j j-is k = calls-typed ps u v at ss ks full-ks args-are j has-j j-is (λ r ws said typed. k r ws said (typed .1))
 
   -- ## the start and the end
   -- what the function's types own at entry, where parameters that own nothing but facts follow the two borrows

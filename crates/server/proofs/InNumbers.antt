@@ -20,7 +20,7 @@ use Rattle.starts.specs.Restart as restarts
 use Rattle.starts.specs.Starting.{configurationOf, startFault}
 use Rattle.starts.specs.declared.StartAnswer.the-variants as starts
 use Rattle.starts.proofs.Restarting.{Other, other-faulty}
-use Rattle.machine.specs.Calls.{Ask, Call, restart, Event, claimed, acked, termed, nacked, progressed, committed, looked, begun, stepped, restarted, failed}
+use Rattle.machine.specs.Calls.{Ask, Call, Event, claimed, acked, termed, nacked, progressed, committed, looked, begun, stepped, restarted, failed}
 use Rattle.machine.specs.Transitions.{Phase, idle, After, onState, asked, transition}
 use Rattle.machine.specs.Answers.{Arguments, argumentsOf, seenOf, AskKept, outAfter}
 use Rattle.machine.specs.View.{phaseOf, Sound, AskedIs, CalledIs, StartedIs, afterOf, CallKept, held}
@@ -196,12 +196,6 @@ module _ (m : Machine) (w kind a b c d : ℕ) (area out : List ℕ) where
             (subst (λ (t : Option After). KeptIn t (held m area) (held (r .machine) area′)) (h .is)
             (call-kept m area q (r .machine) area′ out′ (r .answer) (h .kept)));
       }
-
--- a restart, whatever list is lent
-pub restart-numbers : (m : Machine) (area : List ℕ) (r : Called) (n : Numbers) (list : List ℕ) → ((out : List ℕ) → CalledIs m restart area out r area out)
-    → n ≡ numbersIn (afterOf restart (r .answer) (r .machine) area list) → (out : List ℕ) → CallIs m 0 18 0 0 0 0 area out n (r .machine) area out
-restart-numbers m area r n list h e out =
-    call-some m 0 18 0 0 0 0 area out restart r area out n refl (h out) (e ∙ ap numbersIn (h list .is ∙ sym (h out .is)))
 
 -- ## a start
 module _ (before : Machine) (s : Configuration) (size : ℕ) (r : Started) (n : Numbers) (h : StartedIs s size r)

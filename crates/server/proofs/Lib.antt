@@ -1,6 +1,5 @@
 pub mod Found
 pub mod InNumbers
-pub mod Restarted
 pub mod AsCalls
 pub mod InPlace
 pub mod Planned

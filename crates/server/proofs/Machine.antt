@@ -51,6 +51,8 @@ use Rattle.walks.proofs.Paths.{Path, here, into, placeIn, fieldsIn, Fetch, copi
 use Rattle.walks.proofs.Apart.{fieldTys}
 use Rattle.walks.proofs.Columns.{Column, val, column-is}
 use Rattle.walks.proofs.Told.{Typed, number, truth, column, told-struct, all-typed}
+use Rattle.starts.specs.Parts.{Long}
+use Rattle.starts.specs.Parts.{columns as columnsOf}
 use Rattle.server.specs.Parts.{Sized, Askable, Lendable}
 use Rattle.server.proofs.InNumbers.{sound-if}
 use Rattle.machine.specs.View.{Sound}
@@ -71,8 +73,14 @@ in-cursor p = in-consumer (into {τ = TCursor′.mir} {d = 0} 0 refl p)
 abbrev in-table : Path TTable′.mir → OfMachine
 in-table p = in-consumer (into {τ = TTable′.mir} {d = 2064} 1 refl p)
 
+abbrev pub configuration : OfMachine
+configuration = into {τ = TConfiguration′.mir} {d = 0} 0 refl here
+
 abbrev in-settings : Path TSettings′.mir → OfMachine
-in-settings p = in-consumer (into {τ = TSettings′.mir} {d = 6240} 5 refl p)
+in-settings p = in-consumer (into {τ = TSettings′.mir} {d = 6496} 5 refl p)
+
+abbrev pub settings : OfMachine
+settings = in-settings here
 
 abbrev in-delivery : Path TDelivery′.mir → OfMachine
 in-delivery p = in-settings (into {τ = TDelivery′.mir} {d = 0} 0 refl p)
@@ -129,44 +137,47 @@ config = in-table (into {τ = TLease′.mir} {d = 0} 0 refl here)
 abbrev pub offsets : MachineColumn
 offsets = record { path = in-table (into {d = 16} 1 refl here); width = w64; size = 64; of = λ m. m .writing .consumer .table .offsets }
 
+abbrev pub slots : MachineColumn
+slots = record { path = in-table (into {d = 528} 2 refl here); width = w32; size = 64; of = λ m. m .writing .consumer .table .slots }
+
 abbrev pub generations : MachineColumn
-generations = record { path = in-table (into {d = 528} 2 refl here); width = w64; size = 64; of = λ m. m .writing .consumer .table .generations }
+generations = record { path = in-table (into {d = 784} 3 refl here); width = w64; size = 64; of = λ m. m .writing .consumer .table .generations }
 
 abbrev pub attempt-starts : MachineColumn
-attempt-starts = record { path = in-table (into {d = 1040} 3 refl here); width = w64; size = 64; of = λ m. m .writing .consumer .table .«attempt_starts» }
+attempt-starts = record { path = in-table (into {d = 1296} 4 refl here); width = w64; size = 64; of = λ m. m .writing .consumer .table .«attempt_starts» }
 
 abbrev pub deadlines : MachineColumn
-deadlines = record { path = in-table (into {d = 1552} 4 refl here); width = w64; size = 64; of = λ m. m .writing .consumer .table .deadlines }
+deadlines = record { path = in-table (into {d = 1808} 5 refl here); width = w64; size = 64; of = λ m. m .writing .consumer .table .deadlines }
 
 abbrev pub deliveries : MachineColumn
-deliveries = record { path = in-table (into {d = 2064} 5 refl here); width = w32; size = 64; of = λ m. m .writing .consumer .table .deliveries }
+deliveries = record { path = in-table (into {d = 2320} 6 refl here); width = w32; size = 64; of = λ m. m .writing .consumer .table .deliveries }
 
 abbrev pub workers : MachineColumn
-workers = record { path = in-table (into {d = 2320} 6 refl here); width = w32; size = 64; of = λ m. m .writing .consumer .table .workers }
+workers = record { path = in-table (into {d = 2576} 7 refl here); width = w32; size = 64; of = λ m. m .writing .consumer .table .workers }
 
 abbrev pub len : OfMachine
-len = in-table (into {d = 2576} 7 refl here)
+len = in-table (into {d = 2832} 8 refl here)
 
 abbrev pub carried-offsets : MachineColumn
-carried-offsets = record { path = in-table (into {d = 2584} 8 refl here); width = w64; size = 128; of = λ m. m .writing .consumer .table .«carried_offsets» }
+carried-offsets = record { path = in-table (into {d = 2840} 9 refl here); width = w64; size = 128; of = λ m. m .writing .consumer .table .«carried_offsets» }
 
 abbrev pub carried-counts : MachineColumn
-carried-counts = record { path = in-table (into {d = 3608} 9 refl here); width = w32; size = 128; of = λ m. m .writing .consumer .table .«carried_counts» }
+carried-counts = record { path = in-table (into {d = 3864} 10 refl here); width = w32; size = 128; of = λ m. m .writing .consumer .table .«carried_counts» }
 
 abbrev pub carried-len : OfMachine
-carried-len = in-table (into {d = 4120} 10 refl here)
+carried-len = in-table (into {d = 4376} 11 refl here)
 
 abbrev pub next-generation : OfMachine
-next-generation = in-table (into {τ = TGeneration′.mir} {d = 4128} 11 refl (into {d = 0} 0 refl here))
+next-generation = in-table (into {τ = TGeneration′.mir} {d = 4384} 12 refl (into {d = 0} 0 refl here))
 
 abbrev pub redeliveries : OfMachine
-redeliveries = in-table (into {d = 4136} 12 refl here)
+redeliveries = in-table (into {d = 4392} 13 refl here)
 
 abbrev pub ceiling : OfMachine
-ceiling = in-consumer (into {τ = TGeneration′.mir} {d = 6208} 2 refl (into {d = 0} 0 refl here))
+ceiling = in-consumer (into {τ = TGeneration′.mir} {d = 6464} 2 refl (into {d = 0} 0 refl here))
 
 abbrev in-next : Path TNext′.mir → OfMachine
-in-next p = in-consumer (into {τ = TNext′.mir} {d = 6216} 3 refl p)
+in-next p = in-consumer (into {τ = TNext′.mir} {d = 6472} 3 refl p)
 
 abbrev pub next-number : OfMachine
 next-number = in-next (into {d = 0} 0 refl here)
@@ -175,7 +186,7 @@ abbrev pub block : OfMachine
 block = in-next (into {d = 8} 1 refl here)
 
 abbrev pub area-len : OfMachine
-area-len = in-consumer (into {d = 6232} 4 refl here)
+area-len = in-consumer (into {d = 6488} 4 refl here)
 
 abbrev pub max-deliver : OfMachine
 max-deliver = in-delivery (into {d = 0} 0 refl here)
@@ -196,16 +207,16 @@ abbrev pub hours : OfMachine
 hours = in-settings (into {τ = THours′.mir} {d = 160} 2 refl here)
 
 abbrev pub written : OfMachine
-written = in-writing (into {d = 6472} 1 refl here)
+written = in-writing (into {d = 6728} 1 refl here)
 
 abbrev pub payload : MachineColumn
-payload = record { path = in-writing (into {d = 6480} 2 refl here); width = w8; size = 3606; of = λ m. m .writing .payload }
+payload = record { path = in-writing (into {d = 6736} 2 refl here); width = w8; size = 3606; of = λ m. m .writing .payload }
 
 abbrev pub cursor-len : OfMachine
-cursor-len = in-writing (into {d = 10088} 3 refl here)
+cursor-len = in-writing (into {d = 10344} 3 refl here)
 
 abbrev pub attempt-len : OfMachine
-attempt-len = in-writing (into {d = 10096} 4 refl here)
+attempt-len = in-writing (into {d = 10352} 4 refl here)
 
 -- ## what a machine value tells
 generation-told : (g : Generation) → Typed TGeneration′.mir (TGeneration′.lowered g) → Is TGeneration.the-row g (TGeneration′.lowered g ∷ [])
@@ -222,7 +233,7 @@ lease-told c t = told-struct TLease.struct TLease.propositions TLease′.the-law
 table-told : (x : LeaseTable) → Typed TTable′.mir (TTable′.lowered x) → Is TTable.the-row x (TTable′.lowered x ∷ [])
 table-told x t =
     told-struct TTable.struct TTable.propositions TTable′.the-laws
-    (lease-told, (column w64 64, (column w64 64, (column w64 64, (column w64 64, (column w32 64, (column w32 64, (number w64, (column w64 128, (column w32 128, (number w64, (generation-told, (number w32, tt))))))))))))) x
+    (lease-told, (column w64 64, (column w32 64, (column w64 64, (column w64 64, (column w64 64, (column w32 64, (column w32 64, (number w64, (column w64 128, (column w32 128, (number w64, (generation-told, (number w32, tt)))))))))))))) x
     (all-typed (fieldTys TTable′.mir) (fieldsIn (TTable′.lowered x)) t)
 
 delivery-told : (x : DeliveryConfig) → Typed TDelivery′.mir (TDelivery′.lowered x) → Is TDelivery.the-row x (TDelivery′.lowered x ∷ [])
@@ -233,7 +244,7 @@ delivery-told x t =
 pub hours-told : (x : Hours) → Typed THours′.mir (THours′.lowered x) → Is THours.the-row x (THours′.lowered x ∷ [])
 hours-told x t = told-struct THours.struct THours.propositions THours′.the-laws (truth, (number w64, (column w64 7, tt))) x (all-typed (fieldTys THours′.mir) (fieldsIn (THours′.lowered x)) t)
 
-settings-told : (x : Settings) → Typed TSettings′.mir (TSettings′.lowered x) → Is TSettings.the-row x (TSettings′.lowered x ∷ [])
+pub settings-told : (x : Settings) → Typed TSettings′.mir (TSettings′.lowered x) → Is TSettings.the-row x (TSettings′.lowered x ∷ [])
 settings-told x t = told-struct TSettings.struct TSettings.propositions TSettings′.the-laws (delivery-told, (column w8 8, (hours-told, tt))) x (all-typed (fieldTys TSettings′.mir) (fieldsIn (TSettings′.lowered x)) t)
 
 pub configuration-told : (x : Configuration) → Typed TConfiguration′.mir (TConfiguration′.lowered x) → Is TConfiguration.the-row x (TConfiguration′.lowered x ∷ [])
@@ -264,14 +275,20 @@ numbers-told x t =
     told-struct TNumbers.struct TNumbers.propositions TNumbers′.the-laws (number w64, (number w64, (number w64, (number w64, (number w64, (number w64, (number w64, tt))))))) x
     (all-typed (fieldTys TNumbers′.mir) (fieldsIn (TNumbers′.lowered x)) t)
 
--- its hours, which are copied whole
-pub hours-typed : (m : Machine) → Typed TMachine′.mir (TMachine′.lowered m) → Typed THours′.mir (THours′.lowered (m .writing .consumer .settings .hours))
-hours-typed m t =
+-- its configuration, its settings and its hours, which are copied whole
+pub configuration-typed : (m : Machine) → Typed TMachine′.mir (TMachine′.lowered m) → Typed TConfiguration′.mir (TConfiguration′.lowered (m .configuration))
+configuration-typed m t = all-typed (fieldTys TMachine′.mir) (fieldsIn (TMachine′.lowered m)) t .0
+
+pub settings-typed : (m : Machine) → Typed TMachine′.mir (TMachine′.lowered m) → Typed TSettings′.mir (TSettings′.lowered (m .writing .consumer .settings))
+settings-typed m t =
     let x = m .writing .consumer in
     let writing = all-typed (fieldTys TWriting′.mir) (fieldsIn (TWriting′.lowered (m .writing))) (all-typed (fieldTys TMachine′.mir) (fieldsIn (TMachine′.lowered m)) t .1 .1 .0) in
     let consumer = all-typed (fieldTys TConsumer′.mir) (fieldsIn (TConsumer′.lowered x)) (writing .0) in
-    let settings = all-typed (fieldTys TSettings′.mir) (fieldsIn (TSettings′.lowered (x .settings))) (consumer .1 .1 .1 .1 .1 .0) in
-    settings .1 .1 .0
+    consumer .1 .1 .1 .1 .1 .0
+
+pub hours-typed : (m : Machine) → Typed TMachine′.mir (TMachine′.lowered m) → Typed THours′.mir (THours′.lowered (m .writing .consumer .settings .hours))
+hours-typed m t =
+    all-typed (fieldTys TSettings′.mir) (fieldsIn (TSettings′.lowered (m .writing .consumer .settings))) (settings-typed m t) .1 .1 .0
 
 -- two tests that hold
 pub both-hold : (a b : Bool) → T a → T b → T (a && b)
@@ -297,21 +314,28 @@ sized-told m t =
         table =
             record {
               offsets = long w64 64 (x .table .offsets) (table .1 .0);
+              slots = long w32 64 (x .table .slots) (table .1 .1 .0);
               leases =
                   record {
-                    generations = long w64 64 (x .table .generations) (table .1 .1 .0);
-                    starts = long w64 64 (x .table .«attempt_starts») (table .1 .1 .1 .0);
-                    deadlines = long w64 64 (x .table .deadlines) (table .1 .1 .1 .1 .0);
-                    counts = long w32 64 (x .table .deliveries) (table .1 .1 .1 .1 .1 .0);
-                    workers = long w32 64 (x .table .workers) (table .1 .1 .1 .1 .1 .1 .0);
+                    generations = long w64 64 (x .table .generations) (table .1 .1 .1 .0);
+                    starts = long w64 64 (x .table .«attempt_starts») (table .1 .1 .1 .1 .0);
+                    deadlines = long w64 64 (x .table .deadlines) (table .1 .1 .1 .1 .1 .0);
+                    counts = long w32 64 (x .table .deliveries) (table .1 .1 .1 .1 .1 .1 .0);
+                    workers = long w32 64 (x .table .workers) (table .1 .1 .1 .1 .1 .1 .1 .0);
                   };
-              carried-offsets = long w64 128 (x .table .«carried_offsets») (table .1 .1 .1 .1 .1 .1 .1 .1 .0);
-              carried-counts = long w32 128 (x .table .«carried_counts») (table .1 .1 .1 .1 .1 .1 .1 .1 .1 .0);
+              carried-offsets = long w64 128 (x .table .«carried_offsets») (table .1 .1 .1 .1 .1 .1 .1 .1 .1 .0);
+              carried-counts = long w32 128 (x .table .«carried_counts») (table .1 .1 .1 .1 .1 .1 .1 .1 .1 .1 .0);
             };
         backoffs = long w64 16 (x .settings .delivery .«backoff_nanos») (delivery .1 .1 .0);
       },
       long w8 3606 (m .writing .payload) (writing .1 .1 .0),
     )
+
+pub long-told : (m : Machine) → Typed TMachine′.mir (TMachine′.lowered m)
+    → let c = m .writing .consumer in Long (columnsOf (c .cursor .starts) (c .cursor .ends) (c .table .«carried_offsets») (c .table .«carried_counts»))
+long-told m t =
+    let z = sized-told m t .0 in
+    record { starts = z .starts; ends = z .ends; offsets = z .table .carried-offsets; counts = z .table .carried-counts }
 
 pub askable-told : (m : Machine) → Sound m → Typed TMachine′.mir (TMachine′.lowered m) → Askable (m .phase) (m .writing .consumer)
 askable-told m sound t = record { sized = sized-told m t .0; sound = sound-if (m .configuration) (m .writing) (m .phase) sound }

@@ -4,19 +4,23 @@ use mathlib.Core.Path.{_≡_}
 use mathlib.Core.List.{List}
 use lib.ListN.{length}
 use Rattle.hours.specs.declared.Hours.{Hours}
-use Rattle.lease.specs.Parts.{Full}
+use Rattle.cursor.specs.View.{ackCursor}
+use Rattle.lease.specs.Parts.{gathered, Full}
 use Rattle.lease.specs.declared.LeaseConfig.{LeaseConfig}
 use Rattle.consumer.specs.declared.Configuration.{Configuration}
 use Rattle.consumer.specs.declared.Consumer.{Consumer}
+use Rattle.consumer.specs.declared.Settings.{Settings}
 use Rattle.checkpoint.specs.Parts.{recording, Parts, withParts}
 use Rattle.checkpoint.specs.declared.Writing.{Writing}
 use Rattle.checkpoint.specs.declared.BeginAnswer.{BeginAnswer}
 use Rattle.checkpoint.specs.declared.BeginAnswer.the-variants as begins
+use Rattle.starts.specs.Parts.{Columns}
 use Rattle.machine.specs.View.{SoundAt}
 use Rattle.machine.specs.declared.Machine.{Machine}
 use Rattle.machine.specs.declared.in_place.Fixed.{Fixed}
 use Rattle.machine.specs.declared.in_place.Figures.{Figures}
 use Rattle.answers.specs.declared.Numbers.{Numbers}
+use Rattle.server.specs.declared.in_place.RestartDone.{RestartDone}
 use Rattle.server.specs.Transitions.{SoundIf, AskedOn, PlannedOn, CallIs}
 
 -- the machine of a phase and a record
@@ -90,6 +94,38 @@ abbrev pub BegunOn : ℕ → (Consumer → Writing) → ℕ → Numbers → ℕ 
 BegunOn k before w n k′ after =
     (s : Configuration) (c : Consumer) → Lendable k (before c) → (area out : List ℕ)
     → CallIs (machineOf s k (before c)) w 16 0 0 0 0 area out n (machineOf s k′ (after c)) area out
+
+-- ## restart
+-- a record with these numbers, slots and columns of its consumer in their places; the columns of the leases stay
+abbrev pub toRestart : (committed runs len carriedLen generation redeliveries ceiling number block areaLen : ℕ) → LeaseConfig → Settings → (slots : List ℕ) → Columns → Writing → Writing
+toRestart committed runs n m g red ceiling k b size config settings slots p w =
+    record {
+      consumer =
+          record {
+            cursor = ackCursor committed (p .starts) (p .ends) runs;
+            table =
+                gathered config n m g red (w .consumer .table .offsets) slots (w .consumer .table .generations) (w .consumer .table .«attempt_starts») (w .consumer .table .deadlines)
+                (w .consumer .table .deliveries) (w .consumer .table .workers) (p .offsets) (p .counts);
+            ceiling = record { 0 = ceiling };
+            next = record { number = k; block = b };
+            «area_len» = size;
+            settings = settings;
+          };
+      written = w .written;
+      payload = w .payload;
+      «cursor_len» = w .«cursor_len»;
+      «attempt_len» = w .«attempt_len»;
+    }
+
+-- with what a restart leaves
+abbrev pub restartedBy : RestartDone → (slots : List ℕ) → Columns → Writing → Writing
+restartedBy r =
+    toRestart (r .committed) (r .runs) (r .len) (r .«carried_len») (r .«next_generation») (r .redeliveries) (r .ceiling) (r .number) (r .block) (r .«area_len») (r .config) (r .settings)
+
+-- call 18 on every machine of this configuration that has these parts, whatever list is lent
+abbrev pub RestartedOn : ℕ → Configuration → (before : Writing → Writing) → List ℕ → Numbers → ℕ → (after : Writing → Writing) → Type 0
+RestartedOn k s before a n k′ after =
+    (w : Writing) → SoundAt k (before w) → (out : List ℕ) → CallIs (machineOf s k (before w)) 0 18 0 0 0 0 a out n (machineOf s k′ (after w)) a out
 
 -- ## step
 -- the parts of a record that is sound in a phase

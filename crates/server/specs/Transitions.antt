@@ -6,7 +6,7 @@ use mathlib.Core.Option.{Option, none, some}
 use lib.ListN.{length}
 use Rattle.types.specs.Refusal.{Result, refused, done}
 use Rattle.types.specs.Refusal as refusal
-use Rattle.types.specs.Table.{Kept, unless}
+use Rattle.types.specs.Table.{Kept}
 use Rattle.consumer.specs.State.{State}
 use Rattle.consumer.specs.Questions.{Plan, bytesAfter}
 use Rattle.consumer.specs.Questions as questions
@@ -15,14 +15,12 @@ use Rattle.consumer.specs.View as consumer
 use Rattle.consumer.specs.declared.Consumer.{Consumer}
 use Rattle.consumer.specs.declared.Configuration.{Configuration}
 use Rattle.starts.specs.Restart as restarts
-use Rattle.starts.specs.Starting.{configurationOf, startFault}
+use Rattle.starts.specs.Starting.{configurationOf}
 use Rattle.machine.specs.Calls.{Ask, Call, Event, claimed, acked, termed, nacked, progressed, committed, looked, begun, stepped, restarted, failed}
 use Rattle.machine.specs.Transitions.{Phase, idle, After, onState, asked, transition}
 use Rattle.machine.specs.Answers.{outAfter}
 use Rattle.machine.specs.View.{phaseOf, Sound, held, planAfter, planBytesIn}
 use Rattle.machine.specs.declared.Machine.{Machine}
-use Rattle.machine.specs.declared.calls.CallAnswer.{CallAnswer}
-use Rattle.machine.specs.declared.calls.CallAnswer.the-variants as answers
 use Rattle.answers.specs.Numbers.{numbersOf, notNow, noValues, values, numbersIn}
 use Rattle.server.specs.Kinds.{askAt, callAt}
 use Rattle.answers.specs.declared.Numbers.{Numbers}
@@ -158,11 +156,3 @@ StartedAs (done fresh) s before after = (phaseOf after ≡ idle fresh) × (after
 pub record StartIs (before : Machine) (s : Configuration) (size : ℕ) (n : Numbers) (after : Machine) : Type 0 where
   pub is : n ≡ numbersOf (refusal.answered noValues (restarts.start (configurationOf s) size))
   pub made : StartedAs (restarts.start (configurationOf s) size) s before after
-
--- a restart's answer in numbers; no other answer is one
-abbrev pub restartNumbers : CallAnswer → Numbers
-restartNumbers (answers.Restarted a) = numbersOf (refusal.answered noValues (unless (startFault a) (done (tt {0}))))
-restartNumbers (answers.Asked a) = notNow
-restartNumbers (answers.Begun a) = notNow
-restartNumbers (answers.Stepped a) = notNow
-restartNumbers answers.NotNow = notNow

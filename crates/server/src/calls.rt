@@ -8,8 +8,8 @@ use crate::in_place::ask_in_place;
 use crate::in_place::begin_in_place;
 use crate::in_place::plan_in_place;
 use crate::in_place::progress_in_place;
+use crate::in_place::restart_in_place;
 use crate::in_place::step_in_place;
-use crate::transitions::restart;
 use crate::transitions::start;
 use answers::Numbers;
 use consumer::Configuration;
@@ -48,10 +48,42 @@ pub extern "C" fn ninotskev_restart(machine: &mut Machine, numbers: &mut Numbers
     requires { ⌜ Sound (now machine) ⌝ }
     ensures { λ _. ⌜ ((out : List ℕ) → CallIs (now (machine .entry)) 0 18 0 0 0 0 (now (area .entry)) out (now (numbers .exit)) (now (machine .exit)) (now (area .entry)) out) ⌝ }
 {
-    let before = *machine;
-    let restarted = restart(before, area);
-    *machine = restarted.machine;
-    *numbers = restarted.numbers;
+    let done = restart_in_place(
+        machine.phase,
+        machine.writing.consumer.cursor.committed,
+        machine.writing.consumer.cursor.runs,
+        machine.writing.consumer.table.len,
+        machine.writing.consumer.table.carried_len,
+        machine.writing.consumer.table.next_generation.0,
+        machine.writing.consumer.table.redeliveries_since_flush,
+        machine.writing.consumer.ceiling.0,
+        machine.writing.consumer.next.number,
+        machine.writing.consumer.next.block,
+        machine.writing.consumer.area_len,
+        machine.writing.consumer.table.config,
+        machine.writing.consumer.settings,
+        machine.configuration,
+        &mut machine.writing.consumer.cursor.starts,
+        &mut machine.writing.consumer.cursor.ends,
+        &mut machine.writing.consumer.table.slots,
+        &mut machine.writing.consumer.table.carried_offsets,
+        &mut machine.writing.consumer.table.carried_counts,
+        area,
+    );
+    machine.phase = done.phase;
+    machine.writing.consumer.cursor.committed = done.committed;
+    machine.writing.consumer.cursor.runs = done.runs;
+    machine.writing.consumer.table.len = done.len;
+    machine.writing.consumer.table.carried_len = done.carried_len;
+    machine.writing.consumer.table.next_generation.0 = done.next_generation;
+    machine.writing.consumer.table.redeliveries_since_flush = done.redeliveries;
+    machine.writing.consumer.ceiling.0 = done.ceiling;
+    machine.writing.consumer.next.number = done.number;
+    machine.writing.consumer.next.block = done.block;
+    machine.writing.consumer.area_len = done.area_len;
+    machine.writing.consumer.table.config = done.config;
+    machine.writing.consumer.settings = done.settings;
+    *numbers = done.numbers;
 }
 
 // A worker begins a checkpoint on the machine in its place: call 16.
@@ -77,6 +109,7 @@ pub extern "C" fn ninotskev_begin(machine: &mut Machine, numbers: &mut Numbers, 
         &mut machine.writing.consumer.cursor.starts,
         &mut machine.writing.consumer.cursor.ends,
         &mut machine.writing.consumer.table.offsets,
+        &mut machine.writing.consumer.table.slots,
         &mut machine.writing.consumer.table.deliveries,
         &mut machine.writing.consumer.table.carried_offsets,
         &mut machine.writing.consumer.table.carried_counts,
@@ -164,6 +197,7 @@ pub extern "C" fn ninotskev_ask(
         &mut machine.writing.consumer.cursor.starts,
         &mut machine.writing.consumer.cursor.ends,
         &mut machine.writing.consumer.table.offsets,
+        &mut machine.writing.consumer.table.slots,
         &mut machine.writing.consumer.table.generations,
         &mut machine.writing.consumer.table.attempt_starts,
         &mut machine.writing.consumer.table.deadlines,
@@ -208,6 +242,7 @@ pub extern "C" fn ninotskev_progress(
         machine.writing.consumer.table.len,
         &machine.writing.consumer.settings.rights,
         &mut machine.writing.consumer.table.offsets,
+        &mut machine.writing.consumer.table.slots,
         &mut machine.writing.consumer.table.generations,
         &mut machine.writing.consumer.table.attempt_starts,
         &mut machine.writing.consumer.table.deadlines,

@@ -4,17 +4,21 @@ ghost use Rattle.cursor.specs.View.{ackCursor};
 ghost use Rattle.lease.specs.Parts.{listingAll};
 ghost use Rattle.consumer.specs.Parts.{progressing, planning};
 ghost use Rattle.checkpoint.specs.Parts.{beginning, parts};
+ghost use Rattle.starts.specs.Parts.{columns, Long};
 ghost use Rattle.machine.specs.Parts.{consumerOf};
-ghost use Rattle.server.specs.Parts.{fixedAs, figuresAs, AskableIn, AskedIn, ProgressedIn, PlannedIn, toBegin, Beginnable, phaseBegun, BegunOn, Steppable, SteppedOn};
+ghost use Rattle.server.specs.Parts.{fixedAs, figuresAs, AskableIn, AskedIn, ProgressedIn, PlannedIn, toBegin, Beginnable, phaseBegun, BegunOn, toRestart, restartedBy, RestartedOn, Steppable, SteppedOn};
 ghost use mathlib.Core.Path.{_≡_};
 use crate::kinds;
 use crate::kinds::Asking;
 use answers::Numbers;
 use checkpoint::BeginAnswer;
+use consumer::Configuration;
+use consumer::Settings;
 use hours::Hours;
 use lease::LeaseConfig;
 use machine::in_place::Figures;
 use machine::in_place::Fixed;
+use starts::StartAnswer;
 use types::limits::CARRIED;
 use types::limits::LEASES;
 use types::limits::RANGES;
@@ -41,6 +45,7 @@ fn ask_on(
     starts: &mut [u64; RANGES],
     ends: &mut [u64; RANGES],
     offsets: &mut [u64; LEASES],
+    slots: &mut [u32; LEASES],
     generations: &mut [u64; LEASES],
     attempt_starts: &mut [u64; LEASES],
     deadlines: &mut [u64; LEASES],
@@ -52,9 +57,9 @@ fn ask_on(
     rights: &mut [u8; WORKERS],
     out: &mut [u64],
 ) -> AskDone
-    requires { ⌜ AskableIn phase (consumerOf fixed figures (now starts) (now ends) (now offsets) (now generations) (now «attempt_starts») (now deadlines) (now deliveries) (now workers) (now «carried_offsets») (now «carried_counts») (now «backoff_nanos») (now rights)) ⌝ }
-    ensures { λ r. ⌜ AskedIn phase (consumerOf fixed figures (now (starts .entry)) (now (ends .entry)) (now (offsets .entry)) (now (generations .entry)) (now («attempt_starts» .entry)) (now (deadlines .entry)) (now (deliveries .entry)) (now (workers .entry)) (now («carried_offsets» .entry)) (now («carried_counts» .entry)) (now («backoff_nanos» .entry)) (now (rights .entry))) worker kind a b c d (now (out .entry))
-        (r .numbers) (consumerOf fixed (r .figures) (now (starts .exit)) (now (ends .exit)) (now (offsets .exit)) (now (generations .exit)) (now («attempt_starts» .exit)) (now (deadlines .exit)) (now (deliveries .exit)) (now (workers .exit)) (now («carried_offsets» .exit)) (now («carried_counts» .exit)) (now («backoff_nanos» .entry)) (now (rights .exit))) (now (out .exit)) ⌝ }
+    requires { ⌜ AskableIn phase (consumerOf fixed figures (now starts) (now ends) (now offsets) (now slots) (now generations) (now «attempt_starts») (now deadlines) (now deliveries) (now workers) (now «carried_offsets») (now «carried_counts») (now «backoff_nanos») (now rights)) ⌝ }
+    ensures { λ r. ⌜ AskedIn phase (consumerOf fixed figures (now (starts .entry)) (now (ends .entry)) (now (offsets .entry)) (now (slots .entry)) (now (generations .entry)) (now («attempt_starts» .entry)) (now (deadlines .entry)) (now (deliveries .entry)) (now (workers .entry)) (now («carried_offsets» .entry)) (now («carried_counts» .entry)) (now («backoff_nanos» .entry)) (now (rights .entry))) worker kind a b c d (now (out .entry))
+        (r .numbers) (consumerOf fixed (r .figures) (now (starts .exit)) (now (ends .exit)) (now (offsets .exit)) (now (slots .exit)) (now (generations .exit)) (now («attempt_starts» .exit)) (now (deadlines .exit)) (now (deliveries .exit)) (now (workers .exit)) (now («carried_offsets» .exit)) (now («carried_counts» .exit)) (now («backoff_nanos» .entry)) (now (rights .exit))) (now (out .exit)) ⌝ }
 {
     if phase != 0 {
         return AskDone {
@@ -77,6 +82,7 @@ fn ask_on(
         starts,
         ends,
         offsets,
+        slots,
         generations,
         attempt_starts,
         deadlines,
@@ -122,6 +128,7 @@ pub fn ask_in_place(
     starts: &mut [u64; RANGES],
     ends: &mut [u64; RANGES],
     offsets: &mut [u64; LEASES],
+    slots: &mut [u32; LEASES],
     generations: &mut [u64; LEASES],
     attempt_starts: &mut [u64; LEASES],
     deadlines: &mut [u64; LEASES],
@@ -133,9 +140,9 @@ pub fn ask_in_place(
     rights: &mut [u8; WORKERS],
     out: &mut [u64],
 ) -> AskDone
-    requires { ⌜ AskableIn phase (consumerOf (fixedAs config hours ceiling block «area_len» «max_deliver» «backoff_len» threshold) (figuresAs committed runs len «carried_len» «next_generation» redeliveries) (now starts) (now ends) (now offsets) (now generations) (now «attempt_starts») (now deadlines) (now deliveries) (now workers) (now «carried_offsets») (now «carried_counts») (now «backoff_nanos») (now rights)) ⌝ }
-    ensures { λ r. ⌜ AskedIn phase (consumerOf (fixedAs config hours ceiling block «area_len» «max_deliver» «backoff_len» threshold) (figuresAs committed runs len «carried_len» «next_generation» redeliveries) (now (starts .entry)) (now (ends .entry)) (now (offsets .entry)) (now (generations .entry)) (now («attempt_starts» .entry)) (now (deadlines .entry)) (now (deliveries .entry)) (now (workers .entry)) (now («carried_offsets» .entry)) (now («carried_counts» .entry)) (now («backoff_nanos» .entry)) (now (rights .entry))) worker kind a b c d (now (out .entry))
-        (r .numbers) (consumerOf (fixedAs config hours ceiling block «area_len» «max_deliver» «backoff_len» threshold) (r .figures) (now (starts .exit)) (now (ends .exit)) (now (offsets .exit)) (now (generations .exit)) (now («attempt_starts» .exit)) (now (deadlines .exit)) (now (deliveries .exit)) (now (workers .exit)) (now («carried_offsets» .exit)) (now («carried_counts» .exit)) (now («backoff_nanos» .entry)) (now (rights .exit))) (now (out .exit)) ⌝ }
+    requires { ⌜ AskableIn phase (consumerOf (fixedAs config hours ceiling block «area_len» «max_deliver» «backoff_len» threshold) (figuresAs committed runs len «carried_len» «next_generation» redeliveries) (now starts) (now ends) (now offsets) (now slots) (now generations) (now «attempt_starts») (now deadlines) (now deliveries) (now workers) (now «carried_offsets») (now «carried_counts») (now «backoff_nanos») (now rights)) ⌝ }
+    ensures { λ r. ⌜ AskedIn phase (consumerOf (fixedAs config hours ceiling block «area_len» «max_deliver» «backoff_len» threshold) (figuresAs committed runs len «carried_len» «next_generation» redeliveries) (now (starts .entry)) (now (ends .entry)) (now (offsets .entry)) (now (slots .entry)) (now (generations .entry)) (now («attempt_starts» .entry)) (now (deadlines .entry)) (now (deliveries .entry)) (now (workers .entry)) (now («carried_offsets» .entry)) (now («carried_counts» .entry)) (now («backoff_nanos» .entry)) (now (rights .entry))) worker kind a b c d (now (out .entry))
+        (r .numbers) (consumerOf (fixedAs config hours ceiling block «area_len» «max_deliver» «backoff_len» threshold) (r .figures) (now (starts .exit)) (now (ends .exit)) (now (offsets .exit)) (now (slots .exit)) (now (generations .exit)) (now («attempt_starts» .exit)) (now (deadlines .exit)) (now (deliveries .exit)) (now (workers .exit)) (now («carried_offsets» .exit)) (now («carried_counts» .exit)) (now («backoff_nanos» .entry)) (now (rights .exit))) (now (out .exit)) ⌝ }
 {
     let figures = Figures {
         committed,
@@ -168,6 +175,7 @@ pub fn ask_in_place(
         starts,
         ends,
         offsets,
+        slots,
         generations,
         attempt_starts,
         deadlines,
@@ -192,15 +200,16 @@ pub fn progress_in_place(
     len: usize,
     rights: &[u8; WORKERS],
     offsets: &mut [u64; LEASES],
+    slots: &mut [u32; LEASES],
     generations: &mut [u64; LEASES],
     attempt_starts: &mut [u64; LEASES],
     deadlines: &mut [u64; LEASES],
     deliveries: &mut [u32; LEASES],
     workers: &mut [u32; LEASES],
 ) -> Numbers
-    requires { ⌜ AskableIn phase (progressing (rights .now) config len (offsets .now) (generations .now) («attempt_starts» .now) (deadlines .now) (deliveries .now) (workers .now)) ⌝ }
-    ensures { λ r. ⌜ ProgressedIn phase (progressing (rights .entry .now) config len (offsets .entry .now) (generations .entry .now) («attempt_starts» .entry .now) (deadlines .entry .now) (deliveries .entry .now) (workers .entry .now)) worker offset generation now
-        r (progressing (rights .entry .now) config len (offsets .exit .now) (generations .exit .now) («attempt_starts» .exit .now) (deadlines .exit .now) (deliveries .exit .now) (workers .exit .now)) ⌝ }
+    requires { ⌜ AskableIn phase (progressing (rights .now) config len (offsets .now) (slots .now) (generations .now) («attempt_starts» .now) (deadlines .now) (deliveries .now) (workers .now)) ⌝ }
+    ensures { λ r. ⌜ ProgressedIn phase (progressing (rights .entry .now) config len (offsets .entry .now) (slots .entry .now) (generations .entry .now) («attempt_starts» .entry .now) (deadlines .entry .now) (deliveries .entry .now) (workers .entry .now)) worker offset generation now
+        r (progressing (rights .entry .now) config len (offsets .exit .now) (slots .exit .now) (generations .exit .now) («attempt_starts» .exit .now) (deadlines .exit .now) (deliveries .exit .now) (workers .exit .now)) ⌝ }
 {
     if phase != 0 {
         return Numbers(255, 0, 0, 0, 0, 0, 0);
@@ -214,6 +223,7 @@ pub fn progress_in_place(
         now,
         rights,
         offsets,
+        slots,
         generations,
         attempt_starts,
         deadlines,
@@ -275,6 +285,101 @@ pub struct StepDone {
     pub redeliveries: u32,
 }
 
+// What a restart answers, and the numbers of the machine that it changes.
+pub struct RestartDone {
+    pub numbers: Numbers,
+    pub phase: u64,
+    pub committed: u64,
+    pub runs: usize,
+    pub len: usize,
+    pub carried_len: usize,
+    pub next_generation: u64,
+    pub redeliveries: u32,
+    pub ceiling: u64,
+    pub number: u64,
+    pub block: usize,
+    pub area_len: usize,
+    pub config: LeaseConfig,
+    pub settings: Settings,
+}
+
+// Call 18, in whatever phase, of a machine of this configuration: its consumer's numbers and columns are those that the journal has.
+// Refused, nothing changes.
+pub fn restart_in_place(
+    phase: u64,
+    committed: u64,
+    runs: usize,
+    len: usize,
+    carried_len: usize,
+    next_generation: u64,
+    redeliveries: u32,
+    ceiling: u64,
+    number: u64,
+    block: usize,
+    area_len: usize,
+    config: LeaseConfig,
+    settings: Settings,
+    configuration: Configuration,
+    starts: &mut [u64; RANGES],
+    ends: &mut [u64; RANGES],
+    slots: &mut [u32; LEASES],
+    carried_offsets: &mut [u64; CARRIED],
+    carried_counts: &mut [u32; CARRIED],
+    area: &[u8],
+) -> RestartDone
+    requires { ⌜ Long (columns (now starts) (now ends) (now «carried_offsets») (now «carried_counts»)) ⌝ }
+    ensures { λ r. ⌜ RestartedOn phase configuration (toRestart committed runs len «carried_len» «next_generation» redeliveries ceiling number block «area_len» config settings (now (slots .entry)) (columns (now (starts .entry)) (now (ends .entry)) (now («carried_offsets» .entry)) (now («carried_counts» .entry)))) (now (area .entry))
+        (r .numbers) (r .phase) (restartedBy r (now (slots .exit)) (columns (now (starts .exit)) (now (ends .exit)) (now («carried_offsets» .exit)) (now («carried_counts» .exit)))) ⌝ }
+{
+    let done = starts::in_place::restart_in_place(
+        configuration,
+        area,
+        starts,
+        ends,
+        carried_offsets,
+        carried_counts,
+    );
+    let answer = done.answer;
+    let numbers = answers::of_start(answer);
+    let StartAnswer::Started = answer else {
+        return RestartDone {
+            numbers: numbers,
+            phase: phase,
+            committed: committed,
+            runs: runs,
+            len: len,
+            carried_len: carried_len,
+            next_generation: next_generation,
+            redeliveries: redeliveries,
+            ceiling: ceiling,
+            number: number,
+            block: block,
+            area_len: area_len,
+            config: config,
+            settings: settings,
+        };
+    };
+    starts::in_place::free_slots(slots);
+    let lease = configuration.lease;
+    let given = configuration.settings;
+    RestartDone {
+        numbers: numbers,
+        phase: 0,
+        committed: done.committed,
+        runs: done.runs,
+        len: 0,
+        carried_len: done.carried_len,
+        next_generation: done.ceiling,
+        redeliveries: 0,
+        ceiling: done.ceiling,
+        number: done.number,
+        block: done.block,
+        area_len: area.len(),
+        config: lease,
+        settings: given,
+    }
+}
+
 // The phase that a begin leaves.
 fn phase_begun(answer: BeginAnswer) -> u64
     ensures { λ r. ⌜ r ≡ phaseBegun answer ⌝ }
@@ -305,14 +410,15 @@ pub fn begin_in_place(
     starts: &mut [u64; RANGES],
     ends: &mut [u64; RANGES],
     offsets: &mut [u64; LEASES],
+    slots: &mut [u32; LEASES],
     deliveries: &mut [u32; LEASES],
     carried_offsets: &mut [u64; CARRIED],
     carried_counts: &mut [u32; CARRIED],
     payload: &mut [u8; 3606],
 ) -> BeginDone
-    requires { ⌜ Beginnable phase (toBegin written «cursor_len» «attempt_len» (now payload) (beginning (now rights) (ackCursor committed (now starts) (now ends) runs) (listingAll len «carried_len» (now offsets) (now deliveries) (now «carried_offsets») (now «carried_counts»)) number block «area_len»)) ⌝ }
-    ensures { λ r. ⌜ BegunOn phase (toBegin written «cursor_len» «attempt_len» (now (payload .entry)) (beginning (now (rights .entry)) (ackCursor committed (now (starts .entry)) (now (ends .entry)) runs) (listingAll len «carried_len» (now (offsets .entry)) (now (deliveries .entry)) (now («carried_offsets» .entry)) (now («carried_counts» .entry))) number block «area_len»)) worker
-        (r .numbers) (r .phase) (toBegin (r .written) (r .«cursor_len») (r .«attempt_len») (now (payload .exit)) (beginning (now (rights .entry)) (ackCursor committed (now (starts .exit)) (now (ends .exit)) runs) (listingAll len «carried_len» (now (offsets .exit)) (now (deliveries .exit)) (now («carried_offsets» .exit)) (now («carried_counts» .exit))) number block «area_len»)) ⌝ }
+    requires { ⌜ Beginnable phase (toBegin written «cursor_len» «attempt_len» (now payload) (beginning (now rights) (ackCursor committed (now starts) (now ends) runs) (listingAll len «carried_len» (now offsets) (now slots) (now deliveries) (now «carried_offsets») (now «carried_counts»)) number block «area_len»)) ⌝ }
+    ensures { λ r. ⌜ BegunOn phase (toBegin written «cursor_len» «attempt_len» (now (payload .entry)) (beginning (now (rights .entry)) (ackCursor committed (now (starts .entry)) (now (ends .entry)) runs) (listingAll len «carried_len» (now (offsets .entry)) (now (slots .entry)) (now (deliveries .entry)) (now («carried_offsets» .entry)) (now («carried_counts» .entry))) number block «area_len»)) worker
+        (r .numbers) (r .phase) (toBegin (r .written) (r .«cursor_len») (r .«attempt_len») (now (payload .exit)) (beginning (now (rights .entry)) (ackCursor committed (now (starts .exit)) (now (ends .exit)) runs) (listingAll len «carried_len» (now (offsets .exit)) (now (slots .exit)) (now (deliveries .exit)) (now («carried_offsets» .exit)) (now («carried_counts» .exit))) number block «area_len»)) ⌝ }
 {
     if phase != 0 {
         return BeginDone {
@@ -339,6 +445,7 @@ pub fn begin_in_place(
         starts,
         ends,
         offsets,
+        slots,
         deliveries,
         carried_offsets,
         carried_counts,

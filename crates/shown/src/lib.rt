@@ -88,6 +88,7 @@ fn leases(out: &mut [u8], at: usize, table: LeaseTable) -> usize
         next = before(out, next, i);
         let held = lease_at(
             i,
+            &table.slots,
             &table.generations,
             &table.attempt_starts,
             &table.deadlines,

@@ -5,6 +5,7 @@ pub mod Zeros
 pub mod Counts
 pub mod Starting
 pub mod Carrying
+pub mod Parts
 pub mod Resuming
 pub mod Reading
 pub mod Restarting

@@ -2,7 +2,7 @@
 -- from there are those of the payload. Assumes nothing.
 use Prim.Native.Nat.{ℕ, _+_, _*_, _-_, _≤_}
 use native.Mathlib.Omega.{arith}
-use mathlib.Core.Path.{_≡_, ap, subst, _∙_}
+use mathlib.Core.Path.{_≡_, ap, _∙_}
 use mathlib.Core.List.{List, _++_}
 use lib.ListN.{length, take, drop, length-append, length-drop}
 use lib.Seq.{take-append-le, drop-append-le}
@@ -20,11 +20,13 @@ use Rattle.journal.specs.declared.Payload.{Payload}
 use Rattle.journal.proofs.Area.{Inside, inside-says, partAt, part-is}
 use Rattle.journal.proofs.Group.{payload-length}
 use Rattle.consumer.specs.State.{State}
-use Rattle.consumer.specs.declared.Configuration.{Configuration}
+use Rattle.consumer.specs.State as state
 use Rattle.consumer.specs.declared.NextGroup.{NextGroup}
 use Rattle.starts.specs.Restart.{fromSnapshots, readGroup}
-use Rattle.starts.specs.Starting.{keptOf, nextGroupOf, Lies, ResumedIs}
-use Rattle.starts.specs.declared.Started.{Started}
+use Rattle.starts.specs.Starting.{nextGroupOf, Lies}
+use Rattle.starts.specs.Parts.{Columns, ReadIs}
+use Rattle.starts.specs.declared.in_place.RestartedAt.{RestartedAt}
+use Rattle.starts.proofs.Parts.{read-as}
 
 module _ (a : List ℕ) (i : ℕ) (l : Lies a i) where
   within : Inside (length a) (i + bodiesFor (payloadLength (blockAt a i)))
@@ -77,18 +79,15 @@ module _ (a : List ℕ) (i : ℕ) (l : Lies a i) where
           rw (n, cursor-said, lent, drop-append-le lc (payload a i) rest (omega (arith, payload-whole)))
           (take-append-le (attemptLength (blockAt a i)) (drop lc (payload a i)) rest (simp length-drop (omega (arith, payload-whole))))
 
-      module _ (s : Configuration) (next : NextGroup) where
-        same : fromSnapshots (keptOf s) (length a) (decodeCursor (take (h .«cursor_len») after))
+      module _ (next : NextGroup) where
+        abbrev taken : state.Configuration → Result State
+        taken k =
+            fromSnapshots k (length a) (decodeCursor (take (h .«cursor_len») after))
             (decodeAttempts (take (h .«cursor_len» + h .«attempt_len» - h .«cursor_len») (drop (h .«cursor_len») after)))
             (h .ceiling) (nextGroupOf next)
-            ≡ readGroup (keptOf s) a i (nextGroupOf next)
-        same = rw (first-part, second-part, ceiling-said)
 
-        pub group-read : (r : Started)
-            → ResumedIs s (length a)
-            (fromSnapshots (keptOf s) (length a) (decodeCursor (take (h .«cursor_len») after))
-            (decodeAttempts (take (h .«cursor_len» + h .«attempt_len» - h .«cursor_len») (drop (h .«cursor_len») after)))
-            (h .ceiling) (nextGroupOf next))
-            r
-            → ResumedIs s (length a) (readGroup (keptOf s) a i (nextGroupOf next)) r
-        group-read r = subst (λ (q : Result State). ResumedIs s (length a) q r) same
+        same : (k : state.Configuration) → taken k ≡ readGroup k a i (nextGroupOf next)
+        same k = rw (first-part, second-part, ceiling-said)
+
+        pub group-read : (r : RestartedAt) (p p′ : Columns) → ReadIs taken (length a) r p p′ → ReadIs (λ k. readGroup k a i (nextGroupOf next)) (length a) r p p′
+        group-read = read-as taken (length a) (λ k. readGroup k a i (nextGroupOf next)) same

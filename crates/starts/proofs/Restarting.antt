@@ -2,17 +2,18 @@
 -- and that the consumer which goes on is sound. Assumes nothing.
 use Prim.Native.Nat.{ℕ, _+_, _/_, min}
 use native.Mathlib.Omega.{arith}
-use mathlib.Core.Path.{_≡_, refl, sym, ap, _∙_}
+use mathlib.Core.Path.{_≡_, refl, sym, ap, subst, _∙_}
 use mathlib.Core.Bool.{Bool, true, false}
 use mathlib.Core.List.{List, [], _∷_}
 use mathlib.Core.Option.{Option, none, some, Option·none-ne-some}
 use lib.ListN.{length}
 use types.Run.{OneOf, miss}
 use denote.Enum.Declared.{tagOf}
-use Rattle.types.specs.Refusal.{Refusal, Result, refused, done, Damaged}
-use Rattle.types.specs.Table.{first, Passed, unless}
+use Rattle.types.specs.Limits.{LEASES}
+use Rattle.types.specs.Refusal.{Refusal, Result, refused, done}
+use Rattle.types.specs.Table.{first, Passed}
 use Rattle.types.proofs.Table.{first-none}
-use Rattle.types.proofs.Checked.{refused-not-done, done-inj}
+use Rattle.tables.specs.Slots.{Permutes}
 use Rattle.raw.specs.Bytes.{IsBytes}
 use Rattle.journal.specs.Area.{badLength, blocks, blockAt}
 use Rattle.journal.specs.Answers.{lastOf, walkedOf, walkIn}
@@ -27,20 +28,22 @@ use Rattle.journal.proofs.Sound.{Header}
 use Rattle.journal.proofs.Walks.{LastIs, at-once, behind, walk-ended}
 use Rattle.consumer.specs.State.{State, nextGroupAt}
 use Rattle.consumer.specs.State as state
-use Rattle.consumer.specs.Valid.{Fits, Valid}
+use Rattle.consumer.specs.Valid.{Fits}
 use Rattle.consumer.specs.View.{view, Sound}
 use Rattle.consumer.specs.declared.Configuration.{Configuration}
 use Rattle.consumer.specs.declared.NextGroup.{NextGroup}
 use Rattle.consumer.specs.declared.Consumer.{Consumer}
 use Rattle.consumer.proofs.Area.{area-taken}
-use Rattle.starts.specs.Restart.{startTable, readGroup, origin, limit, walkOf, unfitAt, lastGroup, fromWalk, restart}
-use Rattle.starts.specs.Starting.{configurationOf, keptOf, nextGroupOf, startFault, FreshIs, StartedIs, Lies, LastLies, WalkedIs, Parts, ResumedIs}
-use Rattle.starts.specs.declared.Started.{Started}
+use Rattle.starts.specs.Restart.{startTable, fresh, readGroup, origin, limit, walkOf, unfitAt, lastGroup, fromWalk, restart}
+use Rattle.starts.specs.Starting.{configurationOf, keptOf, nextGroupOf, startFault, startOf, FreshIs, StartedIs, Lies, LastLies, WalkedIs}
+use Rattle.starts.specs.Parts.{freshBy, Columns, stateBy, ReadIs, goingOn, RestartedIn}
 use Rattle.starts.specs.declared.StartAnswer.{StartAnswer}
 use Rattle.starts.specs.declared.StartAnswer.the-variants as answers
+use Rattle.starts.specs.declared.in_place.RestartedAt.{RestartedAt}
 use Rattle.starts.proofs.StartAnswer.{the-type}
 use Rattle.starts.proofs.Halves.{limit-within}
 use Rattle.starts.proofs.Valid.{restart-valid}
+use Rattle.starts.proofs.Parts.{kept-same, fresh-read, read-as}
 use Rattle.starts.proofs.Starting.{same-configuration, kept-open, settings-sound}
 
 -- ## The last group of a walk
@@ -71,59 +74,45 @@ module _ (a : List ℕ) where
   last-there l i h q = rw q at h
 
   -- ## What each end of the walk is answered with
-  module _ (s : Configuration) where
-    pub last-read : (l : LastGroup) (i : ℕ) (next : NextGroup) → l ≡ At i
-        → (r : Started) → ResumedIs s (length a) (readGroup (keptOf s) a i (nextGroupOf next)) r
-        → ResumedIs s (length a) (lastGroup (keptOf s) a (lastOf l) (nextGroupOf next)) r
-    last-read l i next q r h = rw q h
+  pub last-read : (l : LastGroup) (i : ℕ) (next : NextGroup) → l ≡ At i → (r : RestartedAt) (p p′ : Columns)
+      → ReadIs (λ k. readGroup k a i (nextGroupOf next)) (length a) r p p′
+      → ReadIs (λ k. lastGroup k a (lastOf l) (nextGroupOf next)) (length a) r p p′
+  last-read l i next q r p p′ h = rw q h
 
-    pub none-read : (l : LastGroup) (next : NextGroup) (c : Consumer) → FreshIs s (length a) c → l ≡ None
-        → ResumedIs s (length a) (lastGroup (keptOf s) a (lastOf l) (nextGroupOf next)) (record { answer = answers.Started; consumer = c })
-    none-read l next c f q =
-        rw q
-        (record {
-          is = ap done (f .is);
-          beside =
-              record {
-                cursor = f .cursor;
-                leases = f .table .len;
-                carried = f .table .carried-len;
-                settings = f .settings;
-              };
-        })
+  pub none-read : (l : LastGroup) (next : NextGroup) (p : Columns) → l ≡ None
+      → ReadIs (λ k. lastGroup k a (lastOf l) (nextGroupOf next)) (length a) (freshBy answers.Started) p p
+  none-read l next p q = rw q (fresh-read (λ k. done (fresh k (length a))) (length a) answers.Started p (λ k. refl))
 
-    module _ (w : Walked) where
-      pub area-resumed : (c : Consumer) → FreshIs s (length a) c → w ≡ walked.BadArea
-          → ResumedIs s (length a) (fromWalk (keptOf s) a (walkedOf w)) (record { answer = answers.BadArea; consumer = c })
+  module _ (w : Walked) where
+    abbrev right : state.Configuration → Result State
+    right k = fromWalk k a (walkedOf w)
+
+    pub area-resumed : (p : Columns) → w ≡ walked.BadArea → ReadIs right (length a) (freshBy answers.BadArea) p p
+    unfolding fromWalk
+    area-resumed p e = fresh-read right (length a) answers.BadArea p (λ k. rw e)
+
+    pub damaged-resumed : (j : ℕ) (p : Columns) → w ≡ walked.Damaged j → ReadIs right (length a) (freshBy (answers.Damaged j)) p p
+    unfolding fromWalk
+    damaged-resumed j p e = fresh-read right (length a) (answers.Damaged j) p (λ k. rw e)
+
+    -- a walk that ended, what stands there, and what was found behind that place
+    module _ (l : LastGroup) (k e : ℕ) (p : w ≡ walked.Stopped l k e) (unfit : Bool) (there : unfit ≡ unfitAt a k e) where
+      pub unfit-resumed : unfit ≡ true → (cols : Columns) → ReadIs right (length a) (freshBy (answers.Damaged e)) cols cols
       unfolding fromWalk
-      area-resumed c f p = rw p (record { is = refl; beside = f .is })
+      unfit-resumed t cols = fresh-read right (length a) (answers.Damaged e) cols (λ c. rw (p, sym there ∙ t))
 
-      module _ (r : Started) where
-        pub damaged-resumed : (j : ℕ) → w ≡ walked.Damaged j → ResumedIs s (length a) (refused (Damaged j)) r
-            → ResumedIs s (length a) (fromWalk (keptOf s) a (walkedOf w)) r
+      module _ (fits : unfit ≡ false) (hi : ℕ) (whole : hi ≡ limit a) (found : Bool) (is : found ≡ headerBehind a hi e) where
+        behind-is : headerBehind a (limit a) e ≡ found
+        behind-is = rw (← whole) (sym is)
+
+        pub worn-resumed : found ≡ true → (cols : Columns) → ReadIs right (length a) (freshBy (answers.Damaged e)) cols cols
         unfolding fromWalk
-        damaged-resumed j p h = rw p h
+        worn-resumed t cols = fresh-read right (length a) (answers.Damaged e) cols (λ c. rw (p, sym there ∙ fits, behind-is, t))
 
-        -- a walk that ended, what stands there, and what was found behind that place
-        module _ (l : LastGroup) (k e : ℕ) (p : w ≡ walked.Stopped l k e) (unfit : Bool) (there : unfit ≡ unfitAt a k e) where
-          pub unfit-resumed : unfit ≡ true → ResumedIs s (length a) (refused (Damaged e)) r
-              → ResumedIs s (length a) (fromWalk (keptOf s) a (walkedOf w)) r
-          unfolding fromWalk
-          unfit-resumed t h = rw (p, sym there ∙ t) h
-
-          module _ (fits : unfit ≡ false) (hi : ℕ) (whole : hi ≡ limit a) (found : Bool) (is : found ≡ headerBehind a hi e) where
-            behind-is : headerBehind a (limit a) e ≡ found
-            behind-is = rw (← whole) (sym is)
-
-            pub worn-resumed : found ≡ true → ResumedIs s (length a) (refused (Damaged e)) r
-                → ResumedIs s (length a) (fromWalk (keptOf s) a (walkedOf w)) r
-            unfolding fromWalk
-            worn-resumed t h = rw (p, sym there ∙ fits, behind-is, t) h
-
-            pub last-resumed : found ≡ false → ResumedIs s (length a) (lastGroup (keptOf s) a (lastOf l) (nextGroupAt k e)) r
-                → ResumedIs s (length a) (fromWalk (keptOf s) a (walkedOf w)) r
-            unfolding fromWalk
-            last-resumed t h = rw (p, sym there ∙ fits, behind-is, t) h
+        pub last-resumed : found ≡ false → (r : RestartedAt) (b b′ : Columns)
+            → ReadIs (λ c. lastGroup c a (lastOf l) (nextGroupAt k e)) (length a) r b b′ → ReadIs right (length a) r b b′
+        unfolding fromWalk
+        last-resumed t = read-as (λ c. lastGroup c a (lastOf l) (nextGroupAt k e)) (length a) right (λ c. rw (p, sym there ∙ fits, behind-is, t))
 
 -- ## The tests before
 -- every answer but `Started` is a refusal
@@ -149,19 +138,18 @@ other-faulty (answers.Damaged block) o = record { refusal = _; is = refl }
 other-faulty (answers.Cursor error) o = record { refusal = _; is = refl }
 other-faulty (answers.Attempts decoded) o = record { refusal = _; is = refl }
 
-shown : (o : Option Refusal) (u t : State) → unless o (done u) ≡ done t → u ≡ t
-shown none u t e = done-inj e
-shown (some r) u t e = refused-not-done e
-
 -- ## The whole
 module _ (s : Configuration) (a : List ℕ) (d : StartAnswer) (e : startFault d ≡ first (startTable (configurationOf s) (length a))) where
-  pub restart-refused : Other d → (c : Consumer) → FreshIs s (length a) c
-      → StartedIs s (length a) (restart (configurationOf s) a) (record { answer = d; consumer = c })
+  pub restart-refused : Other d → (p : Columns) → RestartedIn s a (freshBy d) p p
   unfolding restart
-  restart-refused o c i =
+  restart-refused o p =
       let f = other-faulty d o in
       let q : first (startTable (configurationOf s) (length a)) ≡ some (f .refusal) = sym e ∙ f .is in
-      record { is = rw (e, q); beside = rw q (i .is) }
+      record {
+        is = λ c. rw (e, q);
+        sound = λ c s t. absurd (Option·none-ne-some (f .refusal) (sym (ap startFault t) ∙ f .is));
+        kept = kept-same (startFault d) p;
+      }
 
   module _ (full : length (s .settings .delivery .«backoff_nanos») ≡ 16) (f : Fits (configurationOf s .settings)) (q : d ≡ answers.Started) where
     untouched : first (startTable (configurationOf s) (length a)) ≡ none
@@ -182,24 +170,35 @@ module _ (s : Configuration) (a : List ℕ) (d : StartAnswer) (e : startFault d 
     unfolding restart
     right-is = rw untouched (rw (same-configuration s (length a) full f passed))
 
-    parts-sound : (c : Consumer) → Parts s c → Valid (view c) → Sound c
-    parts-sound c p v =
+    pub restarted : IsBytes a → (w : Walked) → WalkedIs a w → (r : RestartedAt) (p p′ : Columns)
+        → ReadIs (λ k. fromWalk k a (walkedOf w)) (length a) r p p′ → RestartedIn s a r p p′
+    restarted bytes w h r p p′ i =
+        let is : startOf (r .answer) (stateBy (keptOf s) (length a) r p′) ≡ restart (configurationOf s) a = i .is (keptOf s) ∙ rw (h .is) (sym right-is) in
         record {
-          cursor = p .cursor;
-          table = record { len = p .leases; carried-len = p .carried; valid = v .table };
-          settings = settings-sound s (length a) full f passed (c .settings) (p .settings);
-          valid = v;
+          is = λ c. is;
+          sound = λ c free t.
+              let v = restart-valid (configurationOf s) a (stateBy (keptOf s) (length a) r p′) bytes (sym (rw t at is)) f in
+              record {
+                cursor = i .cursor;
+                table = record { len = omega arith; carried-len = i .few; slots = free; valid = v .table };
+                settings = settings-sound s (length a) full f passed (s .settings) refl;
+                valid = v;
+              };
+          kept = i .kept;
         }
 
-    pub restarted : IsBytes a → (w : Walked) → WalkedIs a w → (r : Started)
-        → ResumedIs s (length a) (fromWalk (keptOf s) a (walkedOf w)) r → StartedIs s (length a) (restart (configurationOf s) a) r
-    restarted bytes w h r i = go (restart (configurationOf s) a) refl (rw (h .is, ← right-is) at i)
-      where
-        go : (x : Result State) → restart (configurationOf s) a ≡ x → ResumedIs s (length a) x r → StartedIs s (length a) x r
-        go (refused y) p i = record { is = i .is; beside = i .beside }
-        go (done t) p i =
-            let same : view (r .consumer) ≡ t = shown (startFault (r .answer)) (view (r .consumer)) t (i .is) in
-            record {
-              is = i .is;
-              beside = parts-sound (r .consumer) (i .beside) (rw same (restart-valid (configurationOf s) a t bytes p f));
-            }
+-- by value
+module _ (s : Configuration) (a : List ℕ) (r : RestartedAt) (p p′ : Columns) (h : RestartedIn s a r p p′) where
+  pub refused-value : Other (r .answer) → (c : Consumer) → FreshIs s (length a) c
+      → StartedIs s (length a) (restart (configurationOf s) a) (record { answer = r .answer; consumer = c })
+  refused-value o c i =
+      let f = other-faulty (r .answer) o in
+      let w : refused (f .refusal) ≡ restart (configurationOf s) a = rw (f .is) at (h .is c) in
+      record { is = rw (f .is) w; beside = rw (← w) (i .is) }
+
+  pub resumed-value : r .answer ≡ answers.Started → (c : Consumer) → c ≡ goingOn s (length a) r p′ c → Permutes LEASES (c .table .slots)
+      → StartedIs s (length a) (restart (configurationOf s) a) (record { answer = r .answer; consumer = c })
+  resumed-value t c e free =
+      let is : startOf (r .answer) (view c) ≡ restart (configurationOf s) a = subst (λ (x : Consumer). startOf (r .answer) (view x) ≡ restart (configurationOf s) a) (sym e) (h .is c) in
+      let w : done (view c) ≡ restart (configurationOf s) a = rw t at is in
+      record { is = is; beside = rw (← w) (subst Sound (sym e) (h .sound c free t)) }

@@ -1,11 +1,11 @@
--- A restart from two snapshots: what each decoder's answer says of the definition, and the consumer that goes on from both.
+-- A restart from two snapshots: what each decoder's answer says of the definition, and the parts that go on from both.
 -- Assumes nothing.
 use Prim.Native.Nat.{ℕ, _≤_}
 use native.Mathlib.Omega.{arith}
-use mathlib.Core.Path.{_≡_, refl, sym, ap, _∙_}
+use mathlib.Core.Path.{_≡_, refl, sym, ap, ap₂, _∙_}
 use mathlib.Core.List.{List}
 use lib.ListN.{length, take}
-use Rattle.types.specs.Limits.{PAIRS}
+use Rattle.types.specs.Limits.{PAIRS, CARRIED}
 use Rattle.types.specs.Refusal.{Result, refused, done}
 use Rattle.types.specs.Keyed.{Entry}
 use Rattle.types.specs.Lists.{entriesOf}
@@ -26,18 +26,15 @@ use Rattle.attempt.specs.declared.Decode.the-variants as attempts
 use Rattle.attempt.specs.declared.Decoded.{Decoded}
 use Rattle.attempt.proofs.Codec.{decoded-refused, decoded-pairs}
 use Rattle.attempt.proofs.Snapshot.{decoded-few}
-use Rattle.lease.specs.State as lease
-use Rattle.lease.specs.State.{Table, startingAt, withCarried}
-use Rattle.lease.specs.declared.LeaseTable.{LeaseTable}
-use Rattle.consumer.specs.State.{State, stateOf}
-use Rattle.consumer.specs.View.{settingsOf}
-use Rattle.consumer.specs.declared.Configuration.{Configuration}
+use Rattle.consumer.specs.State.{State}
+use Rattle.consumer.specs.State as state
 use Rattle.consumer.specs.declared.NextGroup.{NextGroup}
-use Rattle.consumer.specs.declared.Consumer.{Consumer}
-use Rattle.starts.specs.Restart.{unsettledCounts, fromSnapshots}
-use Rattle.starts.specs.Starting.{keptOf, FreshIs, CarriedIs, TableIs, consumerOf, nextGroupOf, ResumedIs}
-use Rattle.starts.specs.declared.Carried.{Carried}
+use Rattle.starts.specs.Restart.{resumed, unsettledCounts, fromSnapshots}
+use Rattle.starts.specs.Starting.{nextGroupOf}
+use Rattle.starts.specs.Parts.{freshBy, Columns, cursorBy, countsBy, ReadIs}
 use Rattle.starts.specs.declared.StartAnswer.the-variants as answers
+use Rattle.starts.specs.declared.in_place.RestartedAt.{RestartedAt}
+use Rattle.starts.proofs.Parts.{fresh-read}
 
 -- ## what the attempt decoder's answer says
 module _ (b : List ℕ) (r : Decoded) (is : DecodedIs b r) where
@@ -87,34 +84,33 @@ module _ (b : List ℕ) (r : cursors.Decoded) (is : restored.DecodedIs b r) wher
   cursor-read p = sym (is .is) ∙ ap (λ (d : cursors-decode.Decode). restored.decodeOf d (cursor.view (r .cursor))) p
 
 -- ## the two snapshots together
-module _ (s : Configuration) (size : ℕ) (cb ab : List ℕ) (ceiling : ℕ) (next : NextGroup) where
-  abbrev right : Result State
-  right = fromSnapshots (keptOf s) size (decodeCursor cb) (decodeAttempts ab) ceiling (nextGroupOf next)
+module _ (cb ab : List ℕ) (ceiling : ℕ) (next : NextGroup) (size : ℕ) where
+  abbrev right : state.Configuration → Result State
+  right k = fromSnapshots k size (decodeCursor cb) (decodeAttempts ab) ceiling (nextGroupOf next)
 
-  pub cursor-refused : (error : SnapshotError) (c : Consumer) → decodeCursor cb ≡ refused (snapshotError error) → FreshIs s size c
-      → ResumedIs s size right (record { answer = answers.Cursor error; consumer = c })
-  cursor-refused error c e f = record { is = rw e; beside = rw e (f .is) }
+  pub cursor-refused : (error : SnapshotError) (p : Columns) → decodeCursor cb ≡ refused (snapshotError error) → ReadIs right size (freshBy (answers.Cursor error)) p p
+  cursor-refused error p e = fresh-read right size (answers.Cursor error) p (λ k. rw e)
 
   module _ (k : AckCursor) (e : decodeCursor cb ≡ done (cursor.view k)) where
-    pub attempts-refused : (error : AttemptSnapshotError) (c : Consumer) → decodeAttempts ab ≡ refused (attemptError error) → FreshIs s size c
-        → ResumedIs s size right (record { answer = answers.Attempts error; consumer = c })
-    attempts-refused error c q f = record { is = rw (e, q); beside = rw (e, q) (f .is) }
+    pub attempts-refused : (error : AttemptSnapshotError) (p : Columns) → decodeAttempts ab ≡ refused (attemptError error)
+        → ReadIs right size (freshBy (answers.Attempts error)) p p
+    attempts-refused error p q = fresh-read right size (answers.Attempts error) p (λ c. rw (e, q))
 
-    pub both-read : cursor.Sound k → (r : Decoded) (is : DecodedIs ab r) → Reads ab r is
-        → (carried : Carried) → CarriedIs (unsettledCounts (cursor.view k) (entriesOf (take (r .count) (r .pairs)))) carried
-        → (t : LeaseTable) → TableIs (s .lease) ceiling carried t
-        → ResumedIs s size right (record { answer = answers.Started; consumer = consumerOf k t ceiling next size (s .settings) })
-    both-read sound r is q carried h t g =
-        let counts = h .is ∙ ap (unsettledCounts (cursor.view k)) (q .pairs) in
-        let table : lease.view t ≡ withCarried (startingAt (s .lease) ceiling) (unsettledCounts (cursor.view k) (q .list)) = g .is ∙ ap (withCarried (startingAt (s .lease) ceiling)) counts in
+    -- the numbers that go on
+    abbrev numbers : ℕ → RestartedAt
+    numbers n =
+        record { answer = answers.Started; committed = k .committed; runs = k .runs; «carried_len» = n; ceiling = ceiling; number = next .number; block = next .block }
+
+    pub both-read : cursor.Sound k → (r : Decoded) (is : DecodedIs ab r) → Reads ab r is → (before after : Columns)
+        → take (k .runs) (after .starts) ≡ take (k .runs) (k .starts) → take (k .runs) (after .ends) ≡ take (k .runs) (k .ends)
+        → (n : ℕ) → n ≤ CARRIED → countsBy (numbers n) after ≡ unsettledCounts (cursor.view k) (entriesOf (take (r .count) (r .pairs)))
+        → ReadIs right size (numbers n) before after
+    both-read sound r is q before after starts ends n few carried =
+        let ranges : cursor.view (cursorBy (numbers n) after) ≡ cursor.view k = rw (starts, ends) in
+        let counts : countsBy (numbers n) after ≡ unsettledCounts (cursor.view k) (q .list) = carried ∙ ap (unsettledCounts (cursor.view k)) (q .pairs) in
         record {
-          is = rw (e, q .bytes) (ap (λ (u : Table). done (stateOf (cursor.view k) u ceiling (nextGroupOf next) size (settingsOf (s .settings)))) table);
-          beside =
-              rw (e, q .bytes)
-              (record {
-                cursor = sound;
-                leases = omega (arith, g .none);
-                carried = omega (arith, g .len, h .few);
-                settings = refl;
-              });
+          is = λ c. rw (e, q .bytes) (ap₂ (λ (x : Cursor) (l : List (Entry ℕ)). done (resumed c size x l ceiling (nextGroupOf next))) ranges counts);
+          cursor = record { few = sound .few; valid = rw ranges (sound .valid) };
+          few = few;
+          kept = tt;
         }

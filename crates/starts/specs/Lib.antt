@@ -1,3 +1,4 @@
 pub mod Restart
 pub mod Starting
+pub mod Parts
 pub mod Versions

@@ -15,8 +15,6 @@ use Rattle.journal.specs.Blocks.{bodiesFor, cursorLength, attemptLength, payloa
 use Rattle.types.specs.Refusal.{Refusal, Result, refused, done}
 use Rattle.types.specs.Refusal as refusal
 use Rattle.types.specs.Table.{unless}
-use Rattle.types.specs.Limits.{LEASES, CARRIED}
-use Rattle.types.specs.Keyed.{Entry, entries}
 use Rattle.cursor.specs.Answers.{snapshotError}
 use Rattle.cursor.specs.View as cursor
 use Rattle.attempt.specs.Codec.{attemptError}
@@ -24,10 +22,6 @@ use Rattle.delivery.specs.declared.DeliveryConfig.{DeliveryConfig}
 use Rattle.delivery.specs.Policy.{policy}
 use Rattle.hours.specs.View as hours
 use Rattle.lease.specs.State as lease
-use Rattle.lease.specs.State.{startingAt, withCarried}
-use Rattle.lease.specs.declared.LeaseConfig.{LeaseConfig}
-use Rattle.lease.specs.declared.LeaseTable.{LeaseTable}
-use Rattle.cursor.specs.declared.AckCursor.{AckCursor}
 use Rattle.consumer.specs.State.{State}
 use Rattle.consumer.specs.State as state
 use Rattle.consumer.specs.View.{settingsOf, view, Sound}
@@ -36,7 +30,6 @@ use Rattle.consumer.specs.declared.Configuration.{Configuration}
 use Rattle.consumer.specs.declared.NextGroup.{NextGroup}
 use Rattle.consumer.specs.declared.Consumer.{Consumer}
 use Rattle.starts.specs.Restart.{fresh, opens, firstNumber, walkOf}
-use Rattle.starts.specs.declared.Carried.{Carried}
 use Rattle.starts.specs.declared.Opening.{Opening}
 use Rattle.starts.specs.declared.Started.{Started}
 use Rattle.starts.specs.declared.StartAnswer.{StartAnswer}
@@ -103,28 +96,6 @@ pub record OpeningIs (a : List ℕ) (i : ℕ) (r : Opening) : Type 0 where
   pub opens : r .opens ≡ opens a i
   pub number : r .opens ≡ true → r .number ≡ firstNumber a i
 
--- the counts that are carried, in two columns
-pub record CarriedIs (counts : List (Entry ℕ)) (r : Carried) : Type 0 where
-  pub is : entries (take (r .len) (r .offsets)) (take (r .len) (r .counts)) ≡ counts
-  pub few : r .len ≤ CARRIED
-
--- a table that carries them, without leases
-pub record TableIs (c : LeaseConfig) (ceiling : ℕ) (carried : Carried) (r : LeaseTable) : Type 0 where
-  pub is : lease.view r ≡ withCarried (startingAt c ceiling) (entries (take (carried .len) (carried .offsets)) (take (carried .len) (carried .counts)))
-  pub none : r .len ≡ 0
-  pub len : r .«carried_len» ≡ carried .len
-
-abbrev pub consumerOf : AckCursor → LeaseTable → ℕ → NextGroup → ℕ → Settings → Consumer
-consumerOf cursor table ceiling next size settings =
-    record {
-      cursor = cursor;
-      table = table;
-      ceiling = record { 0 = ceiling };
-      next = next;
-      «area_len» = size;
-      settings = settings;
-    }
-
 abbrev pub nextGroupOf : NextGroup → state.NextGroup
 nextGroupOf next = state.nextGroupAt (next .number) (next .block)
 
@@ -143,18 +114,3 @@ pub record WalkedIs (a : List ℕ) (r : Walked) : Type 0 where
 abbrev pub LastLies : List ℕ → LastGroup → Type 0
 LastLies a (At i) = Lies a i
 LastLies a None = Unit {0}
-
--- the parts of a consumer that goes on from a journal
-pub record Parts (s : Configuration) (c : Consumer) : Type 0 where
-  pub cursor : cursor.Sound (c .cursor)
-  pub leases : c .table .len ≤ LEASES
-  pub carried : c .table .«carried_len» ≤ CARRIED
-  pub settings : c .settings ≡ s .settings
-
-abbrev pub BesideParts : Result State → Configuration → ℕ → Consumer → Type 0
-BesideParts (refused r) s size c = view c ≡ fresh (keptOf s) size
-BesideParts (done t) s size c = Parts s c
-
-pub record ResumedIs (s : Configuration) (size : ℕ) (right : Result State) (r : Started) : Type 0 where
-  pub is : startOf (r .answer) (view (r .consumer)) ≡ right
-  pub beside : BesideParts right s size (r .consumer)

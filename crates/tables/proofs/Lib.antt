@@ -4,4 +4,4 @@ pub mod Merge
 mod Gaps
 pub mod Places
 pub mod Carried
-pub mod Zips
+pub mod Slots

@@ -1,8 +1,11 @@
 // Columns of sorted tables: arrays of numbers of which the first `len` places are in use.
 ghost use mathlib.Core.Path.{_≡_};
-ghost use lib.ListN.{take};
+ghost use Prim.Native.Nat.{_+_, _≤_};
+ghost use lib.ListN.{length, take};
+ghost use lib.Seq.{paste};
 ghost use Rattle.tables.specs.Columns.{putIn, takenOut};
 ghost use Rattle.tables.specs.Search.{Boundary, Placed};
+ghost use Rattle.tables.specs.Slots.{Permutes, setAside};
 use types::numbers::shorter;
 
 pub mod counts;
@@ -180,4 +183,103 @@ pub fn remove_counts_128(column: &mut [u32; 128], len: usize, from: usize, to: u
     ensures { λ _. ⌜ now (column .exit) ≡ takenOut len from to (now (column .entry)) ⌝ }
 {
     remove_counts(column, len, from, to);
+}
+
+// The first `count` slots of those in use moved behind the others, to the free ones.
+pub fn set_aside_64(slots: &mut [u32; 64], len: usize, count: usize)
+    requires { ⌜ (count ≤ len) × (len ≤ 64) ⌝ }
+    ensures { λ _. ⌜ (length (now (slots .entry)) ≡ 64 → now (slots .exit) ≡ setAside len 0 count (now (slots .entry))) ⌝ }
+{
+    if count == 0 {
+        return;
+    }
+    let held = *slots;
+    remove_counts_64(slots, len, 0, count);
+    copy_64(slots, len - count, &held, count);
+}
+
+// Stores the first `count` numbers of a column in another, from a place on.
+fn copy_64(column: &mut [u32; 64], at: usize, from: &[u32; 64], count: usize)
+    requires { ⌜ at + count ≤ 64 ⌝ }
+    ensures { λ _. ⌜ (length (now (column .entry)) ≡ 64 → length (now (from .entry)) ≡ 64 → now (column .exit) ≡ paste (now (column .entry)) at (now (from .entry)) count) ⌝ }
+{
+    let mut i: usize = 0;
+    while i < count {
+        column[at + i] = from[i];
+        i += 1;
+    }
+}
+
+const SLOTS: [u32; 64] = [
+    0,
+    1,
+    2,
+    3,
+    4,
+    5,
+    6,
+    7,
+    8,
+    9,
+    10,
+    11,
+    12,
+    13,
+    14,
+    15,
+    16,
+    17,
+    18,
+    19,
+    20,
+    21,
+    22,
+    23,
+    24,
+    25,
+    26,
+    27,
+    28,
+    29,
+    30,
+    31,
+    32,
+    33,
+    34,
+    35,
+    36,
+    37,
+    38,
+    39,
+    40,
+    41,
+    42,
+    43,
+    44,
+    45,
+    46,
+    47,
+    48,
+    49,
+    50,
+    51,
+    52,
+    53,
+    54,
+    55,
+    56,
+    57,
+    58,
+    59,
+    60,
+    61,
+    62,
+    63,
+];
+
+// All 64 slots, in their order.
+pub fn slots_64() -> [u32; 64]
+    ensures { λ r. ⌜ Permutes 64 r ⌝ }
+{
+    SLOTS
 }

@@ -231,6 +231,30 @@ fn begin_and_step<S: Side<Storage = Nowhere>>(leases: u64) -> [f64; 2] {
     [begin * each, step * each / blocks as f64]
 }
 
+/// A restart from a journal of 128 blocks with so many groups in its first half, the last of which has so many ranges and counts.
+/// Where a side has no journal there is no time.
+fn restart<S: Side<Storage = Nowhere>>(groups: u64, ranges: u64, counts: u64) -> Option<f64> {
+    let mut side = start::<S>();
+    for range in 0..ranges {
+        let token = side.claim(HELD + 2 * range, 0);
+        side.ack(token);
+    }
+    hold(&mut side, 0, counts);
+    for _ in 1..groups {
+        side = side.checkpoint();
+    }
+    let mut side = Some(side);
+    let time = per_call(CALLS / 10, TIMES, || {
+        for _ in 0..CALLS / 10 {
+            side = side.take().and_then(S::restart);
+        }
+    });
+    side.map(|mut side| {
+        assert_eq!(side.held(), (0, counts as usize));
+        time
+    })
+}
+
 /// How many blocks a checkpoint takes that stores so many counts and no range: a header, and bodies of 500 bytes.
 fn blocks_of(counts: u64) -> u64 {
     1 + (13 + 9 + 12 * counts).div_ceil(500)
@@ -352,6 +376,18 @@ fn checkpoints() {
     }
 }
 
+// The original has no journal: these lines have one side.
+fn restarts() {
+    for (groups, ranges, counts) in [(1, 0, 0), (32, 0, 1), (9, 128, 64)] {
+        let least = (0..ROUNDS / 10)
+            .filter_map(|_| restart::<Ours>(groups, ranges, counts))
+            .fold(f64::INFINITY, f64::min);
+        println!(
+            "| restart, 128 blocks: {groups} groups, {ranges} ranges and {counts} counts in the last | – | {least:.1} | – |"
+        );
+    }
+}
+
 pub fn table() {
     claims_and_acks();
     under_a_token();
@@ -359,4 +395,5 @@ pub fn table() {
     questions();
     waiting_lists();
     checkpoints();
+    restarts();
 }

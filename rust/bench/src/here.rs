@@ -39,9 +39,7 @@ impl<S: Storage> Side for Here<S> {
             for offset in first..offsets.end.min(first + 64) {
                 self.claim(offset, 0);
             }
-            let journal = self.checkpoint().0.into_journal();
-            let consumer = Consumer::restart(&Configuration::default(), journal);
-            self = Here(consumer.unwrap()).checkpoint();
+            self = self.checkpoint().restart().unwrap().checkpoint();
         }
         self
     }
@@ -118,5 +116,11 @@ impl<S: Storage> Side for Here<S> {
             Step::Wrote { writing, .. } => ControlFlow::Continue(writing),
             Step::Finished { consumer, .. } => ControlFlow::Break(Here(consumer)),
         }
+    }
+
+    fn restart(self) -> Option<Here<S>> {
+        let journal = self.0.into_journal();
+        let consumer = Consumer::restart(&Configuration::default(), journal);
+        Some(Here(consumer.unwrap()))
     }
 }

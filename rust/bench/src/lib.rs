@@ -82,4 +82,9 @@ pub trait Side: Sized {
     fn checkpoint(self) -> Self {
         Self::finish(self.begin()).0
     }
+
+    /// A restart from the blocks that were written, where the side has a journal to read. The original has none.
+    fn restart(self) -> Option<Self> {
+        None
+    }
 }

@@ -15,12 +15,12 @@ lent s =
 
 begin-in-place-requires : tie.Need-begin-in-place-requires
 begin-in-place-requires c κs =
-    let s = c .before .before .before .before .before .before .before .before .before in
+    let s = c .before .before .before .before .before .before .before .before .before .before in
     record { consumer = s .args .t1; lent = lent s; payload = refl }
 
 returns : tie.Need-returns
 returns c =
-    let s = c .before .before .before .before .before .before .before .before .before .before in
+    let s = c .before .before .before .before .before .before .before .before .before .before .before in
     c .begin-in-place .ensures (s .args .t1) (lent s) .begun
 
 pub begin-spec : {M : Type 1} → statement M

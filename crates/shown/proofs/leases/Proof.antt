@@ -29,6 +29,7 @@ full : (s : tie.Start Inv-loop μ-loop) → Full (s .args .t3)
 full s =
     record {
       offsets = search needs;
+      slots = search needs;
       leases = record { generations = search needs; starts = search needs; deadlines = search needs; counts = search needs; workers = search needs };
       carried-offsets = search needs;
       carried-counts = search needs;

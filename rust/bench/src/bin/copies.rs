@@ -141,7 +141,7 @@ fn under_a_token(side: &mut impl Side, token: Token) -> Calls {
     ]
 }
 
-/// A begin, its first step and its last.
+/// A begin, its first step and its last, and a restart from what it wrote, where there is one.
 fn checkpoint<S: Side>(side: S) -> Calls {
     let (mut writing, begin) = copied(|| side.begin());
     let mut calls = vec![("begin", begin)];
@@ -153,8 +153,12 @@ fn checkpoint<S: Side>(side: S) -> Calls {
                 writing = rest;
             }
             ControlFlow::Continue(rest) => writing = rest,
-            ControlFlow::Break(_) => {
+            ControlFlow::Break(side) => {
                 calls.push(("step, the header", step));
+                let (restarted, restart) = copied(|| side.restart());
+                if restarted.is_some() {
+                    calls.push(("restart", restart));
+                }
                 return calls;
             }
         }

@@ -19,7 +19,7 @@ abbrev given : tie.Start → Consumer → Consumer
 given s =
     let a = s .args in
     beginning (a .rights .now) (ackCursor (a .committed) (a .starts .now) (a .ends .now) (a .runs))
-    (listingAll (a .len) (a .carried-len) (a .offsets .now) (a .deliveries .now) (a .carried-offsets .now) (a .carried-counts .now))
+    (listingAll (a .len) (a .carried-len) (a .offsets .now) (a .slots .now) (a .deliveries .now) (a .carried-offsets .now) (a .carried-counts .now))
     (a .number)
     (a .block)
     (a .area-len)

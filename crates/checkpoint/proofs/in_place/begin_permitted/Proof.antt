@@ -22,7 +22,7 @@ abbrev given : tie.Start → Consumer → Consumer
 given s =
     let a = s .args in
     fitting (ackCursor (a .committed) (a .starts .now) (a .ends .now) (a .runs))
-    (listingAll (a .len) (a .carried-len) (a .offsets .now) (a .deliveries .now) (a .carried-offsets .now) (a .carried-counts .now))
+    (listingAll (a .len) (a .carried-len) (a .offsets .now) (a .slots .now) (a .deliveries .now) (a .carried-offsets .now) (a .carried-counts .now))
     (a .number)
     (a .block)
     (a .area-len)
@@ -97,11 +97,11 @@ place-of-requires c κs =
     let s = n .before .before .before .before in
     (block-small (given s (s .pre .consumer)) (s .pre .lent .sound), few-bodies c)
 
-add-t38 : tie.Need-add-t38
-add-t38 c = search needs
-
 add-t39 : tie.Need-add-t39
-add-t39 c =
+add-t39 c = search needs
+
+add-t40 : tie.Need-add-t40
+add-t40 c =
     let b = c .before .before in
     let n = b .before .before .before .before .before .before .before .before .before .before in
     let s = n .before .before .before .before in
@@ -142,6 +142,6 @@ begin-permitted-spec =
     put-counts-requires
     bodies-of-requires
     place-of-requires
-    add-t38
     add-t39
+    add-t40
     returns-2)

@@ -15,7 +15,7 @@ whole s = record { full = table-full (s .args .t1 .table) _ (s .good .0 .1 .1 .1
 
 claim-in-place-requires : tie.Need-claim-in-place-requires
 claim-in-place-requires c κs =
-    let s = c .before .before .before .before .before .before .before .before .before .before .before .before .before .before .before .before .before .before .before .before .before .before in
+    let s = c .before .before .before .before .before .before .before .before .before .before .before .before .before .before .before .before .before .before .before .before .before .before .before .before in
     (cursor-whole (s .args .t1 .cursor) _ (s .good .0 .1 .1 .0) (s .pre .cursor), table-whole (whole s))
 
 with-table-requires : tie.Need-with-table-requires
@@ -24,7 +24,7 @@ with-table-requires c κs = search needs
 returns : tie.Need-returns
 returns c =
     let k = c .before in
-    let s = k .before .before .before .before .before .before .before .before .before .before .before .before .before .before .before .before .before .before .before .before .before .before .before in
+    let s = k .before .before .before .before .before .before .before .before .before .before .before .before .before .before .before .before .before .before .before .before .before .before .before .before .before in
     let x = s .args .t1 in
     subst (λ (y : Consumer). Answers (claimOf (k .claim-in-place .result .answer)) x y (claim (view x) (s .args .worker) (s .args .offset .0) (s .args .now))) (sym (c .with-table .ensures)) (k .claim-in-place .ensures x (whole s))
 

@@ -14,7 +14,7 @@ whole s = record { full = table-full (s .args .t1 .table) _ (s .good .0 .1 .1 .1
 
 commit-in-place-requires : tie.Need-commit-in-place-requires
 commit-in-place-requires c κs =
-    let s = c .before .before .before .before .before .before .before .before .before .before .before .before .before .before .before .before .before .before .before .before .before .before in
+    let s = c .before .before .before .before .before .before .before .before .before .before .before .before .before .before .before in
     (cursor-whole (s .args .t1 .cursor) _ (s .good .0 .1 .1 .0) (s .pre .cursor), s .pre .table .len, s .pre .table .carried-len)
 
 with-both-requires : tie.Need-with-both-requires
@@ -22,8 +22,8 @@ with-both-requires c κs = search needs
 
 returns : tie.Need-returns
 returns c =
-    let k = c .before .before .before in
-    let s = k .before .before .before .before .before .before .before .before .before .before .before .before .before .before .before .before .before .before .before .before .before .before .before in
+    let k = c .before in
+    let s = k .before .before .before .before .before .before .before .before .before .before .before .before .before .before .before .before in
     let x = s .args .t1 in
     subst (λ (y : Consumer). Commits (commitOf (k .commit-in-place .result .answer)) x y (commit (view x) (s .args .worker) (s .args .bound .0))) (sym (c .with-both .ensures)) (k .commit-in-place .ensures x (whole s))
 

@@ -15,7 +15,7 @@ whole s = record { full = table-full (s .args .t1 .table) _ (s .good .0 .1 .1 .1
 
 nack-in-place-requires : tie.Need-nack-in-place-requires
 nack-in-place-requires c κs =
-    let s = c .before .before .before .before .before .before .before .before .before .before .before .before .before in
+    let s = c .before .before .before .before .before .before .before .before .before .before .before .before .before .before in
     (record { full = backoffs-full (s .args .t1 .settings) _ (s .good .0 .1 .1 .1 .1 .1 .1 .1 .0); few = s .pre .settings .delivery .few }, s .pre .table .len)
 
 with-table-requires : tie.Need-with-table-requires
@@ -24,7 +24,7 @@ with-table-requires c κs = search needs
 returns : tie.Need-returns
 returns c =
     let k = c .before .before in
-    let s = k .before .before .before .before .before .before .before .before .before .before .before .before .before .before in
+    let s = k .before .before .before .before .before .before .before .before .before .before .before .before .before .before .before in
     let x = s .args .t1 in
     subst (λ (y : Consumer). Answers (nackOf (k .nack-in-place .result .answer)) x y (nack (view x) (s .args .worker) (s .args .token .offset .0) (s .args .token .generation .0) (s .args .now) (delayOf (s .args .delay)))) (sym (c .with-table .ensures)) (k .nack-in-place .ensures x (whole s))
 

@@ -21,7 +21,7 @@ with-table-requires c κs = search needs
 returns : tie.Need-returns
 returns c =
     let k = c .before in
-    let s = k .before .before .before .before .before .before .before .before .before .before .before .before in
+    let s = k .before .before .before .before .before .before .before .before .before .before .before .before .before in
     let x = s .args .t1 in
     subst (λ (y : Consumer). Answers (progressOf (k .progress-in-place .result)) x y (progress (view x) (s .args .worker) (s .args .token .offset .0) (s .args .token .generation .0) (s .args .now))) (sym (c .with-table .ensures)) (k .progress-in-place .ensures x (whole s))
 

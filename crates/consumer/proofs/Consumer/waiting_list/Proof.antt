@@ -40,7 +40,7 @@ returns-2 c =
 
 returns-3 : tie.Need-returns-3
 returns-3 c =
-    let d = c .before .before .before .before .before in
+    let d = c .before .before .before .before .before .before in
     let k = d .before .before in
     let s = k .before .before .before in
     rw (sym (sym (ap permissionOf (d .enum-told3 .given .1)) ∙ k .permission-of .ensures))

@@ -21,8 +21,7 @@ use Rattle.consumer.proofs.in_place.commit_in_place.Tie as tie
 abbrev made : tie.Start → Consumer → Consumer
 made s =
     committing (s .args .rights .now) (ackCursor (s .args .committed) (s .args .starts .now) (s .args .ends .now) (s .args .runs)) (s .args .len) (s .args .carried-len)
-    (s .args .offsets .now) (s .args .generations .now) (s .args .attempt-starts .now) (s .args .deadlines .now) (s .args .deliveries .now) (s .args .workers .now)
-    (s .args .carried-offsets .now) (s .args .carried-counts .now)
+    (s .args .offsets .now) (s .args .slots .now) (s .args .carried-offsets .now) (s .args .carried-counts .now)
 
 commit-test-requires : tie.Need-commit-test-requires
 commit-test-requires c κs = search needs
@@ -52,7 +51,7 @@ fits s = omega arith
 
 returns-2 : tie.Need-returns-2
 returns-2 c x w =
-    let m = c .before .before .before .before .before .before .before .before .before in
+    let m = c .before .before .before .before .before in
     let e = m .before .before .before in
     let k = e .before .before in
     let s = k .before in

@@ -18,7 +18,7 @@ use Rattle.consumer.proofs.in_place.count_in_place.Tie as tie
 -- a consumer with the parts that the arguments are
 abbrev made : tie.Start → Consumer → Consumer
 made s =
-    counting (s .args .len) (s .args .carried-len) (s .args .offsets .now) (s .args .deliveries .now) (s .args .carried-offsets .now) (s .args .carried-counts .now)
+    counting (s .args .len) (s .args .carried-len) (s .args .offsets .now) (s .args .slots .now) (s .args .deliveries .now) (s .args .carried-offsets .now) (s .args .carried-counts .now)
 
 answers : {m n : ℕ} → m ≡ n → _≡_ {A = Result (List ℕ)} (done (m ∷ [])) (done (n ∷ []))
 answers e = ap (λ (n : ℕ). done (n ∷ [])) e

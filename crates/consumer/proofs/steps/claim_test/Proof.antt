@@ -19,7 +19,7 @@ abbrev made : tie.Start → Consumer → Consumer
 made s =
     permitted (s .args .rights .now)
     (testing (s .args .hours) (s .args .ceiling) (s .args .threshold) (ackCursor (s .args .committed) (s .args .starts .now) (s .args .ends .now) (s .args .runs)) (s .args .len) (s .args .carried-len)
-    (s .args .next-generation) (s .args .redeliveries) (s .args .offsets .now) (s .args .deadlines .now) (s .args .deliveries .now) (s .args .carried-offsets .now)
+    (s .args .next-generation) (s .args .redeliveries) (s .args .offsets .now) (s .args .slots .now) (s .args .deadlines .now) (s .args .carried-offsets .now)
     (s .args .carried-counts .now))
 
 permission-of-requires : tie.Need-permission-of-requires
@@ -40,24 +40,28 @@ offset-test-requires c κs = search needs
 returns : tie.Need-returns
 returns c =
     let k = c .before .before in
-    let s = k .before in
-    record {
-      known = λ e. absurd (Option·none-ne-some _ (sym e));
-      is = λ x w.
-          claim-unpermitted (view (made s x)) (s .args .worker) (s .args .offset) (s .args .now) UnknownWorker
-          (sym (ap permissionOf (c .enum-told .given .1)) ∙ k .permission-of .ensures);
-    }
+    let s = k .before in (
+      record {
+        known = λ e. absurd (Option·none-ne-some _ (sym e));
+        is = λ x w.
+            claim-unpermitted (view (made s x)) (s .args .worker) (s .args .offset) (s .args .now) UnknownWorker
+            (sym (ap permissionOf (c .enum-told .given .1)) ∙ k .permission-of .ensures);
+      },
+      tt,
+    )
 
 returns-2 : tie.Need-returns-2
 returns-2 c =
     let k = c .before .before in
-    let s = k .before in
-    record {
-      known = λ e. absurd (Option·none-ne-some _ (sym e));
-      is = λ x w.
-          claim-unpermitted (view (made s x)) (s .args .worker) (s .args .offset) (s .args .now) NotPermitted
-          (sym (ap permissionOf (c .enum-told2 .given .1)) ∙ k .permission-of .ensures);
-    }
+    let s = k .before in (
+      record {
+        known = λ e. absurd (Option·none-ne-some _ (sym e));
+        is = λ x w.
+            claim-unpermitted (view (made s x)) (s .args .worker) (s .args .offset) (s .args .now) NotPermitted
+            (sym (ap permissionOf (c .enum-told2 .given .1)) ∙ k .permission-of .ensures);
+      },
+      tt,
+    )
 
 -- the worker may claim
 open-to : (d : tie.After-enum-told3) → let s = d .before .before .before in none ≡ first (workerRows (s .args .rights .now) (s .args .worker) 1)
@@ -66,13 +70,15 @@ open-to d = sym (ap permissionOf (d .enum-told3 .given .1)) ∙ d .before .befor
 returns-3 : tie.Need-returns-3
 returns-3 c =
     let d = c .before in
-    let s = d .before .before .before in
-    record {
-      known = λ e. is-known (s .args .rights .now) (s .args .worker) 1 (open-to d);
-      is = λ x w.
-          c .offset-test .ensures (permitting (s .args .rights .now) x) w
-          ∙ ap asResult (claim-permitted (view (made s x)) (s .args .worker) (s .args .offset) (s .args .now) (open-to d));
-    }
+    let s = d .before .before .before in (
+      record {
+        known = λ e. is-known (s .args .rights .now) (s .args .worker) 1 (open-to d);
+        is = λ x w.
+            c .offset-test .ensures .0 (permitting (s .args .rights .now) x) w
+            ∙ ap asResult (claim-permitted (view (made s x)) (s .args .worker) (s .args .offset) (s .args .now) (open-to d));
+      },
+      c .offset-test .ensures .1,
+    )
 
 pub claim-test-spec : {M : Type 1} → statement M
 claim-test-spec =

@@ -24,7 +24,7 @@ use Rattle.consumer.proofs.views.view_in_place.Tie as tie
 abbrev made : tie.Start → Consumer → Consumer
 made s =
     showing (s .args .rights .now) (ackCursor (s .args .committed) (s .args .starts .now) (s .args .ends .now) (s .args .runs)) (s .args .len) (s .args .carried-len)
-    (s .args .offsets .now) (s .args .generations .now) (s .args .attempt-starts .now) (s .args .deadlines .now) (s .args .deliveries .now) (s .args .workers .now)
+    (s .args .offsets .now) (s .args .slots .now) (s .args .generations .now) (s .args .attempt-starts .now) (s .args .deadlines .now) (s .args .deliveries .now) (s .args .workers .now)
     (s .args .carried-offsets .now) (s .args .carried-counts .now)
 
 abbrev shown : tie.Start → Consumer → State

@@ -1,10 +1,10 @@
 -- `LeaseTable::defer_redelivery` meets its contract.
 -- Assumes nothing.
-use Prim.Native.Nat.{_≤_, _<_}
+use Prim.Native.Nat.{_<_}
 use Rattle.types.specs.Limits.{LEASES}
 use Rattle.lease.specs.State.{view}
 use Rattle.lease.specs.Parts.{Full}
-use Rattle.lease.proofs.Bounds.{in-use, offset-in-memory}
+use Rattle.lease.proofs.Bounds.{in-use, time-at}
 use Rattle.lease.proofs.Slots.{leased, free, lease-at}
 use Rattle.lease.proofs.Questions.{none-expired, still-running, not-deferred, deferred}
 use Rattle.lease.proofs.Whole.{filled}
@@ -17,9 +17,9 @@ full s = filled (s .good .0)
 abbrev start : tie.After-place → tie.Start
 start p = p .before .before .before .before .before .before
 
--- the place that was found is in use
-inside : (p : tie.After-place) → (p .place .given .0 .0 < start p .args .t1 .len) × (start p .args .t1 .len ≤ LEASES)
-inside p = let s = start p in (leased (s .args .t1) (full s) (s .pre) (p .before .before .find .ensures) (p .place .given .1) .inside, s .pre .len)
+-- the place that was found is within the columns
+inside : (p : tie.After-place) → p .place .given .0 .0 < LEASES
+inside p = let s = start p in in-use (leased (s .args .t1) (full s) (s .pre) (p .before .before .find .ensures) (p .place .given .1) .inside) (s .pre .len)
 
 find-requires : tie.Need-find-requires
 find-requires c κs = tt
@@ -35,32 +35,37 @@ returns c =
     let s = c .before .before .before .before .before .before in
     not-deferred (s .args .t1) (full s) (s .pre) (s .args .offset .0) (s .args .now) (s .args .delay-nanos) (none-expired (view (s .args .t1)) (s .args .offset .0) (s .args .now) (free (s .args .t1) (full s) (s .pre) (c .before .before .find .ensures) (c .enum-told .given .1) .is))
 
+slot-at-requires : tie.Need-slot-at-requires
+slot-at-requires c κs = inside (c .before .before .before)
+
 mul-if1 : tie.Need-mul-if1
-mul-if1 c = offset-in-memory (inside (c .before) .0) (inside (c .before) .1)
+mul-if1 c = time-at (c .slot-at .ensures .1)
 
 element-copy-out-if1 : tie.Need-element-copy-out-if1
-element-copy-out-if1 c = in-use (inside (c .before) .0) (inside (c .before) .1)
+element-copy-out-if1 c = c .slot-at .ensures .1
 
 returns-2 : tie.Need-returns-2
 returns-2 c =
-    let p = c .before .before .before in
+    let l = c .before .before in
+    let p = l .before .before .before .before in
     let s = start p in
-    not-deferred (s .args .t1) (full s) (s .pre) (s .args .offset .0) (s .args .now) (s .args .delay-nanos) (still-running (view (s .args .t1)) (s .args .offset .0) (s .args .now) _ (lease-at (s .args .t1) (full s) (s .pre) (s .args .offset .0) (p .before .before .find .ensures) (p .place .given .1)) (c .if1 .taken))
+    not-deferred (s .args .t1) (full s) (s .pre) (s .args .offset .0) (s .args .now) (s .args .delay-nanos) (still-running (view (s .args .t1)) (s .args .offset .0) (s .args .now) _ (lease-at (s .args .t1) (full s) (s .pre) (s .args .offset .0) (p .before .before .find .ensures) (p .place .given .1)) (rw (l .slot-at .ensures .0) at (c .if1 .taken)))
 
 saturating-add-requires : tie.Need-saturating-add-requires
 saturating-add-requires c κs = tt
 
 mul-self : tie.Need-mul-self
-mul-self c = offset-in-memory (inside (c .before .before .before .before) .0) (inside (c .before .before .before .before) .1)
+mul-self c = time-at (c .before .before .before .slot-at .ensures .1)
 
 element-write-self : tie.Need-element-write-self
-element-write-self c = in-use (inside (c .before .before .before .before) .0) (inside (c .before .before .before .before) .1)
+element-write-self c = c .before .before .before .slot-at .ensures .1
 
 returns-3 : tie.Need-returns-3
 returns-3 c =
-    let p = c .before .before .before .before in
+    let l = c .before .before .before in
+    let p = l .before .before .before .before in
     let s = start p in
-    deferred (s .args .t1) (full s) (s .pre) (s .args .offset .0) (s .args .now) (s .args .delay-nanos) (p .before .before .find .ensures) (p .place .given .1) (c .before .if1 .left) (c .saturating-add .result) (c .saturating-add .ensures)
+    rw (l .slot-at .ensures .0) (deferred (s .args .t1) (full s) (s .pre) (s .args .offset .0) (s .args .now) (s .args .delay-nanos) (p .before .before .find .ensures) (p .place .given .1) (rw (l .slot-at .ensures .0) at (c .before .if1 .left)) (c .saturating-add .result) (c .saturating-add .ensures))
 
 pub defer-redelivery-spec : {M : Type 1} → statement M
 defer-redelivery-spec =
@@ -70,6 +75,7 @@ defer-redelivery-spec =
     enum-known-place
     enum-told
     returns
+    slot-at-requires
     mul-if1
     element-copy-out-if1
     returns-2

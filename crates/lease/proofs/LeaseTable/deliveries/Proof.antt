@@ -10,14 +10,14 @@ use Rattle.lease.proofs.LeaseTable.deliveries.Statement.{statement}
 use Rattle.lease.proofs.LeaseTable.deliveries.Tie as tie
 
 abbrev start : tie.After-hold-in-place → tie.Start
-start c = c .before .before .before .before .before .before
+start c = c .before .before .before .before .before .before .before
 
 -- what the look-up says of the table
 told : (c : tie.After-hold-in-place) → let s = start c in holdIn (c .hold-in-place .result) ≡ hold (view (s .args .t1)) (s .args .token .offset .0) (s .args .token .generation .0)
-told c = let s = start c in c .hold-in-place .ensures (s .args .t1) (whole (s .good .0) (s .pre))
+told c = let s = start c in c .hold-in-place .ensures .0 (s .args .t1) (whole (s .good .0) (s .pre))
 
 hold-in-place-requires : tie.Need-hold-in-place-requires
-hold-in-place-requires c κs = c .before .before .before .before .before .pre .len
+hold-in-place-requires c κs = c .before .before .before .before .before .before .pre .len
 
 enum-known-held : tie.Need-enum-known-held
 enum-known-held c = c .match .keys1

@@ -12,7 +12,7 @@ after-flush-requires c κs = tt
 returns : tie.Need-returns
 returns c =
     let s = c .before in
-    becomes (record { len = s .pre .len; carried-len = s .pre .carried-len; is = rw (c .after-flush .ensures) }) (valid-flushed (view (s .args .self)) (s .pre .valid))
+    becomes (record { len = s .pre .len; carried-len = s .pre .carried-len; slots = s .pre .slots; is = rw (c .after-flush .ensures) }) (valid-flushed (view (s .args .self)) (s .pre .valid))
 
 pub note-attempts-flushed-spec : {M : Type 1} → statement M
 note-attempts-flushed-spec = tie.close (tie.spec after-flush-requires returns)

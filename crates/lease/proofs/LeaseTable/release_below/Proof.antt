@@ -5,11 +5,11 @@ use Rattle.lease.proofs.LeaseTable.release_below.Statement.{statement}
 use Rattle.lease.proofs.LeaseTable.release_below.Tie as tie
 
 release-below-in-place-requires : tie.Need-release-below-in-place-requires
-release-below-in-place-requires c κs = tt
+release-below-in-place-requires c κs = c .before .before .before .before .before .before .before .before .pre .len
 
 returns : tie.Need-returns
 returns c =
-    let s = c .before .before .before .before .before .before .before .before .before .before .before .before .before .before .before .before .before in
+    let s = c .before .before .before .before .before .before .before .before .before in
     c .release-below-in-place .ensures (s .args .self) (whole (s .good .0) (s .pre))
 
 pub release-below-spec : {M : Type 1} → statement M

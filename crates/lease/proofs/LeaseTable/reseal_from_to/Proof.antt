@@ -1,12 +1,12 @@
 -- `LeaseTable::reseal_from_to` meets its contract.
 -- Assumes nothing.
-use Prim.Native.Nat.{_≤_, _<_}
-use Rattle.types.specs.Limits.{LEASES}
-use Rattle.lease.specs.Parts.{Full}
-use Rattle.lease.proofs.Bounds.{in-use, offset-in-memory}
-use Rattle.lease.proofs.Tokens.{owned-used, not-owned}
-use Rattle.lease.proofs.Questions.{not-resealed, resealed}
+use Prim.Native.Nat.{_<_}
+use lib.ListN.{take}
+use Rattle.lease.specs.Parts.{Full, OwnedAt}
 use Rattle.lease.proofs.Whole.{filled}
+use Rattle.lease.proofs.Bounds.{in-use, time-at}
+use Rattle.lease.proofs.Tokens.{owned-at, owned-used, not-owned}
+use Rattle.lease.proofs.Questions.{not-resealed, resealed}
 use Rattle.lease.proofs.LeaseTable.reseal_from_to.Statement.{statement}
 use Rattle.lease.proofs.LeaseTable.reseal_from_to.Tie as tie
 
@@ -14,16 +14,17 @@ full : (s : tie.Start) → Full (s .args .t1)
 full s = filled (s .good .0)
 
 abbrev start : tie.After-place → tie.Start
-start p = p .before .before .before .before .before .before
+start p = p .before .before .before .before .before .before .before
 
--- the place that was found is in use
-inside : (p : tie.After-place) → (p .place .given .0 .0 < start p .args .t1 .len) × (start p .args .t1 .len ≤ LEASES)
-inside p =
-    let s = start p in
-    (owned-used (s .args .offset .0) (s .args .from .0) (s .args .t1 .len) (s .args .t1 .offsets) (s .args .t1 .generations) (p .before .before .owned .ensures) (p .place .given .1), s .pre .len)
+-- the lease that the token owns, at a place in use
+own : (p : tie.After-place) → let s = start p in OwnedAt (s .args .offset .0) (s .args .from .0) (take (s .args .t1 .len) (s .args .t1 .offsets)) (s .args .t1 .slots) (s .args .t1 .generations) (p .place .given .0 .0)
+own p = let s = start p in owned-at (s .args .offset .0) (s .args .from .0) (take (s .args .t1 .len) (s .args .t1 .offsets)) (s .args .t1 .slots) (s .args .t1 .generations) (p .before .before .owned .ensures) (p .place .given .1)
+
+used : (p : tie.After-place) → p .place .given .0 .0 < start p .args .t1 .len
+used p = let s = start p in owned-used (s .args .offset .0) (s .args .from .0) (s .args .t1 .len) (s .args .t1 .offsets) (s .args .t1 .slots) (s .args .t1 .generations) (own p)
 
 owned-requires : tie.Need-owned-requires
-owned-requires c κs = c .before .before .before .pre .len
+owned-requires c κs = c .before .before .before .before .pre .len
 
 enum-known-place : tie.Need-enum-known-place
 enum-known-place c = c .match .keys1
@@ -33,20 +34,23 @@ enum-told c = c .match .keys2
 
 returns : tie.Need-returns
 returns c =
-    let s = c .before .before .before .before .before .before in
+    let s = c .before .before .before .before .before .before .before in
     not-resealed (s .args .t1) (full s) (s .pre) (s .args .offset .0) (s .args .from .0) (s .args .generation .0) (not-owned (s .args .t1) (full s) (s .pre) (s .args .offset .0) (s .args .from .0) (c .before .before .owned .ensures) (c .enum-told .given .1))
 
+slot-at-requires : tie.Need-slot-at-requires
+slot-at-requires c κs = let p = c .before .before .before in in-use (used p) (start p .pre .len)
+
 mul-self : tie.Need-mul-self
-mul-self c = offset-in-memory (inside (c .before) .0) (inside (c .before) .1)
+mul-self c = time-at (c .slot-at .ensures .1)
 
 element-write-self : tie.Need-element-write-self
-element-write-self c = in-use (inside (c .before) .0) (inside (c .before) .1)
+element-write-self c = c .slot-at .ensures .1
 
 returns-2 : tie.Need-returns-2
 returns-2 c =
-    let p = c .before in
+    let p = c .before .before .before .before in
     let s = start p in
-    resealed (s .args .t1) (full s) (s .pre) (s .args .offset .0) (s .args .from .0) (s .args .generation .0) (p .before .before .owned .ensures) (p .place .given .1)
+    rw (c .slot-at .ensures .0) (resealed (s .args .t1) (full s) (s .pre) (s .args .offset .0) (s .args .from .0) (s .args .generation .0) (own p))
 
 pub reseal-from-to-spec : {M : Type 1} → statement M
 reseal-from-to-spec =
@@ -56,6 +60,7 @@ reseal-from-to-spec =
     enum-known-place
     enum-told
     returns
+    slot-at-requires
     mul-self
     element-write-self
     returns-2)

@@ -19,7 +19,7 @@ returns-2 c =
     let f : length (held .offsets) ≡ CARRIED = search needs in
     let g : length (held .counts) ≡ CARRIED = search needs in
     let n = length-used 0 (held .len) (held .offsets) (held .counts) (omega (arith, s .pre .1 .few)) (omega (arith, s .pre .1 .few)) in
-    resumed (s .args .self) (s .pre .0) held (s .pre .1) (c .before .before .if1 .left) (omega (arith, n, s .pre .1 .few)) (record { len = s .pre .0 .len; carried-len = s .pre .1 .few; is = refl })
+    resumed (s .args .self) (s .pre .0) held (s .pre .1) (c .before .before .if1 .left) (omega (arith, n, s .pre .1 .few)) (record { len = s .pre .0 .len; carried-len = s .pre .1 .few; slots = s .pre .0 .slots; is = refl })
 
 pub resumed-spec : {M : Type 1} → statement M
 resumed-spec = tie.close (tie.spec returns returns-2)

@@ -18,7 +18,7 @@ returns : tie.Need-returns
 returns c t w =
     let l = c .before .before .before in
     let s = l .before in
-    let table = listingAll (s .args .len) (s .args .carried-len) (s .args .offsets .now) (s .args .deliveries .now) (s .args .carried-offsets .now) (s .args .carried-counts .now) t in
+    let table = listingAll (s .args .len) (s .args .carried-len) (s .args .offsets .now) (s .args .slots .now) (s .args .deliveries .now) (s .args .carried-offsets .now) (s .args .carried-counts .now) t in
     subst (ListsCounts (c .merged .result)) (all-counted table (w .sound) _ (l .lease-counts-in-place .ensures table w .is)) (c .merged .ensures)
 
 pub all-counts-in-place-spec : {M : Type 1} → statement M

@@ -6,14 +6,13 @@ use Rattle.tables.proofs.Search.{boundary-inside}
 use Rattle.lease.specs.Parts.{releasing}
 use Rattle.lease.specs.declared.LeaseTable.{LeaseTable}
 use Rattle.lease.proofs.Bounds.{within, from-first}
-use Rattle.lease.proofs.Leases.{leases-out}
 use Rattle.lease.proofs.Changes.{releases}
 use Rattle.lease.proofs.in_place.release_below_in_place.Statement.{statement}
 use Rattle.lease.proofs.in_place.release_below_in_place.Tie as tie
 
 -- a table with the parts that the arguments are
 abbrev table : tie.Start → LeaseTable → LeaseTable
-table s = releasing (s .args .len) (s .args .carried-len) (s .args .offsets .now) (s .args .generations .now) (s .args .attempt-starts .now) (s .args .deadlines .now) (s .args .deliveries .now) (s .args .workers .now) (s .args .carried-offsets .now) (s .args .carried-counts .now)
+table s = releasing (s .args .len) (s .args .carried-len) (s .args .offsets .now) (s .args .slots .now) (s .args .carried-offsets .now) (s .args .carried-counts .now)
 
 -- the two places that were found lie within what is in use
 abbrev start : tie.After-position → tie.Start
@@ -43,46 +42,29 @@ position-requires-2 c κs = tt
 remove-64-requires : tie.Need-remove-64-requires
 remove-64-requires c κs = tt
 
-remove-64-requires-2 : tie.Need-remove-64-requires-2
-remove-64-requires-2 c κs = tt
+set-aside-64-requires : tie.Need-set-aside-64-requires
+set-aside-64-requires c κs = (used (c .before .before .before), start (second (c .before .before .before)) .pre)
 
-remove-64-requires-3 : tie.Need-remove-64-requires-3
-remove-64-requires-3 c κs = tt
+sub-t19 : tie.Need-sub-t19
+sub-t19 c = used (c .before .before .before .before)
 
-remove-64-requires-4 : tie.Need-remove-64-requires-4
-remove-64-requires-4 c κs = tt
-
-remove-counts-64-requires : tie.Need-remove-counts-64-requires
-remove-counts-64-requires c κs = tt
-
-remove-counts-64-requires-2 : tie.Need-remove-counts-64-requires-2
-remove-counts-64-requires-2 c κs = tt
-
-sub-t27 : tie.Need-sub-t27
-sub-t27 c = used (c .before .before .before .before .before .before .before .before .before .before .before .before)
-
-sub-t28 : tie.Need-sub-t28
-sub-t28 c = carried-used (c .before .before .before .before .before .before .before .before .before .before .before .before .before .before .before .before .before .before .before)
+sub-t20 : tie.Need-sub-t20
+sub-t20 c = carried-used (second (c .before .before .before .before))
 
 returns : tie.Need-returns
 returns c t w =
-    let r5 = c .before .before in
-    let r4 = r5 .before .before in
-    let r3 = r4 .before .before in
-    let r2 = r3 .before .before in
-    let r1 = r2 .before .before in
-    let p = r1 .before .before in
+    let r = c .before .before in
+    let p = r .before .before in
     let m = p .before .before .before in
     let q = second p in
     let s = start q in
     let n = p .position2 .result in
-    let few = w .sound .len in
     let carried-few = w .sound .carried-len in
     releases (table s t) (w .full) (w .sound) (s .args .up-to) n (q .position .result)
-    (r1 .remove-64 .last .0) (r2 .remove-642 .last .0) (r3 .remove-643 .last .0) (r4 .remove-644 .last .0) (r5 .remove-counts-64 .last .0) (c .remove-counts-642 .last .0) (m .before .before .remove-128 .last .0) (m .remove-counts-128 .last .0)
-    (p .position2 .ensures) (q .position .ensures)
-    (taken-out-front (s .args .len) 0 n (s .args .offsets .now) (from-first n) (used p) (within (w .full .offsets) few) (r1 .remove-64 .ensures))
-    (leases-out (w .full .leases) (s .args .len) 0 n (from-first n) (used p) few (r2 .remove-642 .ensures) (r3 .remove-643 .ensures) (r4 .remove-644 .ensures) (r5 .remove-counts-64 .ensures) (c .remove-counts-642 .ensures))
+    (r .remove-64 .last .0) (c .set-aside-64 .last .0) (m .before .before .remove-128 .last .0) (m .remove-counts-128 .last .0)
+    (p .position2 .ensures) (q .position .ensures) (used p)
+    (taken-out-front (s .args .len) 0 n (s .args .offsets .now) (from-first n) (used p) (within (w .full .offsets) (s .pre)) (r .remove-64 .ensures))
+    (c .set-aside-64 .ensures (w .full .slots))
     (taken-out-front (s .args .carried-len) 0 (q .position .result) (s .args .carried-offsets .now) (from-first _) (carried-used q) (within (w .full .carried-offsets) carried-few) (m .before .before .remove-128 .ensures))
     (taken-out-front (s .args .carried-len) 0 (q .position .result) (s .args .carried-counts .now) (from-first _) (carried-used q) (within (w .full .carried-counts) carried-few) (m .remove-counts-128 .ensures))
 
@@ -95,11 +77,7 @@ release-below-in-place-spec =
     remove-counts-128-requires
     position-requires-2
     remove-64-requires
-    remove-64-requires-2
-    remove-64-requires-3
-    remove-64-requires-4
-    remove-counts-64-requires
-    remove-counts-64-requires-2
-    sub-t27
-    sub-t28
+    set-aside-64-requires
+    sub-t19
+    sub-t20
     returns)

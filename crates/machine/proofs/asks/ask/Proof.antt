@@ -10,7 +10,7 @@ whole s = record { full = table-full (s .args .consumer .table) _ (s .good .0 .1
 
 ask-in-place-requires : tie.Need-ask-in-place-requires
 ask-in-place-requires c κs =
-    let s = c .before .before .before .before .before .before .before .before .before .before .before .before .before .before .before .before .before .before .before .before .before .before .before .before .before .before .before .before .before .before .before .before .before .before .before in
+    let s = c .before .before .before .before .before .before .before .before .before .before .before .before .before .before .before .before .before .before .before .before .before .before .before .before .before .before .before .before .before .before .before .before .before .before .before .before .before in
     let x = s .args .consumer in
     record {
       cursor = cursor-whole (x .cursor) _ (s .good .0 .1 .1 .0) (s .pre .cursor);
@@ -25,7 +25,7 @@ same-length c = search needs
 returns : tie.Need-returns
 returns c =
     let k = c .before .before .before in
-    let s = k .before .before .before .before .before .before .before .before .before .before .before .before .before .before .before .before .before .before .before .before .before .before .before .before .before .before .before .before .before .before .before .before .before .before .before .before in
+    let s = k .before .before .before .before .before .before .before .before .before .before .before .before .before .before .before .before .before .before .before .before .before .before .before .before .before .before .before .before .before .before .before .before .before .before .before .before .before .before in
     k .ask-in-place .ensures (s .args .consumer) (whole s)
 
 pub ask-spec : {M : Type 1} → statement M

@@ -13,7 +13,7 @@ settle-in-place-requires c κs = search needs
 returns : tie.Need-returns
 returns c x out w =
     let h = c .settle-in-place .ensures (lent w) w in
-    let g = c .before .before .before .before .before .before .before .before .before .args in
+    let g = c .before .before .before .before .before .args in
     record {
       is = λ a. ap (answeredAs a (acked (g .token .offset .0) (g .token .generation .0))) (h .is);
       sound = h .sound;

@@ -13,7 +13,7 @@ claim-in-place-requires c κs = search needs
 returns : tie.Need-returns
 returns c x out w =
     let h = c .claim-in-place .ensures (lent w) w in
-    let g = c .before .before .before .before .before .before .before .before .before .args in
+    let g = c .before .before .before .before .before .before .before .before .before .before .args in
     record {
       is = λ a. ap (answeredAs a (claimed (g .offset .0) (g .now))) (h .is);
       sound = h .sound;

@@ -13,7 +13,7 @@ commit-in-place-requires c κs = search needs
 returns : tie.Need-returns
 returns c x out w =
     let h = c .commit-in-place .ensures (lent w) w in
-    let g = c .before .before .before .before .before .before .before .before .before .before .before .args in
+    let g = c .before .before .before .before .before .before .before .args in
     record {
       is = λ a. ap (answeredAs a (committed (g .bound .0))) (h .is);
       sound = h .sound;

@@ -49,37 +49,37 @@ look-requires c κs = search needs
 
 returns : tie.Need-returns
 returns c x w =
-    let g = c .before .before .before .before .before .before .before .before .before .before .before .before in
+    let g = c .before .before .before .before .before .before .before .before .before .before .before .before .before in
     let s = g .before .before .before in
     asked-as (length (s .args .out .now)) (g .ask .given .1) (c .ask-claim .ensures (lent w) (s .args .out .now) w)
 
 returns-2 : tie.Need-returns-2
 returns-2 c x w =
-    let g = c .before .before .before .before .before .before .before .before .before .before in
+    let g = c .before .before .before .before .before .before .before .before .before in
     let s = g .before .before .before in
     asked-as (length (s .args .out .now)) (g .ask2 .given .1) (c .ask-ack .ensures (lent w) (s .args .out .now) w)
 
 returns-3 : tie.Need-returns-3
 returns-3 c x w =
-    let g = c .before .before .before .before .before .before .before .before .before .before in
+    let g = c .before .before .before .before .before .before .before .before .before in
     let s = g .before .before .before in
     asked-as (length (s .args .out .now)) (g .ask3 .given .1) (c .ask-term .ensures (lent w) (s .args .out .now) w)
 
 returns-4 : tie.Need-returns-4
 returns-4 c x w =
-    let g = c .before .before .before .before .before .before .before in
+    let g = c .before .before .before .before .before .before .before .before in
     let s = g .before .before .before in
     asked-as (length (s .args .out .now)) (g .ask4 .given .1) (c .ask-nack .ensures (lent w) (s .args .out .now) w)
 
 returns-5 : tie.Need-returns-5
 returns-5 c x w =
-    let g = c .before .before .before .before .before .before .before .before in
+    let g = c .before .before .before .before .before .before .before .before .before in
     let s = g .before .before .before in
     asked-as (length (s .args .out .now)) (g .ask5 .given .1) (c .ask-progress .ensures (lent w) (s .args .out .now) w)
 
 returns-6 : tie.Need-returns-6
 returns-6 c x w =
-    let g = c .before .before .before .before .before .before .before .before .before .before .before .before in
+    let g = c .before .before .before .before .before .before .before .before in
     let s = g .before .before .before in
     asked-as (length (s .args .out .now)) (g .ask6 .given .1) (c .ask-commit .ensures (lent w) (s .args .out .now) w)
 
@@ -89,7 +89,7 @@ same-length c = search needs
 returns-7 : tie.Need-returns-7
 returns-7 c x w =
     let k = c .before .before in
-    let g = k .before .before .before .before .before .before .before .before .before .before .before .before .before in
+    let g = k .before .before .before .before .before .before .before .before .before .before .before .before .before .before in
     let s = g .before .before .before in
     asked-as (length (s .args .out .now)) (g .ask7 .given .1) (looked-asked (w .sound) (k .look .ensures (lent w) w))
 

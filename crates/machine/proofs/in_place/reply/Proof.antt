@@ -91,7 +91,7 @@ returns c x w =
     let k = c .before .before in
     let g = k .before .before .before in
     let s = g .before .before .before in
-    waiting-replied (lent w) (s .args .worker) _ (s .args .out .now) (k .waiting-in-place .last .1 .1 .1 .1 .1 .1 .0) (k .waiting-in-place .result)
+    waiting-replied (lent w) (s .args .worker) _ (s .args .out .now) (k .waiting-in-place .last .1 .1 .1 .1 .1 .1 .1 .0) (k .waiting-in-place .result)
     (ap (questionOf (length (s .args .out .now))) (g .question .given .1)) (k .waiting-in-place .ensures (lent w) w)
 
 returns-2 : tie.Need-returns-2

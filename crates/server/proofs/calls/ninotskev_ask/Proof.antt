@@ -78,7 +78,7 @@ C-ask 𝓤 H A mem run = tripleOf 𝓤 H A ask.signature (ask.spec 𝓤 H A mem 
 -- ## what the code copies, lends and stores
 abbrev lent : List Lending
 lent =
-    mutably at.starts ∷ mutably at.ends ∷ mutably at.offsets ∷ mutably at.generations ∷ mutably at.attempt-starts ∷ mutably at.deadlines ∷ mutably at.deliveries ∷
+    mutably at.starts ∷ mutably at.ends ∷ mutably at.offsets ∷ mutably at.slots ∷ mutably at.generations ∷ mutably at.attempt-starts ∷ mutably at.deadlines ∷ mutably at.deliveries ∷
     mutably at.workers ∷ mutably at.carried-offsets ∷ mutably at.carried-counts ∷ shared at.backoff-nanos ∷ mutably at.rights ∷ []
 
 -- the table's configuration and the hours are copied between the numbers
@@ -95,7 +95,7 @@ taken = fetching (at.phase ∷ cursor-numbers ++ at.config ∷ at.hours ∷ othe
 -- the call's arguments, by their locals: what is taken stands from 11 on, the function's own numbers from 3 on
 abbrev operands : List ℕ
 operands =
-    11 ∷ 3 ∷ 4 ∷ 5 ∷ 6 ∷ 7 ∷ 8 ∷ 12 ∷ 13 ∷ 14 ∷ 15 ∷ 16 ∷ 17 ∷ 18 ∷ 19 ∷ 20 ∷ 21 ∷ 22 ∷ 23 ∷ 24 ∷ 25 ∷ 26 ∷ 27 ∷ 28 ∷ 29 ∷ 30 ∷ 31 ∷ 32 ∷ 33 ∷ 34 ∷ 35 ∷ 36 ∷ 37 ∷ 39 ∷ []
+    11 ∷ 3 ∷ 4 ∷ 5 ∷ 6 ∷ 7 ∷ 8 ∷ 12 ∷ 13 ∷ 14 ∷ 15 ∷ 16 ∷ 17 ∷ 18 ∷ 19 ∷ 20 ∷ 21 ∷ 22 ∷ 23 ∷ 24 ∷ 25 ∷ 26 ∷ 27 ∷ 28 ∷ 29 ∷ 30 ∷ 31 ∷ 32 ∷ 33 ∷ 34 ∷ 35 ∷ 36 ∷ 37 ∷ 38 ∷ 40 ∷ []
 
 abbrev in-figures : Path TFigures′.mir → Path TDone′.mir
 in-figures p = into {τ = TFigures′.mir} {d = 56} 1 refl p
@@ -171,7 +171,7 @@ module _ {M : Type 1} (𝓤 : URA M) (H : Heap 𝓤) (A : Atoms 𝓤) (W : Given
   with-taken = fetched b o low at-entry 11 taken
 
   abbrev at-call : List Slot
-  at-call = with-value (with-value with-taken 38 (vptr (out .ptr .0) (out .ptr .1))) 39 s-out
+  at-call = with-value (with-value with-taken 39 (vptr (out .ptr .0) (out .ptr .1))) 40 s-out
 
   abbrev with-done : AskDone → List Slot
   with-done r = with-value at-call 10 (TDone′.lowered r)
@@ -204,19 +204,19 @@ module _ {M : Type 1} (𝓤 : URA M) (H : Heap 𝓤) (A : Atoms 𝓤) (W : Given
   Last = Endings cs (List ℕ × Unit {0})
 
   abbrev out-of : Last → List ℕ
-  out-of ws = ws .1 .1 .1 .1 .1 .1 .1 .1 .1 .1 .1 .1 .0
+  out-of ws = ws .1 .1 .1 .1 .1 .1 .1 .1 .1 .1 .1 .1 .1 .0
 
   -- a consumer with these numbers and columns in their places
   abbrev before : Consumer → Consumer
   before =
       consumerOf (fixedOf c) (figuresAs (c .cursor .committed) (c .cursor .runs) (c .table .len) (c .table .«carried_len») (c .table .«next_generation» .0) (c .table .«redeliveries_since_flush»))
-      (c .cursor .starts) (c .cursor .ends) (c .table .offsets) (c .table .generations) (c .table .«attempt_starts») (c .table .deadlines) (c .table .deliveries)
+      (c .cursor .starts) (c .cursor .ends) (c .table .offsets) (c .table .slots) (c .table .generations) (c .table .«attempt_starts») (c .table .deadlines) (c .table .deliveries)
       (c .table .workers) (c .table .«carried_offsets») (c .table .«carried_counts») (c .settings .delivery .«backoff_nanos») (c .settings .rights)
 
   abbrev after : AskDone → Last → Consumer → Consumer
   after r ws =
       consumerOf (fixedOf c) (r .figures) (ws .0) (ws .1 .0) (ws .1 .1 .0) (ws .1 .1 .1 .0) (ws .1 .1 .1 .1 .0) (ws .1 .1 .1 .1 .1 .0) (ws .1 .1 .1 .1 .1 .1 .0)
-      (ws .1 .1 .1 .1 .1 .1 .1 .0) (ws .1 .1 .1 .1 .1 .1 .1 .1 .0) (ws .1 .1 .1 .1 .1 .1 .1 .1 .1 .0) (c .settings .delivery .«backoff_nanos») (ws .1 .1 .1 .1 .1 .1 .1 .1 .1 .1 .1 .0)
+      (ws .1 .1 .1 .1 .1 .1 .1 .0) (ws .1 .1 .1 .1 .1 .1 .1 .1 .0) (ws .1 .1 .1 .1 .1 .1 .1 .1 .1 .0) (ws .1 .1 .1 .1 .1 .1 .1 .1 .1 .1 .0) (c .settings .delivery .«backoff_nanos») (ws .1 .1 .1 .1 .1 .1 .1 .1 .1 .1 .1 .1 .0)
 
   abbrev Said : AskDone → Last → Type 0
   Said r ws = AskedIn (m .phase) before n3 n4 n5 n6 n7 n8 (out .now) (r .numbers) (after r ws) (out-of ws)
@@ -266,7 +266,7 @@ module _ {M : Type 1} (𝓤 : URA M) (H : Heap 𝓤) (A : Atoms 𝓤) (W : Given
     body bs =
         let E = envOf 𝓤 H (code.function .locals) bs in
         opening W both C Λ E at-entry (sep 𝓤 token (sem 𝓤 H A with-out)) (λ typed. fetches W E 1 TMachine′.mir b o low at-entry 11 taken (tt, refl) (both-hold (hasTy THours′.mir (THours′.lowered (c .settings .hours))) true (hours-typed m typed .0) tt) (typed .1) $
-        relends W E 9 (named 2) mut (tyInt w64) (tyInt w64) (out .ptr .0) (out .ptr .1) (length (out .now)) refl with-taken 38 (tt, refl) tt (record { fits = room .0 }) $
+        relends W E 9 (named 2) mut (tyInt w64) (tyInt w64) (out .ptr .0) (out .ptr .1) (length (out .now)) refl with-taken 39 (tt, refl) tt (record { fits = room .0 }) $
         calls-lending W both C Λ E fm (callee typed) known (paths lent) low (TNumbers′.lowered (x .1 .0 .now)) (record { there = tt; lie = refl; fill = λ ws. tt; whole = λ ws. tt; lie-again = λ ws. refl })
         at-call operands tt (λ ns. refl) 10 tt refl (λ r ws said wt-done.
         stores W E 1 TMachine′.mir b o (with-done r) 10 put-back _ (tt, refl) tt tt wt-done $ move ! (0 ∷ 2 ∷ []) $

@@ -70,7 +70,7 @@ C-begin 𝓤 H A mem run = tripleOf 𝓤 H A begin.signature (begin.spec 𝓤 H 
 -- ## what the code copies, lends and stores
 abbrev lent : List Lending
 lent =
-    shared at.rights ∷ mutably at.starts ∷ mutably at.ends ∷ mutably at.offsets ∷ mutably at.deliveries ∷ mutably at.carried-offsets ∷ mutably at.carried-counts ∷ mutably at.payload ∷ []
+    shared at.rights ∷ mutably at.starts ∷ mutably at.ends ∷ mutably at.offsets ∷ mutably at.slots ∷ mutably at.deliveries ∷ mutably at.carried-offsets ∷ mutably at.carried-counts ∷ mutably at.payload ∷ []
 
 -- behind the phase the call is handed the worker's number
 abbrev numbers : List OfMachine
@@ -81,7 +81,7 @@ taken = fetching (at.phase ∷ numbers) lent
 
 -- the call's arguments, by their locals: what is taken stands from 5 on, the worker's number is 3
 abbrev operands : List ℕ
-operands = 5 ∷ 3 ∷ 6 ∷ 7 ∷ 8 ∷ 9 ∷ 10 ∷ 11 ∷ 12 ∷ 13 ∷ 14 ∷ 15 ∷ 16 ∷ 17 ∷ 18 ∷ 19 ∷ 20 ∷ 21 ∷ 22 ∷ 23 ∷ []
+operands = 5 ∷ 3 ∷ 6 ∷ 7 ∷ 8 ∷ 9 ∷ 10 ∷ 11 ∷ 12 ∷ 13 ∷ 14 ∷ 15 ∷ 16 ∷ 17 ∷ 18 ∷ 19 ∷ 20 ∷ 21 ∷ 22 ∷ 23 ∷ 24 ∷ []
 
 abbrev put-back : List (Path TDone′.mir × OfMachine)
 put-back = (into {d = 56} 1 refl here, at.phase) ∷ (into {d = 64} 2 refl here, at.written) ∷ (into {d = 72} 3 refl here, at.cursor-len) ∷ (into {d = 80} 4 refl here, at.attempt-len) ∷ []
@@ -143,19 +143,19 @@ module _ {M : Type 1} (𝓤 : URA M) (H : Heap 𝓤) (A : Atoms 𝓤) (W : Given
   Last = Endings cs (Unit {0})
 
   -- a consumer's record with these numbers and columns in their places
-  abbrev recorded : (written k n : ℕ) → List ℕ → List ℕ → List ℕ → List ℕ → List ℕ → List ℕ → List ℕ → Consumer → Writing
-  recorded written k n starts ends ks ns cks cvs payload =
+  abbrev recorded : (written k n : ℕ) → List ℕ → List ℕ → List ℕ → List ℕ → List ℕ → List ℕ → List ℕ → List ℕ → Consumer → Writing
+  recorded written k n starts ends ks slots ns cks cvs payload =
       toBegin written k n payload
-      (beginning (c .settings .rights) (ackCursor (c .cursor .committed) starts ends (c .cursor .runs)) (listingAll (c .table .len) (c .table .«carried_len») ks ns cks cvs) (c .next .number) (c .next .block) (c .«area_len»))
+      (beginning (c .settings .rights) (ackCursor (c .cursor .committed) starts ends (c .cursor .runs)) (listingAll (c .table .len) (c .table .«carried_len») ks slots ns cks cvs) (c .next .number) (c .next .block) (c .«area_len»))
 
   abbrev before : Consumer → Writing
   before =
-      recorded (m .writing .written) (m .writing .«cursor_len») (m .writing .«attempt_len») (c .cursor .starts) (c .cursor .ends) (c .table .offsets) (c .table .deliveries)
+      recorded (m .writing .written) (m .writing .«cursor_len») (m .writing .«attempt_len») (c .cursor .starts) (c .cursor .ends) (c .table .offsets) (c .table .slots) (c .table .deliveries)
       (c .table .«carried_offsets») (c .table .«carried_counts») (m .writing .payload)
 
   abbrev after : BeginDone → Last → Consumer → Writing
   after r ws =
-      recorded (r .written) (r .«cursor_len») (r .«attempt_len») (ws .1 .0) (ws .1 .1 .0) (ws .1 .1 .1 .0) (ws .1 .1 .1 .1 .0) (ws .1 .1 .1 .1 .1 .0) (ws .1 .1 .1 .1 .1 .1 .0) (ws .1 .1 .1 .1 .1 .1 .1 .0)
+      recorded (r .written) (r .«cursor_len») (r .«attempt_len») (ws .1 .0) (ws .1 .1 .0) (ws .1 .1 .1 .0) (ws .1 .1 .1 .1 .0) (ws .1 .1 .1 .1 .1 .0) (ws .1 .1 .1 .1 .1 .1 .0) (ws .1 .1 .1 .1 .1 .1 .1 .0) (ws .1 .1 .1 .1 .1 .1 .1 .1 .0)
 
   abbrev Said : BeginDone → Last → Type 0
   Said r ws = BegunOn (m .phase) before n3 (r .numbers) (r .phase) (after r ws)

@@ -68,14 +68,14 @@ C-progress 𝓤 H A mem run = tripleOf 𝓤 H A progress.signature (progress.spe
 -- ## what the code copies, lends and stores
 abbrev lent : List Lending
 lent =
-    shared at.rights ∷ mutably at.offsets ∷ mutably at.generations ∷ mutably at.attempt-starts ∷ mutably at.deadlines ∷ mutably at.deliveries ∷ mutably at.workers ∷ []
+    shared at.rights ∷ mutably at.offsets ∷ mutably at.slots ∷ mutably at.generations ∷ mutably at.attempt-starts ∷ mutably at.deadlines ∷ mutably at.deliveries ∷ mutably at.workers ∷ []
 
 abbrev taken : List (Fetch TMachine′.mir)
 taken = fetching (at.phase ∷ at.config ∷ at.len ∷ []) lent
 
 -- the call's arguments, by their locals: what is taken stands from 8 on, the function's own numbers from 3 on
 abbrev operands : List ℕ
-operands = 8 ∷ 3 ∷ 4 ∷ 5 ∷ 6 ∷ 9 ∷ 10 ∷ 11 ∷ 12 ∷ 13 ∷ 14 ∷ 15 ∷ 16 ∷ 17 ∷ []
+operands = 8 ∷ 3 ∷ 4 ∷ 5 ∷ 6 ∷ 9 ∷ 10 ∷ 11 ∷ 12 ∷ 13 ∷ 14 ∷ 15 ∷ 16 ∷ 17 ∷ 18 ∷ []
 
 abbrev answer : List (Path TNumbers′.mir × Path TNumbers′.mir)
 answer = (here, here) ∷ []
@@ -151,14 +151,14 @@ module _ {M : Type 1} (𝓤 : URA M) (H : Heap 𝓤) (A : Atoms 𝓤) (W : Given
   Last = Endings cs (Unit {0})
 
   -- a consumer with these columns in their places
-  abbrev with-columns : List ℕ → List ℕ → List ℕ → List ℕ → List ℕ → List ℕ → Consumer → Consumer
-  with-columns ks gs ss ds ns ws = progressing (c .settings .rights) (c .table .config) (c .table .len) ks gs ss ds ns ws
+  abbrev with-columns : List ℕ → List ℕ → List ℕ → List ℕ → List ℕ → List ℕ → List ℕ → Consumer → Consumer
+  with-columns ks slots gs ss ds ns ws = progressing (c .settings .rights) (c .table .config) (c .table .len) ks slots gs ss ds ns ws
 
   abbrev before : Consumer → Consumer
-  before = with-columns (c .table .offsets) (c .table .generations) (c .table .«attempt_starts») (c .table .deadlines) (c .table .deliveries) (c .table .workers)
+  before = with-columns (c .table .offsets) (c .table .slots) (c .table .generations) (c .table .«attempt_starts») (c .table .deadlines) (c .table .deliveries) (c .table .workers)
 
   abbrev after : Last → Consumer → Consumer
-  after ws = with-columns (ws .1 .0) (ws .1 .1 .0) (ws .1 .1 .1 .0) (ws .1 .1 .1 .1 .0) (ws .1 .1 .1 .1 .1 .0) (ws .1 .1 .1 .1 .1 .1 .0)
+  after ws = with-columns (ws .1 .0) (ws .1 .1 .0) (ws .1 .1 .1 .0) (ws .1 .1 .1 .1 .0) (ws .1 .1 .1 .1 .1 .0) (ws .1 .1 .1 .1 .1 .1 .0) (ws .1 .1 .1 .1 .1 .1 .1 .0)
 
   abbrev Said : Numbers → Last → Type 0
   Said r ws = ProgressedIn (m .phase) before n3 n4 n5 n6 r (after ws)

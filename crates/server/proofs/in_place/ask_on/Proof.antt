@@ -41,9 +41,9 @@ returns-2 c x h =
 
 ask-in-place-requires : tie.Need-ask-in-place-requires
 ask-in-place-requires c κs =
-    let k = c .before .before .before .before .before .before .before .before .before .before .before .before .before .before .before in
+    let k = c .before .before .before .before .before .before .before .before .before .before .before .before .before .before .before .before in
     let s = k .before .before .before in
-    ready (s .args .phase) _ _ _ _ _ _ _ _ _ _ _ _ _ _ (s .pre .consumer) (here (k .before)) (s .pre .askable)
+    ready (s .args .phase) _ _ _ _ _ _ _ _ _ _ _ _ _ _ _ (s .pre .consumer) (here (k .before)) (s .pre .askable)
 
 of-ask-requires : tie.Need-of-ask-requires
 of-ask-requires c κs = search needs
@@ -54,12 +54,12 @@ same-length c = search needs
 returns-3 : tie.Need-returns-3
 returns-3 c x h =
     let d = c .before .before .before .before .before in
-    let k = d .before .before .before .before .before .before .before .before .before .before .before .before .before .before .before .before in
+    let k = d .before .before .before .before .before .before .before .before .before .before .before .before .before .before .before .before .before in
     let e = here (k .before) in
     let g = k .before .before .before .args in
     idle-asked (g .phase) _ (g .worker) (g .kind) (g .a) (g .b) (g .c) (g .d) (g .out .now) _ _ _ e
     (ask-some _ (g .worker) (g .kind) (g .a) (g .b) (g .c) (g .d) (g .out .now) _ _ _ (c .of-ask .result)
-    (ap (askingOf (length (g .out .now))) (sym (d .before .before .before .before .before .before .before .before .before .before .before .before .before .before .asking .given .1)) ∙ k .ask-of .ensures (length (g .out .now)))
+    (ap (askingOf (length (g .out .now))) (sym (d .before .before .before .before .before .before .before .before .before .before .before .before .before .before .before .asking .given .1)) ∙ k .ask-of .ensures (length (g .out .now)))
     (d .ask-in-place .ensures x (whole (g .phase) _ e h)) (c .of-ask .ensures _))
 
 pub ask-on-spec : {M : Type 1} → statement M

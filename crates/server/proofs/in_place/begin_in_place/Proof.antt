@@ -24,7 +24,7 @@ returns c s x h area out = begin-declined s _ _ (h .sound) _ (fit (c .before)) a
 
 begin-in-place-requires : tie.Need-begin-in-place-requires
 begin-in-place-requires c κs =
-    let otherwise = c .before .before .before .before .before .before .before in
+    let otherwise = c .before .before .before .before .before .before .before .before in
     let p = otherwise .before .pre in
     record { consumer = p .consumer; lent = lent-of _ _ (here otherwise) (p .lendable); payload = p .lendable .payload }
 
@@ -37,7 +37,7 @@ phase-begun-requires c κs = search needs
 returns-2 : tie.Need-returns-2
 returns-2 c s x h area out =
     let b = c .before .before in
-    let otherwise = b .before .before .before .before .before .before .before .before in
+    let otherwise = b .before .before .before .before .before .before .before .before .before in
     let e = here otherwise in
     begun-numbers s _ _ (h .sound) _ (fit (otherwise .before)) area out e _ _ (b .begin-in-place .ensures x (lent-of _ _ e h)) _ _ (c .before .of-begin .ensures) (c .phase-begun .ensures)
 

@@ -20,7 +20,7 @@ returns c out x h =
 
 progress-in-place-requires : tie.Need-progress-in-place-requires
 progress-in-place-requires c κs =
-    let otherwise = c .before .before .before .before .before .before in
+    let otherwise = c .before .before .before .before .before .before .before in
     let p = otherwise .before .pre in
     idle-sound _ _ (here otherwise) (p .askable .sound) .table .len
 
@@ -30,8 +30,8 @@ of-progress-requires c κs = search needs
 returns-2 : tie.Need-returns-2
 returns-2 c out x h =
     let b = c .before in
-    let e = here (b .before .before .before .before .before .before .before) in
-    let g = b .before .before .before .before .before .before .before .before .args in
+    let e = here (b .before .before .before .before .before .before .before .before) in
+    let g = b .before .before .before .before .before .before .before .before .before .args in
     progress-numbers (g .phase) _ (g .worker) (g .offset) (g .generation) (g .now) out _ (b .progress-in-place .result) _ e
     (b .progress-in-place .ensures x (whole (g .phase) _ e h)) (c .of-progress .ensures)
 
