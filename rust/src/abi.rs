@@ -8,7 +8,7 @@ use crate::ffi;
 /// The number of the interface between this crate and the proved library. It is raised with every change of a struct that crosses or of
 /// an exported call, here, in `crates/server/specs/Abi.antt` and in `crates/server/src/abi.rt`; `CHANGELOG.md` has it beside each
 /// version.
-pub const ABI: u64 = 1;
+pub const ABI: u64 = 2;
 
 /// Something that the library says of itself, beside what this crate has.
 #[derive(Clone, Copy, Debug, PartialEq, Eq)]

@@ -7,7 +7,7 @@ use mathlib.Core.Option.{Option, none, some}
 use Rattle.types.specs.Keyed.{Entry, entry, lookup}
 
 abbrev pub abi : ℕ
-abi = 1
+abi = 2
 
 -- ## bytes of each struct, field by field. A field of eight bytes begins at a multiple of eight, so that a bool or a number of four
 -- takes eight before one, or behind the last field
@@ -34,10 +34,10 @@ configurationBytes = settingsBytes + leaseConfigBytes
 abbrev pub cursorBytes : ℕ
 cursorBytes = 8 + 128 * 8 + 128 * 8 + 8
 
--- configuration; offsets, generations, starts of attempts, deadlines; deliveries, workers; their number; carried offsets, counts, their
+-- configuration; offsets, generations, starts of attempts, deadlines; slots, deliveries, workers; their number; carried offsets, counts, their
 -- number; the next generation; the counter
 abbrev pub tableBytes : ℕ
-tableBytes = leaseConfigBytes + 4 * (64 * 8) + 2 * (64 * 4) + 8 + 128 * 8 + 128 * 4 + 8 + 8 + 8
+tableBytes = leaseConfigBytes + 4 * (64 * 8) + 3 * (64 * 4) + 8 + 128 * 8 + 128 * 4 + 8 + 8 + 8
 
 -- cursor, table, ceiling, number and block of the next group, length of the area, settings
 abbrev pub consumerBytes : ℕ
