@@ -146,7 +146,7 @@ other-counted OutTooShort h = refl
 
 module _ (b : List ℕ) where
   -- the tests refused, or let n pairs through
-  refused-bytes : (q : Refusal) → refused q ≡ checkAnswer b → decodeAttempts b ≡ refused q
+  pub refused-bytes : (q : Refusal) → refused q ≡ checkAnswer b → decodeAttempts b ≡ refused q
   unfolding decodeAttempts
   refused-bytes q e = checked-refused (decodeTable b) (pairCount b) (done (pairsIn b)) q (sym e)
 
@@ -160,7 +160,7 @@ module _ (b : List ℕ) where
         let c = passed .1 in
         (omega (arith, a .few), omega (arith, a .long))
 
-    decoded-bytes : decodeAttempts b ≡ done (pairsOf n b)
+    pub decoded-bytes : decodeAttempts b ≡ done (pairsOf n b)
     decoded-bytes = accepts b (passed .0) ∙ ap (λ (k : ℕ). done (pairsOf k b)) (passed .1)
 
     -- what the bytes hold, in a list with room

@@ -1,7 +1,7 @@
 -- How the code's types stand for pairs and for 01's answers, and the parts of the contracts.
 use Prim.Native.Nat.{ℕ, _*_, _≤_}
 use mathlib.Core.Path.{_≡_}
-use mathlib.Core.List.{List, [], _∷_, _++_}
+use mathlib.Core.List.{List, [], _∷_, _++_, map}
 use lib.Dec.{ltb}
 use lib.ListN.{length, take, drop, replicate}
 use Rattle.types.specs.Limits.{PAIRS}
@@ -29,6 +29,13 @@ nil = pair 0 0
 
 unfoldable pub blank : List Pair
 blank = replicate 128 nil
+
+-- the numbers of pairs in two columns
+abbrev pub offsetsOf : List (Entry ℕ) → List ℕ
+offsetsOf = map (λ e. e .key)
+
+abbrev pub attemptsOf : List (Entry ℕ) → List ℕ
+attemptsOf = map (λ e. e .value)
 
 -- 01's answers for the cases of each enum
 abbrev pub encodeOf : Encode → Result ℕ

@@ -14,7 +14,7 @@ ghost use Rattle.raw.specs.Bytes.{le, overwrite};
 ghost use Rattle.attempt.specs.Snapshot.{apart, pairsBytes, bodyBytes, encodeVersion, encodeInto, encodeInto2};
 ghost use Rattle.attempt.specs.Snapshot.{offsetAt, attemptAt, readPair, pairsAs, pairsOf, pairCount};
 ghost use Rattle.attempt.specs.Snapshot.{known, pairsTable, decodeTable, decodeInto};
-ghost use Rattle.attempt.specs.Codec.{blank, encodeOf, decodeOf, fillOf};
+ghost use Rattle.attempt.specs.Codec.{blank, offsetsOf, attemptsOf, encodeOf, decodeOf, fillOf};
 ghost use Rattle.attempt.specs.Codec.{encodeFront, encodeFirst, encodeFirst2, DecodedIs, RefusedIs, RoomIs};
 use types::Pair;
 use types::limits::PAIRS;
@@ -275,8 +275,8 @@ fn is_known(version: u8) -> bool
     version == SNAPSHOT_VERSION_2
 }
 
-// Refusals 13 to 19, or the number of pairs.
-fn check(input: &[u8]) -> Decode
+// Refusals 13 to 19, or the number of pairs. Stores nothing.
+pub fn check(input: &[u8]) -> Decode
     ensures { λ r. ⌜ decodeOf r ≡ checked (decodeTable (now (input .entry))) (done (pairCount (now (input .entry)))) ⌝ }
 {
     let len = input.len();
@@ -304,6 +304,52 @@ fn check(input: &[u8]) -> Decode
         return Decode::Refused(AttemptSnapshotError::BadCrc);
     }
     check_pairs(input, version, actual)
+}
+
+// How many pairs there are to read.
+pub fn pairs_of(outcome: Decode) -> usize
+    ensures { λ r. ⌜ r ≡ counted (decodeOf outcome) ⌝ }
+{
+    match outcome {
+        Decode::Pairs(count) => count,
+        Decode::Refused(_) => 0,
+    }
+}
+
+// The version that bytes name, 0 where there is none.
+fn version_of(input: &[u8]) -> u8
+    ensures { λ r. ⌜ r ≡ getD (now (input .entry)) 0 0 ⌝ }
+{
+    if input.len() == 0 {
+        return 0;
+    }
+    input[0]
+}
+
+// Puts the offsets of the n pairs of a snapshot at the front of a lent column.
+pub fn read_offsets(input: &[u8], n: usize, offsets: &mut [u64])
+    requires { ⌜ (12 * n ≤ length (now input)) × (n ≤ length (now offsets)) ⌝ }
+    ensures { λ _. ⌜ now (offsets .exit) ≡ offsetsOf (pairsOf n (now (input .entry))) ++ drop n (now (offsets .entry)) ⌝ }
+{
+    let version = version_of(input);
+    let mut i: usize = 0;
+    while i < n {
+        offsets[i] = raw::read_u64(input, offset_at(version, i));
+        i += 1;
+    }
+}
+
+// Puts their attempt counts at the front of another.
+pub fn read_attempts(input: &[u8], n: usize, attempts: &mut [u32])
+    requires { ⌜ (12 * n ≤ length (now input)) × (n ≤ length (now attempts)) ⌝ }
+    ensures { λ _. ⌜ now (attempts .exit) ≡ attemptsOf (pairsOf n (now (input .entry))) ++ drop n (now (attempts .entry)) ⌝ }
+{
+    let version = version_of(input);
+    let mut i: usize = 0;
+    while i < n {
+        attempts[i] = raw::read_u32(input, attempt_at(version, n, i));
+        i += 1;
+    }
 }
 
 // Pair i of `count`.

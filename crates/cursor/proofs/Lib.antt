@@ -8,6 +8,7 @@ pub mod Snapshot
 pub mod Reading
 pub mod Writing
 pub mod Taking
+pub mod Walking
 pub mod Edits
 pub mod Unsettled
 pub mod OpenHanded

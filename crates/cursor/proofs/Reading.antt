@@ -29,7 +29,7 @@ use Rattle.cursor.proofs.Snapshot.{length-read, accepted, read-valid}
 use Rattle.cursor.proofs.Taking.{fault-of-all, taken-is}
 
 -- n ranges in the bytes, and more behind them
-read-more : (n more pos : ℕ) (bytes : List ℕ) → readRanges (n + more) pos bytes ≡ readRanges n pos bytes ++ readRanges more (pos + 16 * n) bytes
+pub read-more : (n more pos : ℕ) (bytes : List ℕ) → readRanges (n + more) pos bytes ≡ readRanges n pos bytes ++ readRanges more (pos + 16 * n) bytes
 read-more zero more pos bytes =
     let m : 0 + more ≡ more = omega arith in
     let z : pos + 16 * 0 ≡ pos = omega arith in

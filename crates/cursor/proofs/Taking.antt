@@ -28,11 +28,11 @@ use Rattle.cursor.specs.declared.Resuming.{Resuming}
 use Rattle.cursor.proofs.Snapshot.{passed-valid}
 
 -- ranges behind others
-table-more : (n : ℕ) (l rest : List Range) → rangesTable n (l ++ rest) ≡ rangesTable n l ++ rangesTable (lastEnd n l) rest
+pub table-more : (n : ℕ) (l rest : List Range) → rangesTable n (l ++ rest) ≡ rangesTable n l ++ rangesTable (lastEnd n l) rest
 table-more n [] rest = refl
 table-more n (p ∷ l) rest = rw (table-more (p .end) l rest)
 
-last-more : (n : ℕ) (l : List Range) (r : Range) → lastEnd n (l ++ r ∷ []) ≡ r .end
+pub last-more : (n : ℕ) (l : List Range) (r : Range) → lastEnd n (l ++ r ∷ []) ≡ r .end
 last-more n [] r = refl
 last-more n (p ∷ l) r = last-more (p .end) l r
 

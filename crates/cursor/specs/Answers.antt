@@ -1,14 +1,15 @@
 -- 01's outcomes and refusals for the cases of the code's enums, and the parts of the contracts.
-use Prim.Native.Nat.{ℕ}
+use Prim.Native.Nat.{ℕ, _*_, _≤_}
 use mathlib.Core.Path.{_≡_}
 use mathlib.Core.Bool.{Bool, true, false}
 use mathlib.Core.List.{List}
 use mathlib.Core.Option.{Option, none, some}
+use lib.ListN.{length}
 use Rattle.types.specs.Refusal.{Refusal, Result, refused, done}
 use Rattle.types.specs.Refusal as refusal
-use Rattle.types.specs.Table.{Answer, answer, unless, Kept}
+use Rattle.types.specs.Table.{Answer, answer, first, unless, Kept}
 use Rattle.cursor.specs.Cursor.{Cursor, resumeWithAhead}
-use Rattle.cursor.specs.Snapshot.{decodeCursor}
+use Rattle.cursor.specs.Snapshot.{rangeCount, cursorIn, decodeTable, decodeCursor}
 use Rattle.cursor.specs.View.{view, Sound, empty}
 use Rattle.cursor.specs.declared.AckCursor.{AckCursor}
 use Rattle.cursor.specs.declared.BoundedAck.{BoundedAck}
@@ -24,6 +25,7 @@ use Rattle.cursor.specs.declared.Range.{Range}
 use Rattle.cursor.specs.declared.Decode.{Decode}
 use Rattle.cursor.specs.declared.Decode.the-variants as decodes
 use Rattle.cursor.specs.declared.Decoded.{Decoded}
+use Rattle.cursor.specs.declared.columns.Checked.{Checked}
 
 abbrev pub ackOf : BoundedAck → Result Bool
 ackOf Recorded = done true
@@ -81,3 +83,14 @@ pub record DecodedIs (bytes : List ℕ) (r : Decoded) : Type 0 where
   pub is : decodeOf (r .outcome) (view (r .cursor)) ≡ decodeCursor bytes
   pub sound : Sound (r .cursor)
   pub kept : Kept (decodeOf (r .outcome) (view (r .cursor))) (empty 0) (r .cursor)
+
+-- the numbers beside the answer to the test of a snapshot
+abbrev pub NumbersIn : List ℕ → Decode → ℕ → ℕ → Type 0
+NumbersIn bytes decodes.Restored committed runs = (committed ≡ cursorIn bytes .committed) × (runs ≡ rangeCount bytes)
+NumbersIn bytes (decodes.Refused error) committed runs = runs ≡ 0
+
+-- a snapshot is tested as the definition says
+pub record CheckedIs (bytes : List ℕ) (r : Checked) : Type 0 where
+  pub fault : decodeFault (r .outcome) ≡ first (decodeTable bytes)
+  pub numbers : NumbersIn bytes (r .outcome) (r .committed) (r .runs)
+  pub within : 16 * r .runs ≤ length bytes

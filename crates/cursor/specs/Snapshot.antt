@@ -33,6 +33,11 @@ abbrev pub readRanges : ℕ → ℕ → List ℕ → List Range
 readRanges zero pos bytes = []
 readRanges (suc n) pos bytes = range (numberAt 8 pos bytes) (numberAt 8 (pos + 8) bytes) ∷ readRanges n (pos + 16) bytes
 
+-- n numbers from a place of the bytes on, each 16 bytes behind the one before: the starts, or the ends, of ranges
+abbrev pub columnFrom : ℕ → ℕ → List ℕ → List ℕ
+columnFrom zero pos bytes = []
+columnFrom (suc n) pos bytes = numberAt 8 pos bytes ∷ columnFrom n (pos + 16) bytes
+
 -- the number of ranges by the length of the bytes, and the cursor in them
 abbrev pub rangeCount : List ℕ → ℕ
 rangeCount bytes = (length bytes - 13) / 16

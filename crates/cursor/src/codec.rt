@@ -88,13 +88,13 @@ impl AckCursor {
 // Writes all of a snapshot but its check.
 pub(crate) fn write_body<'a>(
     committed: u64,
-    starts: &'a [u64; RANGES],
-    ends: &'a [u64; RANGES],
+    starts: &'a [u64],
+    ends: &'a [u64],
     n: usize,
     out: &mut [u8],
     at: usize,
 )
-    requires { ⌜ (n ≤ 128) × (length (now starts) ≡ 128) × (length (now ends) ≡ 128) × (at + (9 + 16 * n) ≤ length (now out)) ⌝ }
+    requires { ⌜ (n ≤ length (now starts)) × (n ≤ length (now ends)) × (at + (9 + 16 * n) ≤ length (now out)) ⌝ }
     ensures { λ _. ⌜ now (out .exit) ≡ overwrite at (bodyBytes (view (ackCursor committed (now (starts .entry)) (now (ends .entry)) n))) (now (out .entry)) ⌝ }
 {
     out[at] = SNAPSHOT_VERSION;
@@ -103,14 +103,8 @@ pub(crate) fn write_body<'a>(
 }
 
 // Writes the first n ranges of columns from a position on.
-fn write_ranges<'a>(
-    starts: &'a [u64; RANGES],
-    ends: &'a [u64; RANGES],
-    n: usize,
-    out: &mut [u8],
-    at: usize,
-)
-    requires { ⌜ (n ≤ 128) × (length (now starts) ≡ 128) × (length (now ends) ≡ 128) × (at + 16 * n ≤ length (now out)) ⌝ }
+fn write_ranges<'a>(starts: &'a [u64], ends: &'a [u64], n: usize, out: &mut [u8], at: usize)
+    requires { ⌜ (n ≤ length (now starts)) × (n ≤ length (now ends)) × (at + 16 * n ≤ length (now out)) ⌝ }
     ensures { λ _. ⌜ now (out .exit) ≡ overwrite at (rangesBytes (zipped range (take n (now (starts .entry))) (take n (now (ends .entry))))) (now (out .entry)) ⌝ }
 {
     let mut pos = at;
@@ -124,7 +118,7 @@ fn write_ranges<'a>(
 }
 
 // Whether bytes are framed as a snapshot: their length, version and check.
-fn check_frame(input: &[u8]) -> Decode
+pub(crate) fn check_frame(input: &[u8]) -> Decode
     ensures { λ r. ⌜ decodeFault r ≡ first (frameTable (now (input .entry))) ⌝ }
 {
     let len = input.len();

@@ -20,7 +20,7 @@ ghost use Rattle.cursor.specs.Edits.{edited, ackPlan, stretchPlan, joinP
 ghost use Rattle.cursor.specs.Snapshot.{encodeCursor};
 use crate::AckCursor;
 use crate::BoundedAck;
-use crate::codec::write_body;
+use crate::columns::encode_columns;
 use raw::Write;
 use types::limits::MAX;
 use types::limits::RANGES;
@@ -107,14 +107,7 @@ pub fn encode_in_place<'a>(
     requires { ⌜ Whole (ackCursor committed (now starts) (now ends) runs) ⌝ }
     ensures { λ r. ⌜ answer (outcomeOf r) (now (out .exit)) ≡ write at (encodeCursor (view (ackCursor committed (now (starts .entry)) (now (ends .entry)) runs))) (now (out .entry)) ⌝ }
 {
-    let len = AckCursor::snapshot_len(runs);
-    if raw::too_short(out.len(), at, len) {
-        return Write::OutTooShort;
-    }
-    write_body(committed, starts, ends, runs, out, at);
-    let end = at + (len - 4);
-    let check = crc::crc32c(&out[at..end]);
-    raw::write_u32(out, end, check)
+    encode_columns(committed, starts, ends, runs, out, at)
 }
 
 // What becomes of a column of which the first places are in use.

@@ -28,8 +28,9 @@ use types::lent::Listed;
 use types::limits::RANGES;
 use types::numbers::shorter;
 
-// `encode_snapshot` and `decode_snapshot`.
+// `encode_snapshot` and `decode_snapshot`; the same over lent columns.
 mod codec;
+pub mod columns;
 pub mod in_place;
 pub mod open;
 pub mod plans;

@@ -1,4 +1,3 @@
-pub mod Columns
 pub mod CursorParts
 pub mod InPlace
 pub mod LentColumn

@@ -1,41 +1,44 @@
 -- What the exported functions answer, from what the codecs' contracts say. Assumes nothing.
-use Prim.Native.Nat.{ℕ, _≤_, _<_}
+use Prim.Native.Nat.{ℕ, _*_, _≤_, _<_, min}
 use native.Mathlib.Omega.{arith}
-use native.Mathlib.Nat.{suc-inj}
 use mathlib.Core.Path.{_≡_, refl, sym, ap, _∙_}
-use mathlib.Core.List.{List, [], _∷_}
-use lib.ListN.{length, take, length-map}
-use lib.Seq.{length-take-le}
-use borrow.Author.Tests.{lt-ltb, le-ltb}
-use Rattle.types.specs.Limits.{PAIRS}
-use Rattle.types.specs.Refusal.{Refusal, Result, refused, done, OutTooShort, numbered, answered}
-use Rattle.types.specs.Table.{answer, unless}
+use mathlib.Core.List.{List, [], _∷_, _++_}
+use lib.Dec.{ltb}
+use lib.ListN.{length, take, drop, getD, length-map}
+use borrow.Author.Tests.{lt-ltb, le-ltb, ltb-false}
+use Rattle.types.specs.Limits.{RANGES}
+use Rattle.types.specs.Refusal.{Refusal, Result, refused, done, OutTooShort, TooManyRuns, numbered, answered}
+use Rattle.types.specs.Table.{_⇒_, Passed, first, checked, answer, unless}
 use Rattle.types.specs.Keyed.{Entry}
+use Rattle.types.specs.Lists.{counted}
 use Rattle.types.specs.Zipped.{zipped}
+use Rattle.types.proofs.Table.{first-none, passed-append, checked-passed}
+use Rattle.types.proofs.Zipped.{zipped-take}
 use Rattle.raw.specs.Bytes.{write, outcomeOf}
 use Rattle.raw.specs.declared.Write.{Write}
 use Rattle.cursor.specs.Ranges.{range}
-use Rattle.cursor.specs.Cursor.{resumeWithAhead}
-use Rattle.cursor.specs.Snapshot.{encodeCursor, decodeCursor}
-use Rattle.cursor.specs.View.{view, Whole}
-use Rattle.cursor.specs.Answers.{rangesError, decodeFault, ResumedIs}
+use Rattle.cursor.specs.Cursor.{cursor, rangesTable, resumeTable, resumeWithAhead}
+use Rattle.cursor.specs.Snapshot.{encodeCursor, readRanges, columnFrom, rangeCount, cursorIn, decodeCursor}
+use Rattle.cursor.specs.View.{ackCursor, view}
+use Rattle.cursor.specs.Answers.{rangesError, resumeFault, decodeFault, CheckedIs}
 use Rattle.cursor.specs.Answers as cursors
-use Rattle.cursor.specs.declared.AckCursor.{AckCursor}
 use Rattle.cursor.specs.declared.AckCursorError.{AckCursorError}
 use Rattle.cursor.specs.declared.Range.{Range}
+use Rattle.cursor.specs.declared.Resume.{Resume}
 use Rattle.cursor.specs.declared.Resume.the-variants as resumes
-use Rattle.cursor.specs.declared.Resumed.{Resumed}
 use Rattle.cursor.specs.declared.Decode as cursor-decode
 use Rattle.cursor.specs.declared.Decode.the-variants as decodes
-use Rattle.cursor.specs.declared.Decoded as cursor-decoded
-use Rattle.cursor.proofs.Search.{runs-is}
-use Rattle.attempt.specs.Snapshot.{encodeVersion, decodeAttempts}
-use Rattle.types.specs.Lists.{entriesOf, counted}
-use Rattle.attempt.specs.Codec.{encodeOf, decodeOf, DecodedIs}
+use Rattle.cursor.specs.declared.columns.Checked.{Checked}
+use Rattle.cursor.proofs.Snapshot.{length-read}
+use Rattle.cursor.proofs.Taking.{columns-all}
+use Rattle.cursor.proofs.Walking.{columns-size, checked-cursor, starts-column, ends-column}
+use Rattle.attempt.specs.Snapshot.{apart, pairsOf, pairCount, decodeTable, encodeVersion, decodeAttempts}
+use Rattle.attempt.specs.Codec.{encodeOf, decodeOf}
 use Rattle.attempt.specs.declared.Encode.{Encode}
-use Rattle.attempt.specs.declared.Decoded.{Decoded}
-use Rattle.attempt.proofs.Codec.{decoded-refused, decoded-pairs}
-use Rattle.attempt.proofs.Snapshot.{decoded-few}
+use Rattle.attempt.specs.declared.Decode.{Decode}
+use Rattle.attempt.proofs.Codec as codec
+use Rattle.attempt.proofs.Codec.{checked-bytes, checked-fits}
+use Rattle.attempt.proofs.Snapshot as pair-laws
 use Rattle.answers.specs.Numbers.{numbersOf, oneValue, values}
 use Rattle.answers.specs.declared.Numbers.{Numbers}
 use Rattle.exports.specs.Answers.{Crossed, crossed, cross}
@@ -55,91 +58,83 @@ module _ (values : List ℕ) (new lent : Columns) where
     filled k = rw (le-ltb (length (lent .left)) (length (new .left)) h, le-ltb (length (lent .right)) (length (new .right)) k)
 
 -- ## ranges
-zipped-starts : (xs ys : List ℕ) → length xs ≡ length ys → startsOf (zipped range xs ys) ≡ xs
-zipped-starts [] ys h = refl
-zipped-starts (x ∷ xs) [] h = absurd (omega arith)
-zipped-starts (x ∷ xs) (y ∷ ys) h = ap (λ (l : List ℕ). x ∷ l) (zipped-starts xs ys (suc-inj h))
+-- ranges in columns that passed their test are written
+module _ (committed : ℕ) (starts ends : List ℕ) (o : Resume) (is : resumeFault o ≡ first (resumeTable committed (zipped range starts ends))) where
+  abbrev ahead : List Range
+  ahead = zipped range starts ends
 
-zipped-ends : (xs ys : List ℕ) → length xs ≡ length ys → endsOf (zipped range xs ys) ≡ ys
-zipped-ends [] [] h = refl
-zipped-ends [] (y ∷ ys) h = absurd (omega arith)
-zipped-ends (x ∷ xs) [] h = absurd (omega arith)
-zipped-ends (x ∷ xs) (y ∷ ys) h = ap (λ (l : List ℕ). y ∷ l) (zipped-ends xs ys (suc-inj h))
+  module _ (q : o ≡ resumes.Resumed) (n : ℕ) (size : n ≡ min (length starts) (length ends)) where
+    tested : Passed (resumeTable committed ahead)
+    tested = first-none (resumeTable committed ahead) (sym (rw q at is))
 
-module _ (committed : ℕ) (ranges : List Range) (r : Resumed) (is : ResumedIs committed ranges r) (at : ℕ) (out : List ℕ) where
-  pub cursor-written : (w : Write) (after : List ℕ) (t : Numbers) → r .outcome ≡ resumes.Resumed
-      → answer (outcomeOf w) after ≡ write at (encodeCursor (view (r .cursor))) out → t ≡ numbersOf (answered oneValue (outcomeOf w))
-      → crossed t after ≡ cross oneValue (encodeRanges committed ranges at out)
-  cursor-written w after t q e u =
-      let resumed : done (view (r .cursor)) ≡ resumeWithAhead committed ranges = rw q at (is .is) in
-      rw (← resumed, ← e, u)
+    pub columns-fit : (n ≤ 128) × (n ≤ length starts) × (n ≤ length ends)
+    columns-fit =
+        let few = ltb-false RANGES (length ahead) (passed-append (rangesTable committed ahead) (ltb RANGES (length ahead) ⇒ TooManyRuns ∷ []) tested .1 .0) in
+        (omega (arith, few, columns-size starts ends), omega arith, omega arith)
 
-  pub cursor-not-written : (error : AckCursorError) (t : Numbers) → r .outcome ≡ resumes.Refused error → t ≡ numbersOf (numbered (rangesError error))
-      → crossed t out ≡ cross oneValue (encodeRanges committed ranges at out)
-  cursor-not-written error t q u =
-      let resumed : refused (rangesError error) ≡ resumeWithAhead committed ranges = rw q at (is .is) in
-      rw (← resumed, u)
+    whole : zipped range (take n starts) (take n ends) ≡ ahead
+    whole = sym (zipped-take range n starts ends) ∙ columns-all n starts ends (omega arith)
 
-module _ (b : List ℕ) (r : cursor-decoded.Decoded) (is : cursors.DecodedIs b r) (whole : Whole (r .cursor)) (starts ends : List ℕ) where
-  abbrev c : AckCursor
-  c = r .cursor
+    pub cursor-written : (at : ℕ) (out : List ℕ) (w : Write) (after : List ℕ) (t : Numbers)
+        → answer (outcomeOf w) after ≡ write at (encodeCursor (view (ackCursor committed starts ends n))) out → t ≡ numbersOf (answered oneValue (outcomeOf w))
+        → crossed t after ≡ cross oneValue (encodeRanges committed ahead at out)
+    unfolding resumeWithAhead
+    cursor-written at out w after t e u = rw (checked-passed (resumeTable committed ahead) (done (cursor committed ahead)) tested, ← whole, ← e, u)
 
+  pub cursor-not-written : (error : AckCursorError) (at : ℕ) (out : List ℕ) (t : Numbers) → o ≡ resumes.Refused error → t ≡ numbersOf (numbered (rangesError error))
+      → crossed t out ≡ cross oneValue (encodeRanges committed ahead at out)
+  unfolding resumeWithAhead
+  cursor-not-written error at out t q u = rw (← rw q at is, u)
+
+-- a snapshot that was tested is listed
+module _ (b : List ℕ) (r : Checked) (is : CheckedIs b r) (starts ends : List ℕ) where
   abbrev right : Crossed Columns
   right = cross values (decodeRanges b (columns starts ends))
 
-  even : length (take (c .runs) (c .starts)) ≡ length (take (c .runs) (c .ends))
-  even = size-starts ∙ sym size-ends
-    where
-      size-starts : length (take (c .runs) (c .starts)) ≡ c .runs
-      size-starts = length-take-le (c .runs) (c .starts) (omega (arith, whole .starts, whole .sound .few))
+  abbrev held : List Range
+  held = readRanges (rangeCount b) 9 b
 
-      size-ends : length (take (c .runs) (c .ends)) ≡ c .runs
-      size-ends = length-take-le (c .runs) (c .ends) (omega (arith, whole .ends, whole .sound .few))
+  size-starts : length (startsOf held) ≡ rangeCount b
+  size-starts = length-map held (λ r. r .start) ∙ length-read (rangeCount b) 9 b
 
-  starts-is : startsOf (view c .ahead) ≡ take (c .runs) (c .starts)
-  starts-is = zipped-starts (take (c .runs) (c .starts)) (take (c .runs) (c .ends)) even
+  size-ends : length (endsOf held) ≡ rangeCount b
+  size-ends = length-map held (λ r. r .end) ∙ length-read (rangeCount b) 9 b
 
-  ends-is : endsOf (view c .ahead) ≡ take (c .runs) (c .ends)
-  ends-is = zipped-ends (take (c .runs) (c .starts)) (take (c .runs) (c .ends)) even
+  said : (o : cursor-decode.Decode) → r .outcome ≡ o → cursors.decodeOf o (cursorIn b) ≡ decodeCursor b
+  said o q = rw q at (checked-cursor b (r .outcome) (is .fault))
 
-  size-starts : length (startsOf (view c .ahead)) ≡ c .runs
-  size-starts = length-map (view c .ahead) (λ r. r .start) ∙ runs-is c whole
+  -- the numbers beside the answer; beside a refusal there are no ranges
+  restored : r .outcome ≡ decodes.Restored → (r .committed ≡ cursorIn b .committed) × (r .runs ≡ rangeCount b)
+  restored q = rw q at (is .numbers)
 
-  size-ends : length (endsOf (view c .ahead)) ≡ c .runs
-  size-ends = length-map (view c .ahead) (λ r. r .end) ∙ runs-is c whole
+  none-left : (error : _) → r .outcome ≡ decodes.Refused error → r .runs ≡ 0
+  none-left error q = rw q at (is .numbers)
 
-  -- beside a refusal there are no ranges
-  said : (o : cursor-decode.Decode) → r .outcome ≡ o → cursors.decodeOf o (view c) ≡ decodeCursor b
-  said o q = rw q at (is .is)
-
-  none-left : (error : _) → r .outcome ≡ decodes.Refused error → c .runs ≡ 0
-  none-left error q = ap (λ (k : AckCursor). k .runs) (rw q at (is .kept))
-
-  pub starts-short : length starts < c .runs → crossed (numbersOf (numbered OutTooShort)) (columns starts ends) ≡ right
+  pub starts-short : length starts < r .runs → crossed (numbersOf (numbered OutTooShort)) (columns starts ends) ≡ right
   starts-short h = go (r .outcome) refl
     where
       go : (o : cursor-decode.Decode) → r .outcome ≡ o → crossed (numbersOf (numbered OutTooShort)) (columns starts ends) ≡ right
-      go decodes.Restored q = rw (← said decodes.Restored q, short-left _ (columns (startsOf (view c .ahead)) (endsOf (view c .ahead))) (columns starts ends) (omega (arith, size-starts)))
+      go decodes.Restored q = rw (← said decodes.Restored q, short-left _ (columns (startsOf held) (endsOf held)) (columns starts ends) (omega (arith, size-starts, restored q .1)))
       go (decodes.Refused error) q = absurd (omega (arith, none-left error q))
 
-  pub ends-short : c .runs ≤ length starts → length ends < c .runs → crossed (numbersOf (numbered OutTooShort)) (columns starts ends) ≡ right
+  pub ends-short : r .runs ≤ length starts → length ends < r .runs → crossed (numbersOf (numbered OutTooShort)) (columns starts ends) ≡ right
   ends-short k h = go (r .outcome) refl
     where
       go : (o : cursor-decode.Decode) → r .outcome ≡ o → crossed (numbersOf (numbered OutTooShort)) (columns starts ends) ≡ right
       go decodes.Restored q =
-          rw (← said decodes.Restored q, short-right _ (columns (startsOf (view c .ahead)) (endsOf (view c .ahead))) (columns starts ends) (omega (arith, size-starts)) (omega (arith, size-ends)))
+          rw (← said decodes.Restored q, short-right _ (columns (startsOf held) (endsOf held)) (columns starts ends) (omega (arith, size-starts, restored q .1)) (omega (arith, size-ends, restored q .1)))
       go (decodes.Refused error) q = absurd (omega (arith, none-left error q))
 
-  pub cursor-listed : c .runs ≤ length starts → c .runs ≤ length ends → (s e : List ℕ) (t : Numbers)
-      → s ≡ front (take (c .runs) (c .starts)) starts → e ≡ front (take (c .runs) (c .ends)) ends
-      → t ≡ numbersOf (answered values (unless (decodeFault (r .outcome)) (done (c .committed ∷ c .runs ∷ []))))
+  pub cursor-listed : r .runs ≤ length starts → r .runs ≤ length ends → (s e : List ℕ) (t : Numbers)
+      → s ≡ columnFrom (r .runs) 9 b ++ drop (r .runs) starts → e ≡ columnFrom (r .runs) 17 b ++ drop (r .runs) ends
+      → t ≡ numbersOf (answered values (unless (decodeFault (r .outcome)) (done (r .committed ∷ r .runs ∷ []))))
       → crossed t (columns s e) ≡ right
   cursor-listed h k s e t p q u = go (r .outcome) refl
     where
       go : (o : cursor-decode.Decode) → r .outcome ≡ o → crossed t (columns s e) ≡ right
       go decodes.Restored z =
-          rw (← said decodes.Restored z, filled _ (columns (startsOf (view c .ahead)) (endsOf (view c .ahead))) (columns starts ends) (omega (arith, size-starts)) (omega (arith, size-ends)))
-          (rw (starts-is, ends-is, runs-is c whole, ← p, ← q, u, z))
+          rw (← said decodes.Restored z, filled _ (columns (startsOf held) (endsOf held)) (columns starts ends) (omega (arith, size-starts, restored z .1)) (omega (arith, size-ends, restored z .1)))
+          (rw (size-starts, size-ends, starts-column b (rangeCount b) 9, ends-column b (rangeCount b) 9, length-read (rangeCount b) 9 b, p, q, u, z, restored z .0, restored z .1))
       go (decodes.Refused error) z =
           let n = none-left error z in
           rw (← said (decodes.Refused error) z) (rw (p, q, u, z, n))
@@ -149,58 +144,60 @@ pub pairs-written : (v : ℕ) (l : List (Entry ℕ)) (at : ℕ) (out : List ℕ)
     → answer (encodeOf w) after ≡ encodeVersion v l at out → t ≡ numbersOf (answered oneValue (encodeOf w)) → crossed t after ≡ cross oneValue (encodeVersion v l at out)
 pairs-written v l at out w after t e u = rw (← e, u)
 
-module _ (b : List ℕ) (r : Decoded) (is : DecodedIs b r) (offsets attempts : List ℕ) where
+-- a snapshot that was tested is listed
+module _ (b : List ℕ) (o : Decode) (is : decodeOf o ≡ checked (decodeTable b) (done (pairCount b))) (offsets attempts : List ℕ) where
   abbrev listed : Crossed Columns
   listed = cross values (decodePairs b (columns offsets attempts))
 
-  abbrev these : List (Entry ℕ)
-  these = entriesOf (take (r .count) (r .pairs))
+  abbrev n : ℕ
+  n = counted (decodeOf o)
 
-  -- beside a refusal there are no pairs
-  none-left-over : (q : Refusal) → decodeAttempts b ≡ refused q → r .count ≡ 0
-  none-left-over q e = is .count ∙ ap counted (decoded-refused b r is q e)
+  pub pairs-fit : 12 * n ≤ length b
+  pairs-fit = checked-fits b (decodeOf o) is
 
-  pub few-pairs : r .count ≤ PAIRS
-  few-pairs = go (decodeAttempts b) refl
+  said-pairs : (x : Result ℕ) → decodeOf o ≡ x → decodeAttempts b ≡ codec.held b x
+  said-pairs x z = checked-bytes b x (sym z ∙ is)
+
+  module _ (m : ℕ) where
+    size-offsets : length (keysOf (pairsOf m b)) ≡ m
+    size-offsets = length-map (pairsOf m b) (λ e. e .key) ∙ pair-laws.length-read (apart (getD b 0 0)) m m 0 b
+
+    size-attempts : length (valuesOf (pairsOf m b)) ≡ m
+    size-attempts = length-map (pairsOf m b) (λ e. e .value) ∙ pair-laws.length-read (apart (getD b 0 0)) m m 0 b
+
+  pub offsets-short : length offsets < n → crossed (numbersOf (numbered OutTooShort)) (columns offsets attempts) ≡ listed
+  offsets-short h = go (decodeOf o) refl
     where
-      go : (a : Result (List (Entry ℕ))) → decodeAttempts b ≡ a → r .count ≤ PAIRS
-      go (refused q) e = omega (arith, none-left-over q e)
-      go (done l) e = omega (arith, decoded-pairs b r is l e .1, decoded-few b l e)
+      go : (x : Result ℕ) → decodeOf o ≡ x → crossed (numbersOf (numbered OutTooShort)) (columns offsets attempts) ≡ listed
+      go (refused q) z = absurd (omega (arith, ap counted z))
+      go (done m) z =
+          rw (said-pairs (done m) z, short-left _ (columns (keysOf (pairsOf m b)) (valuesOf (pairsOf m b))) (columns offsets attempts) (omega (arith, ap counted z, size-offsets m)))
 
-  pub offsets-short : length offsets < r .count → crossed (numbersOf (numbered OutTooShort)) (columns offsets attempts) ≡ listed
-  offsets-short h = go (decodeAttempts b) refl
+  pub attempts-short : n ≤ length offsets → length attempts < n → crossed (numbersOf (numbered OutTooShort)) (columns offsets attempts) ≡ listed
+  attempts-short k h = go (decodeOf o) refl
     where
-      go : (a : Result (List (Entry ℕ))) → decodeAttempts b ≡ a → crossed (numbersOf (numbered OutTooShort)) (columns offsets attempts) ≡ listed
-      go (refused q) e = absurd (omega (arith, none-left-over q e))
-      go (done l) e =
-          rw (e, short-left (length l ∷ []) (columns (keysOf l) (valuesOf l)) (columns offsets attempts) (omega (arith, decoded-pairs b r is l e .1, length-map l (λ e. e .key))))
-
-  pub attempts-short : r .count ≤ length offsets → length attempts < r .count → crossed (numbersOf (numbered OutTooShort)) (columns offsets attempts) ≡ listed
-  attempts-short k h = go (decodeAttempts b) refl
-    where
-      go : (a : Result (List (Entry ℕ))) → decodeAttempts b ≡ a → crossed (numbersOf (numbered OutTooShort)) (columns offsets attempts) ≡ listed
-      go (refused q) e = absurd (omega (arith, none-left-over q e))
-      go (done l) e =
+      go : (x : Result ℕ) → decodeOf o ≡ x → crossed (numbersOf (numbered OutTooShort)) (columns offsets attempts) ≡ listed
+      go (refused q) z = absurd (omega (arith, ap counted z))
+      go (done m) z =
           rw (
-            e,
-            short-right (length l ∷ []) (columns (keysOf l) (valuesOf l)) (columns offsets attempts)
-                (omega (arith, decoded-pairs b r is l e .1, length-map l (λ e. e .key)))
-                (omega (arith, decoded-pairs b r is l e .1, length-map l (λ e. e .value))),
+            said-pairs (done m) z,
+            short-right _ (columns (keysOf (pairsOf m b)) (valuesOf (pairsOf m b))) (columns offsets attempts)
+                (omega (arith, ap counted z, size-offsets m))
+                (omega (arith, ap counted z, size-attempts m)),
           )
 
-  pub pairs-listed : r .count ≤ length offsets → r .count ≤ length attempts → (ks vs : List ℕ) (t : Numbers)
-      → ks ≡ front (keysOf these) offsets → vs ≡ front (valuesOf these) attempts → t ≡ numbersOf (answered oneValue (decodeOf (r .outcome)))
+  pub pairs-listed : n ≤ length offsets → n ≤ length attempts → (ks vs : List ℕ) (t : Numbers)
+      → ks ≡ keysOf (pairsOf n b) ++ drop n offsets → vs ≡ valuesOf (pairsOf n b) ++ drop n attempts → t ≡ numbersOf (answered oneValue (decodeOf o))
       → crossed t (columns ks vs) ≡ listed
-  pairs-listed h k ks vs t p q u = go (decodeAttempts b) refl
+  pairs-listed h k ks vs t p q u = go (decodeOf o) refl
     where
-      go : (a : Result (List (Entry ℕ))) → decodeAttempts b ≡ a → crossed t (columns ks vs) ≡ listed
-      go (refused z) e = rw (e, u, decoded-refused b r is z e, p, q, none-left-over z e)
-      go (done l) e =
-          let d = decoded-pairs b r is l e in
+      go : (x : Result ℕ) → decodeOf o ≡ x → crossed t (columns ks vs) ≡ listed
+      go (refused e) z = rw (said-pairs (refused e) z, p, q, u, z)
+      go (done m) z =
           rw (
-            e,
-            filled (length l ∷ []) (columns (keysOf l) (valuesOf l)) (columns offsets attempts)
-                (omega (arith, d .1, length-map l (λ e. e .key)))
-                (omega (arith, d .1, length-map l (λ e. e .value))),
+            said-pairs (done m) z,
+            filled _ (columns (keysOf (pairsOf m b)) (valuesOf (pairsOf m b))) (columns offsets attempts)
+                (omega (arith, ap counted z, size-offsets m))
+                (omega (arith, ap counted z, size-attempts m)),
           )
-          (rw (u, d .0, p, q, d .2))
+          (rw (size-offsets m, size-attempts m, pair-laws.length-read (apart (getD b 0 0)) m m 0 b, p, q, u, z))

@@ -2,62 +2,23 @@
 // and a length, a list of ranges or pairs as a column for each field. Nothing is required of a caller but that its slices
 // are there, and that one that is written to overlaps no other.
 ghost use mathlib.Core.Path.{_≡_};
-ghost use Prim.Native.Nat.{_≤_};
-ghost use lib.ListN.{length, take};
 ghost use Rattle.types.specs.Keyed.{entries};
 ghost use Rattle.types.specs.Zipped.{zipped};
 ghost use Rattle.crc.specs.Crc32c.{crc};
 ghost use Rattle.cursor.specs.Ranges.{range};
 ghost use Rattle.attempt.specs.Snapshot.{encodeInto, encodeInto2};
-ghost use Rattle.types.specs.Lists.{entriesOf};
 ghost use Rattle.answers.specs.Numbers.{oneValue, values};
 ghost use Rattle.exports.specs.Answers.{crossed, cross};
-ghost use Rattle.exports.specs.Snapshots.{columns, keysOf, valuesOf, front, encodeRanges, decodeRanges, decodePairs};
+ghost use Rattle.exports.specs.Snapshots.{columns, encodeRanges, decodeRanges, decodePairs};
 use answers::Numbers;
-use cursor::AckCursor;
 use cursor::Resume;
-use types::Offset;
-use types::Pair;
-use types::limits::PAIRS;
-use types::limits::RANGES;
+use cursor::columns::check_columns;
+use cursor::columns::check_snapshot;
+use cursor::columns::encode_columns;
+use cursor::columns::read_column;
+use types::numbers::shorter;
 
 pub mod in_place;
-
-// Puts the first n numbers of a column at the front of a lent one.
-fn list_column(column: &[u64; RANGES], n: usize, out: &mut [u64])
-    requires { ⌜ (length (now column) ≡ 128) × (n ≤ 128) × (n ≤ length (now out)) ⌝ }
-    ensures { λ _. ⌜ now (out .exit) ≡ front (take n (now (column .entry))) (now (out .entry)) ⌝ }
-{
-    let mut i: usize = 0;
-    while i < n {
-        out[i] = column[i];
-        i += 1;
-    }
-}
-
-// Puts the offsets of the first n pairs at the front of a lent column.
-fn list_offsets(pairs: [Pair; PAIRS], n: usize, out: &mut [u64])
-    requires { ⌜ (n ≤ 128) × (n ≤ length (now out)) ⌝ }
-    ensures { λ _. ⌜ now (out .exit) ≡ front (keysOf (entriesOf (take n pairs))) (now (out .entry)) ⌝ }
-{
-    let mut i: usize = 0;
-    while i < n {
-        out[i] = pairs[i].offset;
-        i += 1;
-    }
-}
-
-// Puts the counts of the first n pairs at the front of a lent column.
-fn list_attempts(pairs: [Pair; PAIRS], n: usize, out: &mut [u32])
-    requires { ⌜ (n ≤ 128) × (n ≤ length (now out)) ⌝ }
-    ensures { λ _. ⌜ now (out .exit) ≡ front (valuesOf (entriesOf (take n pairs))) (now (out .entry)) ⌝ }
-{
-    let mut i: usize = 0;
-    while i < n {
-        out[i] = pairs[i].attempt;
-        i += 1;
-    }
-}
 
 // The check of the bytes.
 #[no_mangle]
@@ -79,10 +40,12 @@ pub extern "C" fn ninotskev_encode_cursor<'a>(
 ) -> Numbers
     ensures { λ r. ⌜ crossed r (now (out .exit)) ≡ cross oneValue (encodeRanges committed (zipped range (now (starts .entry)) (now (ends .entry))) at (now (out .entry))) ⌝ }
 {
-    let resumed = AckCursor::resume_with_columns(Offset(committed), starts, ends);
-    let outcome = resumed.outcome;
-    match outcome {
-        Resume::Resumed => answers::of_write(resumed.cursor.encode_snapshot(out, at)),
+    let checked = check_columns(committed, starts, ends);
+    match checked {
+        Resume::Resumed => {
+            let n = shorter(starts.len(), ends.len());
+            answers::of_write(encode_columns(committed, starts, ends, n, out, at))
+        }
         Resume::Refused(error) => answers::of_ranges(error),
     }
 }
@@ -97,19 +60,18 @@ pub extern "C" fn ninotskev_decode_cursor(
 ) -> Numbers
     ensures { λ r. ⌜ crossed r (columns (now (starts .exit)) (now (ends .exit))) ≡ cross values (decodeRanges (now (input .entry)) (columns (now (starts .entry)) (now (ends .entry)))) ⌝ }
 {
-    let decoded = AckCursor::decode_snapshot(input);
-    let cursor = decoded.cursor;
-    let n = cursor.runs;
+    let checked = check_snapshot(input);
+    let n = checked.runs;
     if starts.len() < n {
         return Numbers(20, 0, 0, 0, 0, 0, 0);
     }
     if ends.len() < n {
         return Numbers(20, 0, 0, 0, 0, 0, 0);
     }
-    list_column(&cursor.starts, n, starts);
-    list_column(&cursor.ends, n, ends);
-    let outcome = decoded.outcome;
-    answers::of_decode_cursor(outcome, cursor.committed, n)
+    read_column(input, 9, n, starts);
+    read_column(input, 17, n, ends);
+    let outcome = checked.outcome;
+    answers::of_decode_cursor(outcome, checked.committed, n)
 }
 
 // Writes the snapshot of attempt counts, a pair for each place that both columns have, from a position on. Answers the
@@ -149,17 +111,15 @@ pub extern "C" fn ninotskev_decode_attempts(
 ) -> Numbers
     ensures { λ r. ⌜ crossed r (columns (now (offsets .exit)) (now (attempts .exit))) ≡ cross values (decodePairs (now (input .entry)) (columns (now (offsets .entry)) (now (attempts .entry)))) ⌝ }
 {
-    let decoded = attempt::decode_pairs(input);
-    let n = decoded.count;
+    let outcome = attempt::check(input);
+    let n = attempt::pairs_of(outcome);
     if offsets.len() < n {
         return Numbers(20, 0, 0, 0, 0, 0, 0);
     }
     if attempts.len() < n {
         return Numbers(20, 0, 0, 0, 0, 0, 0);
     }
-    let pairs = decoded.pairs;
-    list_offsets(pairs, n, offsets);
-    list_attempts(pairs, n, attempts);
-    let outcome = decoded.outcome;
+    attempt::read_offsets(input, n, offsets);
+    attempt::read_attempts(input, n, attempts);
     answers::of_decode_attempts(outcome)
 }

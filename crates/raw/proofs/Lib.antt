@@ -1,3 +1,4 @@
 pub mod Bytes
 mod Loops
 mod Zeros
+pub mod Word

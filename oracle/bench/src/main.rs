@@ -83,13 +83,18 @@ fn cursor_snapshots() {
         let times = 20_000 / (n as u32 + 10);
         let mut out = vec![0; bytes.len()];
         let mut vec = Vec::with_capacity(bytes.len());
-        let theirs = || {
+        let mut theirs = || {
             repeat(times, || {
                 vec.clear();
                 black_box(&cursor).encode_snapshot(black_box(&mut vec));
             })
         };
-        line(&format!("cursor snapshot, {n} ranges: encode"), times, theirs, || {
+        let (s, e) = (black_box(&starts), black_box(&ends));
+        let ours = || repeat(times, || keep(rattle::encode_cursor(5, s, e, &mut out, 0)));
+        line(&format!("cursor snapshot, {n} ranges: encode"), times, &mut theirs, ours);
+        assert_eq!(out, bytes);
+        out.fill(0);
+        line(&format!("cursor snapshot, {n} ranges: encode, by value"), times, theirs, || {
             here::encodes(5, &starts, &ends, black_box(&mut out), times)
         });
         assert_eq!(out, bytes);
@@ -104,37 +109,38 @@ fn cursor_snapshots() {
     }
 }
 
+/// Version 2 has no original: it is timed against version 1.
 fn attempt_snapshots() {
-    for n in [0, 1, 128] {
+    for n in [0, 1, 16, 128] {
         let pairs: Vec<(u64, u32)> = (0..n).map(|i| (7 + 3 * i, 1 + i as u32)).collect();
         let (offsets, attempts): (Vec<u64>, Vec<u32>) = pairs.iter().copied().unzip();
         let mut bytes = Vec::new();
         encode_attempt_snapshot(&pairs, &mut bytes);
         let times = 20_000 / (n as u32 + 10);
-        let mut out = vec![0; bytes.len()];
+        let (mut first, mut second) = (vec![0; bytes.len()], vec![0; bytes.len()]);
         let mut vec = Vec::with_capacity(bytes.len());
-        let theirs = || {
+        let mut theirs = || {
             repeat(times, || {
                 vec.clear();
                 encode_attempt_snapshot(black_box(&pairs), black_box(&mut vec));
             })
         };
-        let ours = || {
-            repeat(times, || {
-                keep(rattle::encode_attempts(
-                    black_box(&offsets),
-                    black_box(&attempts),
-                    &mut out,
-                    0,
-                ))
-            })
-        };
-        line(&format!("attempt snapshot, {n} pairs: encode"), times, theirs, ours);
-        assert_eq!(out, bytes);
+        let (o, a) = (black_box(&offsets), black_box(&attempts));
+        let ours = || repeat(times, || keep(rattle::encode_attempts(o, a, &mut first, 0)));
+        line(&format!("attempt snapshot, {n} pairs: encode"), times, &mut theirs, ours);
+        assert_eq!(first, bytes);
+        let ours = || repeat(times, || keep(rattle::encode_attempts_v2(o, a, &mut second, 0)));
+        line(&format!("attempt snapshot, {n} pairs, version 2: encode"), times, theirs, ours);
         let (mut o, mut a) = ([0; 128], [0; 128]);
-        let theirs = || repeat(times, || keep(decode_attempt_snapshot(black_box(&bytes))));
-        let ours = || repeat(times, || keep(rattle::decode_attempts(black_box(&bytes), &mut o, &mut a)));
-        line(&format!("attempt snapshot, {n} pairs: decode"), times, theirs, ours);
+        for (name, ours) in [("", &first), (", version 2", &second)] {
+            line(
+                &format!("attempt snapshot, {n} pairs{name}: decode"),
+                times,
+                || repeat(times, || keep(decode_attempt_snapshot(black_box(&bytes)))),
+                || repeat(times, || keep(rattle::decode_attempts(black_box(ours), &mut o, &mut a))),
+            );
+            assert_eq!((&o[..offsets.len()], &a[..offsets.len()]), (&offsets[..], &attempts[..]));
+        }
     }
 }
 

@@ -22,14 +22,14 @@ add-write-ranges : tie.Need-add-write-ranges
 add-write-ranges c = search needs
 
 -- the output keeps its length
-kept : (w : tie.After-write-u64) → let a = w .before .before .before .args in length (w .write-u64 .last .0) ≡ length (a .out .now)
+kept : (w : tie.After-write-u64) → let a = w .before .before .before .before .before .args in length (w .write-u64 .last .0) ≡ length (a .out .now)
 kept w = w .write-u64 .kept .0 ∙ simp length-set
 
 write-ranges-requires : tie.Need-write-ranges-requires
 write-ranges-requires c κs =
     let w = c .before .before .before in
-    let s = w .before .before .before in
-    (s .pre .0, s .pre .1, s .pre .2, omega (arith, kept w, s .pre .3))
+    let s = w .before .before .before .before .before in
+    (s .pre .0, s .pre .1, omega (arith, kept w, s .pre .2))
 
 same-length : tie.Need-same-length
 same-length c =
@@ -40,10 +40,10 @@ returns : tie.Need-returns
 returns c =
     let r = c .before .before in
     let w = r .before .before .before .before in
-    let s = w .before .before .before in
+    let s = w .before .before .before .before .before in
     let a = s .args in
     body-put (view (ackCursor (a .committed) (a .starts .now) (a .ends .now) (a .n))) (a .n) (a .at) (a .out .now) (w .write-u64 .last .0) (r .write-ranges .last .1 .1 .1 .0)
-    (count (a .n) (a .starts .now) (a .ends .now) (omega (arith, s .pre .0, s .pre .1)) (omega (arith, s .pre .0, s .pre .2))) (s .pre .3) (w .write-u64 .ensures) (r .write-ranges .ensures)
+    (count (a .n) (a .starts .now) (a .ends .now) (s .pre .0) (s .pre .1)) (s .pre .2) (w .write-u64 .ensures) (r .write-ranges .ensures)
 
 pub write-body-spec : {M : Type 1} → statement M
 write-body-spec =

@@ -29,8 +29,8 @@ loop-holds c = (omega arith, omega arith, refl, refl)
 mul-write-u64 : tie.Need-mul-write-u64 Inv-loop μ-loop
 mul-write-u64 c = omega arith
 
-element-copy-out-write-u64 : tie.Need-element-copy-out-write-u64 Inv-loop μ-loop
-element-copy-out-write-u64 c = omega arith
+shared-slice-read-write-u64 : tie.Need-shared-slice-read-write-u64 Inv-loop μ-loop
+shared-slice-read-write-u64 c = omega arith
 
 write-u64-requires : tie.Need-write-u64-requires Inv-loop μ-loop
 write-u64-requires c κs = search needs
@@ -41,8 +41,8 @@ add-write-u64 c = omega arith
 mul-write-u64-2 : tie.Need-mul-write-u64-2 Inv-loop μ-loop
 mul-write-u64-2 c = omega arith
 
-element-copy-out-write-u64-2 : tie.Need-element-copy-out-write-u64-2 Inv-loop μ-loop
-element-copy-out-write-u64-2 c = omega arith
+shared-slice-read-write-u64-2 : tie.Need-shared-slice-read-write-u64-2 Inv-loop μ-loop
+shared-slice-read-write-u64-2 c = omega arith
 
 write-u64-requires-2 : tie.Need-write-u64-requires-2 Inv-loop μ-loop
 write-u64-requires-2 c κs = search needs
@@ -62,12 +62,12 @@ loop-again c =
     let v = w .before .before .before .before .before in
     let p = v .before .before .before .before in
     let l = p .loop in
-    let s = p .before .before in
+    let s = p .before .before .before .before in
     let a = s .args in (
       omega arith,
       omega arith,
       w .write-u642 .kept .0 ∙ v .write-u64 .kept .0 ∙ l .inv .2,
-      put-more (a .n) (a .starts .now) (a .ends .now) (omega (arith, s .pre .0, s .pre .1)) (omega (arith, s .pre .0, s .pre .2)) (l .i) (l .pos) (l .out) (v .write-u64 .last .0) (w .write-u642 .last .0) (omega arith) (omega arith) (v .write-u64 .ensures) (w .write-u642 .ensures) ∙ l .inv .3,
+      put-more (a .n) (a .starts .now) (a .ends .now) (s .pre .0) (s .pre .1) (l .i) (l .pos) (l .out) (v .write-u64 .last .0) (w .write-u642 .last .0) (omega arith) (omega arith) (v .write-u64 .ensures) (w .write-u642 .ensures) ∙ l .inv .3,
     )
 
 same-length : tie.Need-same-length Inv-loop μ-loop
@@ -76,9 +76,9 @@ same-length c = c .before .loop .inv .2
 returns : tie.Need-returns Inv-loop μ-loop
 returns c =
     let l = c .before .loop in
-    let s = c .before .before .before in
+    let s = c .before .before .before .before .before in
     let a = s .args in
-    sym (put-end (a .n) (a .starts .now) (a .ends .now) (omega (arith, s .pre .0, s .pre .1)) (omega (arith, s .pre .0, s .pre .2)) (l .i) (l .pos) (l .out) (omega arith)) ∙ l .inv .3
+    sym (put-end (a .n) (a .starts .now) (a .ends .now) (s .pre .0) (s .pre .1) (l .i) (l .pos) (l .out) (omega arith)) ∙ l .inv .3
 
 pub write-ranges-spec : {M : Type 1} → statement M
 write-ranges-spec =
@@ -88,11 +88,11 @@ write-ranges-spec =
     μ-loop
     loop-holds
     mul-write-u64
-    element-copy-out-write-u64
+    shared-slice-read-write-u64
     write-u64-requires
     add-write-u64
     mul-write-u64-2
-    element-copy-out-write-u64-2
+    shared-slice-read-write-u64-2
     write-u64-requires-2
     add-pos
     add-i
