@@ -66,18 +66,6 @@ fn no_restart(out: &mut [u8], at: usize, numbers: Numbers) -> usize {
     advice(out, next, numbers.0)
 }
 
-// What a restart would find, or its refusal.
-fn verdict(out: &mut [u8], at: usize, area: &[u8]) -> usize {
-    let started = starts::restart(configuration(), area);
-    let answer = started.answer;
-    let StartAnswer::Started = answer else {
-        return no_restart(out, at, answers::of_start(answer));
-    };
-    let consumer = started.consumer;
-    let next = finds(out, at, consumer.next.number);
-    shown::state(out, next, consumer)
-}
-
 // Whether a walk below block `hi` ended at the header of group `number`, sound in all but its fit.
 fn is_unfit(area: &[u8], hi: usize, number: u64, block: usize) -> bool {
     if hi <= block {
@@ -108,7 +96,7 @@ fn ended(out: &mut [u8], at: usize, area: &[u8], hi: usize, number: u64, block: 
     other(out, next, area, number)
 }
 
-// What else is to be known before a restart.
+// Why the groups end where they should not, and warnings.
 fn reasons(out: &mut [u8], at: usize, area: &[u8], walked: Walked) -> usize {
     match walked {
         Walked::Stopped { number, block, .. } => {
@@ -117,6 +105,20 @@ fn reasons(out: &mut [u8], at: usize, area: &[u8], walked: Walked) -> usize {
         Walked::Damaged(block) => other_unsound(out, at, area, block),
         Walked::BadArea => at,
     }
+}
+
+// What a restart would find, or its refusal, and what else is to be known before it.
+fn verdict(out: &mut [u8], at: usize, area: &[u8], walked: Walked) -> usize {
+    let started = starts::restart(configuration(), area);
+    let answer = started.answer;
+    let StartAnswer::Started = answer else {
+        let refusal = no_restart(out, at, answers::of_start(answer));
+        return reasons(out, refusal, area, walked);
+    };
+    let consumer = started.consumer;
+    let mut next = finds(out, at, consumer.next.number);
+    next = reasons(out, next, area, walked);
+    shown::state(out, next, consumer)
 }
 
 // Whether a consumer can be started on so many bytes.
@@ -141,8 +143,7 @@ fn walk(area: &[u8]) -> Walked {
 // A journal of any length.
 pub fn journal(out: &mut [u8], at: usize, area: &[u8]) -> usize {
     let walked = walk(area);
-    let mut next = verdict(out, at, area);
-    next = reasons(out, next, area, walked);
+    let mut next = verdict(out, at, area, walked);
     next = facts(out, next, area, walked);
     listed(out, next, area)
 }

@@ -164,6 +164,12 @@ fn run_all(fd: i32, told: bool) {
     run(fd, told, &mut buf, &mut out, &mut area);
 }
 
+// Whether a descriptor can't be read, as that of a folder.
+fn is_unreadable(fd: i32) -> bool {
+    let mut none = [0u8; 1];
+    libc::read(fd, &mut none[..0]) < 0
+}
+
 // The script that the first argument names, whose bad lines are told.
 fn run_file() {
     let mut path = io::buffer();
@@ -177,7 +183,11 @@ fn run_file() {
         os::fail(&path[..n]);
         return;
     }
-    run_all(fd, true);
+    if is_unreadable(fd) {
+        os::fail(&path[..n]);
+    } else {
+        run_all(fd, true);
+    }
     libc::close(fd);
 }
 
