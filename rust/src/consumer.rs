@@ -568,6 +568,17 @@ pub enum Step<S = JournalFile> {
     },
 }
 
+impl<S> fmt::Debug for Step<S> {
+    fn fmt(&self, f: &mut fmt::Formatter<'_>) -> fmt::Result {
+        match self {
+            Step::Wrote { block, writing } => write!(f, "Wrote block {block}, {writing:?}"),
+            Step::Finished { block, consumer } => {
+                write!(f, "Finished with block {block}, {consumer:?}")
+            }
+        }
+    }
+}
+
 impl<S: Storage> Writing<S> {
     /// Makes the next block write, and no other: it is at its place and durable before the answer.
     ///
