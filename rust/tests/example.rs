@@ -70,9 +70,13 @@ fn a_journal_that_is_older_than_was_seen_is_not_run() {
     let path = fresh_path("example-older");
     let seen = fresh_path("example-seen");
     let [init, run] = ["init", "run"].map(Path::new);
-    assert!(server(&[init, &path]).status.success());
+    assert!(server(&[init, &path, &seen]).status.success());
     assert!(server(&[run, &path, &seen]).status.success());
     fs::remove_file(&path).unwrap();
+    // A new journal in its place isn't made, and where it is made all the same, it isn't run.
+    let output = server(&[init, &path, &seen]);
+    assert!(!output.status.success() && !path.exists());
+    assert!(said(&output).contains("was seen"), "{}", said(&output));
     assert!(server(&[init, &path]).status.success());
     let output = server(&[run, &path, &seen]);
     assert!(!output.status.success());
@@ -81,6 +85,20 @@ fn a_journal_that_is_older_than_was_seen_is_not_run() {
         "{}",
         said(&output)
     );
+}
+
+// Another name, or a disk that isn't mounted, doesn't count as nothing seen.
+#[test]
+fn what_was_seen_has_to_be_there() {
+    let path = fresh_path("example-unseen");
+    let seen = fresh_path("example-unseen.seen");
+    let [init, run] = ["init", "run"].map(Path::new);
+    assert!(server(&[init, &path]).status.success());
+    let output = server(&[run, &path, &seen]);
+    assert!(!output.status.success() && !seen.exists());
+    assert!(said(&output).contains("no such file"), "{}", said(&output));
+    fs::write(&seen, "").unwrap();
+    assert!(!server(&[run, &path, &seen]).status.success());
 }
 
 // No file may grow or be written from its first byte on: each write of a block fails.
