@@ -149,9 +149,11 @@ impl<S: Storage> Consumer<S> {
         }
     }
 
-    /// The same, on a journal that is no older than the server has seen it: one whose ceiling is at least the last
-    /// [ceiling](Consumer::ceiling) that the server kept apart from the journal. So a journal that was restored from a backup, or
-    /// created anew, is found before its consumer can be called. A journal that was copied, and is as new, is not.
+    /// The same, on a journal whose ceiling is at least the last [ceiling](Consumer::ceiling) that the server kept apart from it: no
+    /// generation below that is given a second time. So a journal that was created anew, or restored from a backup since which
+    /// anything was handed out or nacked and then checkpointed, is found before its consumer can be called. Not found are a
+    /// journal that was copied and is as new, and a backup with the same ceiling: it gives no generation twice, but what was
+    /// settled since is open again.
     ///
     /// # Errors
     /// Those of a [restart](Consumer::restart), and [`OlderJournal`]; each with the journal.
@@ -522,7 +524,8 @@ impl<S> Consumer<S> {
     }
 
     /// The ceiling of the last finished checkpoint: every generation that has been given lies below it. It never falls, and so it says
-    /// how old a journal is. A server that keeps it apart from the journal, once the checkpoint is made, hands it to the next
+    /// how old a journal is, though a checkpoint with no hand-out and no nack since the one before leaves it as it was. A server that
+    /// keeps it apart from the journal, durably, once a checkpoint is made and before the next claim, hands it to the next
     /// [restart](Consumer::restart_at_least).
     #[must_use]
     pub fn ceiling(&self) -> Generation {
