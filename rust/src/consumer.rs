@@ -41,7 +41,7 @@ pub const STACK: usize = 64 * 1024;
 ///
 /// use ironbus_delivery_state::{CheckpointError, Configuration, Consumer, HandOut, NewJournal, Offset, Refusal, WorkerId};
 ///
-/// /// Where the threads find the consumer. It is `None` after an error of the disk.
+/// /// Where the threads find the consumer. It is `None` after an error of the disk that stayed.
 /// type Shared = Mutex<Option<Consumer>>;
 ///
 /// fn claim(shared: &Shared, worker: WorkerId, offset: Offset, now: u64) -> Result<HandOut, Box<dyn std::error::Error>> {
@@ -60,7 +60,13 @@ pub const STACK: usize = 64 * 1024;
 ///             *place = Some(error.into_consumer());
 ///             return Err(refusal.into());
 ///         }
-///         Err(CheckpointError::Failed(failed)) => return Err(failed.into()),
+///         Err(CheckpointError::Failed(failed)) => {
+///             // What the disk may have forgotten is written again, before a restart reads it. Where that fails too, the place stays
+///             // empty, and the server ends: another open of the file might read what the disk doesn't have.
+///             let journal = failed.reopen()?;
+///             *place = Some(Consumer::restart(&Configuration::default(), journal)?);
+///             return Err("the disk failed, and the consumer was restarted".into());
+///         }
 ///     };
 ///     Ok(consumer.claim(worker, offset, now)?)
 /// }
