@@ -127,3 +127,39 @@ fn an_error_of_the_disk_ends_the_server() {
     assert_eq!(fs::read(&path).unwrap(), before);
     assert!(server(&[run, &path]).status.success());
 }
+
+/// The calls of these names that the program makes, in their order.
+fn calls(names: &str, arguments: &[&Path]) -> Vec<String> {
+    let trace = fresh_path("example-trace");
+    let mut strace = Command::new("strace");
+    strace.args(["-f", "-e", &format!("trace={names}"), "-o"]);
+    strace.arg(&trace).arg(program()).args(arguments);
+    assert!(strace.output().unwrap().status.success());
+    let text = fs::read_to_string(trace).unwrap();
+    let call = |line: &str| Some(line.split_once(' ')?.1.trim().split_once('(')?.0.to_owned());
+    text.lines().filter_map(call).collect()
+}
+
+// A journal's bytes are durable before it has its name, and then its name is; what is there is made durable before it is read, and
+// each block that is written before the next one. No test that stops a process can see that.
+#[test]
+fn what_is_written_is_made_durable() {
+    let mut can = Command::new("strace");
+    can.args(["-o", "/dev/null", "true"]);
+    if !can.output().is_ok_and(|output| output.status.success()) {
+        eprintln!("skipped: strace can't be had");
+        return;
+    }
+    let path = fresh_path("example-durable");
+    let [init, run] = ["init", "run"].map(Path::new);
+    // The last is of the read.
+    let made = calls("pwrite64,fsync,linkat", &[init, &path]);
+    assert_eq!(made, ["pwrite64", "fsync", "linkat", "fsync", "fsync"]);
+    let written = calls("pwrite64,fsync,fdatasync", &[run, &path]);
+    let (read, written) = written.split_first().unwrap();
+    assert_eq!(read, "fsync");
+    assert!(written.len() > 10, "{written:?}");
+    for pair in written.chunks(2) {
+        assert_eq!(pair, ["pwrite64", "fdatasync"]);
+    }
+}
