@@ -1,13 +1,14 @@
 //! A server's loop over one consumer: it claims, works, acknowledges, and makes a checkpoint when one is due. The jobs here are
 //! numbers, and some fail at first.
 //!
-//!     cargo run --example server -- init recipes.journal            # once: a new journal
-//!     cargo run --example server -- run recipes.journal             # again and again: each run goes on where the last one was
-//!     cargo run --example server -- run recipes.journal seen        # with the last ceiling kept in the file `seen`
+//!     cargo run --example server -- init recipes.journal seen       # once: a new journal, of which no ceiling was seen
+//!     cargo run --example server -- run recipes.journal seen        # again and again: each run goes on where the last one was
+//!
+//! The file `seen` has the last ceiling, and would stand on another disk than the journal. It may be left out of both.
 //!
 //! A journal is created by `init` alone: where there is none, `run` ends with an error, since a journal that was lost and is created
-//! anew gives tokens a second time. For the same reason `seen` would stand on another disk than the journal. After an error of
-//! the disk the server ends.
+//! anew gives tokens a second time. So does `run` where `seen` is named and isn't there, as on a disk that isn't mounted; and `init` ends
+//! where something was seen. After an error of the disk the server ends.
 
 use std::error::Error;
 use std::fs;
@@ -35,7 +36,11 @@ fn serve(consumer: &mut Consumer, offset: Offset, now: u64) -> Result<(), Refusa
         HandOut::Deliver { token, deliveries } if work(token, deliveries) => {
             consumer.ack(WORKER, token)
         }
-        HandOut::Deliver { token, .. } => consumer.nack(WORKER, token, now, Some(0)).map(drop),
+        HandOut::Deliver { token, .. } => match consumer.nack(WORKER, token, now, Some(0)) {
+            // The claim took the last generation: the job comes back when its lease has run out.
+            Err(Refusal::CheckpointDue) => Ok(()),
+            answer => answer.map(drop),
+        },
         HandOut::DeadLetter { token, deliveries } => {
             println!("{offset} goes to the dead letters after {deliveries} hand-outs");
             consumer.term(WORKER, token)
@@ -62,26 +67,55 @@ fn next(consumer: &Consumer, now: u64, end: u64) -> Result<Option<Offset>, Refus
 struct Seen(Option<PathBuf>);
 
 impl Seen {
+    // None where there is no such file.
+    fn read(path: &Path) -> Result<Option<Generation>, Box<dyn Error>> {
+        match fs::read_to_string(path) {
+            Ok(text) => match text.trim().parse() {
+                Ok(number) => Ok(Some(Generation::new(number))),
+                Err(error) => Err(format!("{}: {error}", path.display()).into()),
+            },
+            Err(error) if error.kind() == io::ErrorKind::NotFound => Ok(None),
+            Err(error) => Err(format!("{}: {error}", path.display()).into()),
+        }
+    }
+
     fn ceiling(&self) -> Result<Generation, Box<dyn Error>> {
         let Some(path) = &self.0 else {
             return Ok(Generation::new(0));
         };
-        match fs::read_to_string(path) {
-            Ok(text) => Ok(Generation::new(text.trim().parse()?)),
-            Err(error) if error.kind() == io::ErrorKind::NotFound => Ok(Generation::new(0)),
-            Err(error) => Err(error.into()),
+        let there = Seen::read(path)?;
+        there.ok_or_else(|| format!("{}: there is no such file", path.display()).into())
+    }
+
+    // A new journal: nothing may have been seen.
+    fn begin(&self) -> Result<(), Box<dyn Error>> {
+        let Some(path) = &self.0 else {
+            return Ok(());
+        };
+        match Seen::read(path)? {
+            None => Ok(self.keep(Generation::new(0))?),
+            Some(ceiling) if ceiling.get() == 0 => Ok(()),
+            Some(ceiling) => {
+                let said = "of a journal that was there before. Stop all workers, and remove this file, before there is a new one";
+                Err(format!("{}: ceiling {ceiling} was seen {said}", path.display()).into())
+            }
         }
     }
 
-    // A checkpoint has been made: the journal has this ceiling.
+    // A checkpoint has been made: the journal has this ceiling. It lasts before anything is handed out.
     fn keep(&self, ceiling: Generation) -> io::Result<()> {
         let Some(path) = &self.0 else {
             return Ok(());
         };
-        let new = path.with_extension("tmp");
+        let mut new = path.clone().into_os_string();
+        new.push(".tmp");
         fs::write(&new, ceiling.to_string())?;
         fs::File::open(&new)?.sync_all()?;
-        fs::rename(new, path)
+        fs::rename(new, path)?;
+        let folder = path
+            .parent()
+            .filter(|folder| !folder.as_os_str().is_empty());
+        fs::File::open(folder.unwrap_or(Path::new(".")))?.sync_all()
     }
 }
 
@@ -108,7 +142,8 @@ fn of(path: &Path) -> impl Fn(JournalError) -> String + '_ {
     move |error| format!("{}: {error}", path.display())
 }
 
-fn init(path: &Path) -> Result<(), Box<dyn Error>> {
+fn init(path: &Path, seen: &Seen) -> Result<(), Box<dyn Error>> {
+    seen.begin()?;
     let journal = NewJournal::create(path, 128).map_err(of(path))?;
     println!("{journal:?}");
     Ok(())
@@ -148,9 +183,9 @@ fn serve_arguments() -> Result<(), Box<dyn Error>> {
     let path = arguments.next().map(PathBuf::from);
     let seen = Seen(arguments.next().map(PathBuf::from));
     match (command.to_str(), path) {
-        (Some("init"), Some(path)) => init(&path),
+        (Some("init"), Some(path)) => init(&path, &seen),
         (Some("run"), Some(path)) => run(&path, &seen),
-        _ => Err("server init JOURNAL, or server run JOURNAL [SEEN]".into()),
+        _ => Err("server init JOURNAL [SEEN], or server run JOURNAL [SEEN]".into()),
     }
 }
 

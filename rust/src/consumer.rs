@@ -41,7 +41,7 @@ pub const STACK: usize = 64 * 1024;
 ///
 /// use ironbus_delivery_state::{CheckpointError, Configuration, Consumer, HandOut, NewJournal, Offset, Refusal, WorkerId};
 ///
-/// /// Where the threads find the consumer. It is `None` after an error of the disk.
+/// /// Where the threads find the consumer. It is `None` after an error of the disk that stayed.
 /// type Shared = Mutex<Option<Consumer>>;
 ///
 /// fn claim(shared: &Shared, worker: WorkerId, offset: Offset, now: u64) -> Result<HandOut, Box<dyn std::error::Error>> {
@@ -60,7 +60,13 @@ pub const STACK: usize = 64 * 1024;
 ///             *place = Some(error.into_consumer());
 ///             return Err(refusal.into());
 ///         }
-///         Err(CheckpointError::Failed(failed)) => return Err(failed.into()),
+///         Err(CheckpointError::Failed(failed)) => {
+///             // What the disk may have forgotten is written again, before a restart reads it. Where that fails too, the place stays
+///             // empty, and the server ends: another open of the file might read what the disk doesn't have.
+///             let journal = failed.reopen()?;
+///             *place = Some(Consumer::restart(&Configuration::default(), journal)?);
+///             return Err("the disk failed, and the consumer was restarted".into());
+///         }
 ///     };
 ///     Ok(consumer.claim(worker, offset, now)?)
 /// }
@@ -149,9 +155,11 @@ impl<S: Storage> Consumer<S> {
         }
     }
 
-    /// The same, on a journal that is no older than the server has seen it: one whose ceiling is at least the last
-    /// [ceiling](Consumer::ceiling) that the server kept apart from the journal. So a journal that was restored from a backup, or
-    /// created anew, is found before its consumer can be called. A journal that was copied, and is as new, is not.
+    /// The same, on a journal whose ceiling is at least the last [ceiling](Consumer::ceiling) that the server kept apart from it: no
+    /// generation below that is given a second time. So a journal that was created anew, or restored from a backup since which
+    /// anything was handed out or nacked and then checkpointed, is found before its consumer can be called. Not found are a
+    /// journal that was copied and is as new, and a backup with the same ceiling: it gives no generation twice, but what was
+    /// settled since is open again.
     ///
     /// # Errors
     /// Those of a [restart](Consumer::restart), and [`OlderJournal`]; each with the journal.
@@ -522,7 +530,8 @@ impl<S> Consumer<S> {
     }
 
     /// The ceiling of the last finished checkpoint: every generation that has been given lies below it. It never falls, and so it says
-    /// how old a journal is. A server that keeps it apart from the journal, once the checkpoint is made, hands it to the next
+    /// how old a journal is, though a checkpoint with no hand-out and no nack since the one before leaves it as it was. A server that
+    /// keeps it apart from the journal, durably, once a checkpoint is made and before the next claim, hands it to the next
     /// [restart](Consumer::restart_at_least).
     #[must_use]
     pub fn ceiling(&self) -> Generation {
@@ -566,6 +575,17 @@ pub enum Step<S = JournalFile> {
         /// The consumer again, with generations up to a new ceiling.
         consumer: Consumer<S>,
     },
+}
+
+impl<S> fmt::Debug for Step<S> {
+    fn fmt(&self, f: &mut fmt::Formatter<'_>) -> fmt::Result {
+        match self {
+            Step::Wrote { block, writing } => write!(f, "Wrote block {block}, {writing:?}"),
+            Step::Finished { block, consumer } => {
+                write!(f, "Finished with block {block}, {consumer:?}")
+            }
+        }
+    }
 }
 
 impl<S: Storage> Writing<S> {

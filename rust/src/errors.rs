@@ -301,4 +301,16 @@ mod tests {
     }
 
     fn is_shared<T: Send + Sync + 'static>() {}
+
+    // So that `unwrap_err` can be asked of what a call answers.
+    fn is_shown<T: fmt::Debug>() {}
+
+    #[test]
+    fn answers_are_shown() {
+        is_shown::<Consumer>();
+        is_shown::<crate::Writing>();
+        is_shown::<crate::Step>();
+        is_shown::<crate::NewJournal>();
+        is_shown::<Journal>();
+    }
 }

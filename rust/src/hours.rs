@@ -35,7 +35,7 @@ pub type TimeOfDay = (u8, u8);
 /// The opening hours of a consumer, or none: without them it is open always, which is the default.
 ///
 /// Outside its hours a claim is refused with the clock of the next opening
-/// ([`Refusal::Closed`](crate::Refusal::Closed)), and a nacked message waits until then if its delay ends outside. All else,
+/// ([`Refusal::Closed`](crate::Refusal::Closed), 35), and a nacked message waits until then if its delay ends outside. All else,
 /// deadlines of claims among it, doesn't look at the hours.
 ///
 /// ```

@@ -197,14 +197,23 @@ fn remove_leftovers(path: &Path, journal: Option<&File>) {
     }
 }
 
-// Whether no create needs a file that was made beside a journal. One that is going on holds its lock; and a create that was stopped late
-// left a second name of the journal itself, which is open here.
+// Whether a file of such a name is what a create left, and no create needs it. One that is going on holds its lock; and a create that was
+// stopped late left a second name of the journal itself, which is open here. A create writes zeros alone, so that a file with anything
+// else in it is somebody's own, whatever its name: a copy named by year and month, say.
 fn is_left(made: &Path, journal: Option<&File>) -> bool {
     let Ok(file) = OpenOptions::new().read(true).write(true).open(made) else {
         return false;
     };
     let same = |journal: &File| is_same(&file, &journal.metadata()?);
-    journal.is_some_and(|journal| same(journal).unwrap_or(false)) || lock(&file).is_ok()
+    journal.is_some_and(|journal| same(journal).unwrap_or(false))
+        || (lock(&file).is_ok() && is_zeroed(&file))
+}
+
+// Whether a file is no longer than a journal and has zeros alone.
+fn is_zeroed(file: &File) -> bool {
+    let bytes = read_from(|bytes, at| file.read_at(bytes, at));
+    bytes
+        .is_ok_and(|bytes| bytes.len() <= BLOCK * MAX_BLOCKS && bytes.iter().all(|byte| *byte == 0))
 }
 
 // Gives a file that was made beside it the journal's name, unless there is one of that name.
@@ -314,7 +323,7 @@ impl NewJournal {
     ///
     /// The file is for its owner alone to read and write (mode 600). Until it is zeroed and durable it has another name, the journal's
     /// with two numbers and `.new` behind it; what a create that was stopped on the way left of such a name, the next create or open of
-    /// the same journal removes.
+    /// the same journal removes, where it has zeros alone.
     ///
     /// # Errors
     /// [`JournalError::BadBlocks`], [`JournalError::Exists`], [`JournalError::Locked`] where another process is creating it, or what

@@ -391,7 +391,10 @@ mod tests {
             include_str!("configuration.rs"),
             include_str!("consumer.rs"),
             include_str!("hours.rs"),
+            include_str!("journal.rs"),
             include_str!("snapshot.rs"),
+            include_str!("types.rs"),
+            include_str!("workers.rs"),
         ] {
             let documents: Vec<&str> = source
                 .lines()
@@ -399,19 +402,18 @@ mod tests {
                 .collect();
             let text = documents.join(" ");
             assert!(!text.contains("Refusals "));
-            for link in text.split("Refusal::").skip(1) {
-                // In an example there is no link.
-                let Some((name, behind)) = link.split_once(')') else {
-                    continue;
-                };
+            let text = text.replace("](crate::Refusal::", "](Refusal::");
+            for link in text.split("](Refusal::").skip(1) {
+                let (name, behind) = link.split_once(')').unwrap();
                 let digits = behind.trim_start_matches([' ', '(', ',']);
                 let digits = digits.split(|c: char| !c.is_ascii_digit()).next();
-                if let Some(Ok(number)) = digits.map(str::parse) {
-                    let refusal = Refusal::from_number(number, [0, 0]).unwrap();
-                    let variant = format!("{refusal:?}");
-                    assert_eq!(variant.split(' ').next(), Some(name), "{number}");
-                    named += 1;
-                }
+                let Some(Ok(number)) = digits.map(str::parse) else {
+                    panic!("{name} is named without its number: {behind:.40}");
+                };
+                let refusal = Refusal::from_number(number, [0, 0]).unwrap();
+                let variant = format!("{refusal:?}");
+                assert_eq!(variant.split(' ').next(), Some(name), "{number}");
+                named += 1;
             }
         }
         assert!(named > 80, "{named} are named");

@@ -129,7 +129,7 @@ impl fmt::Display for Generation {
 }
 
 /// What a worker holds a message under. It is a name and no right: one that is out of date is refused
-/// ([`Refusal::Fenced`](crate::Refusal::Fenced)), however it was come by, so it can be copied and sent about freely.
+/// ([`Refusal::Fenced`](crate::Refusal::Fenced), 24), however it was come by, so it can be copied and sent about freely.
 #[derive(Clone, Copy, Debug, PartialEq, Eq, Hash)]
 pub struct LeaseToken {
     /// The message.

@@ -7,7 +7,7 @@ use core::ops::BitOr;
 pub const WORKERS: usize = 8;
 
 /// Who makes a call. Any number can be named; a call by one of 8 and more is refused
-/// ([`Refusal::UnknownWorker`](crate::Refusal::UnknownWorker)).
+/// ([`Refusal::UnknownWorker`](crate::Refusal::UnknownWorker), 38).
 #[derive(Clone, Copy, PartialEq, Eq, PartialOrd, Ord, Hash)]
 #[repr(transparent)]
 pub struct WorkerId(u64);
@@ -45,7 +45,7 @@ impl fmt::Display for WorkerId {
 }
 
 /// What a worker may do: a set of operations, and a mark for supervisors. A call that isn't in it is refused
-/// ([`Refusal::NotPermitted`](crate::Refusal::NotPermitted)).
+/// ([`Refusal::NotPermitted`](crate::Refusal::NotPermitted), 39).
 ///
 /// ```
 /// use ironbus_delivery_state::Rights;

@@ -70,9 +70,13 @@ fn a_journal_that_is_older_than_was_seen_is_not_run() {
     let path = fresh_path("example-older");
     let seen = fresh_path("example-seen");
     let [init, run] = ["init", "run"].map(Path::new);
-    assert!(server(&[init, &path]).status.success());
+    assert!(server(&[init, &path, &seen]).status.success());
     assert!(server(&[run, &path, &seen]).status.success());
     fs::remove_file(&path).unwrap();
+    // A new journal in its place isn't made, and where it is made all the same, it isn't run.
+    let output = server(&[init, &path, &seen]);
+    assert!(!output.status.success() && !path.exists());
+    assert!(said(&output).contains("was seen"), "{}", said(&output));
     assert!(server(&[init, &path]).status.success());
     let output = server(&[run, &path, &seen]);
     assert!(!output.status.success());
@@ -81,6 +85,20 @@ fn a_journal_that_is_older_than_was_seen_is_not_run() {
         "{}",
         said(&output)
     );
+}
+
+// Another name, or a disk that isn't mounted, doesn't count as nothing seen.
+#[test]
+fn what_was_seen_has_to_be_there() {
+    let path = fresh_path("example-unseen");
+    let seen = fresh_path("example-unseen.seen");
+    let [init, run] = ["init", "run"].map(Path::new);
+    assert!(server(&[init, &path]).status.success());
+    let output = server(&[run, &path, &seen]);
+    assert!(!output.status.success() && !seen.exists());
+    assert!(said(&output).contains("no such file"), "{}", said(&output));
+    fs::write(&seen, "").unwrap();
+    assert!(!server(&[run, &path, &seen]).status.success());
 }
 
 // No file may grow or be written from its first byte on: each write of a block fails.
@@ -108,4 +126,40 @@ fn an_error_of_the_disk_ends_the_server() {
     );
     assert_eq!(fs::read(&path).unwrap(), before);
     assert!(server(&[run, &path]).status.success());
+}
+
+/// The calls of these names that the program makes, in their order.
+fn calls(names: &str, arguments: &[&Path]) -> Vec<String> {
+    let trace = fresh_path("example-trace");
+    let mut strace = Command::new("strace");
+    strace.args(["-f", "-e", &format!("trace={names}"), "-o"]);
+    strace.arg(&trace).arg(program()).args(arguments);
+    assert!(strace.output().unwrap().status.success());
+    let text = fs::read_to_string(trace).unwrap();
+    let call = |line: &str| Some(line.split_once(' ')?.1.trim().split_once('(')?.0.to_owned());
+    text.lines().filter_map(call).collect()
+}
+
+// A journal's bytes are durable before it has its name, and then its name is; what is there is made durable before it is read, and
+// each block that is written before the next one. No test that stops a process can see that.
+#[test]
+fn what_is_written_is_made_durable() {
+    let mut can = Command::new("strace");
+    can.args(["-o", "/dev/null", "true"]);
+    if !can.output().is_ok_and(|output| output.status.success()) {
+        eprintln!("skipped: strace can't be had");
+        return;
+    }
+    let path = fresh_path("example-durable");
+    let [init, run] = ["init", "run"].map(Path::new);
+    // The last is of the read.
+    let made = calls("pwrite64,fsync,linkat", &[init, &path]);
+    assert_eq!(made, ["pwrite64", "fsync", "linkat", "fsync", "fsync"]);
+    let written = calls("pwrite64,fsync,fdatasync", &[run, &path]);
+    let (read, written) = written.split_first().unwrap();
+    assert_eq!(read, "fsync");
+    assert!(written.len() > 10, "{written:?}");
+    for pair in written.chunks(2) {
+        assert_eq!(pair, ["pwrite64", "fdatasync"]);
+    }
 }

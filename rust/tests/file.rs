@@ -442,6 +442,25 @@ fn what_a_create_left_is_removed() {
     fs::remove_file(&other).unwrap();
 }
 
+// A copy that is named by year and month has the name of a leftover, and is none.
+#[test]
+fn what_no_create_left_stays() {
+    let path = fresh_path("kept");
+    let copy = with_end(&path, ".2026-11.new");
+    let long = with_end(&path, ".2026-12.new");
+    let mut bytes = vec![0; 18 * BLOCK];
+    bytes[17 * BLOCK] = 1;
+    fs::write(&copy, &bytes).unwrap();
+    fs::write(&long, vec![0; 128 * BLOCK + 1]).unwrap();
+    drop(NewJournal::create(&path, 18).unwrap());
+    drop(Journal::open(&path).unwrap());
+    assert_eq!(beside(&path), [".2026-11.new", ".2026-12.new"]);
+    assert_eq!(fs::read(&copy).unwrap(), bytes);
+    for name in [copy, long] {
+        fs::remove_file(name).unwrap();
+    }
+}
+
 #[test]
 fn a_damaged_journal_is_refused() {
     let path = fresh_path("damaged");

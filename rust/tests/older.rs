@@ -90,6 +90,30 @@ fn a_journal_from_a_backup_is_refused() {
     assert_eq!(consumer.ack(WORKER, given), Ok(()));
 }
 
+// Nothing was handed out between the backup and the last checkpoint: the ceiling is the same, and doesn't tell them apart. No generation
+// comes twice, but a job that was settled is open again.
+#[test]
+fn a_backup_with_the_same_ceiling_is_taken() {
+    let path = fresh_path("same-ceiling");
+    let journal = NewJournal::create(&path, 18).unwrap();
+    let consumer = Consumer::start(&settings(), journal).unwrap();
+    let mut consumer = consumer.checkpoint(WORKER).unwrap();
+    let token = consumer.claim(WORKER, Offset::ZERO, 0).unwrap().token();
+    let mut consumer = consumer.checkpoint(WORKER).unwrap();
+    let backup = fs::read(&path).unwrap();
+    consumer.ack(WORKER, token).unwrap();
+    let consumer = consumer.checkpoint(WORKER).unwrap();
+    let seen = consumer.ceiling().get();
+    drop(consumer);
+    fs::write(&path, &backup).unwrap();
+    let consumer = at_least(&path, seen).unwrap();
+    assert_eq!(consumer.is_settled(WORKER, Offset::ZERO), Ok(false));
+    let mut consumer = consumer.checkpoint(WORKER).unwrap();
+    let again = consumer.claim(WORKER, Offset::ZERO, 0).unwrap().token();
+    assert!(again.generation.get() >= seen);
+    assert_eq!(consumer.ack(WORKER, token), Err(Refusal::Fenced));
+}
+
 #[test]
 fn a_journal_that_was_created_anew_is_refused() {
     let path = fresh_path("anew");
