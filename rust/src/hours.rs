@@ -98,7 +98,8 @@ impl Hours {
         }
     }
 
-    /// The same, open on a day from one time to another, beside what is open already.
+    /// The same, open on a day from one time to another, beside what is open already. Of [`Hours::always`] it makes a week in which
+    /// nothing else is open.
     ///
     /// # Errors
     /// A time that no half hour begins or ends at, or a range that is empty or reversed.

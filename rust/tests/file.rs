@@ -582,20 +582,42 @@ fn without_a_later_header_the_group_before_counts() {
 
 const ROLE: &str = "NINOTSKEV_ROLE";
 
+/// Another process, which ends with this value: a test that fails would else wait for it.
+struct Other(Child);
+
+impl Other {
+    fn ends(&mut self) {
+        self.0.wait().unwrap();
+    }
+
+    fn is_killed(&mut self) {
+        self.0.kill().unwrap();
+        self.ends();
+    }
+}
+
+impl Drop for Other {
+    fn drop(&mut self) {
+        let _ = self.0.kill();
+        let _ = self.0.wait();
+    }
+}
+
 /// Runs `role` of this file in another process.
-fn other(role: &str, path: &Path) -> Child {
-    Command::new(std::env::current_exe().unwrap())
+fn other(role: &str, path: &Path) -> Other {
+    let child = Command::new(std::env::current_exe().unwrap())
         .args(["role", "--exact", "--nocapture", "--ignored"])
         .env(ROLE, role)
         .env("NINOTSKEV_PATH", path)
         .stdout(Stdio::piped())
         .spawn()
-        .unwrap()
+        .unwrap();
+    Other(child)
 }
 
 /// The line that it says.
-fn says(child: &mut Child) -> String {
-    let lines = BufReader::new(child.stdout.as_mut().unwrap()).lines();
+fn says(child: &mut Other) -> String {
+    let lines = BufReader::new(child.0.stdout.as_mut().unwrap()).lines();
     let line = lines
         .map(|line| line.unwrap())
         .find(|line| line.contains("says "))
@@ -642,14 +664,14 @@ fn a_second_process_is_refused() {
     let consumer = Consumer::start(&configuration, NewJournal::create(&path, 18).unwrap()).unwrap();
     let mut second = other("look", &path);
     assert_eq!(says(&mut second), "the journal is in use");
-    second.wait().unwrap();
+    second.ends();
     // Neither can this process have it twice.
     assert!(matches!(Journal::open(&path), Err(JournalError::Locked)));
     let consumer = consumer.checkpoint(WORKER).unwrap();
     drop(consumer);
     let mut third = other("look", &path);
     assert_eq!(says(&mut third), "open");
-    third.wait().unwrap();
+    third.ends();
 }
 
 #[test]
@@ -660,8 +682,7 @@ fn a_process_that_was_killed_leaves_the_journal() {
     let mut holder = other("hold", &path);
     assert_eq!(says(&mut holder), "open");
     assert!(matches!(Journal::open(&path), Err(JournalError::Locked)));
-    holder.kill().unwrap();
-    holder.wait().unwrap();
+    holder.is_killed();
     drop(restart(&path, &configuration).checkpoint(WORKER).unwrap());
 }
 
@@ -674,8 +695,7 @@ fn a_process_that_was_killed_in_create_leaves_nothing_for_ever() {
         let mut creator = other("create", &path);
         says(&mut creator);
         std::thread::sleep(Duration::from_micros(random.below(2000)));
-        creator.kill().unwrap();
-        creator.wait().unwrap();
+        creator.is_killed();
         left += beside(&path).len();
         // What was there is a whole journal or none, and the next create or open removes the rest.
         match NewJournal::create(&path, 128) {
