@@ -772,6 +772,7 @@ mod tests {
         let table = &guarded.machine.writing.consumer.table;
         assert_eq!((table.len, table.next_generation), (2, 2));
         assert_eq!(table.offsets[..2], [5, 9]);
+        assert_eq!(table.slots[..3], [0, 1, 2]);
         assert_eq!((table.generations[1], table.attempt_starts[1]), (1, 50));
         assert_eq!((table.deadlines[1], table.deliveries[1]), (150, 1));
         assert_eq!(table.workers[..2], [0, 7]);
