@@ -1,7 +1,9 @@
 // What the programs print alike: the state of a consumer.
+ghost use mathlib.Core.Path.{_≡_};
 ghost use mathlib.Core.List.{[], _∷_};
+ghost use lib.ListN.{getD};
 ghost use Rattle.types.specs.Keyed.{entry};
-ghost use Rattle.lease.specs.State.{leasesOf, carriedOf};
+ghost use Rattle.lease.specs.State.{nil, storedIn, leasesOf, carriedOf};
 ghost use Rattle.consumer.specs.View.{view};
 ghost use Rattle.text.specs.Output.{Says};
 ghost use Rattle.shown.specs.Shown.{textNumber, mark, noneWhere, rangesText, aheadOf, leaseText, leasesText, carriedText, numbersText, stateLine};
@@ -10,10 +12,11 @@ use consumer::halves::half_in_use;
 use cursor::AckCursor;
 use lease::Lease;
 use lease::LeaseTable;
-use lease::in_place::lease_at;
 use text::output::put;
 use text::output::put_number;
 use text::templates::fill;
+use types::Generation;
+use types::limits::LEASES;
 use types::numbers::wide;
 
 // A text and a number behind it.
@@ -75,6 +78,31 @@ fn lease(out: &mut [u8], at: usize, offset: u64, lease: Lease) -> usize
     with(out, next, b":", lease.deliveries as u64)
 }
 
+// The lease at a slot. A number that is no slot, which no call leaves, has one of zeros.
+fn stored_at(slot: u32, table: LeaseTable) -> Lease
+    ensures { λ r. ⌜ r ≡ getD (storedIn table) slot nil ⌝ }
+{
+    let at = slot as usize;
+    if LEASES <= at {
+        let none = Generation(0);
+        return Lease {
+            generation: none,
+            attempt_start: 0,
+            deadline: 0,
+            deliveries: 0,
+            worker: 0,
+        };
+    }
+    let generation = Generation(table.generations[at]);
+    Lease {
+        generation,
+        attempt_start: table.attempt_starts[at],
+        deadline: table.deadlines[at],
+        deliveries: table.deliveries[at],
+        worker: table.workers[at],
+    }
+}
+
 fn leases(out: &mut [u8], at: usize, table: LeaseTable) -> usize
     ensures { λ r. ⌜ Says (leasesText (leasesOf table)) at (now (out .entry)) r (now (out .exit)) ⌝ }
 {
@@ -86,15 +114,8 @@ fn leases(out: &mut [u8], at: usize, table: LeaseTable) -> usize
             break;
         }
         next = before(out, next, i);
-        let held = lease_at(
-            i,
-            &table.slots,
-            &table.generations,
-            &table.attempt_starts,
-            &table.deadlines,
-            &table.deliveries,
-            &table.workers,
-        );
+        let slot = table.slots[i];
+        let held = stored_at(slot, table);
         next = lease(out, next, table.offsets[i], held);
         i += 1;
     }

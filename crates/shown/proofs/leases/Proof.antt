@@ -5,9 +5,9 @@ use mathlib.Core.Path.{_≡_, refl}
 use mathlib.Core.List.{_∷_}
 use lib.ListN.{length, drop, getD}
 use Rattle.types.specs.Keyed.{entry}
-use Rattle.lease.specs.State.{leasesIn, leasesOf}
+use Rattle.tables.proofs.Slots.{through-length, through-at}
+use Rattle.lease.specs.State.{nil, storedIn, leasesIn, leasesOf}
 use Rattle.lease.specs.Parts.{Full}
-use Rattle.lease.proofs.Leases.{nil, column-length, column-at}
 use Rattle.text.proofs.Putting.{says-then, Left, left-all, left-next, left-none}
 use Rattle.shown.specs.Shown.{leaseText, marked}
 use Rattle.shown.proofs.Lists.{entries-next, entries-end, entries-nothing}
@@ -50,8 +50,14 @@ loop-holds c = (refl, left-all _ _)
 before-requires : tie.Need-before-requires Inv-loop μ-loop
 before-requires c κs = search needs
 
-lease-at-requires : tie.Need-lease-at-requires Inv-loop μ-loop
-lease-at-requires c κs = search needs
+mul-slot : tie.Need-mul-slot Inv-loop μ-loop
+mul-slot c = omega arith
+
+element-copy-out-slot : tie.Need-element-copy-out-slot Inv-loop μ-loop
+element-copy-out-slot c = omega arith
+
+stored-at-requires : tie.Need-stored-at-requires Inv-loop μ-loop
+stored-at-requires c κs = search needs
 
 mul-lease : tie.Need-mul-lease Inv-loop μ-loop
 mul-lease c = omega arith
@@ -71,14 +77,14 @@ loop-less c = omega arith
 loop-again : tie.Need-loop-again Inv-loop μ-loop
 loop-again c =
     let r = c .before .before .before .before .before in
-    let b = r .before .before .before .before .before .before .before .before .before in
+    let b = r .before .before .before .before in
     let at-loop = b .before .before .before .before in
     let l = at-loop .loop in
     let a = start at-loop .args .t3 in
     let f = full (start at-loop) in
-    let e : drop (l .i) (leasesOf a) ≡ (entry (getD (a .offsets) (l .i) 0) (r .lease-at .result) ∷ drop (l .i + 1) (leasesOf a))
-    = rw (r .lease-at .ensures, ← column-at (f .leases) (l .i))
-    (entries-next (a .len) (a .offsets) (leasesIn a) nil (l .i) (omega arith) (omega (arith, f .offsets)) (omega (arith, column-length (f .leases)))) in
+    let e : drop (l .i) (leasesOf a) ≡ (entry (getD (a .offsets) (l .i) 0) (r .stored-at .result) ∷ drop (l .i + 1) (leasesOf a))
+    = rw (r .stored-at .ensures, ← through-at nil (a .slots) (storedIn a) (l .i) (omega (arith, f .slots)))
+    (entries-next (a .len) (a .offsets) (leasesIn a) nil (l .i) (omega arith) (omega (arith, f .offsets)) (omega (arith, through-length nil (a .slots) (storedIn a), f .slots))) in
     (search needs, left-next (marked leaseText) (leasesOf a) (l .i) _ e (l .inv .1) (says-then (b .before2 .ensures) (c .before .before .lease .ensures)))
 
 same-length : tie.Need-same-length Inv-loop μ-loop
@@ -90,7 +96,7 @@ returns c =
     let l = c .before .loop in
     let h = full (start (c .before)) in
     let e = entries-end (a .len) (a .offsets) (leasesIn a) (l .i) (omega (arith, h .offsets)) in
-    let nothing = entries-nothing (a .len) (a .offsets) (leasesIn a) (omega (arith, h .offsets)) (omega (arith, column-length (h .leases))) in
+    let nothing = entries-nothing (a .len) (a .offsets) (leasesIn a) (omega (arith, h .offsets)) (omega (arith, through-length nil (a .slots) (storedIn a), h .slots)) in
     says-then (c .before .before .before .before .before .before .before .before .put .ensures)
     (says-then (rw (← nothing) at (c .before .before .before .before .or-none .ensures)) (left-none (marked leaseText) (leasesOf a) (l .i) e (l .inv .1)))
 
@@ -103,7 +109,7 @@ returns-2 c =
     let l = c .before .before .loop in
     let h = full (start (c .before .before)) in
     let e = entries-end (a .len) (a .offsets) (leasesIn a) (l .i) (omega (arith, h .offsets)) in
-    let nothing = entries-nothing (a .len) (a .offsets) (leasesIn a) (omega (arith, h .offsets)) (omega (arith, column-length (h .leases))) in
+    let nothing = entries-nothing (a .len) (a .offsets) (leasesIn a) (omega (arith, h .offsets)) (omega (arith, through-length nil (a .slots) (storedIn a), h .slots)) in
     says-then (c .before .before .before .before .before .before .before .before .before .put .ensures)
     (says-then (rw (← nothing) at (c .before .before .before .before .before .or-none .ensures)) (left-none (marked leaseText) (leasesOf a) (l .i) e (l .inv .1)))
 
@@ -118,7 +124,9 @@ leases-spec =
     or-none-requires
     loop-holds
     before-requires
-    lease-at-requires
+    mul-slot
+    element-copy-out-slot
+    stored-at-requires
     mul-lease
     element-copy-out-lease
     lease-requires
