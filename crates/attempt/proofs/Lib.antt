@@ -1,5 +1,6 @@
 pub mod Snapshot
 pub mod Codec
 mod Writing
+pub mod PairByPair
 mod Reading
 mod LentEncoder
