@@ -16,6 +16,9 @@ ghost use Rattle.attempt.specs.Snapshot.{offsetAt, attemptAt, readPair, 
 ghost use Rattle.attempt.specs.Snapshot.{known, pairsTable, decodeTable, decodeInto};
 ghost use Rattle.attempt.specs.Codec.{blank, offsetsOf, attemptsOf, encodeOf, decodeOf, fillOf};
 ghost use Rattle.attempt.specs.Codec.{encodeFront, encodeFirst, encodeFirst2, DecodedIs, RefusedIs, RoomIs};
+
+pub mod pairs;
+
 use types::Pair;
 use types::limits::PAIRS;
 use types::numbers::shorter;

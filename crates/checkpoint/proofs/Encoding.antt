@@ -13,9 +13,6 @@ use Rattle.types.specs.Refusal.{Refusal, Result, refused, UnknownWorker, NotPer
 use Rattle.types.specs.Table.{Passed, answer}
 use Rattle.types.specs.Table as table
 use Rattle.types.proofs.Table.{passed-none, first-met-before, first-none-before}
-use Rattle.types.specs.Lists.{countsIn, ListsCounts}
-use Rattle.types.specs.declared.lent.AttemptCounts.{AttemptCounts}
-use Rattle.types.proofs.Columns.{length-used}
 use Rattle.raw.specs.Bytes.{overwrite, write}
 use Rattle.raw.proofs.Bytes.{take-overwritten, wrote, wrote-behind}
 use Rattle.cursor.proofs.Search.{runs-is}
@@ -40,26 +37,21 @@ use Rattle.checkpoint.specs.declared.BeginAnswer.the-variants as begins
 use Rattle.checkpoint.specs.declared.BeginAnswer.the-variants.{Begun, JournalFull}
 use Rattle.checkpoint.proofs.Payload.{payload-fits}
 use Rattle.checkpoint.proofs.Places.{state-room}
+use Rattle.checkpoint.proofs.Merged.{both-counted, counts-merged}
 
 -- ## The lengths
--- the arrays of counts have theirs
-pub record Full (r : AttemptCounts) : Type 0 where
-  pub offsets : length (r .offsets) ≡ 192
-  pub attempts : length (r .attempts) ≡ 192
-
 module _ (c : Consumer) (l : Lent c) where
   pub cursor-size : 13 + 16 * c .cursor .runs ≡ length (cursorBytes (view c))
   cursor-size = omega (arith, cursor-length (view c .cursor), runs-is (c .cursor) (l .cursor))
 
-  module _ (r : AttemptCounts) (f : Full r) (is : ListsCounts r (allAttemptCounts (view c .table))) where
-    count : length (allAttemptCounts (view c .table)) ≡ r .len
-    count = sym (ap length (is .is)) ∙ length-used 0 (r .len) (r .offsets) (r .attempts) (omega (arith, is .few, f .offsets)) (omega (arith, is .few, f .attempts))
+  count : length (allAttemptCounts (view c .table)) ≡ c .table .len + c .table .«carried_len»
+  count = sym (ap length (counts-merged c (l .table) (l .sound))) ∙ both-counted c (l .table) (l .sound)
 
-    pub few-counts : r .len ≤ 128
-    few-counts = omega (arith, count, counts-few (view c) (l .sound .valid))
+  pub few-counts : c .table .len + c .table .«carried_len» ≤ 128
+  few-counts = omega (arith, count, counts-few (view c) (l .sound .valid))
 
-    pub attempt-size : 9 + 12 * r .len ≡ length (attemptBytes (view c))
-    attempt-size = omega (arith, attempts-length 2 (allAttemptCounts (view c .table)), count)
+  pub attempt-size : 9 + 12 * (c .table .len + c .table .«carried_len») ≡ length (attemptBytes (view c))
+  attempt-size = omega (arith, attempts-length 2 (allAttemptCounts (view c .table)), count)
 
 -- ## The two snapshots
 module _ (s : State) (v : Valid s) (b₀ b₁ b₂ : List ℕ) (o₁ o₂ : Result ℕ) (lc la : ℕ)

@@ -1,4 +1,5 @@
 pub mod Checkpoint
+pub mod Counts
 pub mod Parts
 pub mod Valid
 pub mod Writing

@@ -5,10 +5,6 @@ ghost use mathlib.Core.Path.{_≡_};
 ghost use mathlib.Core.Bool.{false};
 ghost use lib.ListN.{length, take};
 ghost use Rattle.types.specs.Limits.{sat64};
-ghost use Rattle.types.specs.Table.{answer};
-ghost use Rattle.types.specs.Keyed.{entries};
-ghost use Rattle.attempt.specs.Snapshot.{encodeInto2};
-ghost use Rattle.attempt.specs.Codec.{encodeOf};
 ghost use Rattle.cursor.specs.View.{ackCursor};
 ghost use Rattle.lease.specs.Parts.{listingAll};
 ghost use Rattle.journal.specs.Area.{outside, writeAt};
@@ -17,7 +13,7 @@ ghost use Rattle.journal.specs.Blocks.{bodiesFor};
 ghost use Rattle.checkpoint.specs.Parts.{beginning, fitting, recording, Beginnable, BegunIn, PermittedIn, parts, PlaceIs, NextIs, Steppable, SteppedIn, headerBy};
 use crate::BeginAnswer;
 use crate::StepAnswer;
-use attempt::Encode;
+use crate::counts::put_counts;
 use consumer::halves;
 use consumer::rights;
 use consumer::rights::CHECKPOINT;
@@ -63,20 +59,6 @@ fn bodies_of(cursor_len: usize, attempt_len: usize) -> usize
     ensures { λ r. ⌜ r ≡ bodiesFor («cursor_len» + «attempt_len») ⌝ }
 {
     (cursor_len + attempt_len + 499) / 500
-}
-
-// Writes the snapshot, in version 2, of the first n counts of two columns from a position on.
-fn put_counts<'a>(
-    offsets: &'a [u64],
-    attempts: &'a [u32],
-    n: usize,
-    out: &mut [u8],
-    at: usize,
-) -> Encode
-    requires { ⌜ (n ≤ length (now offsets)) × (n ≤ length (now attempts)) ⌝ }
-    ensures { λ r. ⌜ answer (encodeOf r) (now (out .exit)) ≡ encodeInto2 (entries (take n (now (offsets .entry))) (take n (now (attempts .entry)))) at (now (out .entry)) ⌝ }
-{
-    attempt::encode_columns_v2(&offsets[..n], &attempts[..n], out, at)
 }
 
 // Where a group goes: the block of its header, and how many blocks are zeroed before it, from there on.
@@ -201,7 +183,10 @@ fn begin_permitted<'a>(
             attempt_len,
         };
     }
-    let counts = lease::in_place::all_counts_in_place(
+    let front = AckCursor::snapshot_len(runs);
+    let behind = attempt::snapshot_len(len + carried_len);
+    cursor::in_place::encode_in_place(committed, starts, ends, runs, payload, 0);
+    put_counts(
         len,
         carried_len,
         offsets,
@@ -209,12 +194,9 @@ fn begin_permitted<'a>(
         deliveries,
         carried_offsets,
         carried_counts,
+        payload,
+        front,
     );
-    let count = counts.len;
-    let front = AckCursor::snapshot_len(runs);
-    let behind = attempt::snapshot_len(count);
-    cursor::in_place::encode_in_place(committed, starts, ends, runs, payload, 0);
-    put_counts(&counts.offsets, &counts.attempts, count, payload, front);
     let bodies = bodies_of(front, behind);
     let place = place_of(area_len, block, bodies);
     BegunAt {

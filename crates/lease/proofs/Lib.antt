@@ -15,6 +15,6 @@ pub mod Tokens
 pub mod Found
 mod Questions
 mod Changes
-mod Lists
-mod Merge
+pub mod Lists
+pub mod Merge
 mod Carried

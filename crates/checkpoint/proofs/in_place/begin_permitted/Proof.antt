@@ -1,19 +1,18 @@
 -- `begin_permitted` meets its contract: without a number for the group nothing changes, and else both snapshots are written, and
 -- their lengths say how many blocks are to come. Assumes nothing.
-use Prim.Native.Nat.{_≤_}
+use Prim.Native.Nat.{_+_, _≤_}
 use native.Mathlib.Omega.{arith}
 use mathlib.Core.Path.{_≡_, _∙_}
 use lib.ListN.{length}
 use borrow.Author.Needs.{needs}
-use Rattle.types.specs.Lists.{ListsCounts}
 use Rattle.cursor.specs.View.{ackCursor}
 use Rattle.lease.specs.Parts.{listingAll}
-use Rattle.lease.specs.Counts.{allAttemptCounts}
 use Rattle.consumer.specs.View.{view}
 use Rattle.consumer.specs.declared.Consumer.{Consumer}
 use Rattle.checkpoint.specs.Checkpoint.{cursorBytes, attemptBytes}
 use Rattle.checkpoint.specs.Parts.{fitting, Lent}
-use Rattle.checkpoint.proofs.Encoding.{Full, cursor-size, few-counts, attempt-size, both-encoded, block-small, bodies-few, zeroed-few, begin-refused, begin-done}
+use Rattle.checkpoint.proofs.Merged.{listed, slotted, counts-merged}
+use Rattle.checkpoint.proofs.Encoding.{cursor-size, few-counts, attempt-size, both-encoded, block-small, bodies-few, zeroed-few, begin-refused, begin-done}
 use Rattle.checkpoint.proofs.in_place.begin_permitted.Statement.{statement}
 use Rattle.checkpoint.proofs.in_place.begin_permitted.Tie as tie
 
@@ -27,29 +26,17 @@ given s =
     (a .block)
     (a .area-len)
 
-full : (c : tie.After-all-counts-in-place) → Full (c .all-counts-in-place .result)
-full c = record { offsets = search needs; attempts = search needs }
-
-listed : (c : tie.After-all-counts-in-place) (w : Consumer) → Lent (given (c .before .before) w)
-    → ListsCounts (c .all-counts-in-place .result) (allAttemptCounts (view (given (c .before .before) w) .table))
-listed c w l = c .all-counts-in-place .ensures (w .table) (record { full = l .table; sound = l .sound .table })
-
-few : (c : tie.After-all-counts-in-place) → c .all-counts-in-place .result .len ≤ 128
-few c =
-    let s = c .before .before in
-    let p = s .pre in
-    few-counts (given s (p .consumer)) (p .lent) (c .all-counts-in-place .result) (full c) (listed c (p .consumer) (p .lent))
+few : (s : tie.Start) → s .args .len + s .args .carried-len ≤ 128
+few s = few-counts (given s (s .pre .consumer)) (s .pre .lent)
 
 -- the lengths of the two snapshots
-first : (c : tie.After-snapshot-len2) (w : Consumer) → let s = c .before .before .before .before in
+first : (c : tie.After-snapshot-len2) (w : Consumer) → let s = c .before .before .before in
     Lent (given s w) → c .before .snapshot-len .result ≡ length (cursorBytes (view (given s w)))
-first c w l = c .before .snapshot-len .ensures ∙ cursor-size (given (c .before .before .before .before) w) l
+first c w l = c .before .snapshot-len .ensures ∙ cursor-size (given (c .before .before .before) w) l
 
-second : (c : tie.After-snapshot-len2) (w : Consumer) → let s = c .before .before .before .before in
+second : (c : tie.After-snapshot-len2) (w : Consumer) → let s = c .before .before .before in
     Lent (given s w) → c .snapshot-len2 .result ≡ length (attemptBytes (view (given s w)))
-second c w l =
-    let k = c .before .before in
-    c .snapshot-len2 .ensures ∙ attempt-size (given (k .before .before) w) l (k .all-counts-in-place .result) (full k) (listed k w l)
+second c w l = c .snapshot-len2 .ensures ∙ attempt-size (given (c .before .before .before) w) l
 
 cast-if1 : tie.Need-cast-if1
 cast-if1 c = search needs
@@ -60,51 +47,49 @@ returns c =
     let a = s .args in
     λ w l worker p. begin-refused (given s w) (l .sound) (a .written) (a .cursor-len) (a .attempt-len) (a .payload .now) worker p (c .if1 .taken)
 
-all-counts-in-place-requires : tie.Need-all-counts-in-place-requires
-all-counts-in-place-requires c κs = search needs
-
 snapshot-len-requires : tie.Need-snapshot-len-requires
 snapshot-len-requires c κs = search needs
 
+add-snapshot-len : tie.Need-add-snapshot-len
+add-snapshot-len c = search needs
+
 snapshot-len-requires-2 : tie.Need-snapshot-len-requires-2
-snapshot-len-requires-2 c κs = few (c .before)
+snapshot-len-requires-2 c κs = few (c .before .before)
 
 encode-in-place-requires : tie.Need-encode-in-place-requires
 encode-in-place-requires c κs = search needs
 
 put-counts-requires : tie.Need-put-counts-requires
 put-counts-requires c κs =
-    let k = c .before .before .before .before .before .before .before .before .before .before in
-    (omega (arith, few k, full k .offsets), omega (arith, few k, full k .attempts))
+    let n = c .before .before .before in
+    let s = n .before .before .before in
+    let l = s .pre .lent in
+    (listed (given s (s .pre .consumer)) (l .table) (l .sound), few s, omega (arith, n .before .snapshot-len .ensures, l .cursor .sound .few, few s, c .before .encode-in-place .kept .1 .1 .1 .1 .0, s .pre .payload), slotted (given s (s .pre .consumer)) (l .table) (l .sound))
 
 bodies-of-requires : tie.Need-bodies-of-requires
-bodies-of-requires c κs =
-    let n = c .before .before .before .before .before .before .before .before .before in
-    let s = n .before .before .before .before in
-    (omega (arith, n .before .snapshot-len .ensures, s .pre .lent .cursor .sound .few), omega (arith, n .snapshot-len2 .ensures, few (n .before .before)))
+bodies-of-requires c κs = search needs
 
 -- the group is small
 few-bodies : (c : tie.After-bodies-of) → c .bodies-of .result ≤ 8
 few-bodies c =
-    let n = c .before .before .before .before .before .before .before .before .before .before in
-    let s = n .before .before .before .before in
+    let n = c .before .before .before .before .before in
+    let s = n .before .before .before in
     let w = s .pre .consumer in
     bodies-few (given s w) (s .pre .lent .sound) _ _ (first n w (s .pre .lent)) (second n w (s .pre .lent)) _ (c .bodies-of .ensures)
 
 place-of-requires : tie.Need-place-of-requires
 place-of-requires c κs =
-    let n = c .before .before .before .before .before .before .before .before .before .before in
-    let s = n .before .before .before .before in
+    let s = c .before .before .before .before .before .before .before .before in
     (block-small (given s (s .pre .consumer)) (s .pre .lent .sound), few-bodies c)
 
-add-t39 : tie.Need-add-t39
-add-t39 c = search needs
+add-t26 : tie.Need-add-t26
+add-t26 c = search needs
 
-add-t40 : tie.Need-add-t40
-add-t40 c =
+add-t33 : tie.Need-add-t33
+add-t33 c =
     let b = c .before .before in
-    let n = b .before .before .before .before .before .before .before .before .before .before in
-    let s = n .before .before .before .before in
+    let n = b .before .before .before .before .before in
+    let s = n .before .before .before in
     let w = s .pre .consumer in
     omega (
       arith,
@@ -116,16 +101,15 @@ returns-2 : tie.Need-returns-2
 returns-2 c =
     let b = c .before .before in
     let p = b .before in
-    let e = p .before .before .before .before .before .before .before in
+    let e = p .before .before in
     let n = e .before .before in
-    let k = n .before .before in
-    let o = k .before in
+    let o = n .before .before in
     let s = o .before in
     let a = s .args in
     let lc = n .before .snapshot-len .result in
     let la = n .snapshot-len2 .result in
     λ w l worker may.
-    let counts = rw (listed k w l .is) at (p .put-counts .ensures) in
+    let counts = rw (counts-merged (given s w) (l .table) (l .sound)) at (p .put-counts .ensures) in
     let bytes = both-encoded (view (given s w)) (l .sound .valid) (a .payload .now) _ _ _ _ lc la (s .pre .payload) (first n w l) (second n w l) (e .encode-in-place .ensures) counts in
     begin-done (given s w) (l .sound) (a .written) (a .cursor-len) (a .attempt-len) (a .payload .now) worker may lc la (first n w l) (second n w l) (o .if1 .left) _ _ (b .bodies-of .ensures) (c .before .place-of .ensures .zeros) _ bytes
 
@@ -135,13 +119,13 @@ begin-permitted-spec =
     (tie.spec
     cast-if1
     returns
-    all-counts-in-place-requires
     snapshot-len-requires
+    add-snapshot-len
     snapshot-len-requires-2
     encode-in-place-requires
     put-counts-requires
     bodies-of-requires
     place-of-requires
-    add-t39
-    add-t40
+    add-t26
+    add-t33
     returns-2)
