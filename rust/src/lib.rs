@@ -166,7 +166,7 @@ mod snapshot;
 mod types;
 mod workers;
 
-pub use abi::{check_library, WrongLibrary, ABI};
+pub use abi::{check_library, WrongLibrary, ABI, EXPORTS_ABI};
 pub use configuration::{Configuration, DeliveryConfig, LeaseConfig, Settings};
 pub use consumer::{Consumer, Step, Writing, MAX_STRETCHES, STACK};
 pub use errors::{
