@@ -1,5 +1,5 @@
 //! Links the proved libraries, `target/staticlib/libserver.a` and `libexports.a` of the repository, which `rt staticlib` writes.
-//! Another place can be named by the environment variable `NINOTSKEV_LIB`: the folder that has them.
+//! Another place can be named by the environment variable `NINOTSKEV_LIB`: the folder that has them. An empty one names none.
 //!
 //! The crate's folder is asked for when this runs, and not when it is compiled, and what is linked are copies in cargo's folder for
 //! this script: a checkout that was copied with all that cargo had made would else go on linking the first one's libraries.
@@ -16,7 +16,8 @@ fn variable(name: &str) -> PathBuf {
 fn main() {
     println!("cargo:rerun-if-changed=build.rs");
     println!("cargo:rerun-if-env-changed=NINOTSKEV_LIB");
-    let folder = env::var_os("NINOTSKEV_LIB").map_or_else(
+    let named = env::var_os("NINOTSKEV_LIB").filter(|folder| !folder.is_empty());
+    let folder = named.map_or_else(
         || variable("CARGO_MANIFEST_DIR").join("../target/staticlib"),
         PathBuf::from,
     );

@@ -1,38 +1,44 @@
-//! Whether the library that was linked is the one that this crate was written for.
+//! Whether the libraries that were linked are those that this crate was written for.
 
 use std::fmt;
 use std::sync::OnceLock;
 
 use crate::ffi;
 
-/// The number of the interface between this crate and the proved library. It is raised with every change of a struct that crosses or of
+/// The number of the interface between this crate and the proved `libserver.a`. It is raised with every change of a struct that crosses or of
 /// an exported call, here, in `crates/server/specs/Abi.antt` and in `crates/server/src/abi.rt`; `CHANGELOG.md` has it beside each
 /// version.
 pub const ABI: u64 = 2;
 
-/// Something that the library says of itself, beside what this crate has.
+/// That of the interface to `libexports.a`, which has the snapshots. It is raised with every change of a call of that library, here, in
+/// `crates/exports/specs/Abi.antt` and in `crates/exports/src/abi.rt`.
+pub const EXPORTS_ABI: u64 = 1;
+
+/// Something that a library says of itself, beside what this crate has.
 #[derive(Clone, Copy, Debug, PartialEq, Eq)]
 pub(crate) struct Compared {
+    pub(crate) of: &'static str,
     pub(crate) what: &'static str,
     pub(crate) library: u64,
     pub(crate) here: u64,
 }
 
-/// The linked library isn't the one that this crate was written for: see [`check_library`].
+/// A linked library isn't the one that this crate was written for: see [`check_library`].
 #[derive(Clone, Copy, Debug, PartialEq, Eq)]
 pub struct WrongLibrary(Compared);
 
 impl fmt::Display for WrongLibrary {
     fn fmt(&self, f: &mut fmt::Formatter<'_>) -> fmt::Result {
         let Compared {
+            of,
             what,
             library,
             here,
         } = self.0;
         write!(
             f,
-            "the linked libserver.a is not the one that this crate was written for: {what} is {library} there and {here} here. \
-             Write it by `rt staticlib server` in the checkout that this crate is from, and see which folder NINOTSKEV_LIB names"
+            "the linked lib{of}.a is not the one that this crate was written for: {what} is {library} there and {here} here. \
+             Write it by `rt staticlib {of}` in the checkout that this crate is from, and see which folder NINOTSKEV_LIB names"
         )
     }
 }
@@ -47,8 +53,8 @@ fn compare(all: &[Compared]) -> Result<(), WrongLibrary> {
     }
 }
 
-/// Compares what the linked library says of itself with what this crate was written for: the number of the interface ([`ABI`]), and
-/// the sizes of the structs that cross.
+/// Compares what the linked libraries say of themselves with what this crate was written for: the numbers of their interfaces ([`ABI`],
+/// [`EXPORTS_ABI`]), and the sizes of the structs that cross.
 ///
 /// [`Consumer::start`](crate::Consumer::start), the restarts and the codecs of snapshots ask it before their first call, and panic
 /// with its words where it fails: a program that was linked so can do nothing right, and a call would be undefined. A server that
@@ -73,12 +79,12 @@ mod tests {
     use super::*;
 
     #[test]
-    fn the_linked_library_is_the_right_one() {
+    fn the_linked_libraries_are_the_right_ones() {
         assert_eq!(check_library(), Ok(()));
         assert!(ffi::compared().iter().all(|one| one.here > 0));
     }
 
-    // Another number of the interface, and other bytes of each struct.
+    // Other numbers of the interfaces, and other bytes of each struct.
     #[test]
     fn any_other_number_is_refused() {
         let right = ffi::compared();
@@ -90,10 +96,17 @@ mod tests {
                 assert_eq!(compare(&wrong), Err(WrongLibrary(wrong[place])));
             }
         }
-        let mut wrong = right;
-        wrong[0].library = 999;
-        let said = compare(&wrong).unwrap_err().to_string();
-        let differs = format!("the number of the interface is 999 there and {ABI} here");
-        assert!(said.contains(&differs), "{said}");
+        for (place, of, here) in [(0, "server", ABI), (4, "exports", EXPORTS_ABI)] {
+            let mut wrong = right;
+            wrong[place].library = 999;
+            let said = compare(&wrong).unwrap_err().to_string();
+            let differs = format!("the number of the interface is 999 there and {here} here");
+            assert!(
+                said.starts_with(&format!("the linked lib{of}.a ")),
+                "{said}"
+            );
+            assert!(said.contains(&differs), "{said}");
+            assert!(said.contains(&format!("`rt staticlib {of}`")), "{said}");
+        }
     }
 }

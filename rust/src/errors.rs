@@ -134,6 +134,15 @@ pub enum RestartAtLeastError<S = JournalFile> {
 }
 
 impl<S> RestartAtLeastError<S> {
+    /// Why, where the restart was refused.
+    #[must_use]
+    pub fn refusal(&self) -> Option<Refusal> {
+        match self {
+            RestartAtLeastError::Refused(error) => Some(error.refusal),
+            RestartAtLeastError::Older(_) => None,
+        }
+    }
+
     /// The journal.
     pub fn into_journal(self) -> Journal<S> {
         match self {
@@ -227,6 +236,17 @@ pub enum CheckpointError<S = JournalFile> {
     Refused(BeginError<S>),
     /// The disk failed: only a restart is left.
     Failed(Failed<S>),
+}
+
+impl<S> CheckpointError<S> {
+    /// Why, where it was not begun.
+    #[must_use]
+    pub fn refusal(&self) -> Option<Refusal> {
+        match self {
+            CheckpointError::Refused(error) => Some(error.refusal),
+            CheckpointError::Failed(_) => None,
+        }
+    }
 }
 
 impl<S> From<BeginError<S>> for CheckpointError<S> {

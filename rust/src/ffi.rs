@@ -4,8 +4,8 @@
 //! and require one thing, the invariant of the state that every start, restart and call is proved to leave. So a [`Machine`] is
 //! made here by a start or a restart alone, nothing outside this file sees its fields, and the structs below are laid out as
 //! the library's, field by field, which `tests` at the end compares. The codecs of attempt snapshots, of `crates/exports/src/lib.rt`,
-//! require nothing but slices that don't overlap. Before the first call the library is asked whether it is the one that this file was
-//! written for (`crates/server/src/abi.rt`).
+//! require nothing but slices that don't overlap. Before the first call both libraries are asked whether they are those that this file was
+//! written for (`abi.rt` beside each).
 //!
 //! A question changes nothing, and takes `&self` here, though the library's one function for questions and calls takes `&mut`, and
 //! stores numbers back that it has not changed. So the state lies in an `UnsafeCell`, as that of `std::cell::Cell` does, and for the
@@ -15,7 +15,7 @@
 use core::cell::UnsafeCell;
 use core::mem::size_of;
 
-use crate::abi::{require_library, Compared, ABI};
+use crate::abi::{require_library, Compared, ABI, EXPORTS_ABI};
 use crate::configuration::{Configuration, LeaseConfig, Settings};
 use crate::refusal::Refusal;
 use crate::types::{Due, Offset, Stretch};
@@ -127,6 +127,7 @@ pub(crate) enum Look {
 extern "C" {
     fn ninotskev_abi() -> u64;
     fn ninotskev_abi_size(part: u64) -> u64;
+    fn ninotskev_exports_abi() -> u64;
     fn ninotskev_start(
         machine: *mut State,
         numbers: *mut Numbers,
@@ -199,21 +200,26 @@ extern "C" {
     ) -> Numbers;
 }
 
-/// What the linked library says of itself, beside what stands here: the number of the interface, and the sizes of the structs that cross.
-pub(crate) fn compared() -> [Compared; 4] {
+/// What the linked libraries say of themselves, beside what stands here: the numbers of the interfaces, and the sizes of the structs that
+/// cross.
+pub(crate) fn compared() -> [Compared; 5] {
     let size = |what, part, here: usize| Compared {
+        of: "server",
         what,
         // SAFETY: a number in and a number out, whichever library it is.
         library: unsafe { ninotskev_abi_size(part) },
         here: here as u64,
     };
+    let number = |of, library, here| Compared {
+        of,
+        what: "the number of the interface",
+        library,
+        here,
+    };
+    // SAFETY: likewise.
+    let (server, exports) = unsafe { (ninotskev_abi(), ninotskev_exports_abi()) };
     [
-        Compared {
-            what: "the number of the interface",
-            // SAFETY: likewise.
-            library: unsafe { ninotskev_abi() },
-            here: ABI,
-        },
+        number("server", server, ABI),
         size("the size of the machine", 0, size_of::<State>()),
         size(
             "the size of its configuration",
@@ -221,6 +227,7 @@ pub(crate) fn compared() -> [Compared; 4] {
             size_of::<Configuration>(),
         ),
         size("the size of an answer", 2, size_of::<Numbers>()),
+        number("exports", exports, EXPORTS_ABI),
     ]
 }
 

@@ -242,8 +242,13 @@ fn is_same(file: &File, other: &fs::Metadata) -> io::Result<bool> {
 }
 
 fn lock(file: &File) -> Result<(), JournalError> {
+    lock_by(|| file.try_lock())
+}
+
+// Where a try may be interrupted.
+fn lock_by(mut try_lock: impl FnMut() -> Result<(), TryLockError>) -> Result<(), JournalError> {
     loop {
-        match file.try_lock() {
+        match try_lock() {
             Ok(()) => return Ok(()),
             Err(TryLockError::WouldBlock) => return Err(JournalError::Locked),
             Err(TryLockError::Error(error)) if error.kind() == io::ErrorKind::Interrupted => {}
@@ -529,6 +534,51 @@ mod tests {
         assert_eq!(read.unwrap(), all);
         let failed = read_from(|_, _| Err(io::ErrorKind::TimedOut.into()));
         assert_eq!(failed.unwrap_err().kind(), io::ErrorKind::TimedOut);
+    }
+
+    #[test]
+    fn a_lock_that_is_interrupted_is_tried_again() {
+        let failed = |kind: io::ErrorKind| Err(TryLockError::Error(kind.into()));
+        let mut tries = 0;
+        let locked = lock_by(|| {
+            tries += 1;
+            if tries < 3 {
+                return failed(io::ErrorKind::Interrupted);
+            }
+            Ok(())
+        });
+        assert!(locked.is_ok());
+        assert_eq!(tries, 3);
+        let locked = lock_by(|| Err(TryLockError::WouldBlock));
+        assert!(matches!(locked, Err(JournalError::Locked)));
+        let locked = lock_by(|| failed(io::ErrorKind::TimedOut));
+        assert!(
+            matches!(locked, Err(JournalError::Io(error)) if error.kind() == io::ErrorKind::TimedOut)
+        );
+    }
+
+    // Another process of the same number, as in another container, made a file of the same name: that one gets the journal's name, and
+    // what was made here isn't the journal.
+    #[test]
+    fn only_the_file_that_has_the_name_is_the_journal() {
+        let folder = std::env::temp_dir().join(format!("ninotskev-names-{}", std::process::id()));
+        let _ = fs::remove_dir_all(&folder);
+        fs::create_dir(&folder).unwrap();
+        let [made, path, second] = ["made", "journal", "second"].map(|name| folder.join(name));
+        let mine = File::create_new(&made).unwrap();
+        fs::remove_file(&made).unwrap();
+        let other = File::create_new(&made).unwrap();
+        assert!(matches!(
+            name(&mine, &made, &path),
+            Err(JournalError::Locked)
+        ));
+        assert!(is_same(&other, &fs::metadata(&path).unwrap()).unwrap());
+        assert!(name(&other, &made, &second).is_ok());
+        assert!(matches!(
+            name(&other, &made, &path),
+            Err(JournalError::Exists)
+        ));
+        fs::remove_dir_all(&folder).unwrap();
     }
 
     #[test]

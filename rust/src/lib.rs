@@ -104,7 +104,7 @@
 //! }
 //! ```
 //!
-//! What is left unused is warned of, a consumer, a checkpoint that is being written, and a step:
+//! What is left unused is warned of, a consumer, a checkpoint that is being written, a step, and what was handed out:
 //!
 //! ```compile_fail
 //! #![deny(unused_must_use)]
@@ -130,10 +130,19 @@
 //! }
 //! ```
 //!
+//! ```compile_fail
+//! #![deny(unused_must_use)]
+//! # use ironbus_delivery_state::{Consumer, Offset, WorkerId};
+//! fn given_to_nobody(consumer: &mut Consumer, worker: WorkerId) {
+//!     consumer.claim(worker, Offset::new(0), 0).unwrap();
+//! }
+//! ```
+//!
 //! ```
 //! #![deny(unused_must_use)]
-//! # use ironbus_delivery_state::{Consumer, Writing, WorkerId};
-//! fn given_up(consumer: Consumer, other: Consumer, writing: Writing, worker: WorkerId) {
+//! # use ironbus_delivery_state::{Consumer, Offset, Writing, WorkerId};
+//! fn given_up(mut consumer: Consumer, other: Consumer, writing: Writing, worker: WorkerId) {
+//!     let _ = consumer.claim(worker, Offset::new(0), 0).unwrap();
 //!     drop(consumer.checkpoint(worker).unwrap());
 //!     drop(other.begin(worker).unwrap());
 //!     drop(writing.step().unwrap());
@@ -166,7 +175,7 @@ mod snapshot;
 mod types;
 mod workers;
 
-pub use abi::{check_library, WrongLibrary, ABI};
+pub use abi::{check_library, WrongLibrary, ABI, EXPORTS_ABI};
 pub use configuration::{Configuration, DeliveryConfig, LeaseConfig, Settings};
 pub use consumer::{Consumer, Step, Writing, MAX_STRETCHES, STACK};
 pub use errors::{

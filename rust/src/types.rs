@@ -140,6 +140,7 @@ pub struct LeaseToken {
 
 /// What a claim hands out. `deliveries` is how often the message was handed out, this time counted.
 #[derive(Clone, Copy, Debug, PartialEq, Eq)]
+#[must_use = "a message that was handed out is in flight until it is settled or its time is over"]
 pub enum HandOut {
     /// To be worked on.
     Deliver {

@@ -198,7 +198,7 @@ fn calls_give_01s_answers() {
     assert_eq!(consumer.waiting(WORKER, 203, &mut list), Ok(1));
     assert_eq!(list, [Offset::new(3), Offset::new(77), Offset::new(77)]);
     for offset in 4..67 {
-        consumer.claim(WORKER, Offset::new(offset), 0).unwrap();
+        let _ = consumer.claim(WORKER, Offset::new(offset), 0).unwrap();
     }
     assert_eq!(
         consumer.claim(WORKER, Offset::new(67), 0),
@@ -217,13 +217,13 @@ fn the_longest_waiting_comes_first() {
     let consumer = Consumer::start(&configuration, NewJournal::create(&path, 18).unwrap()).unwrap();
     let mut consumer = consumer.checkpoint(WORKER).unwrap();
     for (offset, now) in [(40, 0), (30, 1)] {
-        consumer.claim(WORKER, Offset::new(offset), now).unwrap();
+        let _ = consumer.claim(WORKER, Offset::new(offset), now).unwrap();
     }
     let journal = consumer.checkpoint(WORKER).unwrap().into_journal();
     let consumer = Consumer::restart(&configuration, journal).unwrap();
     let mut consumer = consumer.checkpoint(WORKER).unwrap();
     for (offset, now) in [(7, 20), (9, 10), (2, 30), (8, 10), (5, 31)] {
-        consumer.claim(WORKER, Offset::new(offset), now).unwrap();
+        let _ = consumer.claim(WORKER, Offset::new(offset), now).unwrap();
     }
     let all = [30, 40, 8, 9, 7, 2, 5].map(Offset::new);
     for (now, n) in [(0, 2), (19, 2), (20, 4), (30, 5), (40, 6), (41, 7)] {
@@ -244,7 +244,7 @@ fn a_full_waiting_list_is_in_order() {
     let consumer = Consumer::start(&configuration, NewJournal::create(&path, 18).unwrap()).unwrap();
     let mut consumer = consumer.checkpoint(WORKER).unwrap();
     for offset in 64..128 {
-        consumer.claim(WORKER, Offset::new(offset), 0).unwrap();
+        let _ = consumer.claim(WORKER, Offset::new(offset), 0).unwrap();
     }
     let journal = consumer.checkpoint(WORKER).unwrap().into_journal();
     let consumer = Consumer::restart(&configuration, journal).unwrap();
@@ -259,7 +259,7 @@ fn a_full_waiting_list_is_in_order() {
         let clock = |offset| turn * 1000 + clock(offset);
         let mut leases: Vec<u64> = (0..64).collect();
         for &offset in &leases {
-            consumer
+            let _ = consumer
                 .claim(WORKER, Offset::new(offset), clock(offset))
                 .unwrap();
         }

@@ -248,7 +248,7 @@ fn behind_the_last_number_there_is_no_checkpoint() {
     assert_eq!(error.refusal(), Refusal::JournalFull);
     let mut consumer = error.into_consumer();
     // That is no reason to stop before the generations run out.
-    consumer.claim(WORKER, Offset::new(7), 0).unwrap();
+    let _ = consumer.claim(WORKER, Offset::new(7), 0).unwrap();
     drop(consumer);
     let consumer = Consumer::restart(&settings(), Journal::open(&path).unwrap()).unwrap();
     assert_eq!(

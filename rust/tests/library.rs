@@ -1,13 +1,13 @@
-//! Which library is linked: a checkout that was copied links its own, and one that isn't the crate's is found before the first call.
+//! Which libraries are linked: a checkout that was copied links its own, and one that isn't the crate's is found before the first call.
 
 use std::fs;
 use std::path::{Path, PathBuf};
 use std::process::{Command, Output};
 
-use ironbus_delivery_state::ABI;
+use ironbus_delivery_state::{ABI, EXPORTS_ABI};
 
-/// A program over a copy of the crate: it asks which library it has, and then calls it.
-const PROGRAM: &str = r#"
+/// A program over a copy of the crate: it asks which libraries it has, and then starts a consumer.
+const ASKS: &str = r#"
 use ironbus_delivery_state::{check_library, Configuration, Consumer, NewJournal, Storage, BLOCK};
 
 struct Zeros;
@@ -32,15 +32,47 @@ fn main() {
 }
 "#;
 
+/// Another, which asks nothing and calls one codec.
+const CODECS: &str = r#"
+use ironbus_delivery_state::{
+    decode_attempt_snapshot, encode_attempt_snapshot, encode_attempt_snapshot_v2, Offset,
+};
+
+fn main() {
+    let pairs = [(Offset::new(5), 1)];
+    match std::env::args().nth(1).as_deref() {
+        Some("1") => println!("{:?}", encode_attempt_snapshot(&pairs)),
+        Some("2") => println!("{:?}", encode_attempt_snapshot_v2(&pairs)),
+        _ => println!("{:?}", decode_attempt_snapshot(&[0; 9])),
+    }
+}
+"#;
+
 /// A library with another number, whose calls may not be made.
-const OTHER: &str = "
+struct Other {
+    of: &'static str,
+    answers: &'static str,
+    calls: &'static [&'static str],
+}
+
+const SERVER: Other = Other {
+    of: "server",
+    answers: "
 unsigned long ninotskev_abi(void) { return 99; }
 unsigned long ninotskev_abi_size(unsigned long part) { return part; }
-";
+",
+    calls: &[
+        "start", "off", "restart", "ask", "progress", "plan", "begin", "step",
+    ],
+};
 
-const CALLS: [&str; 8] = [
-    "start", "off", "restart", "ask", "progress", "plan", "begin", "step",
-];
+const EXPORTS: Other = Other {
+    of: "exports",
+    answers: "
+unsigned long ninotskev_exports_abi(void) { return 99; }
+",
+    calls: &["encode_attempts", "encode_attempts_v2", "decode_attempts"],
+};
 
 fn done(command: &mut Command) {
     let output = command.output().unwrap();
@@ -48,11 +80,13 @@ fn done(command: &mut Command) {
     assert!(output.status.success(), "{command:?}: {said}");
 }
 
-/// Writes that library in place of the one that is there.
-fn put_other(checkout: &Path) {
-    let calls = CALLS.map(|name| format!("void ninotskev_{name}(void) {{ __builtin_trap(); }}\n"));
-    let [source, object, archive] = ["c", "o", "a"].map(|end| library(checkout, end));
-    fs::write(&source, OTHER.to_owned() + &calls.concat()).unwrap();
+/// Writes such a library in place of the one that is there.
+fn put(other: &Other, checkout: &Path) {
+    let trap = |name: &&str| format!("void ninotskev_{name}(void) {{ __builtin_trap(); }}\n");
+    let calls: String = other.calls.iter().map(trap).collect();
+    let [source, object, archive] =
+        ["c", "o", "a"].map(|end| checkout.join(format!("target/staticlib/lib{}.{end}", other.of)));
+    fs::write(&source, other.answers.to_owned() + &calls).unwrap();
     fs::remove_file(&archive).unwrap();
     done(
         Command::new("cc")
@@ -62,10 +96,6 @@ fn put_other(checkout: &Path) {
             .arg(&object),
     );
     done(Command::new("ar").arg("rcs").args([&archive, &object]));
-}
-
-fn library(checkout: &Path, end: &str) -> PathBuf {
-    checkout.join(format!("target/staticlib/libserver.{end}"))
 }
 
 /// A checkout of the crate with the libraries that are linked here.
@@ -82,21 +112,25 @@ fn checkout(folder: &Path) {
                 .arg(&crate_folder),
         );
     }
-    fs::write(crate_folder.join("examples/asks.rs"), PROGRAM).unwrap();
-    let from = std::env::var_os("NINOTSKEV_LIB");
+    for (name, program) in [("asks", ASKS), ("codecs", CODECS)] {
+        fs::write(crate_folder.join(format!("examples/{name}.rs")), program).unwrap();
+    }
+    let from = std::env::var_os("NINOTSKEV_LIB").filter(|folder| !folder.is_empty());
     let from = from.map_or_else(|| here.join("../target/staticlib"), PathBuf::from);
     for name in ["libserver.a", "libexports.a"] {
         fs::copy(from.join(name), libraries.join(name)).unwrap();
     }
 }
 
-/// Builds the program in a checkout and runs it.
-fn run(checkout: &Path) -> Output {
+/// Builds a program in a checkout and runs it.
+fn run(checkout: &Path, program: &[&str]) -> Output {
     Command::new(env!("CARGO"))
-        .args(["run", "--offline", "--quiet", "--example", "asks"])
+        .args(["run", "--offline", "--quiet", "--example"])
+        .args(program)
         .current_dir(checkout.join("rust"))
         .env("CARGO_TARGET_DIR", checkout.join("rust/target"))
-        .env_remove("NINOTSKEV_LIB")
+        // which names no folder
+        .env("NINOTSKEV_LIB", "")
         .env("RUST_BACKTRACE", "0")
         .output()
         .unwrap()
@@ -110,29 +144,56 @@ fn is_right(output: &Output) {
     );
 }
 
+fn wrong(of: &str, here: u64) -> String {
+    format!(
+        "the linked lib{of}.a is not the one that this crate was written for: \
+         the number of the interface is 99 there and {here} here."
+    )
+}
+
+/// A panic, and no trap of a call.
+fn panics(output: &Output, wrong: &str) {
+    let err = String::from_utf8_lossy(&output.stderr);
+    assert!(err.contains("panicked") && err.contains(wrong), "{err}");
+    assert_eq!(output.status.code(), Some(101));
+}
+
+fn says_and_panics(output: &Output, wrong: &str) {
+    let out = String::from_utf8_lossy(&output.stdout);
+    assert!(out.starts_with(wrong), "{out}");
+    panics(output, wrong);
+}
+
 #[test]
 fn a_copied_checkout_links_its_own_library() {
     let folder = Path::new(env!("CARGO_TARGET_TMPDIR")).join("checkouts");
     let _ = fs::remove_dir_all(&folder);
     let [first, second] = ["first", "second"].map(|name| folder.join(name));
     checkout(&first);
-    is_right(&run(&first));
+    is_right(&run(&first, &["asks"]));
     // With all that cargo has made. Then another library comes into the first.
     done(Command::new("cp").arg("-a").args([&first, &second]));
-    put_other(&first);
-    is_right(&run(&second));
+    put(&SERVER, &first);
+    is_right(&run(&second, &["asks"]));
     // It is found where it is linked: a clear error, and a start that makes no call.
-    put_other(&second);
+    put(&SERVER, &second);
     for checkout in [&first, &second] {
-        let output = run(checkout);
-        let [out, err] = [&output.stdout, &output.stderr].map(|text| String::from_utf8_lossy(text));
-        let wrong = format!(
-            "the linked libserver.a is not the one that this crate was written for: \
-             the number of the interface is 99 there and {ABI} here."
-        );
-        assert!(out.starts_with(&wrong), "{out}{err}");
-        assert!(err.contains("panicked") && err.contains(&wrong), "{err}");
-        assert_eq!(output.status.code(), Some(101));
+        says_and_panics(&run(checkout, &["asks"]), &wrong("server", ABI));
     }
     fs::remove_dir_all(&folder).unwrap();
+}
+
+// The snapshots' library by itself: said too, before a start, and before each codec where nothing else is called.
+#[test]
+fn another_library_of_the_snapshots_is_found() {
+    let checkout_folder = Path::new(env!("CARGO_TARGET_TMPDIR")).join("snapshots");
+    let _ = fs::remove_dir_all(&checkout_folder);
+    checkout(&checkout_folder);
+    put(&EXPORTS, &checkout_folder);
+    let wrong = wrong("exports", EXPORTS_ABI);
+    says_and_panics(&run(&checkout_folder, &["asks"]), &wrong);
+    for codec in ["1", "2", "read"] {
+        panics(&run(&checkout_folder, &["codecs", codec]), &wrong);
+    }
+    fs::remove_dir_all(&checkout_folder).unwrap();
 }

@@ -53,7 +53,7 @@ fn a_journal_from_a_backup_is_refused() {
     let consumer = Consumer::start(&settings(), journal).unwrap();
     let mut consumer = consumer.checkpoint(WORKER).unwrap();
     let backup = fs::read(&path).unwrap();
-    consumer.claim(WORKER, Offset::ZERO, 0).unwrap();
+    let _ = consumer.claim(WORKER, Offset::ZERO, 0).unwrap();
     let consumer = consumer.checkpoint(WORKER).unwrap();
     let seen = consumer.ceiling().get();
     drop(consumer);
@@ -84,7 +84,7 @@ fn a_journal_from_a_backup_is_refused() {
     // So it would: the worker's late ack settles what another holds.
     let consumer = Consumer::restart(&settings(), journal).unwrap();
     let mut consumer = consumer.checkpoint(WORKER).unwrap();
-    consumer.claim(WORKER, Offset::ZERO, 0).unwrap();
+    let _ = consumer.claim(WORKER, Offset::ZERO, 0).unwrap();
     let again = consumer.claim(WORKER, Offset::new(1), 0).unwrap().token();
     assert_eq!(again, given);
     assert_eq!(consumer.ack(WORKER, given), Ok(()));
@@ -122,16 +122,17 @@ fn a_journal_that_was_created_anew_is_refused() {
     let seen = consumer.checkpoint(WORKER).unwrap().ceiling().get();
     fs::remove_file(&path).unwrap();
     drop(NewJournal::create(&path, 18).unwrap());
-    assert_eq!(ceilings(at_least(&path, seen).unwrap_err()), [0, 4096]);
+    let error = at_least(&path, seen).unwrap_err();
+    assert_eq!(error.refusal(), None);
+    assert_eq!(ceilings(error), [0, 4096]);
 }
 
 #[test]
 fn what_a_restart_refuses_is_refused_first() {
     let path = fresh_path("refused-first");
     fs::write(&path, vec![0; 17 * BLOCK]).unwrap();
-    let Err(RestartAtLeastError::Refused(error)) = at_least(&path, u64::MAX) else {
-        panic!("the length is none of a journal");
-    };
-    assert_eq!(error.refusal(), Refusal::BadArea);
+    let error = at_least(&path, u64::MAX).unwrap_err();
+    assert!(matches!(error, RestartAtLeastError::Refused(_)));
+    assert_eq!(error.refusal(), Some(Refusal::BadArea));
     assert_eq!(error.into_journal().blocks(), 17);
 }

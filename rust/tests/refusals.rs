@@ -204,7 +204,7 @@ fn of_claims() -> Vec<Refusal> {
     let token = claim(0, 0).unwrap().token();
     let mut met = vec![claim(u64::MAX, 0).unwrap_err(), claim(0, 9).unwrap_err()];
     for offset in 1..64 {
-        claim(offset, 0).unwrap();
+        let _ = claim(offset, 0).unwrap();
     }
     met.push(claim(64, 0).unwrap_err());
     consumer.ack(WORKER, token).unwrap();
@@ -250,7 +250,7 @@ fn of_tokens() -> Vec<Refusal> {
 
 fn of_questions() -> Vec<Refusal> {
     let mut consumer = begun(&settings());
-    consumer.claim(WORKER, Offset::ZERO, 0).unwrap();
+    let _ = consumer.claim(WORKER, Offset::ZERO, 0).unwrap();
     let [one, two] = [1, 2].map(Offset::new);
     vec![
         consumer.waiting(WORKER, 10, &mut []).unwrap_err(),

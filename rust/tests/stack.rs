@@ -22,7 +22,7 @@ fn calls() -> Consumer {
     let consumer = Consumer::start(&settings, NewJournal::create(&path, 18).unwrap()).unwrap();
     let mut consumer = consumer.checkpoint(WORKER).unwrap();
     for offset in 1000..1064 {
-        consumer.claim(WORKER, Offset::new(offset), 0).unwrap();
+        let _ = consumer.claim(WORKER, Offset::new(offset), 0).unwrap();
     }
     drop(consumer.checkpoint(WORKER).unwrap());
     let consumer = Consumer::restart(&settings, Journal::open(&path).unwrap()).unwrap();

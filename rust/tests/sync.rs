@@ -12,12 +12,14 @@ use ironbus_delivery_state::{
     CheckpointError, Configuration, Consumer, Failed, Journal, NewJournal, Offset, Storage, BLOCK,
 };
 
-/// The blocks in memory and on the disk, and which writes to come can't be made durable, counted from the next.
+/// The blocks in memory and on the disk; which writes to come can't be made durable, counted from the next; and what those were that
+/// could not, since the last look.
 struct Disk {
     memory: Vec<u8>,
     durable: Vec<u8>,
     writes: usize,
     fails: Vec<usize>,
+    failed: Vec<(usize, [u8; BLOCK])>,
 }
 
 #[derive(Clone)]
@@ -30,6 +32,7 @@ impl Forgetful {
             durable: vec![0; BLOCK * blocks],
             writes: 0,
             fails: fails.to_vec(),
+            failed: Vec::new(),
         })))
     }
 
@@ -44,6 +47,15 @@ impl Forgetful {
         let disk = self.0.borrow();
         disk.memory == disk.durable
     }
+
+    /// The disk has the block that failed, as it was to be written the first time, and no other was tried since.
+    fn has_what_failed(&self, block: usize) -> bool {
+        let disk = &mut *self.0.borrow_mut();
+        let failed = std::mem::take(&mut disk.failed);
+        let place = BLOCK * block..BLOCK * (block + 1);
+        let same = |write: &(usize, [u8; BLOCK])| write.0 == block && *write == failed[0];
+        !failed.is_empty() && failed.iter().all(same) && disk.durable[place] == failed[0].1
+    }
 }
 
 impl Storage for Forgetful {
@@ -57,6 +69,7 @@ impl Storage for Forgetful {
         disk.memory[place.clone()].copy_from_slice(bytes);
         disk.writes += 1;
         if disk.fails.contains(&(disk.writes - 1)) {
+            disk.failed.push((block, *bytes));
             return Err(io::Error::other("not durable"));
         }
         disk.durable[place].copy_from_slice(bytes);
@@ -90,8 +103,9 @@ fn jobs(checkpoints: usize, fails: &[usize], later: usize) -> usize {
             Err(CheckpointError::Refused(error)) => panic!("{error}"),
             Err(CheckpointError::Failed(failed)) => {
                 down_in = Some(later);
+                let block = failed.block();
                 let journal = until_it_is_written(failed);
-                assert!(disk.is_durable());
+                assert!(disk.is_durable() && disk.has_what_failed(block));
                 let again = Consumer::restart(&settings(), journal).expect("no restart is refused");
                 again.checkpoint(WORKER).unwrap()
             }
@@ -149,7 +163,9 @@ fn the_block_that_failed_is_named() {
     let disk = Forgetful::new(18, &[1]);
     let journal = NewJournal::on(disk.clone()).unwrap();
     let consumer = Consumer::start(&settings(), journal).unwrap();
-    let Err(CheckpointError::Failed(failed)) = consumer.checkpoint(WORKER) else {
+    let error = consumer.checkpoint(WORKER).unwrap_err();
+    assert_eq!(error.refusal(), None);
+    let CheckpointError::Failed(failed) = error else {
         panic!("the second write fails");
     };
     assert_eq!(failed.block(), 0);

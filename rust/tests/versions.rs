@@ -166,7 +166,7 @@ fn a_journal_from_before_version_2_restarts() {
     assert_eq!(found(&consumer, 5), right);
     // The counts go on: the second hand-out of offset 3.
     let mut consumer = consumer.checkpoint(WORKER).unwrap();
-    consumer.claim(WORKER, Offset::new(3), 0).unwrap();
+    let _ = consumer.claim(WORKER, Offset::new(3), 0).unwrap();
     assert_eq!(consumer.count_of(WORKER, Offset::new(3)).unwrap(), 2);
 }
 
@@ -182,7 +182,7 @@ fn what_a_restart_finds_is_the_same_in_either_version() {
     let bytes = fs::read(&path).unwrap();
     assert_eq!(snapshot_in(&bytes, 1, 0, 0), version_2(&[]));
     for (offset, now) in [(1, 0), (4, 0), (6, 0), (4, 30)] {
-        consumer.claim(WORKER, Offset::new(offset), now).unwrap();
+        let _ = consumer.claim(WORKER, Offset::new(offset), now).unwrap();
     }
     let counts = consumer.all_attempt_counts(WORKER).unwrap();
     drop(consumer.checkpoint(WORKER).unwrap());
@@ -226,7 +226,7 @@ fn a_claim_near_the_end_of_the_clock_is_counted() {
         .checkpoint(WORKER)
         .unwrap();
     let now = u64::MAX - 1;
-    consumer.claim(WORKER, Offset::new(4), now).unwrap();
+    let _ = consumer.claim(WORKER, Offset::new(4), now).unwrap();
     // The lease runs out at the last clock, and not before.
     let lease = consumer.lease_of(WORKER, Offset::new(4)).unwrap().unwrap();
     assert_eq!(lease.deadline, u64::MAX);

@@ -140,15 +140,17 @@ fn a_checkpoint_needs_its_right_at_begin() {
         let consumer = start(&format!("begin-{i}"), &with_rights(OTHER, *operation));
         match consumer.checkpoint(OTHER) {
             Ok(_) => assert_eq!(*operation, Rights::CHECKPOINT),
-            Err(CheckpointError::Refused(error)) => {
-                let refusal = error.refusal();
-                let mut consumer = error.into_consumer();
+            Err(error) => {
                 assert_ne!(*operation, Rights::CHECKPOINT);
-                assert_eq!(refusal, Refusal::NotPermitted);
+                assert_eq!(error.refusal(), Some(Refusal::NotPermitted));
+                let CheckpointError::Refused(error) = error else {
+                    panic!("the disk didn't fail");
+                };
+                assert_eq!(error.refusal(), Refusal::NotPermitted);
                 // It goes on with whoever may.
-                consumer.claim(CHIEF, Offset::ZERO, 0).unwrap();
+                let mut consumer = error.into_consumer();
+                let _ = consumer.claim(CHIEF, Offset::ZERO, 0).unwrap();
             }
-            Err(CheckpointError::Failed(failed)) => panic!("{failed}"),
         }
     }
 }

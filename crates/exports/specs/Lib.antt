@@ -1,3 +1,4 @@
+pub mod Abi
 pub mod Answers
 pub mod InPlace
 pub mod Snapshots

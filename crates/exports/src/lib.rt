@@ -18,6 +18,7 @@ use cursor::columns::encode_columns;
 use cursor::columns::read_column;
 use types::numbers::shorter;
 
+pub mod abi;
 pub mod in_place;
 
 // The check of the bytes.
