@@ -10,7 +10,7 @@ use lib.Seq.{take-all}
 use borrow.Author.Tests.{lt-ltb, le-ltb}
 use Rattle.types.specs.Limits.{RANGES}
 use Rattle.types.specs.Refusal.{Refusal, TooManyRuns, done}
-use Rattle.types.specs.Table.{Row, first}
+use Rattle.types.specs.Table.{first}
 use Rattle.types.specs.Zipped.{zipped}
 use Rattle.types.proofs.Table.{first-met-before, first-none-before}
 use Rattle.types.proofs.Loops.{Filling, filling-more}

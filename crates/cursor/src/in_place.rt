@@ -18,7 +18,6 @@ ghost use Rattle.cursor.specs.Answers.{ackOf, Updated};
 ghost use Rattle.cursor.specs.Place.{Spotted};
 ghost use Rattle.cursor.specs.Edits.{edited, ackPlan, stretchPlan, joinPlan, AckPlanned, CommitPlanned};
 ghost use Rattle.cursor.specs.Snapshot.{encodeCursor};
-use crate::AckCursor;
 use crate::BoundedAck;
 use crate::columns::encode_columns;
 use raw::Write;
