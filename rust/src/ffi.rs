@@ -320,7 +320,7 @@ impl Numbers {
     #[cold]
     fn refusal(&self) -> Refusal {
         Refusal::from_number(self.number, [self.values[0], self.values[1]])
-            .expect("the library answers the documents' numbers")
+            .expect("the library answers the refusals' numbers")
     }
 }
 

@@ -142,7 +142,7 @@ pub enum Refusal {
 }
 
 impl Refusal {
-    /// Its number in the documents.
+    /// Its number in docs/SPEC.md.
     #[must_use]
     pub const fn number(self) -> u64 {
         match self {
@@ -190,7 +190,7 @@ impl Refusal {
     }
 
     /// The refusal of a [number](Refusal::number) and its [values](Refusal::values), of which those that it doesn't have count for
-    /// nothing; or `None` where the documents have no such number.
+    /// nothing; or `None` where there is no such number.
     ///
     /// ```
     /// use ironbus_delivery_state::Refusal;

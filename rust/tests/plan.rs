@@ -1,4 +1,4 @@
-//! A whole plan in one walk: the answers of single questions, the looks counted as document 02 counts them, and what is refused.
+//! A whole plan in one walk: the answers of single questions, the looks counted as SPEC.md counts them, and what is refused.
 
 mod common;
 

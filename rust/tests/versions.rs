@@ -23,7 +23,7 @@ fn sealed(mut bytes: Vec<u8>) -> Vec<u8> {
     bytes
 }
 
-/// Version 1, from document 01.
+/// Version 1, from SPEC.md.
 fn version_1(numbers: &[(u64, u32)]) -> Vec<u8> {
     let mut bytes = vec![1, numbers.len() as u8, 0, 0, 0];
     for (offset, attempt) in numbers {
@@ -33,7 +33,7 @@ fn version_1(numbers: &[(u64, u32)]) -> Vec<u8> {
     sealed(bytes)
 }
 
-/// Version 2, from document 02.
+/// Version 2, from SPEC.md.
 fn version_2(numbers: &[(u64, u32)]) -> Vec<u8> {
     let mut bytes = vec![2, numbers.len() as u8, 0, 0, 0];
     bytes.extend(numbers.iter().flat_map(|(offset, _)| offset.to_le_bytes()));

@@ -1,4 +1,6 @@
--- Answers in numbers: 01's number, how many values there are, and the first five of them, which are all that an answer has but a list.
+-- Answers in numbers: the refusal's number or 0, how many values there are, and the first five of them, which are all that an answer has
+-- but a list.
+-- SPEC.md, "Interface".
 use Prim.Native.Nat.{ℕ}
 use mathlib.Core.Bool.{Bool}
 use mathlib.Core.List.{List, [], _∷_}
@@ -17,7 +19,7 @@ abbrev pub numbers : ℕ → ℕ → ℕ → ℕ → ℕ → ℕ → ℕ → Num
 numbers number count first second third fourth fifth =
     record { 0 = number; 1 = count; 2 = first; 3 = second; 4 = third; 5 = fourth; 6 = fifth }
 
--- 01's number, how many values there are, and the first five of them, 0 where there are fewer
+-- the refusal's number or 0, how many values there are, and the first five of them, 0 where there are fewer
 abbrev pub numbersOf : Code → Numbers
 numbersOf t =
     numbers (t .number) (length (t .values)) (getD (t .values) 0 0) (getD (t .values) 1 0) (getD (t .values) 2 0) (getD (t .values) 3 0) (getD (t .values) 4 0)

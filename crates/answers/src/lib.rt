@@ -1,5 +1,5 @@
-// Where an answer becomes numbers: 01's number, 0 where nothing was refused, and its values. For what crosses to another language, and
-// for what the programs print.
+// Where an answer becomes numbers: the refusal's number, 0 where nothing was refused, and its values. For what crosses to another
+// language, and for what the programs print.
 ghost use mathlib.Core.Path.{_≡_};
 ghost use Prim.Native.Nat.{ℕ};
 ghost use mathlib.Core.List.{List, [], _∷_};
@@ -43,7 +43,7 @@ use raw::Write;
 use starts::StartAnswer;
 use types::lent::Listed;
 
-// What a call answers: 01's number, 0 where nothing was refused; how many values there are; and the first five of them.
+// What a call answers: the refusal's number, 0 where nothing was refused; how many values there are; and the first five of them.
 #[repr(C)]
 pub struct Numbers(
     pub u64,

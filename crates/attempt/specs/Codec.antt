@@ -1,4 +1,5 @@
--- How the code's types stand for pairs and for 01's answers, and the parts of the contracts.
+-- How the code's types stand for pairs and for answers, and the parts of the contracts.
+-- SPEC.md, "Attempt snapshot".
 use Prim.Native.Nat.{ℕ, _*_, _≤_}
 use mathlib.Core.Path.{_≡_}
 use mathlib.Core.List.{List, [], _∷_, _++_, map}
@@ -37,7 +38,7 @@ offsetsOf = map (λ e. e .key)
 abbrev pub attemptsOf : List (Entry ℕ) → List ℕ
 attemptsOf = map (λ e. e .value)
 
--- 01's answers for the cases of each enum
+-- the answers for the cases of each enum
 abbrev pub encodeOf : Encode → Result ℕ
 encodeOf (encodes.Next pos) = done pos
 encodeOf encodes.TooManyPairs = refused refusal.TooManyPairs

@@ -1,4 +1,5 @@
--- The settled example 12 of document 01, and that 18 comes before 19 where there are over 128 pairs.
+-- The settled example 12, and that 18 comes before 19 where there are over 128 pairs.
+-- SPEC.md, "Examples".
 use Prim.Native.Nat.{ℕ, zero, suc}
 use mathlib.Core.Path.{_≡_, refl}
 use mathlib.Core.List.{List, [], _∷_}
@@ -12,7 +13,7 @@ use Rattle.attempt.specs.Snapshot.{pairsTable, decodeAttempts}
 abbrev ten : ℕ → (a b c d e f g h i : ℕ) → List ℕ
 ten version a b c d e f g h i = version ∷ a ∷ b ∷ c ∷ d ∷ e ∷ f ∷ g ∷ h ∷ i ∷ []
 
--- attempt bytes, length 10: version 3 refusal 14 (01 has version 2, which request j makes a version), version 1 refusal 15
+-- attempt bytes, length 10: version 3 refusal 14, version 1 refusal 15
 pub record Example12 (a b c d e f g h i : ℕ) : Type 0 where
   pub version-3 : decodeAttempts (ten 3 a b c d e f g h i) ≡ refused (AttemptUnsupportedVersion 3)
   pub version-1 : decodeAttempts (ten 1 a b c d e f g h i) ≡ refused (AttemptBadLength 10)

@@ -1,7 +1,8 @@
--- The attempt snapshot of document 01, "Records and their measures", with version 2 of request j: the version, u32 count, pairs
+-- The attempt snapshot in versions 1 and 2: the version, u32 count, pairs
 -- (u64 offset, u32 attempt), CRC32C; and refusals 13 to 20. Version 1 has each attempt count behind its offset; version 2 has all
 -- offsets first and then all attempts in the same order. A pair is an entry of a keyed list: the offset is its key, the attempt
 -- count its value.
+-- SPEC.md, "Attempt snapshot".
 use Prim.Native.Nat.{ℕ, zero, suc, _+_, _*_, _-_, _/_, _%_, _≤_}
 use mathlib.Core.Bool.{Bool, true, false, not, _||_}
 use mathlib.Core.List.{List, [], _∷_, _++_}

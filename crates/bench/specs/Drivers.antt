@@ -1,4 +1,5 @@
 -- Calls made one after the other: what the drivers of the benchmarks do.
+-- SPEC.md, "Programs".
 use Prim.Native.Nat.{ℕ, zero, suc, _+_, _*_}
 use mathlib.Core.List.{List, [], _∷_}
 use lib.ListN.{length}

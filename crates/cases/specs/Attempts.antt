@@ -1,4 +1,5 @@
 -- Cases of the attempt snapshot's refusals: decoding 13 to 20, encoding 19 and 20.
+-- SPEC.md, "Attempt snapshot".
 use Prim.Native.Nat.{ℕ}
 use mathlib.Core.Path.{_≡_, refl}
 use mathlib.Core.Bool.{xor}

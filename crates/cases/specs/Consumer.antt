@@ -1,5 +1,6 @@
 -- Cases of the consumer's refusals, without hours: claim 21, 22, 23, 25, 26, 27; Ack and Term 24, 29; Nack 24, 25, 26; Progress 24, 28; the waiting list
 -- 20, and its order; and commits over leases and counts.
+-- SPEC.md, "Calls".
 use Prim.Native.Nat.{ℕ, _-_}
 use mathlib.Core.Path.{_≡_, refl}
 use mathlib.Core.Bool.{true, false}
@@ -308,7 +309,7 @@ waiting-too-short = refl
 pub waiting-fits : waiting (crowd 1 1) 110 2 ≡ done (100 ∷ 10 ∷ [])
 waiting-fits = refl
 
--- request m: the carried offsets first, by offset; then the leases by deadline, equal deadlines by offset, a deadline of 0 too
+-- the order: the carried offsets first, by offset; then the leases by deadline, equal deadlines by offset, a deadline of 0 too
 abbrev pub queue : State
 queue = with (tableOf (leaseUntil 11 130 ∷ leaseUntil 12 120 ∷ leaseUntil 13 0 ∷ leaseUntil 14 120 ∷ leaseUntil 15 131 ∷ []) (countsFrom 2 100) 1 0)
 

@@ -1,4 +1,5 @@
 -- Cases of the cursor's refusals: acks 29; resumption 10, 11, 12; the snapshot 6 to 12 and 20.
+-- SPEC.md, "Cursor".
 use Prim.Native.Nat.{ℕ}
 use mathlib.Core.Path.{_≡_, refl}
 use mathlib.Core.Bool.{true, false, xor}

@@ -1,4 +1,5 @@
--- Cases of the refusals of a delivery configuration, 1 and 2, and of the delay of a nack around the hard cap (02, b).
+-- Cases of the refusals of a delivery configuration, 1 and 2, and of the delay of a nack around the hard cap.
+-- SPEC.md, "Delivery".
 use Prim.Native.Nat.{_-_}
 use mathlib.Core.Path.{_≡_, refl}
 use mathlib.Core.Bool.{true, false}

@@ -1,5 +1,6 @@
--- Cases of opening hours (02, c): start 33 and 34; claim 35, after 22 and before 23; the deadline of a nack; the next opening at the
+-- Cases of opening hours: start 33 and 34; claim 35, after 22 and before 23; the deadline of a nack; the next opening at the
 -- boundaries of a half hour, of a day and of the week, and near MAX.
+-- SPEC.md, "Hours".
 use Prim.Native.Nat.{ℕ, _+_, _*_, _-_, _^_}
 use mathlib.Core.Path.{_≡_, refl}
 use mathlib.Core.Bool.{true, false}

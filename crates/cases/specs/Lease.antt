@@ -1,4 +1,5 @@
 -- Cases of the lease table's refusals: claim 23, 25, 27; ack 24; extend 24, 28; nack 24, 25; carried counts 19; lists of offsets 20.
+-- SPEC.md, "Leases".
 use Prim.Native.Nat.{ℕ, _-_}
 use mathlib.Core.Path.{_≡_, refl}
 use mathlib.Core.List.{[], _∷_}

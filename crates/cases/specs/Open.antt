@@ -1,5 +1,6 @@
--- Cases of the open stretches between two numbers, and of the nearest open offset (02, a): with no range, with one and with 128. Worker 0
+-- Cases of the open stretches between two numbers, and of the nearest open offset: with no range, with one and with 128. Worker 0
 -- may look, worker 1 may do all but that.
+-- SPEC.md, "Open offsets".
 use Prim.Native.Nat.{ℕ, _-_}
 use mathlib.Core.Path.{_≡_, refl}
 use mathlib.Core.List.{List, [], _∷_, map}

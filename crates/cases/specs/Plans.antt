@@ -1,4 +1,5 @@
--- Cases of a whole plan (02, f). Committed is 5, the ranges are [8, 10) and [12, 13); worker 0 may look, worker 1 may all but that.
+-- Cases of a whole plan. Committed is 5, the ranges are [8, 10) and [12, 13); worker 0 may look, worker 1 may all but that.
+-- SPEC.md, "Plan".
 use Prim.Native.Nat.{ℕ}
 use mathlib.Core.Path.{_≡_, refl}
 use mathlib.Core.List.{List, [], _∷_, map}

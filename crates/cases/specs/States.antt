@@ -1,4 +1,5 @@
 -- What the cases are made of: lists of so many entries from an offset on, and lease tables with visibility 10 and hard cap 25.
+-- SPEC.md, "State".
 use Prim.Native.Nat.{ℕ, zero, suc, _+_}
 use mathlib.Core.List.{List, [], _∷_}
 use Rattle.types.specs.Keyed.{Entry, entry}

@@ -1,5 +1,6 @@
--- Cases of what is shown of an offset (02, h). Worker 0 may look, worker 1 may look and is a supervisor, worker 2 has the supervisor's mark
+-- Cases of what is shown of an offset. Worker 0 may look, worker 1 may look and is a supervisor, worker 2 has the supervisor's mark
 -- alone.
+-- SPEC.md, "View".
 use Prim.Native.Nat.{ℕ}
 use mathlib.Core.Path.{_≡_, refl}
 use mathlib.Core.List.{List, [], _∷_, map}

@@ -1,4 +1,5 @@
 -- Cases of the refusals that are for who calls: 38 and 39 of every call, 40 of those with a token.
+-- SPEC.md, "Rights".
 use Prim.Native.Nat.{ℕ}
 use mathlib.Core.Path.{_≡_, refl}
 use mathlib.Core.Bool.{Bool, true, false}

@@ -1,1 +1,1 @@
-// Cases of 01's refusals, computed on the definitions: see specs/ and proofs/.
+// Cases of the refusals, computed on the definitions: see specs/ and proofs/.

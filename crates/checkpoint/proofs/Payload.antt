@@ -1,5 +1,5 @@
 -- The counts that a checkpoint stores fit the fields of their snapshot; how long its payload is, and how many bodies it takes: within
--- 01's measures for a header. Assumes nothing.
+-- the measures of a header. Assumes nothing.
 use Prim.Native.Nat.{_+_, _≤_}
 use native.Mathlib.Omega.{arith}
 use mathlib.Core.Path.{_≡_}

@@ -1,5 +1,6 @@
--- A checkpoint, block write by block write (01, "journal" and "consumer"): begin takes the state into a writing record, each
+-- A checkpoint, block write by block write: begin takes the state into a writing record, each
 -- step makes the next block write, and the last one, the header's, gives the state back.
+-- SPEC.md, "Checkpoint".
 use Prim.Native.Nat.{ℕ, suc, _+_, _-_}
 use mathlib.Core.Bool.{Bool, cond, not}
 use mathlib.Core.List.{List, [], _∷_, _++_}

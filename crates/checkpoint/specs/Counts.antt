@@ -1,4 +1,5 @@
 -- The counts of a checkpoint in two columns each: those of the leases and the carried ones, of which no offset has both.
+-- SPEC.md, "Checkpoint".
 use Prim.Native.Nat.{ℕ, _+_, _≤_}
 use mathlib.Core.Path.{_≡_}
 use mathlib.Core.List.{List, _∷_}

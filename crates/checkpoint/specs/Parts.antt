@@ -1,5 +1,6 @@
 -- The parts of a consumer and of a writing record, as a begin and a step in place are handed them, and what both answer on every
 -- consumer and every record that has them.
+-- SPEC.md, "Checkpoint".
 use Prim.Native.Nat.{ℕ, suc, _+_, _-_}
 use mathlib.Core.Path.{_≡_}
 use mathlib.Core.Bool.{cond}

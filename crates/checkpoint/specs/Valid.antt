@@ -1,5 +1,6 @@
 -- What holds of every writing record that a begin and a step give, and of what a step leaves: the invariant that the contract of a
 -- step requires.
+-- SPEC.md, "Checkpoint".
 use Prim.Native.Nat.{_+_, _≤_}
 use Rattle.types.specs.Limits.{MAX32}
 use Rattle.consumer.specs.Valid.{Valid}

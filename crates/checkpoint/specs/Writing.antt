@@ -1,5 +1,6 @@
 -- What the code's writing record and the answers of begin and step stand for, the invariant of the record, and the parts of the
 -- contracts.
+-- SPEC.md, "Checkpoint".
 use Prim.Native.Nat.{ℕ, _+_, _<_}
 use mathlib.Core.Path.{_≡_}
 use mathlib.Core.Bool.{true, false}

@@ -1,4 +1,4 @@
--- What a claim owes its contract: each of its tests in 01's order, what the whole test says, and the grant after it.
+-- What a claim owes its contract: each of its tests in their order, what the whole test says, and the grant after it.
 -- Assumes nothing.
 use Prim.Native.Nat.{ℕ, _+_, _≤_, _<_}
 use mathlib.Core.Path.{_≡_, refl, sym, ap, _∙_}

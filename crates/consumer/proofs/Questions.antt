@@ -1,5 +1,5 @@
 -- The waiting list holds each carried offset, and each whose lease's deadline has come, just one time, and nothing else; and it is in
--- 02's order.
+-- order.
 -- Assumes nothing.
 use Prim.Native.Nat.{ℕ, suc, _+_, _<_}
 use native.Mathlib.Omega.{arith}
@@ -42,7 +42,7 @@ module _ (x : ℕ) where
 abbrev pub waits : State → ℕ → ℕ → Bool
 waits s now x = not (isNone (lookup x (s .table .carried))) || isExpired (leaseOf (s .table) x) now
 
--- request m: it holds exactly the offsets it held, so that 20 is met just where it was
+-- in order it holds just the offsets that it holds in any, so that 20 is met just where it was
 module _ (s : State) (now : ℕ) where
   pub waiting-as-before : (x : ℕ) → times x (waitingAt s now) ≡ times x (waitingOffsets s now)
   waiting-as-before x =
@@ -66,7 +66,7 @@ waiting-once s v now x =
     go (some n) none alone = refl
     go (some n) (some l) alone = absent (alone l refl) refl
 
--- ## the order of request m
+-- ## the order
 no-deadline : (y : Option Lease) → ((l : Lease) → y ≡ some l → ⊥) → Option·map (λ (l : Lease). l .deadline) y ≡ none
 no-deadline none h = refl
 no-deadline (some l) h = absurd (h l refl)

@@ -1,5 +1,6 @@
--- The calls that change a consumer's state without writing: claim, Ack, Term, Nack, Progress and Commit (01, "consumer"), each
--- made by a worker (02, g): a refusal table in the documents' order and an effect.
+-- The calls that change a consumer's state without writing: claim, Ack, Term, Nack, Progress and Commit, each
+-- made by a worker: a refusal table and an effect.
+-- SPEC.md, "Calls".
 use Prim.Native.Nat.{ℕ, _+_}
 use mathlib.Core.Bool.{Bool, true, false, not, cond, _&&_, _||_}
 use mathlib.Core.List.{List, [], _∷_, _++_}
@@ -115,11 +116,11 @@ ack s w o g = guarded (ackTable s w o g) s (answer (done tt) (acked s o))
 abbrev pub attemptOf : State → ℕ → ℕ
 attemptOf s o = countOr0 (deliveriesOf (leaseOf (s .table) o))
 
--- how long a nacked offset waits, at most the hard cap (02, b)
+-- how long a nacked offset waits, at most the hard cap (SPEC.md, "Nack")
 abbrev pub nackDelay : State → ℕ → Option ℕ → ℕ
 nackDelay s o explicit = effectiveNackDelay (s .settings .policy) (attemptOf s o) explicit (s .table .config .«hard_cap_nanos»)
 
--- when it can be claimed again: after that delay, or at the next opening where that falls outside the hours (02, c)
+-- when it can be claimed again: after that delay, or at the next opening where that falls outside the hours (SPEC.md, "Hours")
 abbrev pub nackDeadline : State → ℕ → ℕ → Option ℕ → ℕ
 nackDeadline s o now explicit = nextOpening (s .settings .hours) (sat64 now (nackDelay s o explicit))
 

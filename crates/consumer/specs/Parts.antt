@@ -1,4 +1,5 @@
 -- The parts of a consumer, as the calls in place are lent them: numbers and columns, and the consumers that have them.
+-- SPEC.md, "State".
 use Prim.Native.Nat.{ℕ, _<_}
 use mathlib.Core.Path.{_≡_}
 use mathlib.Core.Bool.{Bool, true}

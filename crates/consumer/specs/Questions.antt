@@ -1,4 +1,5 @@
--- What a consumer is asked without being changed: the waiting list of 01, and what a server wants to know.
+-- What a consumer is asked without being changed: the waiting list, and what a server wants to know.
+-- SPEC.md, "Questions".
 use Prim.Native.Nat.{ℕ, _-_}
 use mathlib.Core.Bool.{Bool, true, false}
 use mathlib.Core.List.{List, [], _∷_, _++_}
@@ -29,7 +30,7 @@ keysOf (e ∷ l) = e .key ∷ keysOf l
 abbrev pub waitingOffsets : State → ℕ → List ℕ
 waitingOffsets s now = keysOf (s .table .carried) ++ expired (s .table) now
 
--- the same in 02's order: the carried ones by offset, as they are kept, and behind them the longest waiting first
+-- the same in order: the carried ones by offset, as they are kept, and behind them the longest waiting first
 abbrev pub waitingAt : State → ℕ → List ℕ
 waitingAt s now = keysOf (s .table .carried) ++ keysOf (longestFirst (expiredDeadlines now (s .table .leases)))
 

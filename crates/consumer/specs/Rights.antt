@@ -1,5 +1,6 @@
--- What each worker may do (02, g). A worker's rights are a byte with a bit for each operation; the rights of a consumer are a
+-- What each worker may do. A worker's rights are a byte with a bit for each operation; the rights of a consumer are a
 -- list of such bytes, worker 0's first.
+-- SPEC.md, "Rights".
 use Prim.Native.Nat.{ℕ, _/_, _%_}
 use mathlib.Core.Bool.{Bool, not, _&&_}
 use mathlib.Core.List.{List, [], _∷_}

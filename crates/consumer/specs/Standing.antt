@@ -1,4 +1,5 @@
--- How one offset stands at a clock, as a worker and as a supervisor sees it (02, h).
+-- How one offset stands at a clock, as a worker and as a supervisor sees it.
+-- SPEC.md, "View".
 use Prim.Native.Nat.{ℕ}
 use mathlib.Core.Path.{_≡_}
 use mathlib.Core.Bool.{Bool, cond, not, _&&_}

@@ -1,4 +1,5 @@
--- The consumer's state, as document 01 lists it under "consumer", and the configuration that it is started with.
+-- The consumer's state, and the configuration that it is started with.
+-- SPEC.md, "State".
 use Prim.Native.Nat.{ℕ, _/_, _%_}
 use mathlib.Core.Bool.{Bool, cond, not, _||_}
 use mathlib.Core.List.{List}

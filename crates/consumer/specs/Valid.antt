@@ -1,5 +1,6 @@
 -- What holds of every state that a start, a restart on any area and every answer give: the invariant that the consumer's contracts
 -- require.
+-- SPEC.md, "State".
 use Prim.Native.Nat.{ℕ, suc, _+_, _≤_, _<_}
 use mathlib.Core.Path.{_≡_}
 use mathlib.Core.Bool.{false, not, _&&_}

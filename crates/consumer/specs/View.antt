@@ -1,4 +1,5 @@
 -- What the code's consumer and its answers stand for, the invariant of the struct, and the parts of the contracts.
+-- SPEC.md, "State".
 use Prim.Native.Nat.{ℕ}
 use mathlib.Core.Path.{_≡_}
 use mathlib.Core.Bool.{Bool, true, false}
@@ -96,7 +97,7 @@ holdingBoth c cursor table =
 abbrev pub holding : Consumer → LeaseTable → Consumer
 holding c table = holdingBoth c (c .cursor) table
 
--- ## the documents' answers for the cases of each enum
+-- ## the answers for the cases of each enum
 -- a permission: nothing, or what the call is refused with
 abbrev pub permissionOf : Permission → Option Refusal
 permissionOf permission.Granted = none

@@ -1,5 +1,5 @@
--- The order of the waiting list, 02's request m: "Carried offsets come first, by offset; then leases by deadline, equal deadlines by
--- offset, all rising".
+-- The order of the waiting list: the carried offsets, by offset; then the leases by deadline, those of one deadline by offset.
+-- SPEC.md, "Waiting list".
 use Prim.Native.Nat.{ℕ}
 use mathlib.Core.Path.{_≡_}
 use mathlib.Core.Bool.{Bool, true, false, cond, _&&_, _||_}

@@ -1,5 +1,6 @@
 -- How long an offset waits after a nack: no longer than up to the next opening after the hard cap, whatever the worker asks for and the
--- schedule says (02, b and c). A consumer without hours is open always.
+-- schedule says. A consumer without hours is open always.
+-- SPEC.md, "Nack".
 use Prim.Native.Nat.{ℕ, _≤_}
 use mathlib.Core.Path.{_≡_}
 use mathlib.Core.Bool.{false}

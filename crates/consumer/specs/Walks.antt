@@ -1,5 +1,6 @@
 -- A plan over a lent list of offsets, on its way (the code's `PlanWalk`): the list is gone through once to find an offset below the one
 -- before it, and once more to answer each. What is true between two offsets, and what the functions make of it.
+-- SPEC.md, "Plan".
 use Prim.Native.Nat.{ℕ, _+_, _-_, _≤_, _<_, _^_}
 use mathlib.Core.Path.{_≡_}
 use mathlib.Core.Bool.{cond, true, false}

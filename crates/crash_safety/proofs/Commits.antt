@@ -1,5 +1,5 @@
--- Commits over jobs that are held: the comparison with 01's commit; the tokens that a commit takes away, by the invariant that says of a
--- token which lease may have it (Holders.antt), here none; and a restart that goes back over it. Assumes nothing.
+-- Commits over jobs that are held: the comparison with the commit from before request l; the tokens that a commit takes away, by the
+-- invariant that says of a token which lease may have it (Holders.antt), here none; and a restart that goes back over it. Assumes nothing.
 use Prim.Native.Nat.{ℕ, _<_}
 use native.Mathlib.Omega.{arith}
 use mathlib.Core.Path.{_≡_, refl, sym, ap, subst, _∙_}

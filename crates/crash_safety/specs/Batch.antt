@@ -1,5 +1,6 @@
--- Document 02's bound over the whole batch (request k), as one statement about every list of demand 3: the Deliver answers with a count of
+-- The bound over the whole batch, as one statement about every list of demand 3: the Deliver answers with a count of
 -- 2 or more, over all offsets together, are at most (M − 1) × D + C × N.
+-- SPEC.md, "Bounds".
 use Prim.Native.Nat.{ℕ, _+_, _*_, _-_, _≤_}
 use mathlib.Core.Path.{_≡_}
 use mathlib.Core.Bool.{Bool, cond, _&&_}

@@ -1,5 +1,6 @@
--- Demand 3's book, as 01 keeps it: settled offsets, counts by offset and a copy of both. It is a function of what is seen: the
+-- Demand 3's book: settled offsets, counts by offset and a copy of both. It is a function of what is seen: the
 -- calls with their arguments and answers, and whether a power failure left a header block new.
+-- SPEC.md, "Book".
 use Prim.Native.Nat.{ℕ}
 use mathlib.Core.Path.{_≡_, refl}
 use mathlib.Core.Bool.{Bool, false, cond, _||_}

@@ -1,5 +1,6 @@
--- Commits over jobs that are held (02, l): what was answered before is answered as before; no call is answered 30; the tokens that such
+-- Commits over jobs that are held: what was answered before is answered as before; no call is answered 30; the tokens that such
 -- a commit takes away are refused 24 ever after, through restarts too; and a restart that goes back over it finds its jobs as they were.
+-- SPEC.md, "Commit".
 use Prim.Native.Nat.{ℕ, _<_}
 use mathlib.Core.Path.{_≡_}
 use mathlib.Core.Bool.{Bool, true, false, cond}
@@ -27,7 +28,7 @@ use Rattle.crash_safety.specs.Workers.{operationOf, rowsFor, refusalIn, 
 use Rattle.crash_safety.specs.Tokens.{noTokens, tokensIn}
 use Rattle.crash_safety.specs.Halves.{headersIn}
 
--- ## the commit of 01, for the comparison alone
+-- ## the commit from before request l, for the comparison alone
 -- 30
 abbrev pub heldTable : State → ℕ → List Row
 heldTable s bound = anyBelow bound (s .table .leases) ⇒ Held ∷ []

@@ -1,4 +1,5 @@
 -- Demand 3, as one statement about every list.
+-- SPEC.md, "Bounds".
 use Prim.Native.Nat.{ℕ, _+_, _*_, _≤_}
 use mathlib.Core.Path.{_≡_}
 use mathlib.Core.Bool.{Bool, true, false, cond, _&&_}

@@ -1,5 +1,6 @@
 -- What a seen event does, in the six cases that demand 3's book and its kin tell apart. It is a function of a call's arguments
 -- and answer, and of whether a power failure left a header block new; which call it was doesn't matter further.
+-- SPEC.md, "Book".
 use Prim.Native.Nat.{ℕ}
 use mathlib.Core.Bool.{Bool, cond}
 use lib.Dec.{ltb, eqb}

@@ -1,8 +1,9 @@
--- The two halves (02, i). A group has 9 blocks at most, so that it fits in every half, and the begin of a worker who may is refused
+-- The two halves. A group has 9 blocks at most, so that it fits in every half, and the begin of a worker who may is refused
 -- for want of a number alone (31). Each header wholly written uses up one number, and nothing else does: so no list with fewer than
 -- 4294967295 of them meets 31, and after every such list a checkpoint is made. A checkpoint that is interrupted, in the zeroing of the
 -- other half or later, leaves a restart what it would have found in its place; and after one that went to the other half a restart reads
 -- that half, whatever the old one holds.
+-- SPEC.md, "Halves".
 use Prim.Native.Nat.{ℕ, suc, _+_, _-_, _≤_, _<_}
 use mathlib.Core.Path.{_≡_}
 use mathlib.Core.Bool.{Bool, true, false}

@@ -1,6 +1,7 @@
--- In opening hours alone (02, c). After every list that leaves a state, whatever hours the configuration has: an offset is handed out at an
+-- In opening hours alone. After every list that leaves a state, whatever hours the configuration has: an offset is handed out at an
 -- open clock alone, a claim outside is told the next opening, a nacked offset comes back in opening hours, and from every clock on there is
 -- an open one within a week.
+-- SPEC.md, "Hours".
 use Prim.Native.Nat.{ℕ, _+_, _≤_, _<_}
 use mathlib.Core.Path.{_≡_}
 use mathlib.Core.Bool.{true, false}

@@ -1,5 +1,6 @@
 -- Demand 3 of machines, journals and answers as the code has them: what a program does through `Machine::start`, `Machine::off`,
 -- `call`, `Machine::plan` and `cut`, one after the other, in the words of their contracts.
+-- SPEC.md, "Lists".
 use Prim.Native.Nat.{ℕ}
 use mathlib.Core.Path.{_≡_}
 use mathlib.Core.Bool.{true, false}

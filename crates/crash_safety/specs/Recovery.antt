@@ -2,6 +2,7 @@
 -- checkpoint counts by its header: with the power failing in any of its steps, unless that leaves the header wholly written, a
 -- restart gives the consumer that a restart would have given in place of the checkpoint; with the header wholly written it gives
 -- the one that a restart gives after the finished checkpoint. And whatever list came before, a step can be cut in each of its ways.
+-- SPEC.md, "Restart".
 use Prim.Native.Nat.{ℕ, suc, _≤_, _<_}
 use mathlib.Core.Path.{_≡_}
 use mathlib.Core.Bool.{true}

@@ -1,5 +1,6 @@
 -- Demand 3's lists: calls that each get what the one before left, from a fresh consumer on one zeroed journal with one
--- configuration, and power failures in the middle of a block write (01, "journal").
+-- configuration, and power failures in the middle of a block write.
+-- SPEC.md, "Lists".
 use Prim.Native.Nat.{ℕ}
 use mathlib.Core.Bool.{cond}
 use mathlib.Core.List.{List, [], _∷_}

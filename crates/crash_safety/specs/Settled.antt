@@ -1,5 +1,6 @@
 -- Nothing forgotten: whatever a list leaves, what is settled was settled by an Ack, a Term or a Commit of that list. A list that
 -- ends in a restart leaves what the restart found, so this is said of every restart too.
+-- SPEC.md, "Book".
 use Prim.Native.Nat.{ℕ}
 use mathlib.Core.Path.{_≡_}
 use mathlib.Core.Bool.{Bool, true, false, _||_}

@@ -2,6 +2,7 @@
 -- again, nacked, settled, or a restart came; and one from before a restart is refused 24 ever after. (38 and 39 stand in front: a worker
 -- who may not make the call is told that.) A nack gives its lease a generation that nobody is handed: the statement is about tokens that
 -- were given, and the lease's worker, if he guesses such a generation, is accepted, as in the Rust.
+-- SPEC.md, "Tokens".
 use Prim.Native.Nat.{ℕ}
 use mathlib.Core.Path.{_≡_}
 use mathlib.Core.Bool.{Bool, true, false, cond, _&&_, _||_}

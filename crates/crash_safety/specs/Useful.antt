@@ -2,6 +2,7 @@
 -- steps are not refused; a claim of one who may claim is then granted in opening hours, but for the last offset, a settled one, one that is
 -- held, when generations or room for it are used up. And the waiting list of every state holds each offset just once that the book has unsettled
 -- with a count, and that no lease holds.
+-- SPEC.md, "Lists".
 use Prim.Native.Nat.{ℕ}
 use mathlib.Core.Path.{_≡_}
 use mathlib.Core.Bool.{Bool, true, false, cond, not, _&&_}

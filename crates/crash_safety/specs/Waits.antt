@@ -1,4 +1,5 @@
--- Nacks in demand 3's lists: none of them puts an offset off for longer than up to the next opening after the hard cap (02, b and c).
+-- Nacks in demand 3's lists: none of them puts an offset off for longer than up to the next opening after the hard cap.
+-- SPEC.md, "Nack".
 use Prim.Native.Nat.{ℕ, _≤_}
 use mathlib.Core.Path.{_≡_}
 use mathlib.Core.List.{List, [], _∷_}

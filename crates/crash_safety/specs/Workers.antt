@@ -1,6 +1,7 @@
--- Workers and their rights, over every list (02, g). Leaving the refused calls of one worker out of a list alters nothing else that is
+-- Workers and their rights, over every list. Leaving the refused calls of one worker out of a list alters nothing else that is
 -- seen of it; no call of a worker who has no right to it changes anything; and a token that was given to one worker is refused to
 -- every other ever after.
+-- SPEC.md, "Rights".
 use Prim.Native.Nat.{ℕ}
 use mathlib.Core.Path.{_≡_}
 use mathlib.Core.Bool.{Bool, true, false, not, cond, _&&_}

@@ -1,10 +1,11 @@
--- Worn blocks (02, d and i). No list of demand 3, wherever the power fails in it, leaves a block behind the groups, in the half in use,
+-- Worn blocks. No list of demand 3, wherever the power fails in it, leaves a block behind the groups, in the half in use,
 -- that has kind 1 and a right check, so that no restart is refused for one. And where any one block of a journal loses its check, a
 -- restart answers as before if the block lies outside the groups of the half in use, and is refused 5 with that block if it lies among
 -- them, the last header and the first block of that half apart: for no other block is it taken back to an earlier checkpoint. Without
--- the first block of the half in use a restart reads the other half where a header opens it, as 02 has it under i. Where none does, it
+-- the first block of the half in use a restart reads the other half where a header opens it. Where none does, it
 -- is refused 5 with block 0 if the first half still has a header, and else begins anew: so the first block of the first half is among
 -- those that are refused until the second half is opened.
+-- SPEC.md, "Restart".
 use Prim.Native.Nat.{ℕ, _≤_, _<_}
 use mathlib.Core.Path.{_≡_}
 use mathlib.Core.Bool.{true, false}

@@ -1,6 +1,7 @@
 -- CRC32C as RFC 3720, 12.1, has it, bit by bit: a register of 32 bits that starts with all ones, each byte fed with its
 -- lowest bit first, the end complemented. The register is the list of its bits, that of the highest power, x^31, first;
 -- as a number its first bit is the lowest.
+-- SPEC.md, "Check".
 use Prim.Native.Nat.{ℕ, zero, suc, _+_, _*_, _/_, _%_}
 use mathlib.Core.Bool.{Bool, true, false, cond, not, xor}
 use mathlib.Core.List.{List, [], _∷_, _++_, map, reverse}

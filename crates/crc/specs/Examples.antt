@@ -1,5 +1,6 @@
 -- The definition computes the known values: the generator with its bits reflected, the check of the digits 1 to 9, and
 -- RFC 3720's example of 32 rising bytes (B.4).
+-- SPEC.md, "Check".
 use mathlib.Core.Path.{_≡_, refl}
 use mathlib.Core.List.{[], _∷_}
 use mathlib.Core.Bool.{xor}

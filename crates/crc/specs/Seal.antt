@@ -1,4 +1,5 @@
 -- Bytes that end with their own check, as both snapshots and every block of the journal do.
+-- SPEC.md, "Check".
 use Prim.Native.Nat.{ℕ, _-_}
 use mathlib.Core.Bool.{Bool, _&&_}
 use mathlib.Core.List.{List, _++_}

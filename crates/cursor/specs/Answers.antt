@@ -1,4 +1,5 @@
--- 01's outcomes and refusals for the cases of the code's enums, and the parts of the contracts.
+-- The outcomes and refusals for the cases of the code's enums, and the parts of the contracts.
+-- SPEC.md, "Cursor".
 use Prim.Native.Nat.{ℕ, _*_, _≤_}
 use mathlib.Core.Path.{_≡_}
 use mathlib.Core.Bool.{Bool, true, false}

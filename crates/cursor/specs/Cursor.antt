@@ -1,5 +1,6 @@
 -- The ack cursor: the offset below which all are settled, and the ranges that are settled ahead of it; what an ack, a
--- commit and a resumption answer (01, "cursor", and cursor.rs).
+-- commit and a resumption answer (cursor.rs).
+-- SPEC.md, "Cursor".
 use Prim.Native.Nat.{ℕ, _+_, _≤_, min}
 use mathlib.Core.Bool.{Bool, true, false, cond, not, _&&_, _||_}
 use mathlib.Core.List.{List, [], _∷_, _++_}
@@ -18,7 +19,7 @@ pub record Cursor : Type 0 where
 abbrev pub cursor : ℕ → List Range → Cursor
 cursor committed ahead = record { committed = committed; ahead = ahead }
 
--- a cursor as 01 has it: at most 128 ranges, in order, above committed
+-- what holds of a cursor: at most 128 ranges, in order, above committed
 pub record Valid (c : Cursor) : Type 0 where
   pub fits : c .committed ≤ MAX
   pub above : Above (c .committed) (c .ahead)

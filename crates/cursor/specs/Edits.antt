@@ -1,5 +1,6 @@
 -- What becomes of the columns of a cursor: an edit of each, as a plan has it before anything is changed, and the cursor with
 -- both made.
+-- SPEC.md, "Cursor".
 use Prim.Native.Nat.{ℕ, zero, suc, _+_, _-_}
 use mathlib.Core.List.{List}
 use lib.ListN.{getD, set}

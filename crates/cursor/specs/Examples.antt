@@ -1,4 +1,5 @@
--- The settled examples 1 to 6 and 11 of document 01.
+-- The settled examples 1 to 6 and 11.
+-- SPEC.md, "Examples".
 use Prim.Native.Nat.{ℕ}
 use mathlib.Core.Path.{_≡_, refl}
 use mathlib.Core.Bool.{true, false}

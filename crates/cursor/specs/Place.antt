@@ -1,5 +1,6 @@
 -- Where an offset stands to a cursor: what each answer of the search for it says, and how the cursor is with the offset
 -- recorded there.
+-- SPEC.md, "Cursor".
 use Prim.Native.Nat.{ℕ, zero, suc, _+_, _≤_, _<_}
 use mathlib.Core.Path.{_≡_}
 use mathlib.Core.Bool.{Bool, true, false, _||_}

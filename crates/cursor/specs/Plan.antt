@@ -1,5 +1,6 @@
--- A whole plan in one walk (02, f): offsets that don't fall, each answered settled (1) or open (0), and the number of looks that this
--- takes. One look is one comparison of an offset with one ahead range.
+-- A whole plan in one walk: offsets that don't fall, each answered settled (1) or open (0), and the number of looks that this
+-- takes: how often an offset is compared with one of the ranges ahead.
+-- SPEC.md, "Plan".
 use Prim.Native.Nat.{ℕ, _+_, _≤_}
 use mathlib.Core.Path.{_≡_}
 use mathlib.Core.Bool.{cond, not}

@@ -1,5 +1,5 @@
--- Ranges [start, end) of offsets, in lists: what lies in them, when they are in order, and how an offset joins them (01,
--- "Records and their measures").
+-- Ranges [start, end) of offsets, in lists: what lies in them, when they are in order, and how an offset joins them.
+-- SPEC.md, "Cursor".
 use Prim.Native.Nat.{ℕ, _+_, _-_, _≤_, _<_}
 use mathlib.Core.Bool.{Bool, false, cond, _&&_, _||_}
 use mathlib.Core.List.{List, [], _∷_}

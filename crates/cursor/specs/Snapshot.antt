@@ -1,5 +1,6 @@
--- The cursor snapshot of 01, "Records and their measures": version 1, committed, the ranges as two u64 each, CRC32C of all
+-- The cursor snapshot: version 1, committed, the ranges as two u64 each, CRC32C of all
 -- before it; 13 + 16 bytes for each range; and refusals 6 to 12.
+-- SPEC.md, "Cursor snapshot".
 use Prim.Native.Nat.{ℕ, zero, suc, _+_, _-_, _/_, _%_}
 use mathlib.Core.Bool.{not}
 use mathlib.Core.List.{List, [], _∷_, _++_}

@@ -1,4 +1,5 @@
 -- A resumption under way: what it has of the ranges that it took, one after the other.
+-- SPEC.md, "Cursor".
 use Prim.Native.Nat.{ℕ, _≤_, min}
 use mathlib.Core.Path.{_≡_}
 use mathlib.Core.List.{List, [], _∷_}

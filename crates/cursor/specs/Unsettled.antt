@@ -1,5 +1,6 @@
--- The reverse of what is settled (02, a): the unsettled stretches between two numbers, and the nearest unsettled offset; what each is, and
+-- The reverse of what is settled: the unsettled stretches between two numbers, and the nearest unsettled offset; what each is, and
 -- how it is found in the ranges.
+-- SPEC.md, "Open offsets".
 use Prim.Native.Nat.{ℕ, suc, _/_, _≤_, _<_, min, max}
 use mathlib.Core.Path.{_≡_}
 use mathlib.Core.Bool.{Bool, true, false, cond, not, _&&_}
@@ -27,7 +28,7 @@ abbrev pub Apart : ℕ → ℕ → List Range → Type 0
 Apart lo b [] = Unit {0}
 Apart lo b (r ∷ rs) = (lo ≤ r .start) × (r .start < r .end) × (r .end ≤ b) × Apart (suc (r .end)) b rs
 
--- every unsettled stretch within [a, b): rising, none touching the next, clipped at both bounds
+-- all stretches of open offsets between a and b, the lowest first, no two of them side by side
 pub record AreStretches (c : Cursor) (a b : ℕ) (l : List Range) : Type 0 where
   pub apart : Apart a b l
   pub hold : (o : ℕ) → inside o l ≡ openIn c a b o

@@ -1,4 +1,5 @@
 -- What the code's cursor stands for, and the invariant that every function asks for and gives back.
+-- SPEC.md, "Cursor".
 use Prim.Native.Nat.{ℕ, _≤_}
 use mathlib.Core.Path.{_≡_}
 use mathlib.Core.List.{List}

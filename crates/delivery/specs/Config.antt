@@ -1,4 +1,5 @@
--- How the code's types stand for the policy and for 01's answers, and the parts of the contracts.
+-- How the code's types stand for the policy and for answers, and the parts of the contracts.
+-- SPEC.md, "Delivery".
 use Prim.Native.Nat.{ℕ, _≤_}
 use mathlib.Core.Path.{_≡_}
 use mathlib.Core.Bool.{Bool, false}
@@ -36,7 +37,7 @@ pub record LentBackoffs (nanos : List ℕ) (len : ℕ) : Type 0 where
   pub full : length nanos ≡ 16
   pub few : len ≤ 16
 
--- 01's answers for the cases of each enum
+-- the answers for the cases of each enum
 abbrev pub outcomeOf : ConfigOutcome → Policy → Result Policy
 outcomeOf Built p = done p
 outcomeOf UnlimitedDeliverNotAllowed p = refused refusal.UnlimitedDeliverNotAllowed

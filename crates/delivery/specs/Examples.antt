@@ -1,4 +1,5 @@
--- The settled examples 9 and 10 of document 01, the second with the cap that 02, b gives it.
+-- The settled examples 9 and 10.
+-- SPEC.md, "Examples".
 use mathlib.Core.Path.{_≡_, refl}
 use mathlib.Core.Bool.{false}
 use mathlib.Core.List.{[], _∷_}

@@ -1,4 +1,5 @@
--- The delivery policy of document 01, "Modules", delivery: refusals 1 and 2, dead letters, and the delay of a nack, which 02, b bounds.
+-- The delivery policy: refusals 1 and 2, dead letters, and the delay of a nack, which the hard cap bounds.
+-- SPEC.md, "Delivery".
 use Prim.Native.Nat.{ℕ, _-_, min, max}
 use mathlib.Core.Bool.{Bool, cond, not, _&&_, _||_}
 use mathlib.Core.List.{List, [], _∷_}

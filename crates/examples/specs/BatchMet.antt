@@ -1,4 +1,5 @@
--- A list that meets the bound over the whole batch (02, k), run by computing: with less than (M − 1) × D + C × N it would be false.
+-- A list that meets the bound over the whole batch, run by computing: with less than (M − 1) × D + C × N it would be false.
+-- SPEC.md, "Bounds".
 use Prim.Native.Nat.{ℕ, _+_, _*_, _-_}
 use mathlib.Core.Path.{_≡_, refl}
 use mathlib.Core.Bool.{false, xor}

@@ -1,4 +1,5 @@
 -- A commit over a job that is held and a restart that goes back over it, run by computing.
+-- SPEC.md, "Commit".
 use mathlib.Core.Path.{_≡_, refl}
 use mathlib.Core.Bool.{xor}
 use mathlib.Core.List.{List, [], _∷_, map}

@@ -1,5 +1,6 @@
--- The settled examples 13 and 14 of document 01, and a restart on a foreign journal, computed on the definitions that the
+-- The settled examples 13 and 14, and a restart on a foreign journal, computed on the definitions that the
 -- contracts cite.
+-- SPEC.md, "Examples".
 use Prim.Native.Nat.{ℕ, zero, suc, _+_, _-_, _*_, _≤_, _<_}
 use native.Mathlib.Omega.{arith}
 use mathlib.Core.Path.{_≡_, refl, sym, ap, _∙_}

@@ -1,5 +1,6 @@
--- The fourteen settled examples of document 01 as one statement: each on the definitions that the contracts of its crate cite, and
--- each refusal in them by 01's number and values.
+-- The fourteen settled examples as one statement: each on the definitions that the contracts of its crate cite, and
+-- each refusal in them by its number and values.
+-- SPEC.md, "Examples".
 use Prim.Native.Nat.{ℕ}
 use mathlib.Core.Path.{_≡_}
 use mathlib.Core.Bool.{true}

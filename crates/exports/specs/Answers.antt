@@ -1,4 +1,5 @@
 -- How an answer crosses to another language: in numbers, beside what lent memory holds afterwards.
+-- SPEC.md, "Interface".
 use Prim.Native.Nat.{ℕ}
 use mathlib.Core.List.{List}
 use Rattle.types.specs.Refusal.{answered}

@@ -1,4 +1,5 @@
 -- An ack on a cursor where it lies: what it answers, and what the cursor is afterwards.
+-- SPEC.md, "Interface".
 use Prim.Native.Nat.{ℕ}
 use mathlib.Core.Path.{_≡_}
 use mathlib.Core.Bool.{Bool, true, false}

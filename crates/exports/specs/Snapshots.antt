@@ -1,4 +1,5 @@
 -- The snapshots as columns of numbers: ranges as their starts and ends, attempt pairs as their offsets and counts.
+-- SPEC.md, "Interface".
 use Prim.Native.Nat.{ℕ}
 use mathlib.Core.List.{List, [], _∷_, _++_, map}
 use lib.Dec.{ltb}

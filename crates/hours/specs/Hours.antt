@@ -1,5 +1,6 @@
--- Opening hours (02, c). A week has 336 half hours, 48 to a day, and each is open or not; they are counted from the Monday midnight
+-- Opening hours. A week has 336 half hours, 48 to a day, and each is open or not; they are counted from the Monday midnight
 -- before clock 0 on, past the week's end too, so that every clock lies in one.
+-- SPEC.md, "Hours".
 use Prim.Native.Nat.{ℕ, zero, suc, _+_, _*_, _-_, _/_, _%_, _^_, min}
 use mathlib.Core.Bool.{Bool, true, false, not, cond, _||_}
 use mathlib.Core.List.{List, [], _∷_}

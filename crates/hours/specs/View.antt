@@ -1,4 +1,5 @@
 -- What the code's hours and its answers stand for.
+-- SPEC.md, "Hours".
 use Prim.Native.Nat.{ℕ}
 use mathlib.Core.Bool.{Bool, true, false, cond}
 use mathlib.Core.List.{List}

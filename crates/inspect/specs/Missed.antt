@@ -1,5 +1,6 @@
--- The headers from a block on, by kind and check alone (02, d), and the groups that they name: `inspect` asks behind the block
+-- The headers from a block on, by kind and check alone, and the groups that they name: `inspect` asks behind the block
 -- where a walk ended.
+-- SPEC.md, "Programs".
 use Prim.Native.Nat.{ℕ, zero, suc, max}
 use mathlib.Core.Path.{_≡_}
 use mathlib.Core.Bool.{cond}

@@ -1,6 +1,7 @@
 -- What is expected at each block of a half of a journal: at its first block the header that it is opened with; behind a sound header its
 -- bodies, and behind these the next group's header; nothing behind a block that is no sound header where one is expected, nor anywhere
 -- in a half that isn't in use and isn't opened by a header.
+-- SPEC.md, "Programs".
 use Prim.Native.Nat.{ℕ, zero, suc, _+_}
 use mathlib.Core.Bool.{cond}
 use mathlib.Core.List.{List}

@@ -1,4 +1,5 @@
 -- The lines of a listing: which blocks a line is of, and how far a run of blocks goes of which the same is said.
+-- SPEC.md, "Programs".
 use Prim.Native.Nat.{ℕ, _-_, _<_, _≤_}
 use mathlib.Core.Path.{_≡_}
 use mathlib.Core.Bool.{cond}

@@ -1,5 +1,6 @@
--- Which of 01's tests a block fails first ("journal": kind, check, group number, zeros as laid down, lengths, body count, fit),
+-- Which test a block fails first ("Sound blocks": kind, check, group number, zeros as laid down, lengths, body count, fit),
 -- as a list of tests in that order. That a block has 512 bytes comes before all.
+-- SPEC.md, "Programs".
 use Prim.Native.Nat.{ℕ, _+_, _-_}
 use mathlib.Core.Bool.{Bool, true, false, not, cond}
 use mathlib.Core.List.{List, [], _∷_, _++_}

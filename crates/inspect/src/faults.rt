@@ -1,4 +1,4 @@
-// What stands in a block of a journal, and which of document 01's tests one that isn't sound fails first: as the header or the
+// What stands in a block of a journal, and which test one that isn't sound fails first (SPEC.md, "Sound blocks"): as the header or the
 // body that is expected at its place (`header_verdict`, `body_verdict`), or as what it says it is (`by_itself`).
 ghost use mathlib.Core.Path.{_≡_};
 ghost use lib.ListN.{length};

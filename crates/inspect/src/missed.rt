@@ -1,4 +1,4 @@
-// Headers behind the block where the walk ended: it should have reached them, and a restart is refused (document 02, d).
+// Headers behind the block where the walk ended: it should have reached them, and a restart is refused (SPEC.md, "Restart").
 ghost use mathlib.Core.Path.{_≡_};
 ghost use Prim.Native.Nat.{_-_, min};
 ghost use Rattle.journal.specs.Area.{blocks};

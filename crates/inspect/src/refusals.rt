@@ -1,4 +1,4 @@
-// Refusals for people: the name that document 01 gives a number, and the values.
+// Refusals for people: the name of each number (SPEC.md, "Refusals"), and the values.
 use answers::Numbers;
 use text::templates::fill;
 

@@ -124,7 +124,7 @@ kind-test kind b w k = rw (eq-eqb (length b) 512 w, eq-eqb (kindOf b) kind k)
 pub no-kind : (kind : ℕ) (b : List ℕ) → (Kind kind b → ⊥) → false ≡ isKind kind b
 no-kind kind b n = refuted (isKind kind b) (λ e. n (kind-says kind b e))
 
--- lengths of a cursor snapshot and of an attempt snapshot that 01 allows
+-- lengths of a cursor snapshot and of an attempt snapshot that a header may have
 pub record Lengths (lc la : ℕ) : Type 0 where
   pub cursor-low : 13 ≤ lc
   pub cursor-high : lc ≤ 2061

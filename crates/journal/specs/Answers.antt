@@ -1,5 +1,6 @@
 -- What the public functions answer on every area, slice and number. 4 stands for each part that is no block: a part
--- of another length, an area of a length that 01 refuses, a block behind its end.
+-- of another length, an area of a length that no area has, a block behind its end.
+-- SPEC.md, "Journal".
 use Prim.Native.Nat.{ℕ, _+_, min}
 use mathlib.Core.Bool.{not}
 use mathlib.Core.List.{List, [], _∷_, _++_}

@@ -1,5 +1,6 @@
--- Sound blocks, as 01 has them under "journal": kind, check, group number, zeros as laid down, lengths, body count. A
+-- Sound blocks: kind, check, group number, zeros as laid down, lengths, body count. A
 -- header's number and its fit, which depend on where it stands, come last.
+-- SPEC.md, "Sound blocks".
 use Prim.Native.Nat.{ℕ, _+_, _-_}
 use mathlib.Core.Bool.{Bool, _&&_}
 use mathlib.Core.List.{List}

@@ -1,6 +1,7 @@
--- The walk over a journal, which ends at the first block that is no sound header (01, "journal"), with its first
+-- The walk over a journal, which ends at the first block that is no sound header, with its first
 -- block, its first group number and the block where it must end; the search for a header behind that place; and the
 -- payload of a group.
+-- SPEC.md, "Walk".
 use Prim.Native.Nat.{ℕ, zero, suc, _+_, _-_}
 use mathlib.Core.Bool.{Bool, false, cond, _||_}
 use mathlib.Core.List.{List, [], _++_}

@@ -28,7 +28,7 @@ module _ (x : Option Lease) {r : LeaseAt} (p : leaseIn r ≡ x) where
   pub found-none : r ≡ None → x ≡ none
   found-none e = sym p ∙ ap leaseIn e
 
--- its four values are what 01's question answers
+-- its four values are what the question answers
 pub told-lease : (r : LeaseAt) {x : Option Lease} → leaseIn r ≡ x → leaseAt r ≡ done (leaseValues x)
 told-lease r p = ap (λ (y : Option Lease). done (leaseValues y)) p
 

@@ -1,5 +1,6 @@
--- What the answers of lease.rs mean: each enum of the code as an outcome or one of 01's refusals, case by case, and the
+-- What the answers of lease.rs mean: each enum of the code as an outcome or a refusal, case by case, and the
 -- records that the contracts state.
+-- SPEC.md, "Leases".
 use Prim.Native.Nat.{ℕ}
 use mathlib.Core.Path.{_≡_}
 use mathlib.Core.Bool.{Bool, false}

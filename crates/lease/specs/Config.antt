@@ -1,4 +1,5 @@
 -- The tunables of a lease table, in nanoseconds (lease.rs, `LeaseConfig`).
+-- SPEC.md, "Leases".
 use Prim.Native.Nat.{ℕ, _*_, min}
 use Rattle.types.specs.Limits.{MAX}
 use Rattle.lease.specs.declared.LeaseConfig.{LeaseConfig}
@@ -11,6 +12,6 @@ nanos ms = min (ms * 1000000) MAX
 abbrev pub fromMillis : ℕ → ℕ → LeaseConfig
 fromMillis visibility cap = record { «visibility_nanos» = nanos visibility; «hard_cap_nanos» = nanos cap }
 
--- 01's defaults: 30,000 ms and 300,000 ms
+-- the defaults: 30,000 ms and 300,000 ms
 abbrev pub defaultConfig : LeaseConfig
 defaultConfig = fromMillis 30000 300000

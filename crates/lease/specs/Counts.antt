@@ -1,4 +1,5 @@
 -- Attempt counts: those carried over a restart, and the lists of them that a snapshot takes (lease.rs).
+-- SPEC.md, "Leases".
 use Prim.Native.Nat.{ℕ, max}
 use mathlib.Core.List.{List, [], _∷_}
 use mathlib.Core.Option.{Option·getD}

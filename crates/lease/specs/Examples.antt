@@ -1,4 +1,5 @@
--- The settled examples 7 and 8 of document 01: visibility 10, hard cap 25, a claim at 100.
+-- The settled examples 7 and 8: visibility 10, hard cap 25, a claim at 100.
+-- SPEC.md, "Examples".
 use mathlib.Core.Path.{_≡_, refl}
 use Rattle.types.specs.Refusal.{refused, done, InFlight, CapReached}
 use Rattle.lease.specs.State.{Table, startingAt}

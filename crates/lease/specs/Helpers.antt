@@ -1,4 +1,5 @@
 -- What the private helpers answer. No public contract cites this file.
+-- SPEC.md, "Leases".
 use Prim.Native.Nat.{ℕ, _+_}
 use mathlib.Core.Path.{_≡_}
 use mathlib.Core.List.{List}

@@ -1,4 +1,5 @@
 -- The answers of the look-ups for one lease.
+-- SPEC.md, "Leases".
 use Prim.Native.Nat.{ℕ}
 use mathlib.Core.List.{List, [], _∷_}
 use mathlib.Core.Option.{Option, none, some}
@@ -20,7 +21,7 @@ abbrev pub leaseValues : Option Lease → List ℕ
 leaseValues none = []
 leaseValues (some l) = l .generation .0 ∷ l .«attempt_start» ∷ l .deadline ∷ l .deliveries ∷ []
 
--- 01's answers for the cases of the enum
+-- the answers for the cases of the enum
 abbrev pub leaseAt : LeaseAt → Result (List ℕ)
 leaseAt r = done (leaseValues (leaseIn r))
 

@@ -1,5 +1,6 @@
--- Claims, acks, extensions and nacks of leases (01, "Modules", lease; lease.rs): each a refusal table in 01's order and
+-- Claims, acks, extensions and nacks of leases (lease.rs): each a refusal table and
 -- an effect.
+-- SPEC.md, "Leases".
 use Prim.Native.Nat.{ℕ, _+_, min}
 use mathlib.Core.Bool.{Bool, true, false, not, _&&_}
 use mathlib.Core.List.{List, [], _∷_}

@@ -1,4 +1,5 @@
 -- The parts of a table, as the calls in place are lent them: numbers and columns, and the tables that have them.
+-- SPEC.md, "Leases".
 use Prim.Native.Nat.{ℕ, _%_, _<_}
 use mathlib.Core.Path.{_≡_}
 use mathlib.Core.List.{List}

@@ -1,4 +1,5 @@
 -- The rest of lease.rs: leases released, resealed, deferred and shifted, and the questions that change nothing.
+-- SPEC.md, "Leases".
 use Prim.Native.Nat.{ℕ}
 use mathlib.Core.Bool.{Bool, true, false, cond, not, _&&_}
 use mathlib.Core.List.{List, [], _∷_}

@@ -1,4 +1,5 @@
 -- What the code's calls and answers stand for: the calls and the events of Calls.antt.
+-- SPEC.md, "Lists".
 use Prim.Native.Nat.{ℕ, _/_}
 use mathlib.Core.Path.{_≡_}
 use mathlib.Core.List.{List, [], _∷_, _++_}

@@ -1,4 +1,5 @@
 -- The calls of demand 3's lists, and what is seen of each: its arguments with its answer, or a power failure.
+-- SPEC.md, "Lists".
 use Prim.Native.Nat.{ℕ}
 use mathlib.Core.Bool.{Bool, true, _&&_}
 use mathlib.Core.List.{List, [], _∷_}

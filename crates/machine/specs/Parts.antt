@@ -1,4 +1,5 @@
 -- The parts of a machine's consumer, as the calls in place are lent them, and the consumers that have them.
+-- SPEC.md, "Lists".
 use Prim.Native.Nat.{ℕ, _≤_, _/_}
 use mathlib.Core.List.{List}
 use Rattle.cursor.specs.View.{ackCursor}

@@ -1,5 +1,6 @@
 -- The one step function: what a call does to who can be called and to the area that is lent with it. A call that can't be made
 -- where it stands does nothing.
+-- SPEC.md, "Lists".
 use Prim.Native.Nat.{ℕ}
 use mathlib.Core.Bool.{cond, _&&_}
 use mathlib.Core.List.{List}

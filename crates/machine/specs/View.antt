@@ -1,4 +1,5 @@
 -- What the code's machine stands for, its invariant, and the parts of the contracts.
+-- SPEC.md, "Lists".
 use Prim.Native.Nat.{ℕ, zero, suc}
 use mathlib.Core.Path.{_≡_}
 use mathlib.Core.List.{List}

@@ -1,4 +1,5 @@
 -- What holds of the input and of the list before and after every line.
+-- SPEC.md, "Programs".
 use Prim.Native.Nat.{ℕ, _≤_}
 use Rattle.text.specs.Lines.{Within}
 use Rattle.modules.specs.declared.Reading.{Reading}

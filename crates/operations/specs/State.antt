@@ -1,4 +1,5 @@
 -- What holds of the state before and after every operation. The lengths of arrays are said so that each proof has them at hand.
+-- SPEC.md, "Programs".
 use Prim.Native.Nat.{_≤_}
 use mathlib.Core.Path.{_≡_}
 use lib.ListN.{length}

@@ -1,4 +1,4 @@
-// What an operation answers, in numbers: document 01's number, 0 where nothing was refused, and the values of a refusal or of an
+// What an operation answers, in numbers: the refusal's number, 0 where nothing was refused, and the values of a refusal or of an
 // outcome.
 use answers::Numbers;
 use lease::Attempts;

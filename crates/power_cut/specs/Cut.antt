@@ -1,5 +1,6 @@
--- A power failure in a step (01, "journal"): the block being written is left old, new, or with a check that doesn't match; no
+-- A power failure in a step: the block being written is left old, new, or with a check that doesn't match; no
 -- other block changes.
+-- SPEC.md, "Lists".
 use Prim.Native.Nat.{ℕ}
 use mathlib.Core.Bool.{Bool, false, cond, not, _&&_}
 use mathlib.Core.List.{List}

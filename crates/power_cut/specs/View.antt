@@ -1,4 +1,5 @@
 -- What the code's power failure stands for, and the parts of its contract.
+-- SPEC.md, "Lists".
 use Prim.Native.Nat.{ℕ}
 use mathlib.Core.Path.{_≡_}
 use mathlib.Core.Bool.{Bool, true, false}

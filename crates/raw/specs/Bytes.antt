@@ -1,5 +1,6 @@
 -- Little-endian numbers in lists of bytes: reading sees zeros past the end, writing changes its place alone and is
 -- refused, 20, where it would pass the end.
+-- SPEC.md, "Numbers".
 use Prim.Native.Nat.{ℕ, zero, suc, _+_, _*_, _/_, _%_, _^_, _<_}
 use mathlib.Core.Path.{_≡_}
 use mathlib.Core.Bool.{Bool, true, _&&_}

@@ -1,4 +1,5 @@
 -- The redelivery counter, as a number and as the struct that is lent.
+-- SPEC.md, "Leases".
 use Prim.Native.Nat.{ℕ}
 use mathlib.Core.Bool.{cond}
 use lib.Dec.{leb}

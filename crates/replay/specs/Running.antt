@@ -1,4 +1,5 @@
 -- What `replay` keeps from line to line: what is still to be read lies in the buffer, and the session is ready for the next line.
+-- SPEC.md, "Programs".
 use Prim.Native.Nat.{ℕ, _≤_}
 use Rattle.text.specs.Lines.{Within}
 use Rattle.machine.specs.View.{Sound}

@@ -101,7 +101,7 @@ pub fn with(template: usize, n: u64) -> Said {
     says(template, n, 0, 0)
 }
 
-// A refusal: 01's number and values. 255 is none of 01's: the call can't be made where it stands.
+// A refusal: its number and values. 255 is no refusal's: the call can't be made where it stands.
 pub fn refusal(code: Numbers) -> Said {
     if code.0 == 255 {
         return plain(NOT_NOW);

@@ -1,6 +1,7 @@
 -- What a Rust server compares before its first call, since the language has no `size_of`: the number of this interface, and the bytes of
 -- the structs that cross. The number is one more with every change of a struct that crosses or of an exported call: here, in src/abi.rt, in
 -- rust/src/abi.rs and in rust/CHANGELOG.md.
+-- SPEC.md, "Interface".
 use Prim.Native.Nat.{ℕ, _+_, _*_}
 use mathlib.Core.List.{List, [], _∷_}
 use mathlib.Core.Option.{Option, none, some}

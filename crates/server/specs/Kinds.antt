@@ -1,4 +1,5 @@
 -- Calls in numbers, as Rust hands them in: which call a number is, with the numbers behind it.
+-- SPEC.md, "Interface".
 use Prim.Native.Nat.{ℕ, _/_}
 use mathlib.Core.List.{List, [], _∷_}
 use mathlib.Core.Option.{Option, none, some}

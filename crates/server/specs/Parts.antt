@@ -1,4 +1,5 @@
 -- The parts of a machine, as the calls in place are handed them, and what each makes of every machine that has them.
+-- SPEC.md, "Interface".
 use Prim.Native.Nat.{ℕ}
 use mathlib.Core.Path.{_≡_}
 use mathlib.Core.List.{List}

@@ -1,4 +1,5 @@
 -- What the functions that Rust calls make of a state and of lent memory: what the transition makes, in numbers.
+-- SPEC.md, "Interface".
 use Prim.Native.Nat.{ℕ, zero, suc}
 use mathlib.Core.Path.{_≡_}
 use mathlib.Core.List.{List, []}

@@ -1,4 +1,5 @@
 -- Lines as they are read: the pieces of a template and of lists of ranges, put together, by computation.
+-- SPEC.md, "Programs".
 use Prim.Native.Nat.{ℕ}
 use mathlib.Core.Path.{_≡_, refl}
 use mathlib.Core.List.{List, [], _∷_, _++_}
@@ -13,7 +14,7 @@ abbrev joined : List (List ℕ) → List ℕ
 joined [] = []
 joined (p ∷ ps) = p ++ joined ps
 
--- 01's example 14
+-- the settled example 14
 pub dead-letter : joined (filled (templateAt 1 (ascii "deliver # # #\n|deadletter # # #\n")) (0 ∷ 4098 ∷ 3 ∷ 0 ∷ [])) ≡ ascii "deadletter 0 4098 3\n"
 unfolding output.decimalIn words.lengthTo words.parts
 dead-letter = refl

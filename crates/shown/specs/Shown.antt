@@ -1,4 +1,5 @@
 -- What the programs print of a consumer's state: pieces of text, one behind the other.
+-- SPEC.md, "Programs".
 use Prim.Native.Nat.{ℕ, zero, suc}
 use mathlib.Core.List.{List, [], _∷_, _++_}
 use lib.ListN.{length}

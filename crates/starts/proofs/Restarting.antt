@@ -48,7 +48,7 @@ use Rattle.starts.proofs.Starting.{same-configuration, kept-open, setti
 
 -- ## The last group of a walk
 module _ (a : List ℕ) where
-  -- its header is sound, so its bodies lie in the area, and its lengths are those that 01 allows
+  -- its header is sound, so its bodies lie in the area, and its lengths are those that a header may have
   last-lies : (i k e : ℕ) → badLength (length a) ≡ false → walkOf a ≡ stop (some i) k e → Lies a i
   last-lies i k e area w = go (walk-ended a (limit a) none (origin a .number) (origin a .block) (some i) k e w .last-is)
     where

@@ -1,4 +1,5 @@
 -- The parts of a consumer as a restart in place is lent and leaves them, and the state and the consumers that have them.
+-- SPEC.md, "Restart".
 use Prim.Native.Nat.{ℕ, _≤_}
 use mathlib.Core.Path.{_≡_}
 use mathlib.Core.List.{List}

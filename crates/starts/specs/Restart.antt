@@ -1,5 +1,6 @@
--- How a consumer starts, fresh or from a journal (01, "consumer"): the tests of configuration and area, the walk, the test of what
--- stands behind it (02, d), and the last group read. A restart reads the configuration and the area and writes nothing.
+-- How a consumer starts, fresh or from a journal: the tests of configuration and area, the walk, the test of what
+-- stands behind it, and the last group read. A restart reads the configuration and the area and writes nothing.
+-- SPEC.md, "Restart".
 use Prim.Native.Nat.{ℕ, _+_}
 use mathlib.Core.Bool.{Bool, cond, not, _&&_, _||_}
 use mathlib.Core.List.{List, [], _∷_, _++_}

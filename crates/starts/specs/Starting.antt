@@ -1,5 +1,6 @@
--- What a start and a restart are handed and answer in the code: the configuration that the struct stands for, 01's refusals for the
+-- What a start and a restart are handed and answer in the code: the configuration that the struct stands for, the refusals for the
 -- cases of the answer, and the parts of the contracts.
+-- SPEC.md, "Restart".
 use Prim.Native.Nat.{ℕ, _+_, _-_, _≤_}
 use mathlib.Core.Path.{_≡_}
 use mathlib.Core.List.{List, _++_}
@@ -99,13 +100,13 @@ pub record OpeningIs (a : List ℕ) (i : ℕ) (r : Opening) : Type 0 where
 abbrev pub nextGroupOf : NextGroup → state.NextGroup
 nextGroupOf next = state.nextGroupAt (next .number) (next .block)
 
--- a group lies in the area, with its header at a block, and its snapshots have lengths that 01 allows
+-- a group lies in the area, with its header at a block, and its snapshots have lengths that a header may have
 pub record Lies (a : List ℕ) (i : ℕ) : Type 0 where
   pub inside : outside (length a) (i + bodiesFor (payloadLength (blockAt a i))) ≡ false
   pub cursor : cursorLength (blockAt a i) ≤ 2061
   pub attempts : attemptLength (blockAt a i) ≤ 1545
 
--- what a walk over the whole area answered, from where it begins; the area is one that 01 allows
+-- what a walk over the whole area answered, from where it begins; the area has a length that an area may have
 pub record WalkedIs (a : List ℕ) (r : Walked) : Type 0 where
   pub area : badLength (length a) ≡ false
   pub is : walkedOf r ≡ walkOf a

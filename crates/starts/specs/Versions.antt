@@ -1,5 +1,6 @@
--- Journals that differ in one thing, the version in which the attempt counts of their last group are written (02, request j: the
--- restart result may not depend on the version found).
+-- Journals that differ in one thing, the version in which the attempt counts of their last group are written: what a restart
+-- finds doesn't depend on it.
+-- SPEC.md, "Attempt snapshot".
 use Prim.Native.Nat.{ℕ, suc, _+_, _^_, _≤_, _<_}
 use mathlib.Core.Path.{_≡_}
 use mathlib.Core.List.{List, _++_}
@@ -21,7 +22,7 @@ pub record Source : Type 0 where
   pub cursor : List ℕ
   pub counts : List (Entry ℕ)
 
--- within 01's measures
+-- within their measures
 pub record Measured (g : Source) : Type 0 where
   pub number-fits : g .number < 256 ^ 4
   pub cursor-low : 13 ≤ length (g .cursor)

@@ -1,4 +1,5 @@
 -- Attempt counts carried over: one more of them, and how a struct of two columns holds at most 128 while pairs are taken in one by one.
+-- SPEC.md, "Leases".
 use Prim.Native.Nat.{ℕ, _≤_}
 use mathlib.Core.Path.{_≡_}
 use mathlib.Core.Bool.{cond}

@@ -1,4 +1,5 @@
 -- What putting a place in and taking places out make of a column of which the first n places are in use.
+-- SPEC.md, "Forms".
 use Prim.Native.Nat.{ℕ, _+_, _-_}
 use mathlib.Core.Bool.{cond, _&&_}
 use mathlib.Core.List.{List, _++_}

@@ -1,4 +1,5 @@
 -- Two sorted lists of counts in one, the larger count where a key stands in both.
+-- SPEC.md, "Leases".
 use Prim.Native.Nat.{ℕ, max}
 use mathlib.Core.Bool.{cond}
 use mathlib.Core.List.{List, [], _∷_}

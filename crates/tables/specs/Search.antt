@@ -1,5 +1,6 @@
 -- Where a number belongs among numbers: what a search by halving answers, whatever the numbers are. Where they rise, the place
 -- is the number of those below (`boundary-below`, proofs/Search.antt).
+-- SPEC.md, "Forms".
 use Prim.Native.Nat.{ℕ, _+_, _-_, _≤_, _<_}
 use mathlib.Core.Path.{_≡_}
 use mathlib.Core.List.{List}

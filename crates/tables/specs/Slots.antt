@@ -1,5 +1,6 @@
 -- A column whose elements are stored elsewhere, each at its slot: a place of another column, so that they stay where they are
 -- while the slots move.
+-- SPEC.md, "Forms".
 use Prim.Native.Nat.{ℕ, zero, suc, _-_}
 use mathlib.Core.Path.{_≡_}
 use mathlib.Core.Bool.{cond}

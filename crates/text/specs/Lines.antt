@@ -1,4 +1,5 @@
 -- Lines in a buffer of which a part is still to be taken.
+-- SPEC.md, "Programs".
 use Prim.Native.Nat.{ℕ, _+_, _-_, _≤_}
 use mathlib.Core.Path.{_≡_}
 use mathlib.Core.Bool.{true, false, cond, _||_}

@@ -1,5 +1,6 @@
 -- A buffer of bytes that are to be written out, filled up to a place, and what is put behind them: pieces of text, one behind the
 -- other.
+-- SPEC.md, "Programs".
 use Prim.Native.Nat.{ℕ, zero, suc, _/_, _%_}
 use Prim.Native.Char.{code}
 use Prim.Native.String.{String, [] as end, _∷_ as _then_}

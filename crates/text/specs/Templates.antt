@@ -1,5 +1,6 @@
 -- Texts with numbers in them. Templates stand one behind the other in a text, a bar between them; each mark in a template stands for
 -- a number.
+-- SPEC.md, "Programs".
 use Prim.Native.Nat.{ℕ, zero, suc, _≤_}
 use mathlib.Core.Path.{_≡_}
 use mathlib.Core.List.{List, [], _∷_}

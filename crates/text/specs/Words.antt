@@ -1,5 +1,6 @@
 -- The words of a line and the decimal numbers among them. A line is a list of bytes; words are separated by one space each, so
 -- two spaces have an empty word between them.
+-- SPEC.md, "Programs".
 use Prim.Native.Nat.{ℕ, suc, _+_, _-_, _*_, _≤_, max}
 use mathlib.Core.Path.{_≡_}
 use mathlib.Core.Bool.{Bool, true, false, not, cond, _&&_}

@@ -1,4 +1,5 @@
 -- Offsets: the number that each wraps, and the one behind it (types.rs, `checked_next`).
+-- SPEC.md, "Numbers".
 use Prim.Native.Nat.{ℕ, _+_}
 use mathlib.Core.Bool.{cond}
 use mathlib.Core.List.{List, [], _∷_}
@@ -17,7 +18,7 @@ offset n = record { 0 = n }
 abbrev pub checkedNext : ℕ → Option ℕ
 checkedNext n = cond (eqb n MAX) none (some (n + 1))
 
--- 01's answers for the cases of the enum
+-- the answers for the cases of the enum
 abbrev pub nextOf : NextOffset → Result (List ℕ)
 nextOf (Some o) = done (o .0 ∷ [])
 nextOf None = done []

@@ -1,4 +1,5 @@
 -- Lists of entries with a number as their key, sorted by it: what the Rust keeps in a map.
+-- SPEC.md, "Forms".
 use Prim.Native.Nat.{ℕ, suc, _≤_}
 use mathlib.Core.Bool.{Bool, true, false, cond}
 use mathlib.Core.List.{List, [], _∷_}

@@ -1,7 +1,8 @@
--- The limits of document 01, "Records and their measures", and its saturating sums.
+-- The limits, and the sums that stop at the largest number.
+-- SPEC.md, "Numbers".
 use Prim.Native.Nat.{ℕ, _+_, min}
 
--- the largest u64, which 01 calls MAX, and the largest u32
+-- the largest u64, MAX, and the largest u32
 abbrev pub MAX : ℕ
 MAX = 18446744073709551615
 
@@ -24,7 +25,7 @@ PAIRS = 128
 abbrev pub STEPS : ℕ
 STEPS = 16
 
--- workers, numbered from 0 (02, g)
+-- workers, numbered from 0
 abbrev pub WORKERS : ℕ
 WORKERS = 8
 

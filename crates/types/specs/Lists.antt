@@ -1,5 +1,6 @@
--- Lists that are answered into lent memory: 01, "A lent list is filled from its first place". And how the records of the code
+-- Lists that are answered into lent memory, from its first place on. And how the records of the code
 -- stand for what is listed.
+-- SPEC.md, "Refusals".
 use Prim.Native.Nat.{ℕ, _+_, _≤_}
 use mathlib.Core.Path.{_≡_}
 use mathlib.Core.Bool.{cond}
@@ -36,7 +37,7 @@ abbrev pub times : ℕ → List ℕ → ℕ
 times x [] = 0
 times x (y ∷ l) = cond (eqb x y) 1 0 + times x l
 
--- 01's answers for the cases of the enum
+-- the answers for the cases of the enum
 abbrev pub listedOf : Listed → Result ℕ
 listedOf (lent.Filled n) = done n
 listedOf lent.OutTooShort = refused OutTooShort

@@ -1,5 +1,6 @@
--- The refusals of document 01, "Refused, in checking order", and of document 02, each with its number and its values, and what a call
+-- The refusals, each with its number and its values, and what a call
 -- answers: a refusal, or an outcome of its own, which has number 0.
+-- SPEC.md, "Refusals".
 use Prim.Native.Nat.{ℕ}
 use mathlib.Core.Path.{_≡_}
 use mathlib.Core.List.{List, [], _∷_}
@@ -45,10 +46,10 @@ pub data Refusal : Type 0 where
   Full : Refusal
   CapReached : Refusal
   Shed : Refusal
-  -- nothing meets it any longer (02, l)
+  -- nothing meets it any longer
   Held : Refusal
   JournalFull : Refusal
-  -- of document 02: an interval whose first bound is above its second
+  -- an interval whose first bound is above its second
   BoundsReversed : Refusal
   -- bits above 47 or a shift of a week or more; a week with no open half hour; the clock of the next opening
   BadHours : Refusal
@@ -62,7 +63,7 @@ pub data Refusal : Type 0 where
   NotPermitted : Refusal
   ForeignToken : Refusal
 
--- the code of an answer: 01's number, which is 0 where nothing was refused, and the values
+-- the code of an answer: the refusal's number, which is 0 where nothing was refused, and the values
 pub record Code : Type 0 where
   pub number : ℕ
   pub values : List ℕ

@@ -1,4 +1,5 @@
 -- Sorted lists of numbers, and the place of a number in one: what a binary search answers.
+-- SPEC.md, "Forms".
 use Prim.Native.Nat.{ℕ, suc, _≤_}
 use mathlib.Core.Bool.{cond}
 use mathlib.Core.List.{List, [], _∷_}

@@ -1,5 +1,6 @@
--- The refusal table of an operation: its tests in 01's order, each with its refusal. The first test that holds is
+-- The refusal table of an operation: its tests in their order, each with its refusal. The first test that holds is
 -- answered and changes nothing; where none holds, the operation takes effect.
+-- SPEC.md, "Refusals".
 use mathlib.Core.Path.{_≡_}
 use mathlib.Core.Bool.{Bool, false, cond}
 use mathlib.Core.List.{List, [], _∷_}

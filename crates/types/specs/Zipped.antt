@@ -1,5 +1,6 @@
 -- Two columns whose places together are the elements of one list, as the starts and the ends of ranges are; and what is
 -- done to a place of a column.
+-- SPEC.md, "Forms".
 use Prim.Native.Nat.{ℕ}
 use mathlib.Core.List.{List, [], _∷_, _++_}
 use lib.ListN.{take, drop}

@@ -1,6 +1,6 @@
-// The limits of document 01, "Records and their measures", and of document 02.
+// The limits (SPEC.md, "Numbers").
 
-// The largest u64, which 01 calls MAX, and the largest u32.
+// The largest u64, MAX, and the largest u32.
 pub const MAX: u64 = 18446744073709551615;
 
 pub const MAX32: u32 = 4294967295;

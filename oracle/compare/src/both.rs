@@ -13,8 +13,8 @@ fn lent_numbers(len: usize) -> Vec<u64> {
     (0..len).map(|i| 0xfeed_0000_0000 + i as u64).collect()
 }
 
-/// Counts the inputs that were compared, and stops at the first on which the two sides differ. Attempt snapshots of version 2 (02, j)
-/// are compared with what 02 says, by `codecs`, and the original has to turn them away.
+/// Counts the inputs that were compared, and stops at the first on which the two sides differ. Attempt snapshots of version 2
+/// (SPEC.md, "Attempt snapshot") are compared with what SPEC.md says, by `codecs`, and the original has to turn them away.
 #[derive(Default)]
 pub struct Both {
     pub inputs: u64,

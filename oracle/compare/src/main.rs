@@ -1,7 +1,7 @@
 //! The exported functions beside the original's on the same inputs: all short ones, random ones around each boundary, damaged
 //! copies of good ones, and every count, version, length and order at its limit. Compared are the answers with their values, and
-//! every byte and number of lent memory, written or not. Attempt snapshots of version 2 (02, j) are made and read beside a second
-//! writing of 02, and the original has to turn away each of them.
+//! every byte and number of lent memory, written or not. Attempt snapshots of version 2 (SPEC.md, "Attempt snapshot") are made
+//! and read beside a second writing of them, and the original has to turn away each of them.
 mod both;
 
 use both::Both;
@@ -330,7 +330,7 @@ fn main() {
         seeded(&mut both, &mut Random(seed));
     }
     println!(
-        "compare: {} inputs, all answered as the original answers them, and as 02 says where they are of version 2; the original turns \
+        "compare: {} inputs, all answered as the original answers them, and as SPEC says where they are of version 2; the original turns \
          away each of the {} attempt snapshots of this version",
         both.inputs, both.turned_away
     );

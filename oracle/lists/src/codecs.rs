@@ -1,12 +1,12 @@
-//! The original's codecs under 01's limits, with 01's numbers for what is refused. Beyond a limit that the original lacks the
-//! answer is 01's refusal: 12 (ranges), 19 (pairs), 20 (room in lent memory). Version 2 of the attempt snapshot (02, j), which the
-//! original doesn't know, is written here from 02, and read as the bytes of version 1 that have its pairs.
+//! The original's codecs under SPEC.md's limits, with its numbers for what is refused. Beyond a limit that the original lacks the
+//! answer is SPEC.md's refusal: 12 (ranges), 19 (pairs), 20 (room in lent memory). Version 2 of the attempt snapshot, which the
+//! original doesn't know, is written here from SPEC.md, "Attempt snapshot", and read as the bytes of version 1 that have its pairs.
 use ironbus::attempt::{decode_attempt_snapshot, encode_attempt_snapshot, AttemptSnapshotError};
 use ironbus::crc::crc32c;
 use ironbus::cursor::{AckCursor, AckCursorError, SnapshotError};
 use ironbus::types::Offset;
 
-/// 01's number with its values, or 0 with those of the outcome.
+/// The refusal's number with its values, or 0 with those of the outcome.
 pub type Code = Vec<u64>;
 
 pub const RANGES: usize = 128;
@@ -44,7 +44,7 @@ pub fn attempt_error(error: AttemptSnapshotError) -> Code {
     }
 }
 
-/// A cursor that the original accepts and 01's limit may not.
+/// A cursor that the original accepts and the limit may not.
 pub fn few_ranges(cursor: AckCursor) -> Result<AckCursor, Code> {
     if cursor.ahead_runs() > RANGES {
         return Err(vec![TOO_MANY_RUNS]);

@@ -1,4 +1,4 @@
-//! Lists of operations on the original, and the original's codecs under 01's limits.
+//! Lists of operations on the original, and the original's codecs under SPEC.md's limits.
 pub mod codecs;
 pub mod make;
 pub mod operations;

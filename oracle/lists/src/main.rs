@@ -70,7 +70,7 @@ fn main() {
         }
         ["compare", seeds, rounds] => {
             let total: usize = (1..=number(seeds)).map(|seed| compare(seed, number(rounds))).sum();
-            println!("lists: {total} operations of {seeds} lists, all answered as the original answers them, and as 02 says in version 2");
+            println!("lists: {total} operations of {seeds} lists, all answered as the original answers them, in version 2 as SPEC says");
         }
         _ => {
             eprintln!("usage: lists make SEED ROUNDS | lists run | lists compare SEEDS ROUNDS");

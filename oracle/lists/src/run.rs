@@ -1,6 +1,6 @@
-//! Runs one operation on the original. Where 01 has a limit and the original none, the operation is tried on a copy; if that passes
-//! the limit, 01's refusal is answered and nothing changes: 2 (backoffs), 19 (carried counts), 27 (leases), and 29 for `ack`, which
-//! is `ack_bounded` at 128 ranges. Attempt snapshots of version 2 are the codecs' own, not the original's.
+//! Runs one operation on the original. Where SPEC.md has a limit and the original none, the operation is tried on a copy; if
+//! that passes the limit, SPEC.md's refusal is answered and nothing changes: 2 (backoffs), 19 (carried counts), 27 (leases), and
+//! 29 for `ack`, which is `ack_bounded` at 128 ranges. Attempt snapshots of version 2 are the codecs' own, not the original's.
 use crate::codecs::{
     decode_attempts, decode_cursor, encode_attempts, encode_attempts_v2, encode_cursor, resume_with_ahead, Code, OUT_TOO_SHORT,
     RANGES, TOO_MANY_PAIRS,
@@ -314,7 +314,7 @@ impl State {
             ("unlimited", &[]) => yes(self.config.allows_unlimited()),
             ("disposition", &[k]) => yes(self.config.disposition(small(k)?) == Disposition::DeadLetter),
             ("backoff", &[k]) => vec![0, self.config.nack_backoff(small(k)?)],
-            // the original has no cap: its delay is compared with 02's minimum applied
+            // the original has no cap: its delay is compared with the cap applied
             ("delay", &[k, cap]) => vec![0, self.config.effective_nack_delay(small(k)?, None).min(cap)],
             ("explicit", &[k, delay, cap]) => {
                 vec![0, self.config.effective_nack_delay(small(k)?, Some(delay)).min(cap)]

@@ -2,7 +2,8 @@
 //! require nothing of a caller but slices that are there and of which none that is written to overlaps another, which Rust's
 //! references ensure, and cursors that only these functions changed, which private fields ensure.
 
-/// 01's number, 0 where nothing is refused; how many values there are; and the first five of them, 0 where there are fewer.
+/// The refusal's number, 0 where nothing is refused; how many values there are; and the first five of them, 0 where there are
+/// fewer.
 #[repr(C)]
 #[derive(Clone, Copy, Debug, PartialEq, Eq)]
 pub struct Numbers {

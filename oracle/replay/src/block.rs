@@ -1,4 +1,4 @@
-//! The journal's blocks, byte by byte as 01 lays them down. The check is the original's.
+//! The journal's blocks, byte by byte (SPEC.md, "Blocks"). The check is the original's.
 use ironbus::crc::crc32c;
 
 pub const BLOCK: usize = 512;

@@ -1,5 +1,5 @@
-//! How often a list of demand 3 may hand out: the bound for a recipe (demand 3) and that for the batch (02, k), counted by calls and
-//! answers alone; and scenes in which both are reached.
+//! How often a list of demand 3 may hand out: the bound for a recipe (demand 3) and that for the batch (SPEC.md, "Bounds"),
+//! counted by calls and answers alone; and scenes in which both are reached.
 use crate::line::{read, Call};
 use crate::make::Maker;
 use crate::scenes::{checkpoint, KINDS};

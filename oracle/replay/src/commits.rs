@@ -1,4 +1,4 @@
-//! Scenes of commits over jobs that are held (02, l).
+//! Scenes of commits over jobs that are held (SPEC.md, "Commit").
 use crate::make::Maker;
 use crate::scenes::{checkpoint, KINDS};
 

@@ -1,5 +1,5 @@
-//! 01's consumer over the original's cursor, lease table and delivery policy. Each call runs down 01's refusals in their order, then
-//! lets the original act. A lease's worker (02, g) stands beside the original's table, which has no place for it.
+//! The consumer over the original's cursor, lease table and delivery policy. Each call runs down its refusals in their order, then
+//! lets the original act. A lease's worker (SPEC.md, "Rights") stands beside the original's table, which has no place for it.
 use crate::hours::Hours;
 use crate::journal::{read, writes, zeroing, Half, Stored};
 use crate::open::{nearest, stretches};
@@ -66,7 +66,8 @@ impl Settings {
         })
     }
 
-    /// By how much a nack puts off the next delivery: the delay that it was given or the backoff, and at most the hard cap (02, b).
+    /// By how much a nack puts off the next delivery: the delay that it was given or the backoff, and at most the hard cap
+    /// (SPEC.md, "Nack").
     fn nack_delay(&self, attempt: u32, explicit: Option<u64>) -> u64 {
         let delay = self.delivery.effective_nack_delay(attempt, explicit);
         delay.min(self.lease.hard_cap_nanos)
@@ -80,7 +81,7 @@ impl Settings {
         }
     }
 
-    /// A nack's deadline, moved to the next opening where it falls outside of hours (02, c).
+    /// A nack's deadline, moved to the next opening where it falls outside of hours (SPEC.md, "Hours").
     fn nack_deadline(&self, now: u64, delay: u64) -> u64 {
         let deadline = now.saturating_add(delay);
         self.handed.hours.map_or(deadline, |hours| hours.opening(deadline))
@@ -317,7 +318,8 @@ impl Consumer {
         }
     }
 
-    /// Refusals 38, 39; none for what is held below the bound, which is dropped (02, l). The answer is false where nothing changes.
+    /// Refusals 38, 39; none for what is held below the bound, which is dropped (SPEC.md, "Commit"). The answer is false where
+    /// nothing changes.
     pub fn commit(&mut self, worker: u64, bound: u64) -> Result<bool, Code> {
         self.settings.handed.rights.ask(worker, Operation::Commit)?;
         if bound <= self.cursor.committed().get() {
@@ -329,7 +331,8 @@ impl Consumer {
         Ok(true)
     }
 
-    /// Refusals 38, 39. Carried offsets, by offset; then those whose deadline has come, by deadline, equal deadlines by offset (02, m).
+    /// Refusals 38, 39. Carried offsets, by offset; then those whose deadline has come, by deadline, equal deadlines by offset
+    /// (SPEC.md, "Waiting list").
     pub fn waiting(&self, worker: u64, now: u64) -> Result<Vec<u64>, Code> {
         self.settings.handed.rights.ask(worker, Operation::Look)?;
         let table = self.table();
@@ -343,7 +346,8 @@ impl Consumer {
         Ok(carried)
     }
 
-    /// Refusals 38, 39, 32, 20. The unsettled stretches from one offset up to another, where the lent list has that many places (02, a).
+    /// Refusals 38, 39, 32, 20. The unsettled stretches from one offset up to another, where the lent list has that many places
+    /// (SPEC.md, "Open offsets").
     pub fn open(&self, worker: u64, from: u64, to: u64, room: usize) -> Result<Vec<(u64, u64)>, Code> {
         self.settings.handed.rights.ask(worker, Operation::Look)?;
         if from > to {
@@ -356,13 +360,14 @@ impl Consumer {
         Ok(stretches)
     }
 
-    /// Refusals 38, 39. The first unsettled offset that isn't below the given one (02, a).
+    /// Refusals 38, 39. The first unsettled offset that isn't below the given one (SPEC.md, "Open offsets").
     pub fn nearest(&self, worker: u64, offset: u64) -> Result<u64, Code> {
         self.settings.handed.rights.ask(worker, Operation::Look)?;
         Ok(nearest(&self.cursor, offset))
     }
 
-    /// Refusals 38, 39, 36, 37. Which offsets of a list are settled, where the lent list has as many places, and the looks (02, f).
+    /// Refusals 38, 39, 36, 37. Which offsets of a list are settled, where the lent list has as many places, and the looks
+    /// (SPEC.md, "Plan").
     pub fn plan(&self, worker: u64, room: usize, offsets: &[u64]) -> Result<Plan, Code> {
         self.settings.handed.rights.ask(worker, Operation::Look)?;
         if room != offsets.len() {
@@ -374,8 +379,8 @@ impl Consumer {
         }
     }
 
-    /// Refusals 38, 39, 31. The counts are stored in version 2 (02, j). Where the half in use has no room for the group, the other
-    /// half is zeroed, and the group begins it (02, i).
+    /// Refusals 38, 39, 31. The counts are stored in version 2 (SPEC.md, "Attempt snapshot"). Where the half in use has no room
+    /// for the group, the other half is zeroed, and the group begins it (SPEC.md, "Halves").
     pub fn begin(&self, worker: u64) -> Result<Writing, Code> {
         self.settings.handed.rights.ask(worker, Operation::Checkpoint)?;
         let mut stored = Stored {

@@ -1,5 +1,5 @@
 //! Scenes on the two halves of a journal: switches, power failures in them, what may stand in the first blocks, the last group
-//! numbers, and journals from before the halves (02, i).
+//! numbers, and journals from before the halves (SPEC.md, "Halves").
 use crate::block::{formed_header, header_block, Header};
 use crate::journal::{block_of, read_group, writes, Half, Stored};
 use crate::make::Maker;

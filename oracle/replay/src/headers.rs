@@ -1,4 +1,4 @@
-//! Scenes in which headers are changed, in the first group, a middle one and the last, while later ones stand (02, d).
+//! Scenes in which headers are changed, in the first group, a middle one and the last, while later ones stand (SPEC.md, "Restart").
 use crate::block::BLOCK;
 use crate::journal::Half;
 use crate::make::Maker;

@@ -1,4 +1,5 @@
-//! Opening hours (02, c), searched half hour by half hour; and scenes about openings, closings, the turn of the week and the last clocks.
+//! Opening hours (SPEC.md, "Hours"), searched half hour by half hour; and scenes about openings, closings, the turn of the week
+//! and the last clocks.
 use crate::make::Maker;
 use crate::scenes::checkpoint;
 use lists::codecs::Code;
@@ -256,7 +257,7 @@ fn other_hours(maker: &mut Maker) -> Option<Hours> {
 mod tests {
     use super::*;
 
-    /// The opening by the day's bits that are left, as 02 has the search: the rest of the day, then following days, the same
+    /// The opening by the day's bits that are left, as SPEC.md has the search: the rest of the day, then following days, the same
     /// weekday a week later the last.
     fn by_days(hours: &Hours, clock: u64) -> u64 {
         let place = hours.place(clock);

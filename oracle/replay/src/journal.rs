@@ -1,4 +1,4 @@
-//! The journal: its two halves (02, i), the walk of a restart and the block writes of a checkpoint.
+//! The journal: its two halves (SPEC.md, "Halves"), the walk of a restart and the block writes of a checkpoint.
 use crate::block::{
     bodies_for, body_block, formed_header, header_block, is_header, sound_body, sound_header, unfit_header, Header, BLOCK, PAYLOAD,
     ROOM,
@@ -78,9 +78,9 @@ pub fn block_of(area: &[u8], block: usize) -> &[u8] {
     &area[BLOCK * block..BLOCK * (block + 1)]
 }
 
-/// What the groups of the half in use come to. A header that is unsound for want of room alone where the walk ended (02, i), and
-/// a block behind that one in the half that is a header still (02, d), are refusal 5, naming where it ended; an unsound body on the
-/// walk comes first.
+/// What the groups of the half in use come to. A header that is unsound for want of room alone where the walk ended (SPEC.md,
+/// "Halves"), and a block behind that one in the half that is a header still (SPEC.md, "Restart"), are refusal 5, naming where
+/// it ended; an unsound body on the walk comes first.
 pub fn read(area: &[u8]) -> Result<Found, Code> {
     let found = walk(area)?;
     if ends_unfit(area, &found) || header_behind(area, found.half, found.block) {

@@ -1,4 +1,4 @@
-//! A model of the program `replay`: document 01's consumer and journal, step by step, over the original's modules.
+//! A model of the program `replay`: the specification's consumer and journal, step by step, over the original's modules.
 pub mod block;
 pub mod bounds;
 pub mod commits;

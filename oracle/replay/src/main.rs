@@ -1,4 +1,4 @@
-//! A model of the program `replay`, from document 01 and over the original. docs/ORACLE.md says what it shows.
+//! A model of the program `replay`, from the specification and over the original. docs/ORACLE.md says what it shows.
 //!
 //!     replay-model run                           the model's answers to the script on standard input, whose lists keep the bounds
 //!     replay-model make SEED LINES               a script

@@ -1,4 +1,4 @@
-//! Scenes of nacks whose delays lie below, at and above the hard cap (02, b).
+//! Scenes of nacks whose delays lie below, at and above the hard cap (SPEC.md, "Nack").
 use crate::make::Maker;
 use crate::scenes::checkpoint;
 

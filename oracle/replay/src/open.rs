@@ -1,4 +1,5 @@
-//! What is unsettled: the stretches between two offsets, and the nearest one (02, a); and scenes that ask for them.
+//! What is unsettled: the stretches between two offsets, and the nearest one (SPEC.md, "Open offsets"); and scenes that ask for
+//! them.
 use crate::line::ROOM;
 use crate::make::Maker;
 use crate::scenes::checkpoint;

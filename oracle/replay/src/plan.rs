@@ -1,4 +1,5 @@
-//! A plan: many offsets answered in one walk over the ahead ranges, whose looks are counted (02, f); and scenes that ask for plans.
+//! A plan: many offsets answered in one walk over the ahead ranges, whose looks are counted (SPEC.md, "Plan"); and scenes that
+//! ask for plans.
 use crate::line::{PLAN, ROOM};
 use crate::make::Maker;
 use crate::scenes::checkpoint;
@@ -15,8 +16,8 @@ pub fn falls(offsets: &[u64]) -> Option<usize> {
     (1..offsets.len()).find(|&place| offsets[place] < offsets[place - 1])
 }
 
-/// The looks of 02's walk: an offset not below committed is compared with the range that the walk stands on, and with the next one as
-/// long as it is at or past the end.
+/// The looks of the walk (SPEC.md, "Plan"): an offset not below committed is compared with the range that the walk stands on,
+/// and with the next one as long as it is at or past the end.
 fn looks(cursor: &AckCursor, offsets: &[u64]) -> u64 {
     let mut ranges = cursor.ahead_ranges().iter().peekable();
     let mut looks = 0;

@@ -1,4 +1,4 @@
-//! The workers' rights (02, g).
+//! The workers' rights (SPEC.md, "Rights").
 use lists::codecs::Code;
 
 /// Workers have the numbers below it.

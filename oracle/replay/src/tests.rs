@@ -1,4 +1,4 @@
-//! 01's examples and the phases of the program, as scripts with their answers; and that the made scripts meet everything.
+//! The settled examples and the phases of the program, as scripts with their answers; and that the made scripts meet everything.
 use crate::block::{bodies_for, formed_header, seal};
 use crate::compare::{answers, bounds_of, difference};
 use crate::help;
@@ -201,8 +201,9 @@ fn worn_blocks() {
     );
 }
 
-/// 02, d and i: a worn header of three groups in the first half. While a header stands behind it, a restart is refused by its block, behind the bodies
-/// before it; else the group before is taken. What stands behind in the half counts by kind and check alone.
+/// SPEC.md, "Restart" and "Halves": a worn header of three groups in the first half. While a header stands behind it, a restart
+/// is refused by its block, behind the bodies before it; else the group before is taken. What stands behind in the half counts
+/// by kind and check alone.
 #[test]
 fn worn_headers() {
     let before = "start 3 0 9 10 25 9216 => started
@@ -298,7 +299,7 @@ fn calls_out_of_place() {
     );
 }
 
-/// 02, g: 38 and 39 before all else that a call could answer, 40 right behind 24.
+/// SPEC.md, "Rights": 38 and 39 before all else that a call could answer, 40 right behind 24.
 #[test]
 fn workers_and_rights() {
     play(
@@ -352,7 +353,7 @@ fn workers_and_rights() {
     );
 }
 
-/// 02, g: a restart takes the rights that it is handed; what is said touches no consumer that is running.
+/// SPEC.md, "Rights": a restart takes the rights that it is handed; what is said touches no consumer that is running.
 #[test]
 fn rights_of_a_restart() {
     play(
@@ -383,7 +384,8 @@ fn rights_of_a_restart() {
     );
 }
 
-/// 02, h: what a worker and a supervisor are shown. Worker 1 is a supervisor, worker 2 a worker, worker 3 has the mark alone.
+/// SPEC.md, "View": what a worker and a supervisor are shown. Worker 1 is a supervisor, worker 2 a worker, worker 3 has the mark
+/// alone.
 #[test]
 fn views() {
     play(
@@ -554,8 +556,8 @@ fn a_difference_is_shown() {
     assert!(difference(text, "started\nbegun 2\nwrote 1\nmore\n").is_err());
 }
 
-/// 02, i: the second half is zeroed from its first block on, and the group that doesn't fit the first is written there; back again
-/// when that is full. The next block of a full half is its end.
+/// SPEC.md, "Halves": the second half is zeroed from its first block on, and the group that doesn't fit the first is written
+/// there; back again when that is full. The next block of a full half is its end.
 #[test]
 fn switches() {
     let state = |ceiling: u64, group, block, half| {
@@ -613,8 +615,8 @@ fn before_a_switch(switches: u64) -> Program {
     program
 }
 
-/// 02, i: every write of a switch cut in every way. A restart finds what it would have found before, but where the header was left
-/// new; then the checkpoint is made again, and found.
+/// SPEC.md, "Halves": every write of a switch cut in every way. A restart finds what it would have found before, but where the
+/// header was left new; then the checkpoint is made again, and found.
 #[test]
 fn switches_cut_everywhere() {
     for (switches, kind) in [0, 1, 2]
@@ -683,7 +685,7 @@ fn finds(last: u64, block: usize, half: usize) -> String {
     )
 }
 
-/// 02, i: which half is in use, by what stands in the two first blocks; and what a restart refuses in it.
+/// SPEC.md, "Halves": which half is in use, by what stands in the two first blocks; and what a restart refuses in it.
 #[test]
 fn halves_of_a_journal() {
     let start = "start 3 0 9 10 25 9216 => started\n".to_string();
@@ -729,7 +731,7 @@ fn halves_of_a_journal() {
     play(&(start + &many(1..8, 0) + "restart 9216 => refused 5 8"));
 }
 
-/// 02, i: the last number, and none behind it, whether there is room in the half or not.
+/// SPEC.md, "Halves": the last number, and none behind it, whether there is room in the half or not.
 #[test]
 fn the_last_number() {
     let number = u32::MAX;
@@ -761,7 +763,7 @@ fn the_last_number() {
 }
 
 /// The scripts that `oracle/run compare` uses have every kind of answer, and every refusal that a script can meet: all but 6, 12, 13
-/// and 19, which a sound header's lengths rule out, and 30, which nothing meets since 02, l.
+/// and 19, which a sound header's lengths rule out, and 30, which nothing meets any longer.
 #[test]
 fn scripts_have_everything() {
     let mut words = BTreeSet::new();
@@ -841,7 +843,7 @@ fn scripts_have_workers() {
     has("40", "25 26 28 29 settled requeued extended");
 }
 
-/// 02, g: a script without the refused calls of one worker gives all else the same answers.
+/// SPEC.md, "Rights": a script without the refused calls of one worker gives all else the same answers.
 #[test]
 fn refused_calls_left_out() {
     let mut left_out = 0;
@@ -901,7 +903,7 @@ fn worn(area: &[u8]) -> Worn {
     }
 }
 
-/// The scripts that `oracle/run compare` uses meet request d's rule often, wherever the header is worn.
+/// The scripts that `oracle/run compare` uses often have a header behind the walk, wherever one is worn.
 #[test]
 fn scripts_have_worn_headers() {
     let mut met = BTreeMap::new();
@@ -1042,8 +1044,8 @@ fn found_by_restart(program: &Program) -> Option<String> {
     }
 }
 
-/// 02, i: where the journal is the consumer's own, whatever write of a checkpoint is cut, and however, the restart finds what it
-/// would have found before, but where the header was left new.
+/// SPEC.md, "Halves": where the journal is the consumer's own, whatever write of a checkpoint is cut, and however, the restart
+/// finds what it would have found before, but where the header was left new.
 #[test]
 fn cuts_keep_the_last_checkpoint() {
     let mut compared = 0;
@@ -1090,7 +1092,8 @@ fn older(area: &[u8]) -> Option<Vec<u8>> {
     Some(old)
 }
 
-/// 02, j: the restart's answer and state don't depend on the version found, whatever the made scripts left in the area.
+/// SPEC.md, "Attempt snapshot": the restart's answer and state don't depend on the version found, whatever the made scripts left
+/// in the area.
 #[test]
 fn restarts_on_both_versions() {
     let mut compared = 0;

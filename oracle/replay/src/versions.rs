@@ -1,4 +1,5 @@
-//! Scenes on journals with attempt snapshots of version 1, as those from before have them, of both versions, and of others (02, j).
+//! Scenes on journals with attempt snapshots of version 1, as those from before have them, of both versions, and of others
+//! (SPEC.md, "Attempt snapshot").
 use crate::block::formed_header;
 use crate::headers::groups;
 use crate::journal::{block_of, read_group, writes, Stored};

@@ -1,4 +1,4 @@
-//! What is shown of one offset (02, h), and scenes in which all kinds of workers look at all kinds of offsets.
+//! What is shown of one offset (SPEC.md, "View"), and scenes in which all kinds of workers look at all kinds of offsets.
 use crate::make::Maker;
 use crate::rights::Operation;
 use crate::scenes::checkpoint;

@@ -1,4 +1,4 @@
-//! Scenes in which the waiting list has an order to keep (02, m).
+//! Scenes in which the waiting list has an order to keep (SPEC.md, "Waiting list").
 use crate::make::Maker;
 use crate::scenes::checkpoint;
 

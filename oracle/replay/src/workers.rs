@@ -1,4 +1,4 @@
-//! Scenes with several workers, their rights and each other's tokens (02, g).
+//! Scenes with several workers, their rights and each other's tokens (SPEC.md, "Rights").
 use crate::make::Maker;
 use crate::rights::{Operation, WORKERS};
 use crate::scenes::checkpoint;

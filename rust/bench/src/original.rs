@@ -1,4 +1,4 @@
-//! The original's lease table, cursor and delivery limits. It has no journal: its snapshots are laid out here in document 01's blocks.
+//! The original's lease table, cursor and delivery limits. It has no journal: its snapshots are laid out here in the journal's blocks.
 
 use std::hint::black_box;
 use std::ops::{ControlFlow, Range};
@@ -197,7 +197,7 @@ mod tests {
         }
     }
 
-    // The blocks are document 01's, so that both sides write the same amount.
+    // The blocks are the journal's, so that both sides write the same amount.
     #[test]
     fn a_restart_reads_its_blocks() {
         let mut side = Box::<Original<Kept>>::start(Kept(vec![0; BLOCK * MIN_BLOCKS]));

@@ -1,4 +1,4 @@
-//! Demand 3's bound for a recipe and 02's bound for the batch (k), on every list of the made scripts.
+//! Demand 3's bound for a recipe and the bound for the batch, on every list of the made scripts.
 use super::{holding, scripts, Met};
 use crate::bounds::{Bounds, List};
 use crate::line::{read, Call};
@@ -30,7 +30,7 @@ fn reached(list: &List) -> Vec<&'static str> {
     ])
 }
 
-/// The scripts that `oracle/run compare` uses keep both bounds, and reach them often, with all that 02 has put in.
+/// The scripts that `oracle/run compare` uses keep both bounds, and reach them often, with all requests in.
 #[test]
 fn scripts_keep_the_bounds() {
     let mut met = Met::default();

@@ -1,4 +1,4 @@
-//! 02, l: a commit over jobs that are held.
+//! SPEC.md, "Commit": a commit over jobs that are held.
 use super::{holding, play, scripts, Met};
 use crate::consumer::Consumer;
 use crate::line::{read, Call};

@@ -1,4 +1,4 @@
-//! 02, c: opening hours.
+//! SPEC.md, "Hours": opening hours.
 use super::{group_up_to, holding, play, scripts, Met};
 use crate::consumer::{Consumer, Handed};
 use crate::hours::{Hours, DAY, HALF_HOUR, WEEK};

@@ -1,4 +1,4 @@
-//! 02, b: a nack puts off the next delivery by the hard cap at most.
+//! SPEC.md, "Nack": a nack puts off the next delivery by the hard cap at most.
 use super::{play, scripts};
 use crate::line::{read, Call, Start};
 use crate::program::Program;

@@ -1,4 +1,4 @@
-//! 02, a: what is unsettled between two numbers, and the nearest of it.
+//! SPEC.md, "Open offsets": what is unsettled between two numbers, and the nearest of it.
 use super::{holding, play, scripts, Met};
 use crate::consumer::Consumer;
 use crate::line::{read, Call};

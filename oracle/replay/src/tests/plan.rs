@@ -1,4 +1,4 @@
-//! 02, f: a whole plan in one walk.
+//! SPEC.md, "Plan": a whole plan in one walk.
 use super::{holding, play, scripts, Met};
 use crate::consumer::Consumer;
 use crate::line::{read, Call};

@@ -1,4 +1,4 @@
-//! 02, m: the order of the waiting list.
+//! SPEC.md, "Waiting list": the order of the waiting list.
 use super::{holding, play, scripts, Met};
 use crate::line::{read, Call};
 use crate::program::Program;
