@@ -95,8 +95,8 @@ impl LeaseTable {
     {
         if carried.full {
             return Resumed {
-                outcome: ResumeOutcome::TooManyPairs,
                 table: self,
+                outcome: ResumeOutcome::TooManyPairs,
             };
         }
         let offsets = carried.offsets;
@@ -106,8 +106,8 @@ impl LeaseTable {
         table.carried_counts = counts;
         table.carried_len = carried.len;
         Resumed {
-            outcome: ResumeOutcome::Resumed,
             table: table,
+            outcome: ResumeOutcome::Resumed,
         }
     }
 

@@ -165,37 +165,40 @@ pub struct LeaseTable {
     pub redeliveries_since_flush: u32,
 }
 
+// What a call answers, and the table after it, which comes first: behind a few bytes of an answer it would be copied once more.
 pub struct Claimed {
-    pub outcome: Claim,
     pub table: LeaseTable,
+    pub outcome: Claim,
 }
 
 pub struct Acked {
-    pub outcome: AckOutcome,
     pub table: LeaseTable,
+    pub outcome: AckOutcome,
 }
 
 pub struct Extended {
-    pub outcome: ExtendOutcome,
     pub table: LeaseTable,
+    pub outcome: ExtendOutcome,
 }
 
 pub struct Nacked {
-    pub outcome: NackOutcome,
     pub table: LeaseTable,
+    pub outcome: NackOutcome,
 }
 
 pub struct Resumed {
-    pub outcome: ResumeOutcome,
     pub table: LeaseTable,
+    pub outcome: ResumeOutcome,
 }
 
 // Whether there was something to change, and the table.
 pub struct Changed {
-    pub changed: bool,
     pub table: LeaseTable,
+    pub changed: bool,
 }
 
+// A call that changes a table lends copies of the columns that it reads and changes: with a reference into the table itself the compiler
+// copies all of it once more.
 impl LeaseTable {
     // An empty table. Its generations begin at 0, so by itself it fences off no token from before a restart: whoever keeps leases over
     // restarts begins above every generation given before (`starting_at`), as the consumer does.
@@ -292,7 +295,6 @@ impl LeaseTable {
         requires { ⌜ Sound self ⌝ }
         ensures { λ r. ⌜ Answers (claimOf (r .outcome)) self (r .table) (claim (view self) worker (offset .0) now) ⌝ }
     {
-        let place = tables::find(&self.offsets, self.len, offset.0);
         let mut offsets = self.offsets;
         let mut slots = self.slots;
         let mut generations = self.generations;
@@ -302,6 +304,7 @@ impl LeaseTable {
         let mut workers = self.workers;
         let mut carried_offsets = self.carried_offsets;
         let mut carried_counts = self.carried_counts;
+        let place = tables::find(&offsets, self.len, offset.0);
         let claimed = in_place::claim_at(
             self.config,
             place,
@@ -337,8 +340,8 @@ impl LeaseTable {
         self.redeliveries_since_flush = claimed.redeliveries;
         let outcome = claimed.outcome;
         Claimed {
-            outcome,
             table: self,
+            outcome,
         }
     }
 
@@ -355,25 +358,22 @@ impl LeaseTable {
         requires { ⌜ Sound self ⌝ }
         ensures { λ r. ⌜ Tries (r .changed) self (r .table) (resealFromTo (view self) (offset .0) (from .0) (generation .0)) ⌝ }
     {
-        let place = in_place::owned(
-            self.len,
-            offset.0,
-            from.0,
-            &self.offsets,
-            &self.slots,
-            &self.generations,
-        );
+        let offsets = self.offsets;
+        let slots = self.slots;
+        let mut generations = self.generations;
+        let place = in_place::owned(self.len, offset.0, from.0, &offsets, &slots, &generations);
         let Place::Found(at) = place else {
             return Changed {
-                changed: false,
                 table: self,
+                changed: false,
             };
         };
-        let slot = in_place::slot_at(&self.slots, at);
-        self.generations[slot] = generation.0;
+        let slot = in_place::slot_at(&slots, at);
+        generations[slot] = generation.0;
+        self.generations = generations;
         Changed {
-            changed: true,
             table: self,
+            changed: true,
         }
     }
 
@@ -391,29 +391,30 @@ impl LeaseTable {
         requires { ⌜ Sound self ⌝ }
         ensures { λ r. ⌜ Answers (ackOf (r .outcome)) self (r .table) (ack (view self) (token .offset .0) (token .generation .0)) ⌝ }
     {
+        let mut offsets = self.offsets;
+        let mut slots = self.slots;
+        let generations = self.generations;
         let place = in_place::owned(
             self.len,
             token.offset.0,
             token.generation.0,
-            &self.offsets,
-            &self.slots,
-            &self.generations,
+            &offsets,
+            &slots,
+            &generations,
         );
         let Place::Found(at) = place else {
             return Acked {
-                outcome: AckOutcome::Fenced,
                 table: self,
+                outcome: AckOutcome::Fenced,
             };
         };
-        let mut offsets = self.offsets;
-        let mut slots = self.slots;
         let len = in_place::ack_at(at, self.len, &mut offsets, &mut slots);
         self.offsets = offsets;
         self.slots = slots;
         self.len = len;
         Acked {
-            outcome: AckOutcome::Acked,
             table: self,
+            outcome: AckOutcome::Acked,
         }
     }
 
@@ -422,21 +423,23 @@ impl LeaseTable {
         requires { ⌜ Sound self ⌝ }
         ensures { λ r. ⌜ Answers (extendOf (r .outcome)) self (r .table) (extend (view self) (token .offset .0) (token .generation .0) now) ⌝ }
     {
+        let offsets = self.offsets;
+        let slots = self.slots;
+        let generations = self.generations;
         let place = in_place::owned(
             self.len,
             token.offset.0,
             token.generation.0,
-            &self.offsets,
-            &self.slots,
-            &self.generations,
+            &offsets,
+            &slots,
+            &generations,
         );
         let Place::Found(at) = place else {
             return Extended {
-                outcome: ExtendOutcome::Fenced,
                 table: self,
+                outcome: ExtendOutcome::Fenced,
             };
         };
-        let slots = self.slots;
         let attempt_starts = self.attempt_starts;
         let mut deadlines = self.deadlines;
         let outcome = in_place::extend_at(
@@ -449,8 +452,8 @@ impl LeaseTable {
         );
         self.deadlines = deadlines;
         Extended {
-            outcome,
             table: self,
+            outcome,
         }
     }
 
@@ -506,22 +509,23 @@ impl LeaseTable {
         requires { ⌜ Sound self ⌝ }
         ensures { λ r. ⌜ Answers (nackOf (r .outcome)) self (r .table) (nack (view self) (token .offset .0) (token .generation .0) now «delay_nanos») ⌝ }
     {
+        let offsets = self.offsets;
+        let slots = self.slots;
+        let mut generations = self.generations;
         let place = in_place::owned(
             self.len,
             token.offset.0,
             token.generation.0,
-            &self.offsets,
-            &self.slots,
-            &self.generations,
+            &offsets,
+            &slots,
+            &generations,
         );
         let Place::Found(at) = place else {
             return Nacked {
-                outcome: NackOutcome::Fenced,
                 table: self,
+                outcome: NackOutcome::Fenced,
             };
         };
-        let slots = self.slots;
-        let mut generations = self.generations;
         let mut deadlines = self.deadlines;
         let done = in_place::nack_at(
             at,
@@ -537,8 +541,8 @@ impl LeaseTable {
         self.next_generation.0 = done.next_generation;
         let outcome = done.outcome;
         Nacked {
-            outcome,
             table: self,
+            outcome,
         }
     }
 
@@ -563,24 +567,28 @@ impl LeaseTable {
         requires { ⌜ Sound self ⌝ }
         ensures { λ r. ⌜ Tries (r .changed) self (r .table) (deferRedelivery (view self) (offset .0) now «delay_nanos») ⌝ }
     {
-        let place = tables::find(&self.offsets, self.len, offset.0);
+        let offsets = self.offsets;
+        let slots = self.slots;
+        let place = tables::find(&offsets, self.len, offset.0);
         let Place::Found(at) = place else {
             return Changed {
-                changed: false,
                 table: self,
+                changed: false,
             };
         };
-        let slot = in_place::slot_at(&self.slots, at);
-        if now < self.deadlines[slot] {
+        let slot = in_place::slot_at(&slots, at);
+        let mut deadlines = self.deadlines;
+        if now < deadlines[slot] {
             return Changed {
-                changed: false,
                 table: self,
+                changed: false,
             };
         }
-        self.deadlines[slot] = numbers::saturating_add(now, delay_nanos);
+        deadlines[slot] = numbers::saturating_add(now, delay_nanos);
+        self.deadlines = deadlines;
         Changed {
-            changed: true,
             table: self,
+            changed: true,
         }
     }
 
