@@ -35,7 +35,7 @@ use Rattle.power_cut.specs.View.{CutKept}
 use Rattle.power_cut.specs.declared.CutAnswer.{CutAnswer}
 use Rattle.power_cut.specs.declared.CutAnswer.the-variants as failure
 use Rattle.crash_safety.specs.Runs.{Item, call, stepOn, World, world, keepsJournal, next, after, run, ends, freshWorld}
-use Rattle.crash_safety.specs.Demand3.{Premises, Demand3}
+use Rattle.crash_safety.specs.Demand3.{Demand3}
 use Rattle.crash_safety.specs.Batch.{BatchBound}
 use Rattle.crash_safety.specs.Ran.{seen, Ran, rests, calls, strays, plans, cuts, reopens, IsRun, RanIsRun, Demand3Ran}
 use Rattle.crash_safety.proofs.Invariant.{Inv}
@@ -202,7 +202,7 @@ not-refused c m m′ a a′ out s x f reads e g =
 
 pub demand-3-ran : Demand3Ran
 unfolding Demand3Ran Demand3 BatchBound
-demand-3-ran s size r h e not-0 not-max is es last end p =
+demand-3-ran s size r h e is es last end p =
     let f = fresh-from s size r h e in
     let c : state.Configuration = configurationOf s in
     let ran = runs (h .sound) p in
@@ -210,10 +210,9 @@ demand-3-ran s size r h e not-0 not-max is es last end p =
     let leaves : ends c (freshWorld (f .state) size) is ≡ world (phaseOf last) end = rw (h .configuration, f .phase) at (ran .leaves) in
     let there = reached c size (f .state) is (f .fits) (f .is) in
     let inv : Inv c size (there .ledger) (world (phaseOf last) end) = rw leaves at (there .inv) in
-    let premises : Premises c = record { limit-not-0 = not-0; limit-not-max = not-max; fits = f .fits } in
     record {
-      holds = rw (← sees) (demand-3 c size (f .state) is premises (f .is));
-      batch = rw (← sees) (batch-bound c size (f .state) is premises (f .is));
+      holds = rw (← sees) (demand-3 c size (f .state) is (f .fits) (f .is));
+      batch = λ l. rw (← sees) (batch-bound c size (f .state) is l (f .fits) (f .is));
       reopened = λ m out u a′ out′ off k x g ans fault.
           not-refused c m (u .machine) end a′ out′ _ x g (restart-finds c size end (inv .saved) (there .accepted) (inv .journal))
           (rw (off .configuration, ans) at (k (off .sound) .is)) fault;
