@@ -170,6 +170,13 @@ idle-fits zero w s e h = let same : view (w .consumer) ≡ s = cc in rw (← sam
 idle-fits (suc zero) w s e h = absurd (let z : _≡_ {A = ℕ} 0 1 = cc in omega arith)
 idle-fits (suc (suc n)) w s e h = absurd (let z : _≡_ {A = ℕ} 0 1 = cc in omega arith)
 
+-- so the configuration's do, where a start was accepted
+pub fresh-fits : (c : state.Configuration) (size : ℕ) (m : Machine) (v : State) → start c size ≡ done v → phaseOf m ≡ idle v → Sound m → Fits (c .settings)
+unfolding start
+fresh-fits c size m v is phase sound =
+    let same = checked-done (startTable c size) (fresh c size) v is .1 in
+    rw (ap (λ (x : State). x .settings) same) (idle-fits (m .phase) (m .writing) v phase sound)
+
 -- what an accepted start gives
 record Fresh (s : Configuration) (size : ℕ) (m : Machine) : Type 0 where
   state : State
@@ -178,20 +185,12 @@ record Fresh (s : Configuration) (size : ℕ) (m : Machine) : Type 0 where
   fits : Fits (configurationOf s .settings)
 
 fresh-from : (s : Configuration) (size : ℕ) (r : Started) → StartedIs s size r → r .answer ≡ answers.Started → Fresh s size (r .machine)
-unfolding start
 fresh-from s size r h e =
-    let w : Writing = r .machine .writing in
-    let v : State = view (w .consumer) in
+    let v : State = view (r .machine .writing .consumer) in
     let c = configurationOf s in
     let is : start c size ≡ done v = sym (h .is) ∙ rw e in
     let phase : phaseOf (r .machine) ≡ idle v = h .phase ∙ rw is in
-    let same = checked-done (startTable c size) (fresh c size) v is .1 in
-    record {
-      state = v;
-      is = is;
-      phase = phase;
-      fits = rw (ap (λ (x : State). x .settings) same) (idle-fits (r .machine .phase) w v phase (h .sound));
-    }
+    record { state = v; is = is; phase = phase; fits = fresh-fits c size (r .machine) v is phase (h .sound) }
 
 -- a restart of a machine that is off is not refused where the journal can be read
 not-refused : (c : state.Configuration) (m m′ : Machine) (a a′ out : List ℕ) (s : State) (x : StartAnswer) (f : Refusal)
