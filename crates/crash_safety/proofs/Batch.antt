@@ -206,9 +206,9 @@ module _ (p : Policy) (limited : 0 < p .maxDeliver) (fires : p .maxDeliver < MAX
 
 pub batch-bound : BatchBound
 unfolding BatchBound
-batch-bound c n s items p e =
+batch-bound c n s items p f e =
     omega (
       arith,
       rw (all-made c items (freshWorld s n)) at
-          (batch-bounded (c .settings .policy) (limits c p .0) (limits c p .1) (run c (freshWorld s n) items) (lawfully c n s items (p .fits) e)),
+          (batch-bounded (c .settings .policy) (limits c p f .0) (limits c p f .1) (run c (freshWorld s n) items) (lawfully c n s items f e)),
     )

@@ -10,7 +10,7 @@ use Rattle.consumer.specs.State.{Configuration, State}
 use Rattle.consumer.specs.Valid.{Fits}
 use Rattle.starts.specs.Restart.{start}
 use Rattle.crash_safety.specs.Runs.{Item, run, freshWorld}
-use Rattle.crash_safety.specs.Demand3.{Premises, Demand3}
+use Rattle.crash_safety.specs.Demand3.{Limited, Demand3}
 use Rattle.crash_safety.proofs.Law.{emptyLedger, noted, Law, Along, restarts-right}
 use Rattle.crash_safety.proofs.Generations.{none-shared}
 use Rattle.crash_safety.proofs.Bound.{bounded}
@@ -21,8 +21,8 @@ use Rattle.crash_safety.proofs.Kept.{item-kept}
 use Rattle.crash_safety.proofs.Start.{begins-well}
 
 -- M lies strictly between 0 and the largest u32, so that counts pass it before they stop
-pub limits : (c : Configuration) → Premises c → (0 < c .settings .policy .maxDeliver) × (c .settings .policy .maxDeliver < MAX32)
-limits c p = omega (arith, p .limit-not-0, p .limit-not-max, p .fits .limit-fits)
+pub limits : (c : Configuration) → Limited c → Fits (c .settings) → (0 < c .settings .policy .maxDeliver) × (c .settings .policy .maxDeliver < MAX32)
+limits c p f = omega (arith, p .not-0, p .not-max, f .limit-fits)
 
 -- the events of every list obey the law
 pub lawfully : (c : Configuration) (n : ℕ) (s : State) (items : List Item) → Fits (c .settings) → start c n ≡ done s
@@ -33,12 +33,12 @@ lawfully c n s items f e =
 
 pub demand-3 : Demand3
 unfolding Demand3
-demand-3 c n s items p e =
-    let obeyed = lawfully c n s items (p .fits) e in
+demand-3 c n s items f e =
+    let obeyed = lawfully c n s items f e in
     record {
-      bound = λ o. omega (
+      bound = λ p o. omega (
         arith,
-        rw (all-made c items (freshWorld s n)) at (bounded (c .settings .policy) (limits c p .0) (limits c p .1) (run c (freshWorld s n) items) obeyed o),
+        rw (all-made c items (freshWorld s n)) at (bounded (c .settings .policy) (limits c p f .0) (limits c p f .1) (run c (freshWorld s n) items) obeyed o),
       );
       generations = none-shared (c .settings .policy) (run c (freshWorld s n) items) emptyLedger obeyed;
       found = restarts-right (c .settings .policy) (run c (freshWorld s n) items) emptyLedger obeyed;

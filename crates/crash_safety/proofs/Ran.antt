@@ -35,7 +35,7 @@ use Rattle.power_cut.specs.View.{CutKept}
 use Rattle.power_cut.specs.declared.CutAnswer.{CutAnswer}
 use Rattle.power_cut.specs.declared.CutAnswer.the-variants as failure
 use Rattle.crash_safety.specs.Runs.{Item, call, stepOn, World, world, keepsJournal, next, after, run, ends, freshWorld}
-use Rattle.crash_safety.specs.Demand3.{Premises, Demand3}
+use Rattle.crash_safety.specs.Demand3.{Demand3}
 use Rattle.crash_safety.specs.Batch.{BatchBound}
 use Rattle.crash_safety.specs.Ran.{seen, Ran, rests, calls, strays, plans, cuts, reopens, IsRun, RanIsRun, Demand3Ran}
 use Rattle.crash_safety.proofs.Invariant.{Inv}
@@ -170,6 +170,13 @@ idle-fits zero w s e h = let same : view (w .consumer) ≡ s = cc in rw (← sam
 idle-fits (suc zero) w s e h = absurd (let z : _≡_ {A = ℕ} 0 1 = cc in omega arith)
 idle-fits (suc (suc n)) w s e h = absurd (let z : _≡_ {A = ℕ} 0 1 = cc in omega arith)
 
+-- so the configuration's do, where a start was accepted
+pub fresh-fits : (c : state.Configuration) (size : ℕ) (m : Machine) (v : State) → start c size ≡ done v → phaseOf m ≡ idle v → Sound m → Fits (c .settings)
+unfolding start
+fresh-fits c size m v is phase sound =
+    let same = checked-done (startTable c size) (fresh c size) v is .1 in
+    rw (ap (λ (x : State). x .settings) same) (idle-fits (m .phase) (m .writing) v phase sound)
+
 -- what an accepted start gives
 record Fresh (s : Configuration) (size : ℕ) (m : Machine) : Type 0 where
   state : State
@@ -178,20 +185,12 @@ record Fresh (s : Configuration) (size : ℕ) (m : Machine) : Type 0 where
   fits : Fits (configurationOf s .settings)
 
 fresh-from : (s : Configuration) (size : ℕ) (r : Started) → StartedIs s size r → r .answer ≡ answers.Started → Fresh s size (r .machine)
-unfolding start
 fresh-from s size r h e =
-    let w : Writing = r .machine .writing in
-    let v : State = view (w .consumer) in
+    let v : State = view (r .machine .writing .consumer) in
     let c = configurationOf s in
     let is : start c size ≡ done v = sym (h .is) ∙ rw e in
     let phase : phaseOf (r .machine) ≡ idle v = h .phase ∙ rw is in
-    let same = checked-done (startTable c size) (fresh c size) v is .1 in
-    record {
-      state = v;
-      is = is;
-      phase = phase;
-      fits = rw (ap (λ (x : State). x .settings) same) (idle-fits (r .machine .phase) w v phase (h .sound));
-    }
+    record { state = v; is = is; phase = phase; fits = fresh-fits c size (r .machine) v is phase (h .sound) }
 
 -- a restart of a machine that is off is not refused where the journal can be read
 not-refused : (c : state.Configuration) (m m′ : Machine) (a a′ out : List ℕ) (s : State) (x : StartAnswer) (f : Refusal)
@@ -202,7 +201,7 @@ not-refused c m m′ a a′ out s x f reads e g =
 
 pub demand-3-ran : Demand3Ran
 unfolding Demand3Ran Demand3 BatchBound
-demand-3-ran s size r h e not-0 not-max is es last end p =
+demand-3-ran s size r h e is es last end p =
     let f = fresh-from s size r h e in
     let c : state.Configuration = configurationOf s in
     let ran = runs (h .sound) p in
@@ -210,10 +209,9 @@ demand-3-ran s size r h e not-0 not-max is es last end p =
     let leaves : ends c (freshWorld (f .state) size) is ≡ world (phaseOf last) end = rw (h .configuration, f .phase) at (ran .leaves) in
     let there = reached c size (f .state) is (f .fits) (f .is) in
     let inv : Inv c size (there .ledger) (world (phaseOf last) end) = rw leaves at (there .inv) in
-    let premises : Premises c = record { limit-not-0 = not-0; limit-not-max = not-max; fits = f .fits } in
     record {
-      holds = rw (← sees) (demand-3 c size (f .state) is premises (f .is));
-      batch = rw (← sees) (batch-bound c size (f .state) is premises (f .is));
+      holds = rw (← sees) (demand-3 c size (f .state) is (f .fits) (f .is));
+      batch = λ l. rw (← sees) (batch-bound c size (f .state) is l (f .fits) (f .is));
       reopened = λ m out u a′ out′ off k x g ans fault.
           not-refused c m (u .machine) end a′ out′ _ x g (restart-finds c size end (inv .saved) (there .accepted) (inv .journal))
           (rw (off .configuration, ans) at (k (off .sound) .is)) fault;

@@ -12,11 +12,12 @@ use Rattle.types.specs.Refusal.{done}
 use Rattle.types.specs.Lists.{times}
 use Rattle.consumer.specs.State.{Configuration, State}
 use Rattle.consumer.specs.Calls.{HandOut}
+use Rattle.consumer.specs.Valid.{Fits}
 use Rattle.starts.specs.Restart.{start}
 use Rattle.machine.specs.Calls.{Event}
 use Rattle.crash_safety.specs.Runs.{Item, run, freshWorld}
 use Rattle.crash_safety.specs.Effects.{effectOf}
-use Rattle.crash_safety.specs.Demand3.{handed, forDelivery, handOuts, restartsIn, Premises}
+use Rattle.crash_safety.specs.Demand3.{handed, forDelivery, handOuts, restartsIn, Limited}
 
 -- a Deliver answer with a count of 2 or more, of whichever offset
 abbrev pub isRepeated : HandOut → Bool
@@ -45,8 +46,8 @@ abbrev pub WithinBatch : Configuration → List Item → List Event → Type 0
 WithinBatch c items es =
     handOuts isRepeated es ≤ (c .settings .policy .maxDeliver - 1) * differentOffsets es + restartsIn items * c .settings .policy .flushRedeliveries
 
--- every list, from every fresh consumer on a zeroed journal, with demand 3's premises
+-- every list, from every fresh consumer on a zeroed journal, where a limit is set
 unfoldable pub BatchBound : Type 0
 BatchBound =
-    (c : Configuration) (size : ℕ) (s : State) (items : List Item) → Premises c → start c size ≡ done s
+    (c : Configuration) (size : ℕ) (s : State) (items : List Item) → Limited c → Fits (c .settings) → start c size ≡ done s
     → WithinBatch c items (run c (freshWorld s size) items)

@@ -85,22 +85,21 @@ restartsIn [] = 0
 restartsIn (i ∷ is) = restartIn i + restartsIn is
 
 -- ## the demand
--- M is neither 0 nor 4294967295; that it and the threshold are u32 is what their types say
-pub record Premises (c : Configuration) : Type 0 where
-  pub limit-not-0 : c .settings .policy .maxDeliver ≡ 0 → ⊥
-  pub limit-not-max : c .settings .policy .maxDeliver ≡ MAX32 → ⊥
-  pub fits : Fits (c .settings)
+-- a delivery limit is set: M is neither 0 nor 4294967295
+pub record Limited (c : Configuration) : Type 0 where
+  pub not-0 : c .settings .policy .maxDeliver ≡ 0 → ⊥
+  pub not-max : c .settings .policy .maxDeliver ≡ MAX32 → ⊥
 
 pub record Holds (c : Configuration) (items : List Item) (es : List Event) : Type 0 where
-  -- each offset was handed out for delivery at most M + C × (N + 1) times, by all workers' claims together
-  pub bound : (o : ℕ) → handOuts (delivers o) es ≤ c .settings .policy .maxDeliver + restartsIn items * (c .settings .policy .flushRedeliveries + 1)
+  -- where a limit is set, each offset was handed out for delivery at most M + C × (N + 1) times, by all workers' claims together
+  pub bound : Limited c → (o : ℕ) → handOuts (delivers o) es ≤ c .settings .policy .maxDeliver + restartsIn items * (c .settings .policy .flushRedeliveries + 1)
   -- no two hand-outs share a generation
   pub generations : (g : ℕ) → handOuts (isUnder g) es ≤ 1
   -- no restart was refused, and each found the book's copy
   pub found : RestartsRight emptyBook es
 
--- every list, from every fresh consumer on a zeroed journal
+-- every list, from every fresh consumer on a zeroed journal; that the configuration's numbers fit is what their types say
 unfoldable pub Demand3 : Type 0
 Demand3 =
-    (c : Configuration) (size : ℕ) (s : State) (items : List Item) → Premises c → start c size ≡ done s
+    (c : Configuration) (size : ℕ) (s : State) (items : List Item) → Fits (c .settings) → start c size ≡ done s
     → Holds c items (run c (freshWorld s size) items)

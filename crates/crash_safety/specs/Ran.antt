@@ -8,7 +8,6 @@ use mathlib.Core.List.{List, [], _∷_}
 use mathlib.Core.Option.{Option, none, some}
 use lib.Dec.{eqb}
 use lib.ListN.{length, replicate}
-use Rattle.types.specs.Limits.{MAX32}
 use Rattle.types.specs.Refusal.{Refusal}
 use Rattle.consumer.specs.Questions.{Plan}
 use Rattle.consumer.specs.declared.Configuration.{Configuration}
@@ -30,7 +29,7 @@ use Rattle.power_cut.specs.View.{cutOf, CutIs}
 use Rattle.power_cut.specs.declared.Kind.{Kind}
 use Rattle.power_cut.specs.declared.Failed.{Failed}
 use Rattle.crash_safety.specs.Runs.{Item, call, stepOn, cut, world, run, ends}
-use Rattle.crash_safety.specs.Demand3.{Holds}
+use Rattle.crash_safety.specs.Demand3.{Limited, Holds}
 use Rattle.crash_safety.specs.Batch.{WithinBatch}
 
 -- what is seen, in front of what is seen after it; of a call answered NotNow nothing is
@@ -90,16 +89,15 @@ RanIsRun =
 -- ## so demand 3 and the bound over the batch hold of it
 pub record HoldsRan (s : Configuration) (is : List Item) (es : List Event) (last : Machine) (end : List ℕ) : Type 0 where
   pub holds : Holds (configurationOf s) is es
-  pub batch : WithinBatch (configurationOf s) is es
+  pub batch : Limited (configurationOf s) → WithinBatch (configurationOf s) is es
   -- and no machine that is off is refused to go on from the journal
   pub reopened : (m : Machine) (out : List ℕ) (r : Called) (a′ out′ : List ℕ) → OffIs s m
       → (Sound m → CalledIs m restart end out r a′ out′)
       → (x : StartAnswer) (f : Refusal) → r .answer ≡ answer.Restarted x → startFault x ≡ some f → ⊥
 
--- every program, from every machine that a start gave, on a zeroed journal, with a limit that is neither 0 nor 4294967295
+-- every program, from every machine that a start gave, on a zeroed journal
 unfoldable pub Demand3Ran : Type 0
 Demand3Ran =
     (s : Configuration) (size : ℕ) (r : Started) → StartedIs s size r → r .answer ≡ start.Started
-    → (configurationOf s .settings .policy .maxDeliver ≡ 0 → ⊥) → (configurationOf s .settings .policy .maxDeliver ≡ MAX32 → ⊥)
     → (is : List Item) (es : List Event) (last : Machine) (end : List ℕ) → Ran (r .machine) (replicate size 0) is es last end
     → HoldsRan s is es last end

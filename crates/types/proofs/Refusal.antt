@@ -1,6 +1,7 @@
--- Different refusals have different numbers: each is made again from its number and its values. Assumes nothing.
+-- Different refusals have different numbers, none of them 0: each is made again from its number and its values. Assumes nothing.
 use Prim.Native.Nat.{ℕ, _-_}
-use mathlib.Core.Path.{_≡_, refl, sym, _∙_}
+use native.Mathlib.Omega.{arith}
+use mathlib.Core.Path.{_≡_, refl, sym, ap, _∙_}
 use mathlib.Core.List.{List, [], _∷_}
 use lib.ListN.{length, getD}
 use Rattle.types.specs.Refusal.{Refusal, UnlimitedDeliverNotAllowed, TooManySteps, ZeroThreshold, BadArea, Damaged, CursorTruncated, CursorBadLength, CursorUnsupportedVersion, CursorBadCrc, EmptyRange, NotSortedDisjointAndAboveCommitted, TooManyRuns, AttemptTruncated, AttemptUnsupportedVersion, AttemptBadLength, CountMismatch, AttemptBadCrc, NotSorted, TooManyPairs, OutTooShort, LastOffset, Settled, InFlight, Fenced, Exhausted, CheckpointDue, Full, CapReached, Shed, Held, JournalFull, BoundsReversed, BadHours, NeverOpen, Closed, UnequalLengths, Falling, UnknownWorker, NotPermitted, ForeignToken, numbered, NumberedApart}
@@ -90,3 +91,9 @@ numbered-apart r q e =
       as-many = sym (again r .1) ∙ rw e (again q .1);
       same = λ v. sym (again r .0) ∙ rw (e, v) (again q .0);
     }
+
+-- 0 is the number of an outcome: a refusal of that number would be the first, whose number is 1
+pub number-not-0 : (r : Refusal) → numbered r .number ≡ 0 → ⊥
+number-not-0 r e =
+    let first : UnlimitedDeliverNotAllowed ≡ r = rw e at (again r .0) in
+    omega (arith, e, ap (λ (q : Refusal). numbered q .number) first)
