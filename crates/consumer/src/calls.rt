@@ -93,6 +93,7 @@ pub struct Committed {
     pub consumer: Consumer,
 }
 
+// A call lends copies of the columns that it reads and changes, as those of a lease table by value do.
 impl Consumer {
     // The consumer with another table.
     fn with_table(self, table: LeaseTable) -> Consumer
@@ -145,6 +146,9 @@ impl Consumer {
         let mut workers = self.table.workers;
         let mut carried_offsets = self.table.carried_offsets;
         let mut carried_counts = self.table.carried_counts;
+        let rights = self.settings.rights;
+        let starts = self.cursor.starts;
+        let ends = self.cursor.ends;
         let done = in_place::claim_in_place(
             config,
             hours,
@@ -160,9 +164,9 @@ impl Consumer {
             worker,
             offset.0,
             now,
-            &self.settings.rights,
-            &self.cursor.starts,
-            &self.cursor.ends,
+            &rights,
+            &starts,
+            &ends,
             &mut offsets,
             &mut slots,
             &mut generations,
@@ -206,6 +210,10 @@ impl Consumer {
         let mut table = self.table;
         let mut offsets = table.offsets;
         let mut slots = table.slots;
+        let rights = self.settings.rights;
+        let generations = self.table.generations;
+        let deliveries = self.table.deliveries;
+        let workers = self.table.workers;
         let done = in_place::settle_in_place(
             self.cursor.committed,
             self.cursor.runs,
@@ -213,14 +221,14 @@ impl Consumer {
             worker,
             token.offset.0,
             token.generation.0,
-            &self.settings.rights,
+            &rights,
             &mut starts,
             &mut ends,
             &mut offsets,
             &mut slots,
-            &self.table.generations,
-            &self.table.deliveries,
-            &self.table.workers,
+            &generations,
+            &deliveries,
+            &workers,
         );
         let answer = done.answer;
         let cursor = AckCursor {
@@ -257,6 +265,12 @@ impl Consumer {
         let hours = self.settings.hours;
         let mut generations = table.generations;
         let mut deadlines = table.deadlines;
+        let rights = self.settings.rights;
+        let backoff_nanos = self.settings.delivery.backoff_nanos;
+        let offsets = self.table.offsets;
+        let slots = self.table.slots;
+        let deliveries = self.table.deliveries;
+        let workers = self.table.workers;
         let done = in_place::nack_in_place(
             config,
             hours,
@@ -269,14 +283,14 @@ impl Consumer {
             token.generation.0,
             now,
             delay,
-            &self.settings.rights,
-            &self.settings.delivery.backoff_nanos,
-            &self.table.offsets,
-            &self.table.slots,
+            &rights,
+            &backoff_nanos,
+            &offsets,
+            &slots,
             &mut generations,
             &mut deadlines,
-            &self.table.deliveries,
-            &self.table.workers,
+            &deliveries,
+            &workers,
         );
         let answer = done.answer;
         table.generations = generations;
@@ -296,6 +310,13 @@ impl Consumer {
         let mut table = self.table;
         let config = table.config;
         let mut deadlines = table.deadlines;
+        let rights = self.settings.rights;
+        let offsets = self.table.offsets;
+        let slots = self.table.slots;
+        let generations = self.table.generations;
+        let attempt_starts = self.table.attempt_starts;
+        let deliveries = self.table.deliveries;
+        let workers = self.table.workers;
         let answer = in_place::progress_in_place(
             config,
             table.len,
@@ -303,14 +324,14 @@ impl Consumer {
             token.offset.0,
             token.generation.0,
             now,
-            &self.settings.rights,
-            &self.table.offsets,
-            &self.table.slots,
-            &self.table.generations,
-            &self.table.attempt_starts,
+            &rights,
+            &offsets,
+            &slots,
+            &generations,
+            &attempt_starts,
             &mut deadlines,
-            &self.table.deliveries,
-            &self.table.workers,
+            &deliveries,
+            &workers,
         );
         table.deadlines = deadlines;
         Progressed {
@@ -331,6 +352,7 @@ impl Consumer {
         let mut slots = table.slots;
         let mut carried_offsets = table.carried_offsets;
         let mut carried_counts = table.carried_counts;
+        let rights = self.settings.rights;
         let left = in_place::commit_in_place(
             self.cursor.committed,
             self.cursor.runs,
@@ -338,7 +360,7 @@ impl Consumer {
             table.carried_len,
             worker,
             bound.0,
-            &self.settings.rights,
+            &rights,
             &mut starts,
             &mut ends,
             &mut offsets,

@@ -9,8 +9,8 @@ use Rattle.consumer.proofs.Arrays.{table-full}
 use Rattle.consumer.proofs.Consumer.progress.Statement.{statement}
 use Rattle.consumer.proofs.Consumer.progress.Tie as tie
 
-whole : (s : tie.Start) → Whole (s .args .t1)
-whole s = record { full = table-full (s .args .t1 .table) _ (s .good .0 .1 .1 .1 .0); sound = s .pre }
+whole : (s : tie.Start) → Whole (s .args .self)
+whole s = record { full = table-full (s .args .self .table) _ (s .good .0 .1 .1 .1 .0); sound = s .pre }
 
 progress-in-place-requires : tie.Need-progress-in-place-requires
 progress-in-place-requires c κs = search needs
@@ -21,8 +21,8 @@ with-table-requires c κs = search needs
 returns : tie.Need-returns
 returns c =
     let k = c .before in
-    let s = k .before .before .before .before .before .before .before .before .before .before .before .before .before in
-    let x = s .args .t1 in
+    let s = k .before .before .before .before .before .before .before .before .before .before .before .before .before .before .before .before .before .before .before in
+    let x = s .args .self in
     subst (λ (y : Consumer). Answers (progressOf (k .progress-in-place .result)) x y (progress (view x) (s .args .worker) (s .args .token .offset .0) (s .args .token .generation .0) (s .args .now))) (sym (c .with-table .ensures)) (k .progress-in-place .ensures x (whole s))
 
 pub progress-spec : {M : Type 1} → statement M
