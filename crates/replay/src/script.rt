@@ -7,7 +7,7 @@ use text::words::Numbers;
 
 // The table of forms, with bars between them. Of each stand its words, then a colon and what it is for: words in capitals are numbers,
 // and of the last there are any number where it ends in dots. Forms that begin alike stand together, and the first says what they are.
-pub const FORMS: [u8; 1882] = *b"claim OFFSET NOW: hands an offset out|\
+pub const FORMS: [u8; 1915] = *b"claim OFFSET NOW: hands an offset out|\
     ack OFFSET GENERATION: settles an offset, by the token that it was handed out with|\
     term OFFSET GENERATION: the same, of a job that is given up|\
     nack OFFSET GENERATION NOW: gives an offset back, to wait as the backoffs say; a DELAY may stand behind|\
@@ -28,13 +28,13 @@ pub const FORMS: [u8; 1882] = *b"claim OFFSET NOW: hands an offset out|\
     poke BLOCK BYTE VALUE: puts a byte into the journal|\
     peek BLOCK: the bytes of a block|\
     worker WORKER: who makes the calls that follow|\
-    rights WORKER MASK: what a worker, 0 to 7, may do from the next start on; MASK is 0 to 255|\
+    rights WORKER MASK: what a worker, 0 to 7, may do from the next start or restart on; MASK is 0 to 255|\
     view OFFSET NOW: how an offset stands|\
     open FROM TO ROOM: the stretches from one offset up to another that are not settled; ROOM for them is 0 to 256|\
     nearest OFFSET: the first offset from there on that is not settled|\
     plan ROOM OFFSET...: which of up to 128 offsets are settled; ROOM for the answers is 0 to 256|\
-    hours SHIFT MON TUE WED THU FRI SAT SUN: the opening hours from the next start on; or hours none|\
-    hours none: no opening hours from the next start on|\
+    hours SHIFT MON TUE WED THU FRI SAT SUN: the opening hours from the next start or restart on; or hours none|\
+    hours none: no opening hours from the next start or restart on|\
     help: these lines; behind it a bad line is told what it should be";
 
 // The forms, by their places in the table. A line of none of them is bad, and has one place more; `NOTHING` is no form of the table.
