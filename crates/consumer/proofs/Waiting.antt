@@ -116,7 +116,7 @@ higher x y k h =
 just-one : (x y : Entry ℕ) → x .key < y .key → waitsLonger y x ≡ not (waitsLonger x y)
 just-one x y k = split (waitsLonger x y) (λ q. rw q (higher y x k (no-later x y q))) (λ q. rw q (earlier y x (not-longer x y k q)))
 
--- longer than one that waits longer than a third is longer than the third
+-- x longer than y and y longer than z is x longer than z
 through : (x y z : Entry ℕ) → waitsLonger x y ≡ true → waitsLonger y z ≡ true → waitsLonger x z ≡ true
 through x y z p q =
     split (ltb (x .value) (z .value))
