@@ -1,7 +1,7 @@
 pub mod Area
 pub mod Updates
 pub mod Open
-pub mod Waits
+pub mod Nacks
 pub mod Valid
 pub mod Counts
 pub mod Effects

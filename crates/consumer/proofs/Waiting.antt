@@ -1,10 +1,10 @@
--- Laws of the order in which expired leases wait: it holds each as often as before, it is in order, and where one comes in.
+-- Laws of the order in which expired leases wait: it holds each as often as before, it is in order, and where the next lease comes in.
 -- Assumes nothing.
 use Prim.Native.Nat.{ℕ, zero, suc, _+_, _-_, _≤_, _<_}
 use native.Mathlib.Omega.{arith}
 use mathlib.Core.Path.{_≡_, refl, sym, ap, _∙_}
-use mathlib.Core.Bool.{true, false, cond, true≢false}
-use mathlib.Core.List.{List, [], _∷_}
+use mathlib.Core.Bool.{true, false, cond, not, true≢false}
+use mathlib.Core.List.{List, [], _∷_, _++_, append-nil}
 use lib.Dec.{ltb, eqb}
 use lib.ListN.{length, getD}
 use borrow.Author.Tests.{ltb-true, ltb-false, lt-ltb, le-ltb, eq-eqb, ne-eqb}
@@ -88,19 +88,48 @@ module _ (x y : Entry ℕ) where
       (λ t. absurd (true≢false (sym h ∙ later (ltb-true (y .value) (x .value) t))))
       (λ t. ltb-false (y .value) (x .value) t)
 
+  -- of one deadline the lower offset waits longer
+  tie : x .value ≡ y .value → waitsLonger x y ≡ ltb (x .key) (y .key)
+  tie e = rw (le-ltb (x .value) (y .value) (omega arith), eq-eqb (x .value) (y .value) e)
+
   -- the lower offset waits longer unless its deadline is later
   module _ (k : x .key < y .key) where
     lower : x .value ≤ y .value → waitsLonger x y ≡ true
     lower h =
         split (ltb (x .value) (y .value))
         (λ t. rw t)
-        (λ t. rw (t, eq-eqb (x .value) (y .value) (omega (arith, ltb-false (x .value) (y .value) t)), lt-ltb (x .key) (y .key) k))
+        (λ t. tie (omega (arith, ltb-false (x .value) (y .value) t)) ∙ lt-ltb (x .key) (y .key) k)
 
     not-longer : waitsLonger x y ≡ false → y .value < x .value
     not-longer h =
         split (ltb (y .value) (x .value))
         (λ t. ltb-true (y .value) (x .value) t)
         (λ t. absurd (true≢false (sym (lower (ltb-false (y .value) (x .value) t)) ∙ h)))
+
+-- the higher one only where its deadline is earlier, so that of the two just one does
+higher : (x y : Entry ℕ) → y .key < x .key → y .value ≤ x .value → waitsLonger x y ≡ false
+higher x y k h =
+    split (ltb (y .value) (x .value))
+    (λ t. later x y (ltb-true (y .value) (x .value) t))
+    (λ t. tie x y (omega (arith, ltb-false (y .value) (x .value) t)) ∙ le-ltb (x .key) (y .key) (omega arith))
+
+just-one : (x y : Entry ℕ) → x .key < y .key → waitsLonger y x ≡ not (waitsLonger x y)
+just-one x y k = split (waitsLonger x y) (λ q. rw q (higher y x k (no-later x y q))) (λ q. rw q (earlier y x (not-longer x y k q)))
+
+-- x longer than y and y longer than z is x longer than z
+through : (x y z : Entry ℕ) → waitsLonger x y ≡ true → waitsLonger y z ≡ true → waitsLonger x z ≡ true
+through x y z p q =
+    split (ltb (x .value) (z .value))
+    (λ t. rw t)
+    (λ t.
+    let e : x .value ≡ y .value = omega (arith, no-later x y p, no-later y z q, ltb-false (x .value) (z .value) t) in
+    let f : y .value ≡ z .value = omega (arith, no-later y z q, ltb-false (x .value) (z .value) t) in
+    let g = ltb-true (x .key) (y .key) (sym (tie x y e) ∙ p) in
+    let h = ltb-true (y .key) (z .key) (sym (tie y z f) ∙ q) in
+    tie x z (e ∙ f) ∙ lt-ltb (x .key) (z .key) (omega (arith, g, h)))
+
+not-before : (x y z : Entry ℕ) → waitsLonger y z ≡ true → waitsLonger x z ≡ false → waitsLonger x y ≡ false
+not-before x y z q p = split (waitsLonger x y) (λ t. absurd (true≢false (sym (through x y z t q) ∙ p))) (λ t. t)
 
 -- each waits longer than all behind it
 abbrev pub First : Entry ℕ → List (Entry ℕ) → Type 0
@@ -111,15 +140,11 @@ Ordered [] = Unit {0}
 Ordered (x ∷ l) = First x l × Ordered l
 
 module _ (x : Entry ℕ) where
-  first-through : (y : Entry ℕ) (l : List (Entry ℕ)) → x .value ≤ y .value → All (λ k v. x .key < k) l → First y l → First x l
-  first-through y [] h a f = tt
-  first-through y (z ∷ l) h a f = (lower x z (a .0) (omega (arith, no-later y z (f .0))), first-through y l h (a .1) (f .1))
-
   placed-in-order : (l : List (Entry ℕ)) → All (λ k v. x .key < k) l → Ordered l → Ordered (takesPlace x l)
   placed-in-order [] a o = (tt, tt)
   placed-in-order (y ∷ l) a o =
       split (waitsLonger x y)
-      (λ q. rw q ((q, first-through y l (no-later x y q) (a .1) (o .0)), o))
+      (λ q. rw q ((q, all-imply (λ k v. waitsLonger y (entry k v) ≡ true) (λ k v. waitsLonger x (entry k v) ≡ true) l (λ k v h. through x y (entry k v) q h) (o .0)), o))
       (λ q. rw q (all-placed (λ k v. waitsLonger y (entry k v) ≡ true) x l (earlier y x (not-longer x y (a .0) q)) (o .0), placed-in-order l (a .1) (o .1)))
 
 ordered-in-order : (lo : ℕ) (l : List (Entry ℕ)) → Rising lo l → Ordered (longestFirst l)
@@ -173,19 +198,61 @@ before-boundary d (suc at) y l f b =
     let h : getD (deadlinesOf l) at 0 < d = boundary-before d (suc at) (deadlinesOf (y ∷ l)) b in
     omega (arith, first-deadline y l at f (omega (arith, b .inside)))
 
--- one of a lower offset than all comes in at the boundary of its deadline
-placed-at : (x : Entry ℕ) (at : ℕ) (l : List (Entry ℕ)) → All (λ k v. x .key < k) l → Ordered l → Boundary (x .value) (deadlinesOf l) at
+-- one of a higher offset than all comes in behind the deadlines that are not later
+placed-at : (x : Entry ℕ) (at : ℕ) (l : List (Entry ℕ)) → All (λ k v. k < x .key) l → Ordered l → Boundary (x .value + 1) (deadlinesOf l) at
     → takesPlace x l ≡ inserted at x l
 placed-at x zero [] a o b = refl
 placed-at x (suc at) [] a o b = absurd (omega (arith, b .inside))
-placed-at x zero (y ∷ l) a o b = rw (lower x y (a .0) (b .behind (omega arith)))
+placed-at x zero (y ∷ l) a o b = rw (earlier x y (omega (arith, b .behind (omega arith))))
 placed-at x (suc at) (y ∷ l) a o b =
-    rw (later x y (before-boundary (x .value) at y l (o .0) b))
-    (ap (λ (k : List (Entry ℕ)). y ∷ k) (placed-at x at l (a .1) (o .1) (boundary-rest (x .value) (y .value) at (deadlinesOf l) b)))
+    rw (higher x y (a .0) (omega (arith, before-boundary (x .value + 1) at y l (o .0) b)))
+    (ap (λ (k : List (Entry ℕ)). y ∷ k) (placed-at x at l (a .1) (o .1) (boundary-rest (x .value + 1) (y .value) at (deadlinesOf l) b)))
 
-pub takes-place : (now : ℕ) (x : Entry ℕ) (at : ℕ) (l : List (Entry Lease)) → Rising (suc (x .key)) l
-    → Boundary (x .value) (deadlinesOf (longestFirst (expiredDeadlines now l))) at
-    → takesPlace x (longestFirst (expiredDeadlines now l)) ≡ inserted at x (longestFirst (expiredDeadlines now l))
-takes-place now x at l r b =
-    let up = rising-all (suc (x .key)) (expiredDeadlines now l) (expired-rising now (suc (x .key)) l r) in
-    placed-at x at (longestFirst (expiredDeadlines now l)) (all-ordered (λ k v. x .key < k) (expiredDeadlines now l) up) (in-order now (suc (x .key)) l r) b
+-- ## from the first on
+-- two of different offsets take their places in either order
+module _ (x y : Entry ℕ) (k : x .key < y .key) where
+  either-first : (l : List (Entry ℕ)) → takesPlace x (takesPlace y l) ≡ takesPlace y (takesPlace x l)
+  either-first [] = split (waitsLonger x y) (λ q. rw (just-one x y k, q)) (λ q. rw (just-one x y k, q))
+  either-first (z ∷ l) =
+      split (waitsLonger x z)
+      (λ p. split (waitsLonger y z)
+      (λ q. split (waitsLonger x y) (λ r. simp (p, q, just-one x y k, r)) (λ r. simp (p, q, just-one x y k, r)))
+      (λ q. simp (p, q, not-before y x z p q)))
+      (λ p. split (waitsLonger y z)
+      (λ q. simp (p, q, not-before x y z q p))
+      (λ q. simp (p, q) (ap (λ (m : List (Entry ℕ)). z ∷ m) (either-first l))))
+
+-- so the last one may take its place when all others have
+last-placed : (x : Entry ℕ) (l : List (Entry ℕ)) → All (λ k v. k < x .key) l → longestFirst (l ++ x ∷ []) ≡ takesPlace x (longestFirst l)
+last-placed x [] a = refl
+last-placed x (y ∷ l) a = ap (takesPlace y) (last-placed x l (a .1)) ∙ either-first y x (a .0) (longestFirst l)
+
+-- what comes before the last of a sorted list
+rising-last : (lo : ℕ) (x : Entry ℕ) (l : List (Entry ℕ)) → Rising lo (l ++ x ∷ []) → (lo ≤ x .key) × Rising lo l × All (λ k v. k < x .key) l
+rising-last lo x [] r = (r .0, tt, tt)
+rising-last lo x (y ∷ l) r =
+    let rest = rising-last (suc (y .key)) x l (r .1) in
+    (omega (arith, r .0, rest .0), (r .0, rest .1), (rest .0, rest .2))
+
+expired-append : (now : ℕ) (l m : List (Entry Lease)) → expiredDeadlines now (l ++ m) ≡ expiredDeadlines now l ++ expiredDeadlines now m
+expired-append now [] m = refl
+expired-append now (e ∷ l) m =
+    split (ltb now (e .value .deadline))
+    (λ q. rw q (expired-append now l m))
+    (λ q. rw q (ap (λ (k : List (Entry ℕ)). entry (e .key) (e .value .deadline) ∷ k) (expired-append now l m)))
+
+-- a lease behind others, which runs or comes in
+module _ (now : ℕ) (e : Entry Lease) (l : List (Entry Lease)) where
+  pub stays-out : now < e .value .deadline → expiredDeadlines now (l ++ e ∷ []) ≡ expiredDeadlines now l
+  stays-out h = expired-append now l (e ∷ []) ∙ rw (lt-ltb now (e .value .deadline) h) (append-nil (expiredDeadlines now l))
+
+  pub comes-in : (lo at : ℕ) → Rising lo (l ++ e ∷ []) → e .value .deadline ≤ now → Boundary (e .value .deadline + 1) (deadlinesOf (longestFirst (expiredDeadlines now l))) at
+      → longestFirst (expiredDeadlines now (l ++ e ∷ [])) ≡ inserted at (entry (e .key) (e .value .deadline)) (longestFirst (expiredDeadlines now l))
+  comes-in lo at r h b =
+      let x : Entry ℕ = entry (e .key) (e .value .deadline) in
+      let known = expiredDeadlines now l in
+      let same : expiredDeadlines now (l ++ e ∷ []) ≡ known ++ x ∷ [] = expired-append now l (e ∷ []) ∙ rw (le-ltb now (e .value .deadline) h) in
+      let up = rising-last lo x known (rw same at (expired-rising now lo (l ++ e ∷ []) r)) in
+      ap longestFirst same
+      ∙ last-placed x known (up .2)
+      ∙ placed-at x at (longestFirst known) (all-ordered (λ k v. k < x .key) known (up .2)) (ordered-in-order lo known (up .1)) b

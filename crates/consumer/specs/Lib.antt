@@ -2,7 +2,7 @@ pub mod State
 pub mod Rights
 pub mod Standing
 pub mod Calls
-pub mod Waits
+pub mod Nacks
 pub mod Waiting
 pub mod Questions
 pub mod Valid

@@ -382,9 +382,9 @@ pub fn commit_test(committed: u64, worker: u64, bound: u64, rights: &[u8; WORKER
     }
 }
 
-// The waiting list in an array: the carried offsets, then those of expired leases, the longest waiting first. Each lease is put in at
-// the place of its deadline. The last lease comes first, so that of equal deadlines the lower offset stands in front. There is room for
-// all, since leases and carried offsets are at most 128 together.
+// The waiting list in an array: the carried offsets, then those of expired leases, the longest waiting first. Each lease, from the first
+// on, is put in behind all whose deadline is not later, so that of equal deadlines the lower offset stands in front; where deadlines rise
+// with the offsets none is moved. There is room for all, since leases and carried offsets are at most 128 together.
 pub fn waiting_list<'a>(
     len: usize,
     carried_len: usize,
@@ -400,17 +400,17 @@ pub fn waiting_list<'a>(
     let mut listed = *carried_offsets;
     let mut by_deadline = [0u64; LEASES];
     let mut n: usize = 0;
-    let mut i = len;
-    while 0 < i {
-        i -= 1;
+    let mut i: usize = 0;
+    while i < len {
         let slot = lease::in_place::slot_at(slots, i);
         let deadline = deadlines[slot];
         if deadline <= now {
-            let at = tables::position(&by_deadline, n, deadline);
+            let at = tables::position_after(&by_deadline, n, deadline);
             tables::insert_64(&mut by_deadline, n, at, deadline);
             tables::insert_128(&mut listed, carried_len + n, carried_len + at, offsets[i]);
             n += 1;
         }
+        i += 1;
     }
     OffsetList {
         offsets: listed,

@@ -17,7 +17,7 @@ pub mod Demand3
 pub mod Batch
 pub mod Reached
 pub mod Workers
-pub mod Waits
+pub mod Nacks
 pub mod Tokens
 pub mod Holders
 pub mod Rows

@@ -4,7 +4,7 @@ pub mod Book
 pub mod Demand3
 pub mod Batch
 pub mod Workers
-pub mod Waits
+pub mod Nacks
 pub mod Hours
 pub mod Tokens
 pub mod Settled

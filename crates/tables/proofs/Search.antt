@@ -73,6 +73,13 @@ module _ (x len : ℕ) (keys : List ℕ) where
           behind = λ p. let k : low < min len (length keys) = simp length-take at p in rw (getD-take len keys low 0 (omega (arith, k)), e) (inv .behind (omega (arith, k)) (omega (arith, k)));
         }
 
+  -- nothing is left to search where the last number is below x
+  pub boundary-end : {at : ℕ} → at ≡ min len (length keys) → (0 < at → getD keys (at - 1) 0 < x) → Boundary x (take len keys) at
+  boundary-end {at} e h =
+      let end : Halving x len keys at at =
+      record { order = omega arith; used = omega (arith, e); there = omega (arith, e); before = h; behind = λ p q. absurd (omega (arith, e)) } in
+      halved end (omega arith)
+
 -- ## the number at the boundary
 module _ (x at len : ℕ) (keys : List ℕ) where
   pub placed-found : at < min len (length keys) → getD keys at 0 ≡ x → Placed x (take len keys) (Found at)

@@ -34,7 +34,21 @@ pub fn position(keys: &[u64], len: usize, x: u64) -> usize
     low
 }
 
-// Whether x stands at that place.
+// A place with no key up to x at it, and one up to x before it: in a sorted column, behind all keys that are not above x. The last
+// key is looked at first: where keys come in their order there is no search.
+pub fn position_after(keys: &[u64], len: usize, x: u64) -> usize
+    ensures { λ r. ⌜ Boundary (x + 1) (take len (now (keys .entry))) r ⌝ }
+{
+    let end = shorter(len, keys.len());
+    if 0 < end {
+        if x < keys[end - 1] {
+            return position(keys, len, x + 1);
+        }
+    }
+    end
+}
+
+// Whether x stands at the place of `position`.
 pub fn find(keys: &[u64], len: usize, x: u64) -> Place
     ensures { λ r. ⌜ Placed x (take len (now (keys .entry))) r ⌝ }
 {

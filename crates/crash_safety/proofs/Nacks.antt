@@ -11,7 +11,7 @@ use Rattle.types.specs.Table.{Passed}
 use Rattle.types.proofs.Cases.{split}
 use Rattle.consumer.specs.State.{Configuration, State}
 use Rattle.consumer.proofs.Open.{claim-cases, ack-cases, nack-cases, progress-cases, commit-cases}
-use Rattle.consumer.proofs.Waits.{deadline-within}
+use Rattle.consumer.proofs.Nacks.{deadline-within}
 use Rattle.checkpoint.specs.Checkpoint as checkpoint
 use Rattle.checkpoint.specs.Checkpoint.{Writing, isLast}
 use Rattle.checkpoint.proofs.Open.{begin-says}
@@ -22,7 +22,7 @@ use Rattle.machine.specs.Calls.{Ask, claim, ack, term, nack, progress, commit, 
 use Rattle.machine.specs.Transitions.{Phase, idle, writing, off, After, answeredAs, asked, beganAs, steppedAs, restartedAs}
 use Rattle.power_cut.specs.Cut.{Cut, old, new, torn, isTorn, cutAt, cutOn}
 use Rattle.crash_safety.specs.Runs.{Item, keepsJournal, World, world, next, run, freshWorld}
-use Rattle.crash_safety.specs.Waits.{NackInTime, NacksInTime, NacksWithinCap}
+use Rattle.crash_safety.specs.Nacks.{NackInTime, NacksInTime, NacksWithinCap}
 use Rattle.crash_safety.proofs.Law.{Ledger, emptyLedger, noted, Law, Along}
 use Rattle.crash_safety.proofs.Runs.{Answered, along}
 use Rattle.crash_safety.proofs.Items.{Shown, next-cases}

@@ -15,7 +15,7 @@ use Rattle.hours.proofs.Openings.{next-later}
 use Rattle.lease.specs.Operations.{leaseOf, running, requeuedAs}
 use Rattle.consumer.specs.State.{State}
 use Rattle.consumer.specs.Calls.{attemptOf, nackDeadline, nacked, nack}
-use Rattle.consumer.specs.Waits.{latest, WithinCap, NackWithinCap}
+use Rattle.consumer.specs.Nacks.{latest, WithinCap, NackWithinCap}
 use Rattle.consumer.proofs.Updates.{lookup-update-same}
 use Rattle.consumer.proofs.Open.{NackOpen, nack-cases}
 
