@@ -7,17 +7,19 @@ use Rattle.crc.proofs.Rows.{two-nibbles}
 use Rattle.crc.proofs.short.after_one.Statement.{statement}
 use Rattle.crc.proofs.short.after_one.Tie as tie
 
-row0-requires : tie.Need-row0-requires
-row0-requires c κs = omega arith
+in-byte-requires : tie.Need-in-byte-requires
+in-byte-requires c κs = omega arith
 
-row1-requires : tie.Need-row1-requires
-row1-requires c κs = omega arith
+in-byte-requires-2 : tie.Need-in-byte-requires-2
+in-byte-requires-2 c κs = omega arith
 
 returns : tie.Need-returns
 returns c =
-    let a = c .before .before .args in
-    by-fed (a .register) (a .byte) _ (c .before .before .fits .register .fits)
-    (two-nibbles (bitXor (a .register) (a .byte) % 256) _ _ (c .before .row0 .ensures) (c .row1 .ensures))
+    let second = c .before .before in
+    let first = second .before in
+    let a = first .before .args in
+    by-fed (a .register) (a .byte) _ (first .before .fits .register .fits)
+    (two-nibbles (bitXor (a .register) (a .byte) % 256) _ _ (omega arith) (first .in-byte .ensures .0) (second .in-byte2 .ensures .1))
 
 pub after-one-spec : {M : Type 1} → statement M
-after-one-spec = tie.close (tie.spec row0-requires row1-requires returns)
+after-one-spec = tie.close (tie.spec in-byte-requires in-byte-requires-2 returns)
