@@ -1,32 +1,26 @@
 -- What the decoder's functions answer, over plain values. Assumes nothing.
 use Prim.Native.Nat.{ℕ, zero, suc, _+_, _-_, _*_, _%_, _≤_, _<_}
 use native.Mathlib.Omega.{arith}
-use mathlib.Core.Path.{_≡_, sym, subst}
+use mathlib.Core.Path.{_≡_, refl, sym, subst}
 use mathlib.Core.Bool.{true, false}
 use mathlib.Core.List.{List, [], _∷_, _++_}
 use mathlib.Core.Option.{none, some}
-use lib.ListN.{length, take, getD}
+use lib.ListN.{length, getD}
 use borrow.Author.Tests.{lt-ltb, le-ltb, eq-eqb, ne-eqb, ltb-false}
 use Rattle.types.specs.Refusal.{CursorTruncated, CursorBadLength, CursorUnsupportedVersion, CursorBadCrc}
 use Rattle.types.specs.Table.{first}
-use Rattle.types.specs.Zipped.{zipped}
 use Rattle.types.proofs.Table.{first-none, first-met-before, first-none-before}
 use Rattle.raw.specs.Bytes.{IsBytes, numberAt}
 use Rattle.crc.specs.Seal.{isSealed}
 use Rattle.cursor.specs.Ranges.{range}
 use Rattle.cursor.specs.Cursor.{Valid, resumeTable}
 use Rattle.cursor.specs.Snapshot.{readRanges, rangeCount, cursorIn, frameTable, decodeTable, decodeCursor}
-use Rattle.cursor.specs.View.{view, Fresh}
-use Rattle.cursor.specs.Answers.{rangesError, snapshotError, decodeFault, DecodedIs}
-use Rattle.cursor.specs.Taking.{Taken}
+use Rattle.cursor.specs.View.{view, empty}
+use Rattle.cursor.specs.Answers.{snapshotError, decodeFault, DecodedIs}
 use Rattle.cursor.specs.declared.AckCursor.{AckCursor}
-use Rattle.cursor.specs.declared.AckCursorError.{AckCursorError}
 use Rattle.cursor.specs.declared.SnapshotError.{SnapshotError}
-use Rattle.cursor.specs.declared.Resume.the-variants as resumes
-use Rattle.cursor.specs.declared.Resuming.{Resuming}
 use Rattle.cursor.specs.declared.Decode.the-variants.{Restored, Refused}
 use Rattle.cursor.proofs.Snapshot.{length-read, accepted, read-valid}
-use Rattle.cursor.proofs.Taking.{fault-of-all, taken-is}
 
 -- n ranges in the bytes, and more behind them
 pub read-more : (n more pos : ℕ) (bytes : List ℕ) → readRanges (n + more) pos bytes ≡ readRanges n pos bytes ++ readRanges more (pos + 16 * n) bytes
@@ -39,19 +33,10 @@ read-more (suc n) more pos bytes =
     let p : pos + 16 * suc n ≡ pos + 16 + 16 * n = omega arith in
     rw (s, p, read-more n more (pos + 16) bytes)
 
--- the loop of `take_ranges`: one range more, a fault before those that are left, and the end
+-- the loop of `check_ranges`: one range more
 module _ (i pos : ℕ) (bytes : List ℕ) (at : pos ≡ 9 + 16 * i) where
   pub one-more : (start end : ℕ) → start ≡ numberAt 8 pos bytes → end ≡ numberAt 8 (pos + 8) bytes → readRanges i 9 bytes ++ range start end ∷ [] ≡ readRanges (i + 1) 9 bytes
   one-more start end s e = sym (rw (s, e, at) (read-more i 1 9 bytes))
-
-module _ (committed n : ℕ) (bytes : List ℕ) (b : Resuming) where
-  pub fault-here : (i : ℕ) (e : AckCursorError) → i ≤ n → Taken committed (readRanges i 9 bytes) b → b .outcome ≡ resumes.Refused e → first (resumeTable committed (readRanges n 9 bytes)) ≡ some (rangesError e)
-  fault-here i e h t q =
-      let k : n ≡ i + (n - i) = omega arith in
-      rw (k, read-more i (n - i) 9 bytes) (fault-of-all committed (readRanges i 9 bytes) b t e (readRanges (n - i) (9 + 16 * i) bytes) q)
-
-  pub all-taken : Taken committed (readRanges n 9 bytes) b → b .outcome ≡ resumes.Resumed → b .taken ≤ 128 → zipped range (take n (b .starts)) (take n (b .ends)) ≡ readRanges n 9 bytes
-  all-taken t q h = rw (length-read n 9 bytes) at (taken-is committed (readRanges n 9 bytes) b t q h)
 
 -- the rows that `check_frame` goes down
 module _ (bytes : List ℕ) where
@@ -74,9 +59,9 @@ module _ (bytes : List ℕ) where
         framed h = rw (le-ltb _ _ long, eq-eqb _ _ whole, eq-eqb _ _ version, h)
 
   -- what `decode_snapshot` answers
-  pub decode-refused : (e : SnapshotError) (c : AckCursor) → Fresh 0 c → decodeFault (Refused e) ≡ first (decodeTable bytes) → DecodedIs bytes (record { outcome = Refused e; cursor = c })
+  pub decode-refused : (e : SnapshotError) → decodeFault (Refused e) ≡ first (decodeTable bytes) → DecodedIs bytes (record { outcome = Refused e; cursor = empty 0 })
   unfolding decodeCursor
-  decode-refused e c f t = record { is = rw (← t); sound = f .sound; kept = f .literal }
+  decode-refused e t = record { is = rw (← t); sound = record { few = omega arith; valid = record { fits = omega arith; above = tt; few = omega arith } }; kept = refl }
 
   pub decode-restored : IsBytes bytes → decodeFault Restored ≡ first (decodeTable bytes) → (c : AckCursor) → c .runs ≡ rangeCount bytes → view c ≡ cursorIn bytes → DecodedIs bytes (record { outcome = Restored; cursor = c })
   unfolding decodeCursor

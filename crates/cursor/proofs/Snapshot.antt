@@ -53,10 +53,16 @@ passed-above n [] a = tt
 passed-above n (r ∷ rs) a = (lt-leb (r .end) (r .start) (a .1), (lt-leb (r .start) n (a .0), passed-above (r .end) rs (a .3)))
 
 module _ (n : ℕ) (l : List Range) where
-  pub passed-valid : n ≤ MAX → EndsFit l → Passed (resumeTable n l) → Valid (cursor n l)
-  passed-valid m f p =
+  passed-both : Passed (resumeTable n l) → Passed (rangesTable n l) × (length l ≤ RANGES)
+  passed-both p =
       let q = passed-append (rangesTable n l) (ltb RANGES (length l) ⇒ TooManyRuns ∷ []) p in
-      record { fits = m; above = above-passed n l f (q .0); few = ltb-false RANGES (length l) (q .1 .0) }
+      (q .0, ltb-false RANGES (length l) (q .1 .0))
+
+  pub passed-few : Passed (resumeTable n l) → length l ≤ RANGES
+  passed-few p = passed-both p .1
+
+  pub passed-valid : n ≤ MAX → EndsFit l → Passed (resumeTable n l) → Valid (cursor n l)
+  passed-valid m f p = let q = passed-both p in record { fits = m; above = above-passed n l f (q .0); few = q .1 }
 
   passed-resume : Valid (cursor n l) → Passed (resumeTable n l)
   passed-resume v = append-passed (rangesTable n l) (ltb RANGES (length l) ⇒ TooManyRuns ∷ []) (passed-above n l (v .above)) (le-ltb RANGES (length l) (v .few), tt)

@@ -56,15 +56,6 @@ columns-all (suc k) (x ∷ xs) [] h = refl
 columns-all zero (x ∷ xs) (y ∷ ys) h = absurd (omega arith)
 columns-all (suc k) (x ∷ xs) (y ∷ ys) h = ap (λ (l : List Range). range x y ∷ l) (columns-all k xs ys (omega arith))
 
--- a resumption without a fault so far, by its parts
-abbrev pub underWay : ℕ → List ℕ → List ℕ → ℕ → ℕ → Resuming
-underWay committed starts ends taken last =
-    record { outcome = Resumed; committed = committed; starts = starts; ends = ends; taken = taken; last = last }
-
-pub none-taken : (n : ℕ) (starts ends : List ℕ) → n ≤ MAX → Taken n [] (underWay n starts ends 0 n)
-none-taken n starts ends h =
-    record { committed = refl; fits = (h, tt); fault = refl; faultless = λ z. record { last = refl; count = refl; columns = λ few. refl } }
-
 -- the row of 12
 abbrev limit : List Range → List Row
 limit l = ltb RANGES (length l) ⇒ TooManyRuns ∷ []
@@ -81,12 +72,6 @@ module _ (n : ℕ) (l : List Range) (b : Resuming) (t : Taken n l b) where
         fault = rw q (sym f);
         faultless = λ z. absurd (Option·none-ne-some (rangesError e) (sym z ∙ f));
       }
-
-  -- a fault is that of all ranges, whatever comes after
-  pub fault-of-all : (e : AckCursorError) (rest : List Range) → b .outcome ≡ Refused e → first (resumeTable n (l ++ rest)) ≡ some (rangesError e)
-  fault-of-all e rest q =
-      first-met-before (rangesTable n (l ++ rest)) (limit (l ++ rest)) (rangesError e)
-      (ap first (table-more n l rest) ∙ first-met-before (rangesTable n l) (rangesTable (lastEnd n l) rest) (rangesError e) (sym (rw q at (t .fault))))
 
   module _ (q : b .outcome ≡ Resumed) where
     no-fault : first (rangesTable n l) ≡ none
@@ -119,13 +104,13 @@ module _ (n : ℕ) (l : List Range) (b : Resuming) (t : Taken n l b) where
         }
 
     -- after the last range: they are few enough, or too many
-    pub too-many : 128 < b .taken → first (resumeTable n l) ≡ some TooManyRuns
+    too-many : 128 < b .taken → first (resumeTable n l) ≡ some TooManyRuns
     too-many h = first-none-before (rangesTable n l) (limit l) no-fault ∙ rw (lt-ltb RANGES (length l) (omega (arith, seen .count)))
 
-    pub few-enough : b .taken ≤ 128 → first (resumeTable n l) ≡ none
+    few-enough : b .taken ≤ 128 → first (resumeTable n l) ≡ none
     few-enough h = first-none-before (rangesTable n l) (limit l) no-fault ∙ rw (le-ltb RANGES (length l) (omega (arith, seen .count)))
 
-    pub taken-is : b .taken ≤ 128 → zipped range (take (length l) (b .starts)) (take (length l) (b .ends)) ≡ l
+    taken-is : b .taken ≤ 128 → zipped range (take (length l) (b .starts)) (take (length l) (b .ends)) ≡ l
     taken-is h = seen .columns (omega (arith, seen .count))
 
     -- `finish` where there was none

@@ -5,25 +5,29 @@ use native.Mathlib.Omega.{arith}
 use mathlib.Core.Path.{_≡_, refl, sym, ap, _∙_}
 use mathlib.Core.List.{List, [], _∷_, _++_, map}
 use mathlib.Core.Option.{none, some}
-use lib.ListN.{length, take, drop, getD, set, take-append-drop}
-use lib.Seq.{take-all}
+use lib.ListN.{length, take, drop, getD, set, replicate, take-append-drop}
+use lib.Seq.{take-all, take-append-seam}
 use borrow.Author.Tests.{lt-ltb, le-ltb}
 use Rattle.types.specs.Limits.{RANGES}
 use Rattle.types.specs.Refusal.{Refusal, TooManyRuns, done}
 use Rattle.types.specs.Table.{first}
 use Rattle.types.specs.Zipped.{zipped}
-use Rattle.types.proofs.Table.{first-met-before, first-none-before}
+use Rattle.types.proofs.Table.{first-none, first-met-before, first-none-before}
 use Rattle.types.proofs.Loops.{Filling, filling-more}
-use Rattle.raw.specs.Bytes.{numberAt}
+use Rattle.raw.specs.Bytes.{IsBytes, numberAt}
 use Rattle.cursor.specs.Ranges.{range}
 use Rattle.cursor.specs.Cursor.{rangeTable, rangesTable, resumeTable}
-use Rattle.cursor.specs.Snapshot.{readRanges, columnFrom, cursorIn, decodeTable, decodeCursor}
-use Rattle.cursor.specs.Answers.{decodeFault, decodeOf}
+use Rattle.cursor.specs.Snapshot.{readRanges, columnFrom, rangeCount, cursorIn, decodeTable, decodeCursor}
+use Rattle.cursor.specs.View.{ackCursor}
+use Rattle.cursor.specs.Answers.{decodeFault, decodeOf, DecodedIs, CheckedIs}
 use Rattle.cursor.specs.Taking.{lastEnd}
 use Rattle.cursor.specs.declared.Range.{Range}
 use Rattle.cursor.specs.declared.Decode.{Decode}
+use Rattle.cursor.specs.declared.Decode.the-variants.{Restored, Refused}
+use Rattle.cursor.specs.declared.columns.Checked.{Checked}
+use Rattle.cursor.proofs.Snapshot.{length-read, passed-few, accepted}
 use Rattle.cursor.proofs.Taking.{table-more, last-more}
-use Rattle.cursor.proofs.Reading.{read-more}
+use Rattle.cursor.proofs.Reading.{read-more, decode-refused, decode-restored}
 
 -- ## a walk
 module _ (n : ℕ) (l : List Range) where
@@ -81,6 +85,16 @@ module _ (bytes : List ℕ) where
   length-column zero pos = refl
   length-column (suc n) pos = ap suc (length-column n (pos + 16))
 
+  -- both columns are the ranges, whatever stands behind them
+  columns-read : (n pos : ℕ) → zipped range (columnFrom n pos bytes) (columnFrom n (pos + 8) bytes) ≡ readRanges n pos bytes
+  columns-read zero pos = refl
+  columns-read (suc n) pos =
+      let e : pos + 8 + 16 ≡ pos + 16 + 8 = omega arith in
+      rw e (ap (λ (l : List Range). range (numberAt 8 pos bytes) (numberAt 8 (pos + 8) bytes) ∷ l) (columns-read n (pos + 16)))
+
+  front : (n pos : ℕ) (rest : List ℕ) → take n (columnFrom n pos bytes ++ rest) ≡ columnFrom n pos bytes
+  front n pos rest = rw (length-column n pos) at (take-append-seam (columnFrom n pos bytes) rest)
+
   number-at : (n pos i : ℕ) → i < n → getD (columnFrom n pos bytes) i 0 ≡ numberAt 8 (pos + 16 * i) bytes
   number-at zero pos i h = absurd (omega arith)
   number-at (suc n) pos zero h =
@@ -102,3 +116,28 @@ module _ (bytes : List ℕ) where
         let front = rw (e, take-all n (columnFrom n pos bytes) (omega (arith, length-column n pos))) at (f .done) in
         let rest = rw e at (f .rest) in
         rw (← front, ← rest, take-append-drop n out)
+
+-- ## a snapshot that was tested
+module _ (bytes : List ℕ) (r : Checked) (is : CheckedIs bytes r) where
+  pub checked-few : r .runs ≤ 128
+  checked-few = go (r .outcome) refl
+    where
+      go : (o : Decode) → r .outcome ≡ o → r .runs ≤ 128
+      go Restored q =
+          let a = accepted bytes (first-none (decodeTable bytes) (sym (rw q at (is .fault)))) in
+          let n = rw q at (is .numbers) in
+          omega (arith, n .1, length-read (rangeCount bytes) 9 bytes, passed-few (cursorIn bytes .committed) (cursorIn bytes .ahead) (a .ranges))
+      go (Refused error) q = let n = rw q at (is .numbers) in omega (arith, n .1)
+
+  -- with its columns, read into zeros, it is decoded
+  pub decode-read : IsBytes bytes → (starts ends : List ℕ) → starts ≡ columnFrom (r .runs) 9 bytes ++ drop (r .runs) (replicate 128 0) → ends ≡ columnFrom (r .runs) 17 bytes ++ drop (r .runs) (replicate 128 0)
+      → DecodedIs bytes (record { outcome = r .outcome; cursor = ackCursor (r .committed) starts ends (r .runs) })
+  decode-read h starts ends s e = go (r .outcome) refl
+    where
+      go : (o : Decode) → r .outcome ≡ o → DecodedIs bytes (record { outcome = r .outcome; cursor = ackCursor (r .committed) starts ends (r .runs) })
+      go Restored q =
+          let n = rw q at (is .numbers) in
+          rw q (decode-restored bytes h (rw q at (is .fault)) _ (n .1) (rw (s, e, front bytes (r .runs) 9 _, front bytes (r .runs) 17 _, n .0, n .1, columns-read bytes (rangeCount bytes) 9)))
+      go (Refused error) q =
+          let n = rw q at (is .numbers) in
+          rw (q, s, e, n .0, n .1) (decode-refused bytes error (rw q at (is .fault)))

@@ -85,10 +85,10 @@ pub record DecodedIs (bytes : List ℕ) (r : Decoded) : Type 0 where
   pub sound : Sound (r .cursor)
   pub kept : Kept (decodeOf (r .outcome) (view (r .cursor))) (empty 0) (r .cursor)
 
--- the numbers beside the answer to the test of a snapshot
+-- the numbers beside the answer to the test of a snapshot: zeros beside a refusal
 abbrev pub NumbersIn : List ℕ → Decode → ℕ → ℕ → Type 0
 NumbersIn bytes decodes.Restored committed runs = (committed ≡ cursorIn bytes .committed) × (runs ≡ rangeCount bytes)
-NumbersIn bytes (decodes.Refused error) committed runs = runs ≡ 0
+NumbersIn bytes (decodes.Refused error) committed runs = (committed ≡ 0) × (runs ≡ 0)
 
 -- a snapshot is tested as the definition says
 pub record CheckedIs (bytes : List ℕ) (r : Checked) : Type 0 where

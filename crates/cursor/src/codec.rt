@@ -1,26 +1,21 @@
-// The snapshot of a cursor: version 1, committed, the ranges as two numbers each, and the check of all before it. Ranges are
-// taken from bytes as `resume_with_ahead` takes them from a list.
+// The snapshot of a cursor: version 1, committed, the ranges as two numbers each, and the check of all before it.
 ghost use mathlib.Core.Path.{_≡_};
 ghost use Prim.Native.Nat.{_+_, _*_, _≤_};
-ghost use mathlib.Core.Option.{none};
 ghost use lib.ListN.{length, take};
 ghost use Rattle.types.specs.Table.{answer, first};
 ghost use Rattle.types.specs.Zipped.{zipped};
 ghost use Rattle.raw.specs.Bytes.{overwrite, write, outcomeOf};
 ghost use Rattle.cursor.specs.Ranges.{range};
-ghost use Rattle.cursor.specs.Snapshot.{rangesBytes, bodyBytes, encodeCursor, readRanges, frameTable};
-ghost use Rattle.cursor.specs.Cursor.{resumeTable};
+ghost use Rattle.cursor.specs.Snapshot.{rangesBytes, bodyBytes, encodeCursor, frameTable};
 ghost use Rattle.cursor.specs.View.{ackCursor, view, Sound};
-ghost use Rattle.cursor.specs.Answers.{resumeFault, decodeFault, DecodedIs};
+ghost use Rattle.cursor.specs.Answers.{decodeFault, DecodedIs};
 use crate::AckCursor;
-use crate::AckCursorError;
 use crate::Decode;
 use crate::Decoded;
-use crate::Resume;
 use crate::SnapshotError;
-use crate::check_range;
+use crate::columns::check_snapshot;
+use crate::columns::read_column;
 use crate::in_place::encode_in_place;
-use crate::note_range;
 use raw::Write;
 use types::limits::RANGES;
 
@@ -55,31 +50,20 @@ impl AckCursor {
     pub fn decode_snapshot(input: &[u8]) -> Decoded
         ensures { λ r. ⌜ DecodedIs (now (input .entry)) r ⌝ }
     {
-        let outcome = check_frame(input);
-        let Decode::Restored = outcome else {
-            return Decoded {
-                outcome,
-                cursor: AckCursor::new(),
-            };
-        };
-        let committed = raw::read_u64(input, 1);
-        let n = (input.len() - AckCursor::SNAPSHOT_MIN_LEN) / RANGE_LEN;
+        let checked = check_snapshot(input);
+        let outcome = checked.outcome;
+        let runs = checked.runs;
         let mut starts = [0; RANGES];
         let mut ends = [0; RANGES];
-        let taken = take_ranges(input, committed, n, &mut starts, &mut ends);
-        if let Resume::Refused(error) = taken {
-            return Decoded {
-                outcome: Decode::Refused(SnapshotError::Ranges(error)),
-                cursor: AckCursor::new(),
-            };
-        }
+        read_column(input, 9, runs, &mut starts);
+        read_column(input, 17, runs, &mut ends);
         Decoded {
             outcome,
             cursor: AckCursor {
-                committed,
+                committed: checked.committed,
                 starts,
                 ends,
-                runs: n,
+                runs,
             },
         }
     }
@@ -137,38 +121,4 @@ pub(crate) fn check_frame(input: &[u8]) -> Decode
         return Decode::Refused(SnapshotError::BadCrc);
     }
     Decode::Restored
-}
-
-// Takes the n ranges of a snapshot into columns, as far as these have places, and answers whether they may stand ahead of
-// committed: all of them are tested before their number is.
-fn take_ranges(
-    input: &[u8],
-    committed: u64,
-    n: usize,
-    starts: &mut [u64; RANGES],
-    ends: &mut [u64; RANGES],
-) -> Resume
-    requires { ⌜ (9 + 16 * n ≤ length (now input)) × (length (now starts) ≡ 128) × (length (now ends) ≡ 128) ⌝ }
-    ensures { λ r. ⌜ (resumeFault r ≡ first (resumeTable committed (readRanges n 9 (now (input .entry))))) × (resumeFault r ≡ none → zipped range (take n (now (starts .exit))) (take n (now (ends .exit))) ≡ readRanges n 9 (now (input .entry))) ⌝ }
-{
-    let mut last = committed;
-    let mut taken: usize = 0;
-    let mut pos: usize = 9;
-    let mut i: usize = 0;
-    while i < n {
-        let start = raw::read_u64(input, pos);
-        let end = raw::read_u64(input, pos + 8);
-        let checked = check_range(last, start, end);
-        let Resume::Resumed = checked else {
-            return checked;
-        };
-        taken = note_range(starts, ends, taken, start, end);
-        last = end;
-        pos += RANGE_LEN;
-        i += 1;
-    }
-    if RANGES < taken {
-        return Resume::Refused(AckCursorError::TooManyRuns);
-    }
-    Resume::Resumed
 }

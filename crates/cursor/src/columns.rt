@@ -26,14 +26,14 @@ use raw::Write;
 use types::limits::RANGES;
 use types::numbers::shorter;
 
-// What the test of a snapshot answers: beside a refusal there are no ranges.
+// What the test of a snapshot answers: beside a refusal both numbers are 0.
 pub struct Checked {
     pub outcome: Decode,
     pub committed: u64,
     pub runs: usize,
 }
 
-// Tests a snapshot as `decode_snapshot` does. Stores nothing.
+// Whether bytes are a snapshot: refused as `decode_snapshot` refuses them.
 pub fn check_snapshot(input: &[u8]) -> Checked
     ensures { λ r. ⌜ CheckedIs (now (input .entry)) r ⌝ }
 {
@@ -62,15 +62,15 @@ pub fn check_snapshot(input: &[u8]) -> Checked
     }
 }
 
-// Whether the n ranges of a snapshot may stand ahead of committed: all of them are tested before their number is.
-fn check_ranges(input: &[u8], committed: u64, n: usize) -> Resume
-    requires { ⌜ 9 + 16 * n ≤ length (now input) ⌝ }
-    ensures { λ r. ⌜ resumeFault r ≡ first (resumeTable committed (readRanges n 9 (now (input .entry)))) ⌝ }
+// Whether so many ranges of a snapshot may stand ahead of committed: all of them are tested before their number is.
+fn check_ranges(input: &[u8], committed: u64, runs: usize) -> Resume
+    requires { ⌜ 9 + 16 * runs ≤ length (now input) ⌝ }
+    ensures { λ r. ⌜ resumeFault r ≡ first (resumeTable committed (readRanges runs 9 (now (input .entry)))) ⌝ }
 {
     let mut last = committed;
     let mut pos: usize = 9;
     let mut i: usize = 0;
-    while i < n {
+    while i < runs {
         let start = raw::read_u64(input, pos);
         let end = raw::read_u64(input, pos + 8);
         let checked = check_range(last, start, end);
@@ -81,7 +81,7 @@ fn check_ranges(input: &[u8], committed: u64, n: usize) -> Resume
         pos += RANGE_LEN;
         i += 1;
     }
-    if RANGES < n {
+    if RANGES < runs {
         return Resume::Refused(AckCursorError::TooManyRuns);
     }
     Resume::Resumed

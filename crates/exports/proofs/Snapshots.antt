@@ -3,21 +3,19 @@ use Prim.Native.Nat.{ℕ, _*_, _≤_, _<_, min}
 use native.Mathlib.Omega.{arith}
 use mathlib.Core.Path.{_≡_, refl, sym, ap, _∙_}
 use mathlib.Core.List.{List, [], _∷_, _++_}
-use lib.Dec.{ltb}
 use lib.ListN.{length, take, drop, getD, length-map}
-use borrow.Author.Tests.{lt-ltb, le-ltb, ltb-false}
-use Rattle.types.specs.Limits.{RANGES}
-use Rattle.types.specs.Refusal.{Refusal, Result, refused, done, OutTooShort, TooManyRuns, numbered, answered}
-use Rattle.types.specs.Table.{_⇒_, Passed, first, checked, answer, unless}
+use borrow.Author.Tests.{lt-ltb, le-ltb}
+use Rattle.types.specs.Refusal.{Result, refused, done, OutTooShort, numbered, answered}
+use Rattle.types.specs.Table.{Passed, first, checked, answer, unless}
 use Rattle.types.specs.Keyed.{Entry}
 use Rattle.types.specs.Lists.{counted}
 use Rattle.types.specs.Zipped.{zipped}
-use Rattle.types.proofs.Table.{first-none, passed-append, checked-passed}
+use Rattle.types.proofs.Table.{first-none, checked-passed}
 use Rattle.types.proofs.Zipped.{zipped-take}
 use Rattle.raw.specs.Bytes.{write, outcomeOf}
 use Rattle.raw.specs.declared.Write.{Write}
 use Rattle.cursor.specs.Ranges.{range}
-use Rattle.cursor.specs.Cursor.{cursor, rangesTable, resumeTable, resumeWithAhead}
+use Rattle.cursor.specs.Cursor.{cursor, resumeTable, resumeWithAhead}
 use Rattle.cursor.specs.Snapshot.{encodeCursor, readRanges, columnFrom, rangeCount, cursorIn, decodeCursor}
 use Rattle.cursor.specs.View.{ackCursor, view}
 use Rattle.cursor.specs.Answers.{rangesError, resumeFault, decodeFault, CheckedIs}
@@ -29,7 +27,7 @@ use Rattle.cursor.specs.declared.Resume.the-variants as resumes
 use Rattle.cursor.specs.declared.Decode as cursor-decode
 use Rattle.cursor.specs.declared.Decode.the-variants as decodes
 use Rattle.cursor.specs.declared.columns.Checked.{Checked}
-use Rattle.cursor.proofs.Snapshot.{length-read}
+use Rattle.cursor.proofs.Snapshot.{length-read, passed-few}
 use Rattle.cursor.proofs.Taking.{columns-all}
 use Rattle.cursor.proofs.Walking.{columns-size, checked-cursor, starts-column, ends-column}
 use Rattle.attempt.specs.Snapshot.{apart, pairsOf, pairCount, decodeTable, encodeVersion, decodeAttempts}
@@ -68,9 +66,7 @@ module _ (committed : ℕ) (starts ends : List ℕ) (o : Resume) (is : resumeFau
     tested = first-none (resumeTable committed ahead) (sym (rw q at is))
 
     pub columns-fit : (n ≤ 128) × (n ≤ length starts) × (n ≤ length ends)
-    columns-fit =
-        let few = ltb-false RANGES (length ahead) (passed-append (rangesTable committed ahead) (ltb RANGES (length ahead) ⇒ TooManyRuns ∷ []) tested .1 .0) in
-        (omega (arith, few, columns-size starts ends), omega arith, omega arith)
+    columns-fit = (omega (arith, passed-few committed ahead tested, columns-size starts ends), omega arith, omega arith)
 
     whole : zipped range (take n starts) (take n ends) ≡ ahead
     whole = sym (zipped-take range n starts ends) ∙ columns-all n starts ends (omega arith)
@@ -103,12 +99,12 @@ module _ (b : List ℕ) (r : Checked) (is : CheckedIs b r) (starts ends : List �
   said : (o : cursor-decode.Decode) → r .outcome ≡ o → cursors.decodeOf o (cursorIn b) ≡ decodeCursor b
   said o q = rw q at (checked-cursor b (r .outcome) (is .fault))
 
-  -- the numbers beside the answer; beside a refusal there are no ranges
+  -- the numbers beside the answer
   restored : r .outcome ≡ decodes.Restored → (r .committed ≡ cursorIn b .committed) × (r .runs ≡ rangeCount b)
   restored q = rw q at (is .numbers)
 
   none-left : (error : _) → r .outcome ≡ decodes.Refused error → r .runs ≡ 0
-  none-left error q = rw q at (is .numbers)
+  none-left error q = let n = rw q at (is .numbers) in n .1
 
   pub starts-short : length starts < r .runs → crossed (numbersOf (numbered OutTooShort)) (columns starts ends) ≡ right
   starts-short h = go (r .outcome) refl

@@ -32,14 +32,13 @@ pub extern "C" fn ninotskev_start(
     *numbers = started.numbers;
 }
 
-// A machine that is off, into its place: only a restart is possible.
+// A machine that is off, in its place: only a restart is possible. What else stood there stays, and nobody can call it.
 #[no_mangle]
 pub extern "C" fn ninotskev_off(machine: &mut Machine, configuration: &Configuration)
     ensures { λ _. ⌜ OffIs (now (configuration .entry)) (now (machine .exit)) ⌝ }
 {
-    let given = *configuration;
-    let made = Machine::off(given);
-    *machine = made;
+    machine.configuration = *configuration;
+    machine.phase = 2;
 }
 
 // `restart` on the machine in its place.

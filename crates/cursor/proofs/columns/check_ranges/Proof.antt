@@ -20,14 +20,14 @@ use Rattle.cursor.proofs.columns.check_ranges.Statement.{statement}
 use Rattle.cursor.proofs.columns.check_ranges.Tie as tie
 
 abbrev Inv-loop : tie.InvT-loop
-Inv-loop input committed n last₀ pos₀ i₀ last pos i =
-    (i ≤ n)
+Inv-loop input committed runs last₀ pos₀ i₀ last pos i =
+    (i ≤ runs)
     × (pos ≡ 9 + 16 * i)
     × (last ≡ lastEnd committed (readRanges i 9 input))
     × (first (rangesTable committed (readRanges i 9 input)) ≡ none)
 
 abbrev μ-loop : tie.MeasureT-loop
-μ-loop input committed n last₀ pos₀ i₀ last pos i = n - i
+μ-loop input committed runs last₀ pos₀ i₀ last pos i = runs - i
 
 loop-holds : tie.Need-loop-holds Inv-loop μ-loop
 loop-holds c = (omega arith, refl, refl, refl)
@@ -80,7 +80,7 @@ module _ (k : tie.After-check-range Inv-loop μ-loop) where
 returns : tie.Need-returns Inv-loop μ-loop
 returns c =
     let k = c .before .before in
-    let n = head k .before .before .before .args .n in
+    let n = head k .before .before .before .args .runs in
     let i = head k .before .loop .i in
     let q = ap resumeFault (c .enum-told2 .given .1) in
     q
@@ -109,21 +109,21 @@ loop-again c =
 
 -- after the loop the walk has seen all of them
 all : (c : tie.After-loop Inv-loop μ-loop) → let a = c .before .before .before .args in
-    first (rangesTable (a .committed) (readRanges (a .n) 9 (a .input .now))) ≡ none
+    first (rangesTable (a .committed) (readRanges (a .runs) 9 (a .input .now))) ≡ none
 all c =
     let l = c .before .loop in
-    let e : l .i ≡ c .before .before .before .args .n = omega arith in
+    let e : l .i ≡ c .before .before .before .args .runs = omega arith in
     rw e at (l .inv .3)
 
 returns-2 : tie.Need-returns-2 Inv-loop μ-loop
 returns-2 c =
     let a = c .before .before .before .before .args in
-    sym (walk-many (a .committed) (readRanges (a .n) 9 (a .input .now)) (all (c .before)) (omega (arith, length-read (a .n) 9 (a .input .now))))
+    sym (walk-many (a .committed) (readRanges (a .runs) 9 (a .input .now)) (all (c .before)) (omega (arith, length-read (a .runs) 9 (a .input .now))))
 
 returns-3 : tie.Need-returns-3 Inv-loop μ-loop
 returns-3 c =
     let a = c .before .before .before .before .args in
-    sym (walk-few (a .committed) (readRanges (a .n) 9 (a .input .now)) (all (c .before)) (omega (arith, length-read (a .n) 9 (a .input .now))))
+    sym (walk-few (a .committed) (readRanges (a .runs) 9 (a .input .now)) (all (c .before)) (omega (arith, length-read (a .runs) 9 (a .input .now))))
 
 pub check-ranges-spec : {M : Type 1} → statement M
 check-ranges-spec =

@@ -30,7 +30,7 @@ returns c =
     let q = c .enum-told2 .given .1 in
     record {
       fault = rw q (frame-refused (bytes k) (c .enum-told2 .given .0 .0) (rw q at (k .check-frame .ensures)));
-      numbers = rw q refl;
+      numbers = rw q (refl, refl);
       within = omega arith;
     }
 
@@ -59,7 +59,7 @@ enum-known-checked c = search needs
 returns-2 : tie.Need-returns-2
 returns-2 c =
     let t = c .before in
-    record { fault = rw (t .checked .given .1) at (ranges (t .before .before)); numbers = refl; within = omega arith }
+    record { fault = rw (t .checked .given .1) at (ranges (t .before .before)); numbers = (refl, refl); within = omega arith }
 
 enum-told-3 : tie.Need-enum-told-3
 enum-told-3 c = search needs
