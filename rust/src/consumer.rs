@@ -205,7 +205,8 @@ impl<S: Storage> Consumer<S> {
     ///
     /// # Errors
     /// [`UnknownWorker`](Refusal::UnknownWorker) (38), [`NotPermitted`](Refusal::NotPermitted) (39) and
-    /// [`JournalFull`](Refusal::JournalFull) (31) with the consumer, or an error of the disk, after which only a restart is left.
+    /// [`JournalFull`](Refusal::JournalFull) (31) with the consumer, or an error of the disk, after which only a restart is left:
+    /// [`Failed`] says how.
     pub fn checkpoint(self, worker: WorkerId) -> Result<Consumer<S>, CheckpointError<S>> {
         Ok(self.begin(worker)?.finish()?)
     }
@@ -592,7 +593,7 @@ impl<S: Storage> Writing<S> {
     /// Makes the next block write, and no other: it is at its place and durable before the answer.
     ///
     /// # Errors
-    /// An error of the disk, after which only a restart is left.
+    /// An error of the disk, after which only a restart is left: [`Failed`] says how.
     pub fn step(mut self) -> Result<Step<S>, Failed<S>> {
         let wrote = self.machine.step(&mut self.journal.area);
         let (machine, block) = (self.machine, wrote.block);
@@ -614,7 +615,7 @@ impl<S: Storage> Writing<S> {
     /// Every step that is left.
     ///
     /// # Errors
-    /// An error of the disk, after which only a restart is left.
+    /// An error of the disk, after which only a restart is left: [`Failed`] says how.
     pub fn finish(mut self) -> Result<Consumer<S>, Failed<S>> {
         loop {
             match self.step()? {
