@@ -62,7 +62,8 @@ pub const STACK: usize = 64 * 1024;
 ///         }
 ///         Err(CheckpointError::Failed(failed)) => {
 ///             // What the disk may have forgotten is written again, before a restart reads it. Where that fails too, the place stays
-///             // empty, and the server ends: another open of the file might read what the disk doesn't have.
+///             // empty, and the server has to end: with this error goes the journal's lock, and another open of the file might read
+///             // what the disk doesn't have.
 ///             let journal = failed.reopen()?;
 ///             *place = Some(Consumer::restart(&Configuration::default(), journal)?);
 ///             return Err("the disk failed, and the consumer was restarted".into());

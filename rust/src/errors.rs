@@ -257,7 +257,7 @@ impl<S> Error for BeginError<S> {
 pub enum CheckpointError<S = JournalFile> {
     /// It was not begun: nothing has changed, and the error has the consumer.
     Refused(BeginError<S>),
-    /// The disk failed: only a restart is left.
+    /// The disk failed: only a restart is left. It holds the journal's lock, and [`Failed`] says what dropping it means.
     Failed(Failed<S>),
 }
 

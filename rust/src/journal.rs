@@ -438,9 +438,20 @@ impl<S> fmt::Debug for Journal<S> {
 /// state any more: only the journal, read again, and a restart from it.
 ///
 /// Some systems forget a write that could not be made durable, and still read it back from memory until they are restarted. So this
-/// remembers the block, and [`reopen`](Failed::reopen) writes it again. A process that ends instead takes that with it: where the
-/// disk failed and `reopen` didn't succeed, restart the machine before the next process opens the journal.
-#[must_use = "`reopen` writes the block again that could not be made durable"]
+/// remembers the block, and [`reopen`](Failed::reopen) writes it again.
+///
+/// # Dropping it
+///
+/// It holds the lock on the journal's file, as the consumer did. Where it is dropped, by itself or with an error that has it, or with the
+/// process, **the lock goes, and the block that it remembered goes too**: any process can open the journal from then on, and may read back
+/// what the disk doesn't have. Nothing tells that process. So:
+///
+/// - Call [`reopen`](Failed::reopen) first, wherever this comes from: before the error is handed on by `?`, and before the process ends.
+/// - Where `reopen` fails too, keep what it gives back for as long as nobody else may open the journal, and try again; or end the process
+///   so that nothing starts it again by itself, with an exit status of its own for a service manager to know, as `examples/server.rs`
+///   does.
+/// - Where it was dropped without a `reopen` that succeeded, see to the disk, and restart the machine before anything opens the journal.
+#[must_use = "`reopen` writes the block again that could not be made durable; dropping it gives the journal's lock up"]
 pub struct Failed<S = JournalFile> {
     pub(crate) error: io::Error,
     pub(crate) storage: S,
