@@ -3,6 +3,10 @@
 //!
 //! The crate's folder is asked for when this runs, and not when it is compiled, and what is linked are copies in cargo's folder for
 //! this script: a checkout that was copied with all that cargo had made would else go on linking the first one's libraries.
+//!
+//! Cargo runs this again by the dates of the archives: where one is newer than the last run. One that is put in place with an older date,
+//! as `cp -a` keeps it, isn't seen, and cargo has no way to ask for more: a script that runs each time has all that is linked built each
+//! time. `touch` the archive then, or `cargo clean`. `tests/library.rs` compares what was linked with what is there, byte by byte.
 
 use std::env;
 use std::fs;
@@ -27,7 +31,9 @@ fn main() {
         let name = format!("lib{library}.a");
         let archive = folder.join(&name);
         println!("cargo:rerun-if-changed={}", archive.display());
-        if let Err(error) = fs::copy(&archive, out.join(&name)) {
+        // Written, and not copied: a copy has the archive's mode too, and where nobody may write that one there is no second copy.
+        let bytes = fs::read(&archive);
+        if let Err(error) = bytes.and_then(|bytes| fs::write(out.join(&name), bytes)) {
             panic!(
                 "{} can't be had: {error}. Write it by `rt staticlib {library}` in the folder above rust/, or name the folder that \
                  has it by NINOTSKEV_LIB.",

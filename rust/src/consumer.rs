@@ -62,7 +62,8 @@ pub const STACK: usize = 64 * 1024;
 ///         }
 ///         Err(CheckpointError::Failed(failed)) => {
 ///             // What the disk may have forgotten is written again, before a restart reads it. Where that fails too, the place stays
-///             // empty, and the server ends: another open of the file might read what the disk doesn't have.
+///             // empty, and the server has to end: with this error goes the journal's lock, and another open of the file might read
+///             // what the disk doesn't have.
 ///             let journal = failed.reopen()?;
 ///             *place = Some(Consumer::restart(&Configuration::default(), journal)?);
 ///             return Err("the disk failed, and the consumer was restarted".into());
@@ -205,7 +206,8 @@ impl<S: Storage> Consumer<S> {
     ///
     /// # Errors
     /// [`UnknownWorker`](Refusal::UnknownWorker) (38), [`NotPermitted`](Refusal::NotPermitted) (39) and
-    /// [`JournalFull`](Refusal::JournalFull) (31) with the consumer, or an error of the disk, after which only a restart is left.
+    /// [`JournalFull`](Refusal::JournalFull) (31) with the consumer, or an error of the disk, after which only a restart is left:
+    /// [`Failed`] says how.
     pub fn checkpoint(self, worker: WorkerId) -> Result<Consumer<S>, CheckpointError<S>> {
         Ok(self.begin(worker)?.finish()?)
     }
@@ -592,7 +594,7 @@ impl<S: Storage> Writing<S> {
     /// Makes the next block write, and no other: it is at its place and durable before the answer.
     ///
     /// # Errors
-    /// An error of the disk, after which only a restart is left.
+    /// An error of the disk, after which only a restart is left: [`Failed`] says how.
     pub fn step(mut self) -> Result<Step<S>, Failed<S>> {
         let wrote = self.machine.step(&mut self.journal.area);
         let (machine, block) = (self.machine, wrote.block);
@@ -614,7 +616,7 @@ impl<S: Storage> Writing<S> {
     /// Every step that is left.
     ///
     /// # Errors
-    /// An error of the disk, after which only a restart is left.
+    /// An error of the disk, after which only a restart is left: [`Failed`] says how.
     pub fn finish(mut self) -> Result<Consumer<S>, Failed<S>> {
         loop {
             match self.step()? {

@@ -1,5 +1,8 @@
 //! What a start, a restart or a checkpoint that was not made gives back, with why.
+//!
+//! Each says its own level alone: the refusal, or what the disk said, is its `source`.
 
+use std::error::Error;
 use std::fmt;
 use std::sync::{Mutex, PoisonError};
 
@@ -37,11 +40,15 @@ impl<S> fmt::Debug for StartError<S> {
 
 impl<S> fmt::Display for StartError<S> {
     fn fmt(&self, f: &mut fmt::Formatter<'_>) -> fmt::Result {
-        write!(f, "the consumer was not started: {}", self.refusal)
+        f.write_str("the consumer was not started")
     }
 }
 
-impl<S> std::error::Error for StartError<S> {}
+impl<S> Error for StartError<S> {
+    fn source(&self) -> Option<&(dyn Error + 'static)> {
+        Some(&self.refusal)
+    }
+}
 
 /// A [restart](Consumer::restart) that was refused. It has the journal, which is as it was.
 pub struct RestartError<S = JournalFile> {
@@ -72,11 +79,15 @@ impl<S> fmt::Debug for RestartError<S> {
 
 impl<S> fmt::Display for RestartError<S> {
     fn fmt(&self, f: &mut fmt::Formatter<'_>) -> fmt::Result {
-        write!(f, "the consumer was not restarted: {}", self.refusal)
+        f.write_str("the consumer was not restarted")
     }
 }
 
-impl<S> std::error::Error for RestartError<S> {}
+impl<S> Error for RestartError<S> {
+    fn source(&self) -> Option<&(dyn Error + 'static)> {
+        Some(&self.refusal)
+    }
+}
 
 /// A journal that is older than the server has seen it: a [restart](Consumer::restart_at_least) from it would give generations a second
 /// time. It has the journal, which is as it was.
@@ -123,7 +134,7 @@ impl<S> fmt::Display for OlderJournal<S> {
     }
 }
 
-impl<S> std::error::Error for OlderJournal<S> {}
+impl<S> Error for OlderJournal<S> {}
 
 /// Why a [restart on a journal that is new enough](Consumer::restart_at_least) was not made.
 pub enum RestartAtLeastError<S = JournalFile> {
@@ -182,7 +193,15 @@ impl<S> fmt::Display for RestartAtLeastError<S> {
     }
 }
 
-impl<S> std::error::Error for RestartAtLeastError<S> {}
+// It is the one that it has, and adds no level of its own.
+impl<S> Error for RestartAtLeastError<S> {
+    fn source(&self) -> Option<&(dyn Error + 'static)> {
+        match self {
+            RestartAtLeastError::Refused(error) => error.source(),
+            RestartAtLeastError::Older(error) => error.source(),
+        }
+    }
+}
 
 /// A checkpoint that was not [begun](Consumer::begin). It has the consumer, which is as it was.
 pub struct BeginError<S = JournalFile> {
@@ -224,17 +243,21 @@ impl<S> fmt::Debug for BeginError<S> {
 
 impl<S> fmt::Display for BeginError<S> {
     fn fmt(&self, f: &mut fmt::Formatter<'_>) -> fmt::Result {
-        write!(f, "the checkpoint was not begun: {}", self.refusal)
+        f.write_str("the checkpoint was not begun")
     }
 }
 
-impl<S> std::error::Error for BeginError<S> {}
+impl<S> Error for BeginError<S> {
+    fn source(&self) -> Option<&(dyn Error + 'static)> {
+        Some(&self.refusal)
+    }
+}
 
 /// Why a [checkpoint](Consumer::checkpoint) was not made.
 pub enum CheckpointError<S = JournalFile> {
     /// It was not begun: nothing has changed, and the error has the consumer.
     Refused(BeginError<S>),
-    /// The disk failed: only a restart is left.
+    /// The disk failed: only a restart is left. It holds the journal's lock, and [`Failed`] says what dropping it means.
     Failed(Failed<S>),
 }
 
@@ -279,11 +302,12 @@ impl<S> fmt::Display for CheckpointError<S> {
     }
 }
 
-impl<S> std::error::Error for CheckpointError<S> {
-    fn source(&self) -> Option<&(dyn std::error::Error + 'static)> {
+// Likewise.
+impl<S> Error for CheckpointError<S> {
+    fn source(&self) -> Option<&(dyn Error + 'static)> {
         match self {
-            CheckpointError::Refused(_) => None,
-            CheckpointError::Failed(failed) => Some(failed.error()),
+            CheckpointError::Refused(error) => error.source(),
+            CheckpointError::Failed(failed) => failed.source(),
         }
     }
 }
@@ -291,7 +315,6 @@ impl<S> std::error::Error for CheckpointError<S> {
 #[cfg(test)]
 mod tests {
     use super::*;
-    use std::error::Error;
 
     // Each goes by `?` into whatever a server's functions answer.
     fn is_an_error<E: Error + Send + Sync + 'static>() {}
@@ -299,6 +322,7 @@ mod tests {
     #[test]
     fn errors_are_rusts() {
         is_an_error::<Refusal>();
+        is_an_error::<crate::HoursError>();
         is_an_error::<crate::JournalError>();
         is_an_error::<crate::WrongLibrary>();
         is_an_error::<StartError>();

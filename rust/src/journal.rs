@@ -62,7 +62,8 @@ pub trait Storage {
 #[derive(Debug)]
 #[non_exhaustive]
 pub enum JournalError {
-    /// Another process, or another value here, has it.
+    /// Another process, or another value here, has it. A process that is being started has, until it runs, all files of the one that
+    /// starts it: where a journal is closed and opened again while another thread starts a process, this can come for a moment.
     Locked,
     /// A new journal can't have so many blocks: an even number from 18 to 128.
     BadBlocks(usize),
@@ -70,7 +71,7 @@ pub enum JournalError {
     Exists,
     /// A new journal is to be zeroed, and this one isn't.
     Used,
-    /// What the disk says.
+    /// What the disk says, or the system: there is no file of that name, say.
     Io(io::Error),
 }
 
@@ -78,10 +79,13 @@ impl fmt::Display for JournalError {
     fn fmt(&self, f: &mut fmt::Formatter<'_>) -> fmt::Result {
         match self {
             JournalError::Locked => f.write_str("the journal is in use"),
-            JournalError::BadBlocks(blocks) => write!(f, "a journal can't have {blocks} blocks"),
+            JournalError::BadBlocks(blocks) => write!(
+                f,
+                "a journal has an even number of blocks, {MIN_BLOCKS} to {MAX_BLOCKS}, and not {blocks}"
+            ),
             JournalError::Exists => f.write_str("there is a journal of that name"),
             JournalError::Used => f.write_str("the journal was used before"),
-            JournalError::Io(error) => error.fmt(f),
+            JournalError::Io(_) => f.write_str("the journal can't be read or written"),
         }
     }
 }
@@ -331,8 +335,8 @@ impl NewJournal {
     /// the same journal removes, where it has zeros alone.
     ///
     /// # Errors
-    /// [`JournalError::BadBlocks`], [`JournalError::Exists`], [`JournalError::Locked`] where another process is creating it, or what
-    /// the disk says.
+    /// [`JournalError::BadBlocks`], [`JournalError::Exists`], [`JournalError::Locked`] where another process is creating it, or
+    /// [`JournalError::Io`] with what the disk says.
     pub fn create(path: impl AsRef<Path>, blocks: usize) -> Result<NewJournal, JournalError> {
         NewJournal::on(JournalFile::create(path, blocks)?)
     }
@@ -342,7 +346,7 @@ impl<S: Storage> NewJournal<S> {
     /// The journal of a zeroed storage.
     ///
     /// # Errors
-    /// [`JournalError::Used`] where a byte isn't zero, or what the disk says.
+    /// [`JournalError::Used`] where a byte isn't zero, or [`JournalError::Io`] with what the disk says.
     pub fn on(storage: S) -> Result<NewJournal<S>, JournalError> {
         let journal = Journal::on(storage)?;
         if journal.area.iter().any(|byte| *byte != 0) {
@@ -376,7 +380,7 @@ impl Journal {
     /// Opens the journal of a file.
     ///
     /// # Errors
-    /// [`JournalError::Locked`], or what the disk says.
+    /// [`JournalError::Locked`], or [`JournalError::Io`] with what the disk says, that there is no such file among it.
     pub fn open(path: impl AsRef<Path>) -> Result<Journal, JournalError> {
         Ok(Journal::on(JournalFile::open(path)?)?)
     }
@@ -434,9 +438,20 @@ impl<S> fmt::Debug for Journal<S> {
 /// state any more: only the journal, read again, and a restart from it.
 ///
 /// Some systems forget a write that could not be made durable, and still read it back from memory until they are restarted. So this
-/// remembers the block, and [`reopen`](Failed::reopen) writes it again. A process that ends instead takes that with it: where the
-/// disk failed and `reopen` didn't succeed, restart the machine before the next process opens the journal.
-#[must_use = "`reopen` writes the block again that could not be made durable"]
+/// remembers the block, and [`reopen`](Failed::reopen) writes it again.
+///
+/// # Dropping it
+///
+/// It holds the lock on the journal's file, as the consumer did. Where it is dropped, by itself or with an error that has it, or with the
+/// process, **the lock goes, and the block that it remembered goes too**: any process can open the journal from then on, and may read back
+/// what the disk doesn't have. Nothing tells that process. So:
+///
+/// - Call [`reopen`](Failed::reopen) first, wherever this comes from: before the error is handed on by `?`, and before the process ends.
+/// - Where `reopen` fails too, keep what it gives back for as long as nobody else may open the journal, and try again; or end the process
+///   so that nothing starts it again by itself, with an exit status of its own for a service manager to know, as `examples/server.rs`
+///   does.
+/// - Where it was dropped without a `reopen` that succeeded, see to the disk, and restart the machine before anything opens the journal.
+#[must_use = "`reopen` writes the block again that could not be made durable; dropping it gives the journal's lock up"]
 pub struct Failed<S = JournalFile> {
     pub(crate) error: io::Error,
     pub(crate) storage: S,
@@ -488,8 +503,8 @@ impl<S> fmt::Display for Failed<S> {
     fn fmt(&self, f: &mut fmt::Formatter<'_>) -> fmt::Result {
         write!(
             f,
-            "block {} of the journal could not be written: {}",
-            self.block, self.error
+            "block {} of the journal could not be written",
+            self.block
         )
     }
 }

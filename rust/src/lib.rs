@@ -4,8 +4,14 @@
 //! The work is done by a library in Rattle whose every function is proved to meet its contract; this crate gives it a safe
 //! interface and a journal over a file. The names are those of IronBus.
 //!
+//! # Errors and panics
+//!
 //! Refusals are [`Refusal`], whose variants have the numbers of `docs/SPEC.md`. What a start, a restart or a checkpoint that was not
-//! made gives back is in its error, and every error is one of `std::error::Error`, so that `?` takes it.
+//! made gives back is in its error, and every error is one of [`std::error::Error`], so that `?` takes it. An error says its own level
+//! alone; what caused it, the refusal or what the disk said, is its `source`.
+//!
+//! A start, a restart and the codecs of snapshots panic where the linked library is another one: see [`check_library`]. Nothing else
+//! panics, unless the library answers what it is proved not to.
 //!
 //! # One state, used once
 //!

@@ -32,6 +32,12 @@ impl From<u64> for WorkerId {
     }
 }
 
+impl From<WorkerId> for u64 {
+    fn from(worker: WorkerId) -> u64 {
+        worker.0
+    }
+}
+
 impl fmt::Debug for WorkerId {
     fn fmt(&self, f: &mut fmt::Formatter<'_>) -> fmt::Result {
         write!(f, "WorkerId({})", self.0)

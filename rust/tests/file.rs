@@ -3,7 +3,7 @@
 mod common;
 
 use std::fs::{self, File};
-use std::io::{BufRead, BufReader};
+use std::io::{self, BufRead, BufReader, Write};
 use std::os::unix::fs::PermissionsExt;
 use std::path::{Path, PathBuf};
 use std::process::{Child, Command, Stdio};
@@ -11,8 +11,8 @@ use std::time::Duration;
 
 use common::{configuration, fresh_path, Random, WORKER};
 use ironbus_delivery_state::{
-    Configuration, Consumer, HandOut, Journal, JournalError, NewJournal, Offset, Refusal, Step,
-    BLOCK,
+    CheckpointError, Configuration, Consumer, HandOut, Journal, JournalError, NewJournal, Offset,
+    Refusal, Step, BLOCK,
 };
 
 const SECOND: u64 = 1_000_000_000;
@@ -605,14 +605,32 @@ impl Drop for Other {
 
 /// Runs `role` of this file in another process.
 fn other(role: &str, path: &Path) -> Other {
-    let child = Command::new(std::env::current_exe().unwrap())
+    other_by(Command::new(std::env::current_exe().unwrap()), role, path)
+}
+
+/// The same where no file may be written from its first byte on: each write of a block fails.
+fn other_without_a_disk(role: &str, path: &Path) -> Other {
+    let mut limited = Command::new("sh");
+    limited.args(["-c", "trap '' XFSZ; ulimit -f 0; exec \"$0\" \"$@\""]);
+    limited.arg(std::env::current_exe().unwrap());
+    other_by(limited, role, path)
+}
+
+fn other_by(mut command: Command, role: &str, path: &Path) -> Other {
+    let child = command
         .args(["role", "--exact", "--nocapture", "--ignored"])
         .env(ROLE, role)
         .env("NINOTSKEV_PATH", path)
+        .stdin(Stdio::piped())
         .stdout(Stdio::piped())
         .spawn()
         .unwrap();
     Other(child)
+}
+
+/// It may go on.
+fn go_on(child: &mut Other) {
+    child.0.stdin.as_mut().unwrap().write_all(b"\n").unwrap();
 }
 
 /// The line that it says.
@@ -633,8 +651,28 @@ fn create_without_end(path: &Path) -> ! {
     }
 }
 
+fn waits() {
+    io::stdin().read_line(&mut String::new()).unwrap();
+}
+
+// The disk fails, and again in `reopen`; what is left is kept, as a part of an error, until it may be dropped.
+fn fail(path: &Path) {
+    let consumer = restart(path, &configuration(3, 1, 10, 25));
+    let Err(CheckpointError::Failed(failed)) = consumer.checkpoint(WORKER) else {
+        panic!("the disk fails");
+    };
+    println!("says {failed}");
+    waits();
+    let again: Box<dyn std::error::Error> = failed.reopen().unwrap_err().into();
+    println!("says {again}");
+    waits();
+    drop(again);
+    println!("says dropped");
+    waits();
+}
+
 /// What the other process does: it opens the journal, and for `hold` keeps it until it is stopped; for `create` it makes one again and
-/// again.
+/// again; for `fail` it has a disk that fails.
 #[test]
 #[ignore = "a part of the tests below"]
 fn role() {
@@ -642,8 +680,10 @@ fn role() {
         return;
     };
     let path = std::env::var_os("NINOTSKEV_PATH").unwrap();
-    if role == "create" {
-        create_without_end(Path::new(&path));
+    match role.as_str() {
+        "create" => create_without_end(Path::new(&path)),
+        "fail" => return fail(Path::new(&path)),
+        _ => {}
     }
     match Journal::open(path) {
         Ok(_journal) => {
@@ -672,6 +712,30 @@ fn a_second_process_is_refused() {
     let mut third = other("look", &path);
     assert_eq!(says(&mut third), "open");
     third.ends();
+}
+
+// What an error of the disk leaves holds the lock, and no longer than it is there: `Failed` says what to do.
+#[test]
+fn what_an_error_of_the_disk_leaves_holds_the_journal_until_it_is_dropped() {
+    let path = fresh_path("failed");
+    drop(NewJournal::create(&path, 18).unwrap());
+    let mut failed = other_without_a_disk("fail", &path);
+    for _ in ["the disk failed", "and again in `reopen`"] {
+        assert_eq!(
+            says(&mut failed),
+            "block 1 of the journal could not be written"
+        );
+        assert!(matches!(Journal::open(&path), Err(JournalError::Locked)));
+        let mut second = other("look", &path);
+        assert_eq!(says(&mut second), "the journal is in use");
+        second.ends();
+        go_on(&mut failed);
+    }
+    // The process goes on, and the journal is anybody's.
+    assert_eq!(says(&mut failed), "dropped");
+    assert_eq!(Journal::open(&path).unwrap().bytes(), [0; 18 * BLOCK]);
+    go_on(&mut failed);
+    failed.ends();
 }
 
 #[test]

@@ -1,4 +1,5 @@
-//! Which libraries are linked: a checkout that was copied links its own, and one that isn't the crate's is found before the first call.
+//! Which libraries are linked: those that are there, a checkout that was copied its own; and one that isn't the crate's is found before the
+//! first call.
 
 use std::fs;
 use std::path::{Path, PathBuf};
@@ -115,11 +116,18 @@ fn checkout(folder: &Path) {
     for (name, program) in [("asks", ASKS), ("codecs", CODECS)] {
         fs::write(crate_folder.join(format!("examples/{name}.rs")), program).unwrap();
     }
-    let from = std::env::var_os("NINOTSKEV_LIB").filter(|folder| !folder.is_empty());
-    let from = from.map_or_else(|| here.join("../target/staticlib"), PathBuf::from);
-    for name in ["libserver.a", "libexports.a"] {
-        fs::copy(from.join(name), libraries.join(name)).unwrap();
+    for name in ARCHIVES {
+        fs::copy(linked_from().join(name), libraries.join(name)).unwrap();
     }
+}
+
+const ARCHIVES: [&str; 2] = ["libserver.a", "libexports.a"];
+
+/// The folder that the build script takes the libraries from.
+fn linked_from() -> PathBuf {
+    let named = std::env::var_os("NINOTSKEV_LIB").filter(|folder| !folder.is_empty());
+    let here = Path::new(env!("CARGO_MANIFEST_DIR"));
+    named.map_or_else(|| here.join("../target/staticlib"), PathBuf::from)
 }
 
 /// Builds a program in a checkout and runs it.
@@ -162,6 +170,21 @@ fn says_and_panics(output: &Output, wrong: &str) {
     let out = String::from_utf8_lossy(&output.stdout);
     assert!(out.starts_with(wrong), "{out}");
     panics(output, wrong);
+}
+
+// Cargo goes by dates, and doesn't see an archive that was put there with an older one.
+#[test]
+fn what_is_linked_is_what_is_there() {
+    for name in ARCHIVES {
+        let there = linked_from().join(name);
+        let linked = Path::new(env!("OUT_DIR")).join(name);
+        let same = fs::read(&there).unwrap() == fs::read(linked).unwrap();
+        let there = there.display();
+        assert!(
+            same,
+            "{there} is not what is linked here: it was put there with an older date. `touch` it, or `cargo clean`"
+        );
+    }
 }
 
 #[test]

@@ -1,9 +1,9 @@
 //! One journal of 18 blocks for very many checkpoints, against the book of docs/SPEC.md: with power failures at its writes, over many
 //! changes between the halves with each block made durable, and on a file with the process killed again and again.
 //!
-//! The long ones are `cargo test --release --test soak -- --ignored a_million` and `.. -- --ignored an_hour`. Their files stand in the folder
-//! that `NINOTSKEV_SOAK` names, or else in cargo's for tests. It doesn't matter for a process that is killed how durable a disk is, so
-//! that a folder in memory will do.
+//! The long ones are `cargo test --release --test soak -- --ignored a_million` and `.. -- --ignored an_hour`, which `NINOTSKEV_SOAK_SECONDS`
+//! makes shorter or longer. Their files stand in the folder that `NINOTSKEV_SOAK` names, or else in cargo's for tests. It doesn't matter
+//! for a process that is killed how durable a disk is, so that a folder in memory will do.
 
 mod common;
 
@@ -438,7 +438,9 @@ fn seconds_of_kills_at_any_moment() {
 #[test]
 #[ignore = "takes an hour"]
 fn an_hour_of_kills_at_any_moment() {
-    kills_by_time(&soak_path("hour"), Duration::from_secs(3600));
+    let given = std::env::var("NINOTSKEV_SOAK_SECONDS");
+    let seconds = given.map_or(3600, |text| text.parse().expect("a number of seconds"));
+    kills_by_time(&soak_path("hour"), Duration::from_secs(seconds));
 }
 
 #[test]

@@ -171,8 +171,9 @@ fn the_block_that_failed_is_named() {
     assert_eq!(failed.block(), 0);
     assert_eq!(
         failed.to_string(),
-        "block 0 of the journal could not be written: not durable"
+        "block 0 of the journal could not be written"
     );
+    assert_eq!(failed.error().to_string(), "not durable");
     assert!(!disk.is_durable());
     // The header counts once it is written again.
     let consumer = Consumer::restart(&settings(), failed.reopen().unwrap()).unwrap();
