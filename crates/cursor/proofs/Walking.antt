@@ -85,15 +85,15 @@ module _ (bytes : List ℕ) where
   length-column zero pos = refl
   length-column (suc n) pos = ap suc (length-column n (pos + 16))
 
-  -- both columns are the ranges, whatever stands behind them
+  -- both columns are the ranges
   columns-read : (n pos : ℕ) → zipped range (columnFrom n pos bytes) (columnFrom n (pos + 8) bytes) ≡ readRanges n pos bytes
   columns-read zero pos = refl
   columns-read (suc n) pos =
       let e : pos + 8 + 16 ≡ pos + 16 + 8 = omega arith in
       rw e (ap (λ (l : List Range). range (numberAt 8 pos bytes) (numberAt 8 (pos + 8) bytes) ∷ l) (columns-read n (pos + 16)))
 
-  front : (n pos : ℕ) (rest : List ℕ) → take n (columnFrom n pos bytes ++ rest) ≡ columnFrom n pos bytes
-  front n pos rest = rw (length-column n pos) at (take-append-seam (columnFrom n pos bytes) rest)
+  column-front : (n pos : ℕ) (behind : List ℕ) → take n (columnFrom n pos bytes ++ behind) ≡ columnFrom n pos bytes
+  column-front n pos behind = rw (length-column n pos) at (take-append-seam (columnFrom n pos bytes) behind)
 
   number-at : (n pos i : ℕ) → i < n → getD (columnFrom n pos bytes) i 0 ≡ numberAt 8 (pos + 16 * i) bytes
   number-at zero pos i h = absurd (omega arith)
@@ -129,15 +129,20 @@ module _ (bytes : List ℕ) (r : Checked) (is : CheckedIs bytes r) where
           omega (arith, n .1, length-read (rangeCount bytes) 9 bytes, passed-few (cursorIn bytes .committed) (cursorIn bytes .ahead) (a .ranges))
       go (Refused error) q = let n = rw q at (is .numbers) in omega (arith, n .1)
 
-  -- with its columns, read into zeros, it is decoded
-  pub decode-read : IsBytes bytes → (starts ends : List ℕ) → starts ≡ columnFrom (r .runs) 9 bytes ++ drop (r .runs) (replicate 128 0) → ends ≡ columnFrom (r .runs) 17 bytes ++ drop (r .runs) (replicate 128 0)
+  -- its columns, whatever stands behind them, are those of the cursor that the bytes hold
+  pub columns-restored : IsBytes bytes → r .outcome ≡ Restored → (starts ends behind behind′ : List ℕ) → starts ≡ columnFrom (r .runs) 9 bytes ++ behind → ends ≡ columnFrom (r .runs) 17 bytes ++ behind′
+      → DecodedIs bytes (record { outcome = Restored; cursor = ackCursor (r .committed) starts ends (r .runs) })
+  columns-restored h q starts ends behind behind′ s e =
+      let n = rw q at (is .numbers) in
+      decode-restored bytes h (rw q at (is .fault)) _ (n .1) (rw (s, e, column-front bytes (r .runs) 9 behind, column-front bytes (r .runs) 17 behind′, n .0, n .1, columns-read bytes (rangeCount bytes) 9))
+
+  -- read into zeros, they are those that stand beside a refusal too
+  pub columns-decoded : IsBytes bytes → (starts ends : List ℕ) → starts ≡ columnFrom (r .runs) 9 bytes ++ drop (r .runs) (replicate 128 0) → ends ≡ columnFrom (r .runs) 17 bytes ++ drop (r .runs) (replicate 128 0)
       → DecodedIs bytes (record { outcome = r .outcome; cursor = ackCursor (r .committed) starts ends (r .runs) })
-  decode-read h starts ends s e = go (r .outcome) refl
+  columns-decoded h starts ends s e = go (r .outcome) refl
     where
       go : (o : Decode) → r .outcome ≡ o → DecodedIs bytes (record { outcome = r .outcome; cursor = ackCursor (r .committed) starts ends (r .runs) })
-      go Restored q =
-          let n = rw q at (is .numbers) in
-          rw q (decode-restored bytes h (rw q at (is .fault)) _ (n .1) (rw (s, e, front bytes (r .runs) 9 _, front bytes (r .runs) 17 _, n .0, n .1, columns-read bytes (rangeCount bytes) 9)))
+      go Restored q = rw q (columns-restored h q starts ends _ _ s e)
       go (Refused error) q =
           let n = rw q at (is .numbers) in
           rw (q, s, e, n .0, n .1) (decode-refused bytes error (rw q at (is .fault)))

@@ -87,13 +87,13 @@ fn check_ranges(input: &[u8], committed: u64, runs: usize) -> Resume
     Resume::Resumed
 }
 
-// Puts the starts of the n ranges of a snapshot, which are from byte 9 on, or their ends, from 17 on, at the front of a lent column.
-pub fn read_column(input: &[u8], from: usize, n: usize, column: &mut [u64])
-    requires { ⌜ (from + 16 * n ≤ MAX) × (n ≤ length (now column)) ⌝ }
-    ensures { λ _. ⌜ now (column .exit) ≡ columnFrom n from (now (input .entry)) ++ drop n (now (column .entry)) ⌝ }
+// Puts the starts of the first ranges of a snapshot, which are from byte 9 on, or their ends, from 17 on, at the front of a lent column.
+pub fn read_column(input: &[u8], from: usize, count: usize, column: &mut [u64])
+    requires { ⌜ (from + 16 * count ≤ MAX) × (count ≤ length (now column)) ⌝ }
+    ensures { λ _. ⌜ now (column .exit) ≡ columnFrom count from (now (input .entry)) ++ drop count (now (column .entry)) ⌝ }
 {
     let mut i: usize = 0;
-    while i < n {
+    while i < count {
         column[i] = raw::read_u64(input, from + RANGE_LEN * i);
         i += 1;
     }

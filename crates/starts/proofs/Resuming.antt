@@ -2,23 +2,23 @@
 -- Assumes nothing.
 use Prim.Native.Nat.{ℕ, _≤_}
 use native.Mathlib.Omega.{arith}
-use mathlib.Core.Path.{_≡_, refl, sym, ap, ap₂, _∙_}
-use mathlib.Core.List.{List}
-use lib.ListN.{length, take}
+use mathlib.Core.Path.{_≡_, refl, sym, ap, _∙_}
+use mathlib.Core.List.{List, _++_}
+use lib.ListN.{length, take, drop, length-append, length-drop}
 use Rattle.types.specs.Limits.{PAIRS, CARRIED}
 use Rattle.types.specs.Refusal.{Result, refused, done}
 use Rattle.types.specs.Keyed.{Entry}
 use Rattle.types.specs.Lists.{entriesOf}
 use Rattle.cursor.specs.Cursor.{Cursor}
 use Rattle.cursor.specs.View as cursor
-use Rattle.cursor.specs.Snapshot.{decodeCursor}
-use Rattle.cursor.specs.Answers.{snapshotError}
-use Rattle.cursor.specs.declared.AckCursor.{AckCursor}
+use Rattle.cursor.specs.Snapshot.{columnFrom, cursorIn, decodeCursor}
+use Rattle.cursor.specs.Answers.{snapshotError, CheckedIs}
+use Rattle.cursor.specs.Answers as cursors
 use Rattle.cursor.specs.declared.SnapshotError.{SnapshotError}
-use Rattle.cursor.specs.Answers as restored
-use Rattle.cursor.specs.declared.Decoded as cursors
-use Rattle.cursor.specs.declared.Decode as cursors-decode
+use Rattle.cursor.specs.declared.Decode.{Decode as Snapshot}
 use Rattle.cursor.specs.declared.Decode.the-variants as decodes
+use Rattle.cursor.specs.declared.columns.Checked.{Checked}
+use Rattle.cursor.proofs.Walking.{checked-cursor, length-column}
 use Rattle.attempt.specs.Snapshot.{decodeAttempts}
 use Rattle.attempt.specs.Codec.{attemptError, decodeOf, DecodedIs}
 use Rattle.attempt.specs.declared.AttemptSnapshotError.{AttemptSnapshotError}
@@ -75,13 +75,20 @@ module _ (b : List ℕ) (r : Decoded) (is : DecodedIs b r) where
             few = omega (arith, t .1, decoded-few b l e);
           }
 
--- ## what the cursor's decoder says
-module _ (b : List ℕ) (r : cursors.Decoded) (is : restored.DecodedIs b r) where
-  pub cursor-said : (error : SnapshotError) → r .outcome ≡ decodes.Refused error → decodeCursor b ≡ refused (snapshotError error)
-  cursor-said error p = sym (is .is) ∙ ap (λ (d : cursors-decode.Decode). restored.decodeOf d (cursor.view (r .cursor))) p
+-- ## what the test of the cursor's snapshot says
+module _ (b : List ℕ) (r : Checked) (is : CheckedIs b r) where
+  told : (o : Snapshot) → r .outcome ≡ o → decodeCursor b ≡ cursors.decodeOf o (cursorIn b)
+  told o p = sym (checked-cursor b (r .outcome) (is .fault)) ∙ ap (λ (d : Snapshot). cursors.decodeOf d (cursorIn b)) p
 
-  pub cursor-read : r .outcome ≡ decodes.Restored → decodeCursor b ≡ done (cursor.view (r .cursor))
-  cursor-read p = sym (is .is) ∙ ap (λ (d : cursors-decode.Decode). restored.decodeOf d (cursor.view (r .cursor))) p
+  pub cursor-said : (error : SnapshotError) → r .outcome ≡ decodes.Refused error → decodeCursor b ≡ refused (snapshotError error)
+  cursor-said error p = told (decodes.Refused error) p
+
+  pub cursor-held : r .outcome ≡ decodes.Restored → decodeCursor b ≡ done (cursorIn b)
+  cursor-held p = told decodes.Restored p
+
+-- a column that ranges were read into is as long as it was
+pub column-long : (n from : ℕ) (b before after : List ℕ) → after ≡ columnFrom n from b ++ drop n before → n ≤ 128 → length before ≡ 128 → length after ≡ 128
+column-long n from b before after e few h = rw e (omega (arith, length-append (columnFrom n from b) (drop n before), length-column b n from, length-drop n before))
 
 -- ## the two snapshots together
 module _ (cb ab : List ℕ) (ceiling : ℕ) (next : NextGroup) (size : ℕ) where
@@ -91,26 +98,25 @@ module _ (cb ab : List ℕ) (ceiling : ℕ) (next : NextGroup) (size : ℕ) wher
   pub cursor-refused : (error : SnapshotError) (p : Columns) → decodeCursor cb ≡ refused (snapshotError error) → ReadIs right size (freshBy (answers.Cursor error)) p p
   cursor-refused error p e = fresh-read right size (answers.Cursor error) p (λ k. rw e)
 
-  module _ (k : AckCursor) (e : decodeCursor cb ≡ done (cursor.view k)) where
-    pub attempts-refused : (error : AttemptSnapshotError) (p : Columns) → decodeAttempts ab ≡ refused (attemptError error)
-        → ReadIs right size (freshBy (answers.Attempts error)) p p
-    attempts-refused error p q = fresh-read right size (answers.Attempts error) p (λ c. rw (e, q))
+  pub attempts-refused : (k : Cursor) → decodeCursor cb ≡ done k → (error : AttemptSnapshotError) (p : Columns) → decodeAttempts ab ≡ refused (attemptError error)
+      → ReadIs right size (freshBy (answers.Attempts error)) p p
+  attempts-refused k e error p q = fresh-read right size (answers.Attempts error) p (λ c. rw (e, q))
 
-    -- the numbers that go on
-    abbrev numbers : ℕ → RestartedAt
-    numbers n =
-        record { answer = answers.Started; committed = k .committed; runs = k .runs; «carried_len» = n; ceiling = ceiling; number = next .number; block = next .block }
+  -- the numbers that go on
+  abbrev numbers : (committed runs carried : ℕ) → RestartedAt
+  numbers committed runs n =
+      record { answer = answers.Started; committed = committed; runs = runs; «carried_len» = n; ceiling = ceiling; number = next .number; block = next .block }
 
-    pub both-read : cursor.Sound k → (r : Decoded) (is : DecodedIs ab r) → Reads ab r is → (before after : Columns)
-        → take (k .runs) (after .starts) ≡ take (k .runs) (k .starts) → take (k .runs) (after .ends) ≡ take (k .runs) (k .ends)
-        → (n : ℕ) → n ≤ CARRIED → countsBy (numbers n) after ≡ unsettledCounts (cursor.view k) (entriesOf (take (r .count) (r .pairs)))
-        → ReadIs right size (numbers n) before after
-    both-read sound r is q before after starts ends n few carried =
-        let ranges : cursor.view (cursorBy (numbers n) after) ≡ cursor.view k = rw (starts, ends) in
-        let counts : countsBy (numbers n) after ≡ unsettledCounts (cursor.view k) (q .list) = carried ∙ ap (unsettledCounts (cursor.view k)) (q .pairs) in
-        record {
-          is = λ c. rw (e, q .bytes) (ap₂ (λ (x : Cursor) (l : List (Entry ℕ)). done (resumed c size x l ceiling (nextGroupOf next))) ranges counts);
-          cursor = record { few = sound .few; valid = rw ranges (sound .valid) };
-          few = few;
-          kept = tt;
-        }
+  pub both-read : (committed runs n : ℕ) (before after : Columns) → cursors.DecodedIs cb (record { outcome = decodes.Restored; cursor = cursorBy (numbers committed runs n) after })
+      → (r : Decoded) (is : DecodedIs ab r) → Reads ab r is → n ≤ CARRIED
+      → countsBy (numbers committed runs n) after ≡ unsettledCounts (cursor.view (cursorBy (numbers committed runs n) after)) (entriesOf (take (r .count) (r .pairs)))
+      → ReadIs right size (numbers committed runs n) before after
+  both-read committed runs n before after d r is q few carried =
+      let k = cursor.view (cursorBy (numbers committed runs n) after) in
+      let counts : countsBy (numbers committed runs n) after ≡ unsettledCounts k (q .list) = carried ∙ ap (unsettledCounts k) (q .pairs) in
+      record {
+        is = λ c. rw (← d .is, q .bytes) (ap (λ (l : List (Entry ℕ)). done (resumed c size k l ceiling (nextGroupOf next))) counts);
+        cursor = d .sound;
+        few = few;
+        kept = tt;
+      }

@@ -24,8 +24,9 @@ use attempt::Decode;
 use consumer::Configuration;
 use consumer::NextGroup;
 use consumer::halves;
-use cursor::AckCursor;
 use cursor::Decode as Snapshot;
+use cursor::columns::check_snapshot;
+use cursor::columns::read_column;
 use journal::LastGroup;
 use journal::Walked;
 use types::Pair;
@@ -266,8 +267,8 @@ fn read_snapshots<'a>(
     requires { ⌜ Long (columns (now starts) (now ends) (now «carried_offsets») (now «carried_counts»)) ⌝ }
     ensures { λ r. ⌜ ((size : ℕ) → ReadIs (λ (k : state.Configuration). fromSnapshots k size (decodeCursor (now («cursor_bytes» .entry))) (decodeAttempts (now («attempt_bytes» .entry))) ceiling (nextGroupOf next)) size r (columns (now (starts .entry)) (now (ends .entry)) (now («carried_offsets» .entry)) (now («carried_counts» .entry))) (columns (now (starts .exit)) (now (ends .exit)) (now («carried_offsets» .exit)) (now («carried_counts» .exit)))) ⌝ }
 {
-    let restored = AckCursor::decode_snapshot(cursor_bytes);
-    let outcome = restored.outcome;
+    let checked = check_snapshot(cursor_bytes);
+    let outcome = checked.outcome;
     if let Snapshot::Refused(error) = outcome {
         return fresh_numbers(StartAnswer::Cursor(error));
     }
@@ -276,19 +277,20 @@ fn read_snapshots<'a>(
     if let Decode::Refused(error) = pairs {
         return fresh_numbers(StartAnswer::Attempts(error));
     }
-    let cursor = restored.cursor;
     let list = decoded.pairs;
-    fill(&cursor.starts, cursor.runs, starts);
-    fill(&cursor.ends, cursor.runs, ends);
+    let committed = checked.committed;
+    let runs = checked.runs;
+    read_column(cursor_bytes, 9, runs, starts);
+    read_column(cursor_bytes, 17, runs, ends);
     RestartedAt {
         answer: StartAnswer::Started,
-        committed: cursor.committed,
-        runs: cursor.runs,
+        committed,
+        runs,
         carried_len: carry(
-            cursor.committed,
-            &cursor.starts,
-            &cursor.ends,
-            cursor.runs,
+            committed,
+            starts,
+            ends,
+            runs,
             list,
             decoded.count,
             carried_offsets,
@@ -297,18 +299,6 @@ fn read_snapshots<'a>(
         ceiling: ceiling,
         number: next.number,
         block: next.block,
-    }
-}
-
-// Fills the first n places of a column with another's.
-fn fill(from: &[u64; RANGES], n: usize, column: &mut [u64; RANGES])
-    requires { ⌜ (n ≤ 128) × (length (now from) ≡ 128) × (length (now column) ≡ 128) ⌝ }
-    ensures { λ _. ⌜ take n (now (column .exit)) ≡ take n (now (from .entry)) ⌝ }
-{
-    let mut i: usize = 0;
-    while i < n {
-        column[i] = from[i];
-        i += 1;
     }
 }
 

@@ -2,7 +2,7 @@
 use native.Mathlib.Omega.{arith}
 use borrow.Author.Needs.{needs}
 use Rattle.raw.proofs.Bytes.{bytes-known}
-use Rattle.cursor.proofs.Walking.{checked-few, decode-read}
+use Rattle.cursor.proofs.Walking.{checked-few, columns-decoded}
 use Rattle.cursor.proofs.AckCursor.decode_snapshot.Statement.{statement}
 use Rattle.cursor.proofs.AckCursor.decode_snapshot.Tie as tie
 
@@ -31,7 +31,7 @@ returns c =
     let l₁ = l₂ .before .before .before in
     let k = l₁ .before .before in
     let bytes = k .before .before .args .input .now in
-    decode-read bytes _ (k .check-snapshot .ensures) (bytes-known bytes (k .before .shared-slice-known .given)) _ _ (l₁ .read-column .ensures) (l₂ .read-column2 .ensures)
+    columns-decoded bytes _ (k .check-snapshot .ensures) (bytes-known bytes (k .before .shared-slice-known .given)) _ _ (l₁ .read-column .ensures) (l₂ .read-column2 .ensures)
 
 pub decode-snapshot-spec : {M : Type 1} → statement M
 decode-snapshot-spec =

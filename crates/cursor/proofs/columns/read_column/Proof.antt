@@ -10,10 +10,10 @@ use Rattle.cursor.proofs.columns.read_column.Statement.{statement}
 use Rattle.cursor.proofs.columns.read_column.Tie as tie
 
 abbrev Inv-loop : tie.InvT-loop
-Inv-loop input from n column₀ i₀ column i = Filling (columnFrom n from input) column₀ column n i
+Inv-loop input from count column₀ i₀ column i = Filling (columnFrom count from input) column₀ column count i
 
 abbrev μ-loop : tie.MeasureT-loop
-μ-loop input from n column₀ i₀ column i = n - i
+μ-loop input from count column₀ i₀ column i = count - i
 
 loop-holds : tie.Need-loop-holds Inv-loop μ-loop
 loop-holds c = filling _ _ _ (c .before .before .pre .1)
@@ -43,7 +43,7 @@ loop-again : tie.Need-loop-again Inv-loop μ-loop
 loop-again c =
     let l = c .before .before in
     let a = l .before .before .before .args in
-    column-more (a .input .now) (a .n) (a .from) _ (c .read-u64 .ensures) (omega arith) (l .loop .inv)
+    column-more (a .input .now) (a .count) (a .from) _ (c .read-u64 .ensures) (omega arith) (l .loop .inv)
 
 same-length : tie.Need-same-length Inv-loop μ-loop
 same-length c = c .before .loop .inv .full
@@ -52,7 +52,7 @@ returns : tie.Need-returns Inv-loop μ-loop
 returns c =
     let l = c .before in
     let a = l .before .before .before .args in
-    column-all (a .input .now) (a .n) (a .from) (omega arith) (l .loop .inv)
+    column-all (a .input .now) (a .count) (a .from) (omega arith) (l .loop .inv)
 
 pub read-column-spec : {M : Type 1} → statement M
 read-column-spec =
