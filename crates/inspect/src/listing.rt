@@ -10,6 +10,7 @@ use crate::places;
 use crate::places::Place;
 use crate::said::Said;
 use consumer::halves::half_blocks;
+use text::output::put;
 use text::templates::fill;
 use types::numbers::saturating_add;
 
@@ -141,11 +142,22 @@ fn half_heading(out: &mut [u8], at: usize, area: &[u8], half: usize) -> usize {
     )
 }
 
-// The whole blocks of an area, half by half. A block more than the halves have stands behind the second.
+// The blocks from block `both` on, which both halves leave: one, where their number is odd.
+fn odd(out: &mut [u8], at: usize, area: &[u8], both: usize) -> usize {
+    let blocks = area.len() / 512;
+    if blocks <= both {
+        return at;
+    }
+    let next = put(out, at, b"in neither half:\n");
+    lines(out, next, area, both, blocks - both)
+}
+
+// The whole blocks of an area, half by half.
 pub fn listed(out: &mut [u8], at: usize, area: &[u8]) -> usize {
     let middle = half_blocks(area.len());
     let mut next = half_heading(out, at, area, 0);
     next = lines(out, next, area, 0, middle);
     next = half_heading(out, next, area, middle);
-    lines(out, next, area, middle, area.len() / 512 - middle)
+    next = lines(out, next, area, middle, middle);
+    odd(out, next, area, middle + middle)
 }
