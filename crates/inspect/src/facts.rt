@@ -65,17 +65,45 @@ fn left(out: &mut [u8], at: usize, said: Said) -> usize {
     )
 }
 
-// The groups of the half in use, which begins with group `first`.
-fn groups_said(first: u64, walked: Walked) -> Said {
+// The walk over the good groups: those before the one whose body is unsound, where the walk met one. That one passes the body's block,
+// and no group before it does.
+pub fn good_walk(area: &[u8], walked: Walked) -> Walked {
+    let Walked::Damaged(body) = walked else {
+        return walked;
+    };
+    let from = starts::origin(area);
+    journal::walk(area, body, from.number, from.block)
+}
+
+// The groups of the half in use, which begins with group `first`: all, or the good ones.
+fn groups_said(first: u64, walked: Walked, good: Walked) -> Said {
     let Walked::Stopped {
         last,
         number,
         block,
-    } = walked
+    } = good
     else {
-        return says(2, 0, 0);
+        return says(4, 0, 0);
     };
-    stop_said(first, last, number, block as u64)
+    let said = stop_said(first, last, number, block as u64);
+    let Walked::Damaged(_) = walked else {
+        return said;
+    };
+    good_said(said)
+}
+
+fn good_said(said: Said) -> Said {
+    let numbers = said.numbers;
+    if said.template == 0 {
+        return Said {
+            template: 2,
+            numbers: numbers,
+        };
+    }
+    Said {
+        template: 3,
+        numbers: numbers,
+    }
 }
 
 fn stop_said(first: u64, last: LastGroup, number: u64, block: u64) -> Said {
@@ -94,7 +122,9 @@ fn groups(out: &mut [u8], at: usize, said: Said) -> usize {
         out,
         at,
         b"groups in it: #; the last is group #, with its header at block #; the next would stand at block #\n|\
-        groups in it: none; group # would be the first, at block #\n|",
+        groups in it: none; group # would be the first, at block #\n|\
+        groups in it before the unsound body's: #; the last is group #, with its header at block #\n|\
+        groups in it before the unsound body's: none\n|",
         said.template,
         numbers,
     )
@@ -111,9 +141,9 @@ fn ceiling_at(area: &[u8], i: usize) -> u64 {
     header.ceiling
 }
 
-// The ceiling of the last group that the walk reached, from which a restart goes on: generations below it may have been given.
-fn ceiling_said(area: &[u8], walked: Walked) -> Said {
-    let Walked::Stopped { last, .. } = walked else {
+// The ceiling of the last good group.
+fn ceiling_said(area: &[u8], good: Walked) -> Said {
+    let Walked::Stopped { last, .. } = good else {
         return says(0, 0, 0);
     };
     match last {
@@ -128,8 +158,8 @@ fn ceiling(out: &mut [u8], at: usize, said: Said) -> usize {
         out,
         at,
         b"\n|\
-        ceiling: #, of the last group; a restart from it goes on with that generation, and its first claim waits for a checkpoint\n\n|\
-        ceiling: 0, as there is no group; the first claim waits for a checkpoint\n\n",
+        ceiling: #, of that group; where a higher one was seen, a restart from it goes back over checkpoints\n\n|\
+        ceiling: 0, as no such group is found; where a higher one was seen, a restart goes back over checkpoints\n\n",
         said.template,
         numbers,
     )
@@ -141,11 +171,12 @@ fn contents(out: &mut [u8], at: usize, area: &[u8], walked: Walked) -> usize {
     let hi = starts::limit(area) as u64;
     let mut next = half(out, at, from.block as u64, hi);
     next = left(out, next, left_said(hi, walked));
-    next = groups(out, next, groups_said(from.number, walked));
-    ceiling(out, next, ceiling_said(area, walked))
+    let good = good_walk(area, walked);
+    next = groups(out, next, groups_said(from.number, walked, good));
+    ceiling(out, next, ceiling_said(area, good))
 }
 
-// Of an area and the walk over its groups that can be read, with an empty line in front and behind.
+// Of an area and the walk over it, with an empty line in front and behind.
 pub fn facts(out: &mut [u8], at: usize, area: &[u8], walked: Walked) -> usize {
     let next = file(out, at, area.len());
     if let Walked::BadArea = walked {

@@ -1,5 +1,6 @@
 // A journal: what a restart would find, or why it is refused and what to do; what an operator asks next; then the blocks.
 use crate::facts::facts;
+use crate::facts::good_walk;
 use crate::listing::listed;
 use crate::missed::highest_named;
 use crate::missed::lost;
@@ -116,15 +117,9 @@ fn ended(out: &mut [u8], at: usize, area: &[u8], hi: usize, number: u64, block: 
     other(out, next, area, number, highest_unsaid(area, hi, block))
 }
 
-// The walk over the groups before the one whose body at a block is unsound. That one passes the block, and no group before it does.
-fn walk_before(area: &[u8], body: usize) -> Walked {
-    let from = starts::origin(area);
-    journal::walk(area, body, from.number, from.block)
-}
-
 // Whose body at a block is unsound, what is out of reach with it, and what the other half has.
 fn unsound(out: &mut [u8], at: usize, area: &[u8], body: usize) -> usize {
-    let Walked::Stopped { number, block, .. } = walk_before(area, body) else {
+    let Walked::Stopped { number, block, .. } = good_walk(area, Walked::Damaged(body)) else {
         return at;
     };
     let mut next = fill(
@@ -182,19 +177,11 @@ fn walk(area: &[u8]) -> Walked {
     journal::walk(area, starts::limit(area), from.number, from.block)
 }
 
-// The walk over the groups that can be read.
-fn readable(area: &[u8], walked: Walked) -> Walked {
-    if let Walked::Damaged(block) = walked {
-        return walk_before(area, block);
-    }
-    walked
-}
-
 // A journal of any length.
 pub fn journal(out: &mut [u8], at: usize, area: &[u8]) -> usize {
     let walked = walk(area);
     let mut next = verdict(out, at, area, walked);
-    next = facts(out, next, area, readable(area, walked));
+    next = facts(out, next, area, walked);
     listed(out, next, area)
 }
 

@@ -126,6 +126,9 @@ fn lost_said(next: u64, number: u64, highest: u64) -> Said {
     if last < next {
         return says(1, next, 0);
     }
+    if last == next {
+        return one_lost_said(next, highest);
+    }
     let count = saturating_add(last - next, 1);
     if last < highest {
         return Said {
@@ -139,6 +142,14 @@ fn lost_said(next: u64, number: u64, highest: u64) -> Said {
     }
 }
 
+// The same where group `next` is the last one that was finished.
+fn one_lost_said(next: u64, highest: u64) -> Said {
+    if next < highest {
+        return says(4, next, highest);
+    }
+    says(3, next, 0)
+}
+
 // Of an area on which a restart is refused, where the groups that it can read end before group `next`.
 pub fn lost(out: &mut [u8], at: usize, area: &[u8], next: u64) -> usize {
     let headers = headers_behind(area, 0, area.len() / 512);
@@ -149,7 +160,9 @@ pub fn lost(out: &mut [u8], at: usize, area: &[u8], next: u64) -> usize {
         at,
         b"out of reach: groups # to #; checkpoints lost: at least #\n|\
         out of reach: groups that can't be told, as no header names group # or one after it\n|\
-        out of reach: groups # to #, and perhaps #; checkpoints lost: at least #\n",
+        out of reach: groups # to #, and perhaps #; checkpoints lost: at least #\n|\
+        out of reach: group #; checkpoints lost: at least 1\n|\
+        out of reach: group #, and perhaps #; checkpoints lost: at least 1\n",
         said.template,
         numbers,
     )
