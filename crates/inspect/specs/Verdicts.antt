@@ -113,12 +113,15 @@ abbrev pub seenOf : Verdict → Seen → Seen
 seenOf Sound s = s
 seenOf (Unsound f) s = seens.Unsound f
 
--- zeros, or sound as the header or the body that it says it is, of the group that it names; no body has the index 0, nor uses more
--- than 500 bytes
+-- the body of group k that a block says it is; none has the index 0, nor uses more than 500 bytes
+abbrev pub ownBodyVerdict : ℕ → List ℕ → Verdict
+ownBodyVerdict k b = bodyVerdict k (max (indexOf b) 1) (min (usedOf b) 500) b
+
+-- zeros, or sound as the header or the body that it says it is, of the group that it names
 abbrev pub seen : ℕ → ℕ → List ℕ → Seen
 seen hi i b =
     cond (not (eqb (length b) 512)) (seens.Unsound Length)
     (cond (allZero b) seens.Empty
     (cond (eqb (kindOf b) 2)
-    (seenOf (bodyVerdict (groupOf b) (max (indexOf b) 1) (min (usedOf b) 500) b) seens.Body)
+    (seenOf (ownBodyVerdict (groupOf b) b) seens.Body)
     (seenOf (headerVerdict hi (groupOf b) i b) seens.Header)))

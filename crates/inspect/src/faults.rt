@@ -1,10 +1,9 @@
 // What stands in a block of a journal, and which test one that isn't sound fails first (SPEC.md, "Sound blocks"): as the header or the
 // body that is expected at its place (`header_verdict`, `body_verdict`), or as what it says it is (`by_itself`).
 ghost use mathlib.Core.Path.{_≡_};
-ghost use Prim.Native.Nat.{min, max};
 ghost use lib.ListN.{length};
-ghost use Rattle.journal.specs.Blocks.{indexOf, usedOf};
-ghost use Rattle.inspect.specs.Verdicts.{openingVerdict, sizesVerdict, headerRest, headerVerdict, bodyRest, bodyVerdict, seen, seenOf};
+ghost use Rattle.inspect.specs.Verdicts.{openingVerdict, sizesVerdict, headerRest, headerVerdict, bodyRest, bodyVerdict, ownBodyVerdict};
+ghost use Rattle.inspect.specs.Verdicts.{seen, seenOf};
 use types::numbers::larger;
 use types::numbers::shorter;
 
@@ -148,7 +147,7 @@ pub fn body_verdict(block: &[u8], number: u64, index: usize, used: usize) -> Ver
 // The body of group `number` that a block says it is: from 1 on, and with at most 500 bytes used.
 fn own_body_verdict(block: &[u8], number: u64) -> Verdict
     requires { ⌜ length (now block) ≡ 512 ⌝ }
-    ensures { λ r. ⌜ r ≡ bodyVerdict number (max (indexOf (now (block .entry))) 1) (min (usedOf (now (block .entry))) 500) (now (block .entry)) ⌝ }
+    ensures { λ r. ⌜ r ≡ ownBodyVerdict number (now (block .entry)) ⌝ }
 {
     let index = larger(block[1] as u64, 1);
     let used = shorter(raw::read_u16(block, 2) as usize, 500);
