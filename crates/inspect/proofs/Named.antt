@@ -1,4 +1,5 @@
--- Headers found and counted block by block, and the groups that they name. Assumes nothing.
+-- Headers found and counted block by block, and the groups that they name; the greatest group that a header or a body names. Assumes
+-- nothing.
 use Prim.Native.Nat.{ℕ, zero, suc, _+_, _-_, _≤_, _<_, max}
 use native.Mathlib.Omega.{arith}
 use native.Mathlib.Numerals.{add-one}
@@ -10,9 +11,9 @@ use lib.ListN.{length}
 use Rattle.types.proofs.Cases.{split, neither}
 use Rattle.journal.specs.Area.{blockAt}
 use Rattle.journal.specs.Blocks.{groupOf}
-use Rattle.journal.specs.Sound.{hasHeaderKind}
+use Rattle.journal.specs.Sound.{hasHeaderKind, isKind}
 use Rattle.journal.specs.Walks.{anyHeader}
-use Rattle.inspect.specs.Missed.{firstHeader, named, greatest}
+use Rattle.inspect.specs.Missed.{firstHeader, named, greatest, namedBy, highestFrom}
 
 module _ (a : List ℕ) where
   -- there is no first header just where the search of a restart finds none
@@ -105,3 +106,46 @@ module _ (a : List ℕ) (e : ℕ) where
   tally-end ks i c n t l =
       let q = from-end i l in
       (omega (arith, t .count, ap length q), omega (arith, t .number, ap greatest q))
+
+-- ## the group that a block names
+module _ (b : List ℕ) where
+  pub named-header : hasHeaderKind b ≡ true → groupOf b ≡ namedBy b
+  named-header h = rw h
+
+  pub named-body : hasHeaderKind b ≡ false → isKind 2 b ≡ true → groupOf b ≡ namedBy b
+  named-body h k = rw (h, k)
+
+  pub named-none : hasHeaderKind b ≡ false → isKind 2 b ≡ false → 0 ≡ namedBy b
+  named-none h k = rw (h, k)
+
+module _ (a : List ℕ) (e : ℕ) where
+  -- the greatest one that is named from block i on, below block e
+  abbrev highestOn : ℕ → ℕ
+  highestOn i = highestFrom a (e - i) i
+
+  highest-next : (i : ℕ) → i < e → highestOn i ≡ max (namedBy (blockAt a i)) (highestOn (i + 1))
+  unfolding highestFrom
+  highest-next i l =
+      let q : e - i ≡ suc (e - (i + 1)) = omega arith in
+      rw (q, add-one i)
+
+  highest-none : (i : ℕ) → e ≤ i → highestOn i ≡ 0
+  unfolding highestFrom
+  highest-none i l =
+      let q : e - i ≡ 0 = omega arith in
+      rw q
+
+  -- n is the greatest one up to block i
+  abbrev pub HighestTo : ℕ → ℕ → Type 0
+  HighestTo n i = max n (highestFrom a (e - i) i) ≡ highestFrom a e 0
+
+  pub highest-begins : HighestTo 0 0
+  highest-begins =
+      let q : e - 0 ≡ e = omega arith in
+      omega (arith, ap (λ m. highestFrom a m 0) q)
+
+  pub highest-on : (n n′ i : ℕ) → HighestTo n i → i < e → n′ ≡ max n (namedBy (blockAt a i)) → HighestTo n′ (i + 1)
+  highest-on n n′ i h l q = omega (arith, h, q, highest-next i l)
+
+  pub highest-ends : (n i m : ℕ) → HighestTo n i → e ≤ i → e ≡ m → n ≡ highestFrom a m 0
+  highest-ends n i m h l q = omega (arith, h, highest-none i l, ap (λ k. highestFrom a k 0) q)

@@ -1,15 +1,15 @@
 -- The headers from a block on, by kind and check alone, and the groups that they name: `inspect` asks behind the block
--- where a walk ended.
+-- where a walk ended. And the greatest group that a header or a body of an area names, by kind and check alone too.
 -- SPEC.md, "Programs".
 use Prim.Native.Nat.{ℕ, zero, suc, max}
 use mathlib.Core.Path.{_≡_}
-use mathlib.Core.Bool.{cond}
+use mathlib.Core.Bool.{Bool, cond, _||_}
 use mathlib.Core.List.{List, [], _∷_}
 use mathlib.Core.Option.{Option, none, some}
 use lib.ListN.{length}
-use Rattle.journal.specs.Area.{blockAt}
+use Rattle.journal.specs.Area.{blockAt, blocks}
 use Rattle.journal.specs.Blocks.{groupOf}
-use Rattle.journal.specs.Sound.{hasHeaderKind}
+use Rattle.journal.specs.Sound.{hasHeaderKind, isKind}
 use Rattle.inspect.specs.declared.missed.FirstHeader.{FirstHeader}
 use Rattle.inspect.specs.declared.missed.FirstHeader.the-variants.{At, None}
 use Rattle.inspect.specs.declared.missed.Headers.{Headers}
@@ -36,3 +36,20 @@ greatest (k ∷ ks) = max k (greatest ks)
 pub record HeadersAre (ks : List ℕ) (h : Headers) : Type 0 where
   pub count : h .count ≡ length ks
   pub number : h .number ≡ greatest ks
+
+-- kind 1 or 2 and a right check: what could be taken for a header or a body
+abbrev pub namesGroup : List ℕ → Bool
+namesGroup b = hasHeaderKind b || isKind 2 b
+
+-- the group that such a block names, and 0 for any other
+abbrev pub namedBy : List ℕ → ℕ
+namedBy b = cond (namesGroup b) (groupOf b) 0
+
+-- the greatest group that one of m blocks from block i on names, 0 where none does
+unfoldable pub highestFrom : List ℕ → ℕ → ℕ → ℕ
+highestFrom a zero i = 0
+highestFrom a (suc m) i = max (namedBy (blockAt a i)) (highestFrom a m (suc i))
+
+-- and that one of all blocks names
+abbrev pub highestNamed : List ℕ → ℕ
+highestNamed a = highestFrom a (blocks a) 0

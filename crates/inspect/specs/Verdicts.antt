@@ -1,7 +1,7 @@
 -- Which test a block fails first ("Sound blocks": kind, check, group number, zeros as laid down, lengths, body count, fit),
 -- as a list of tests in that order. That a block has 512 bytes comes before all.
 -- SPEC.md, "Programs".
-use Prim.Native.Nat.{ℕ, _+_, _-_}
+use Prim.Native.Nat.{ℕ, _+_, _-_, max, min}
 use mathlib.Core.Bool.{Bool, true, false, not, cond}
 use mathlib.Core.List.{List, [], _∷_, _++_}
 use lib.Dec.{leb, ltb, eqb}
@@ -113,11 +113,15 @@ abbrev pub seenOf : Verdict → Seen → Seen
 seenOf Sound s = s
 seenOf (Unsound f) s = seens.Unsound f
 
+-- the body of group k that a block says it is; none has the index 0, nor uses more than 500 bytes
+abbrev pub ownBodyVerdict : ℕ → List ℕ → Verdict
+ownBodyVerdict k b = bodyVerdict k (max (indexOf b) 1) (min (usedOf b) 500) b
+
 -- zeros, or sound as the header or the body that it says it is, of the group that it names
 abbrev pub seen : ℕ → ℕ → List ℕ → Seen
 seen hi i b =
     cond (not (eqb (length b) 512)) (seens.Unsound Length)
     (cond (allZero b) seens.Empty
     (cond (eqb (kindOf b) 2)
-    (seenOf (bodyVerdict (groupOf b) (indexOf b) (usedOf b) b) seens.Body)
+    (seenOf (ownBodyVerdict (groupOf b) b) seens.Body)
     (seenOf (headerVerdict hi (groupOf b) i b) seens.Header)))

@@ -22,7 +22,7 @@ pub struct Row {
     pub rest: Said,
 }
 
-// What a block is. Behind the texts of a header and a body stands a row for each fault.
+// What a block is. Behind the texts of a header and a body stands a row for each fault, and last those of the kind of the other.
 fn put_what(out: &mut [u8], at: usize, what: Said) -> usize {
     let numbers = what.numbers;
     fill(
@@ -32,7 +32,7 @@ fn put_what(out: &mut [u8], at: usize, what: Said) -> usize {
         header of group #, ceiling #, cursor snapshot # bytes, attempt snapshot # bytes|\
         body # of group #, # bytes used|\
         unsound: it has no 512 bytes|\
-        unsound: of kind #, where a header has 1 and a body 2|\
+        unsound: of kind #, which neither a header nor a body has|\
         unsound: wrong check|\
         unsound: it names group #|\
         unsound: bytes that are to be zero are not|\
@@ -41,7 +41,9 @@ fn put_what(out: &mut [u8], at: usize, what: Said) -> usize {
         unsound: it counts # bodies, which its lengths don't make|\
         unsound: its bodies pass the end of its half|\
         unsound: it says that it is body #|\
-        unsound: it says # bytes used",
+        unsound: it says # bytes used|\
+        unsound: of the kind of a header|\
+        unsound: of the kind of a body",
         what.template,
         numbers,
     )
@@ -65,12 +67,21 @@ fn put_rest(out: &mut [u8], at: usize, rest: Said) -> usize {
     )
 }
 
+// A kind that isn't the one expected.
+fn kind_said(kind: u64) -> Said {
+    match kind {
+        1 => says(14, 0, 0),
+        2 => says(15, 0, 0),
+        _ => says(4, kind, 0),
+    }
+}
+
 // The test that a block fails, with what it has there.
 fn fault_said(block: &[u8], fault: Fault) -> Said {
     let header = journal::read_header(block);
     match fault {
         Fault::Length => says(3, 0, 0),
-        Fault::Kind => says(4, byte(block, 0), 0),
+        Fault::Kind => kind_said(byte(block, 0)),
         Fault::Check => says(5, 0, 0),
         Fault::Number => says(6, header.number as u64, 0),
         Fault::Zeros => says(7, 0, 0),

@@ -1,6 +1,7 @@
-// What an operator asks of a journal: how long it is, which half is in use and how much of it is left, which groups it has, and how
-// its generations stand.
+// What an operator asks of a journal: how long it is, which half is in use and how much of it is left, which groups it has, and its
+// ceiling.
 use crate::said::Said;
+use crate::said::less;
 use crate::said::says;
 use consumer::halves::half_blocks;
 use journal::LastGroup;
@@ -28,14 +29,6 @@ fn file(out: &mut [u8], at: usize, len: usize) -> usize {
             rest as u64,
         ],
     )
-}
-
-// A number less another, 0 where it is not above it.
-fn less(a: u64, b: u64) -> u64 {
-    if a < b {
-        return 0;
-    }
-    a - b
 }
 
 // Which half is in use: the one that begins at block `first`, and ends before block `hi`.
@@ -72,16 +65,44 @@ fn left(out: &mut [u8], at: usize, said: Said) -> usize {
     )
 }
 
-// The groups of the half in use, which begins with group `first`.
-fn groups_said(first: u64, walked: Walked) -> Said {
-    match walked {
-        Walked::Stopped {
-            last,
-            number,
-            block,
-        } => stop_said(first, last, number, block as u64),
-        Walked::BadArea => says(3, 0, 0),
-        Walked::Damaged(block) => says(2, block as u64, 0),
+// The walk over the good groups: those before the one whose body is unsound, where the walk met one. That one passes the body's block,
+// and no group before it does.
+pub fn good_walk(area: &[u8], walked: Walked) -> Walked {
+    let Walked::Damaged(body) = walked else {
+        return walked;
+    };
+    let from = starts::origin(area);
+    journal::walk(area, body, from.number, from.block)
+}
+
+// The groups of the half in use, which begins with group `first`: all, or the good ones.
+fn groups_said(first: u64, walked: Walked, good: Walked) -> Said {
+    let Walked::Stopped {
+        last,
+        number,
+        block,
+    } = good
+    else {
+        return says(4, 0, 0);
+    };
+    let said = stop_said(first, last, number, block as u64);
+    let Walked::Damaged(_) = walked else {
+        return said;
+    };
+    good_said(said)
+}
+
+fn good_said(said: Said) -> Said {
+    let numbers = said.numbers;
+    if said.template == 0 {
+        return Said {
+            template: 2,
+            numbers: numbers,
+        };
+    }
+    Said {
+        template: 3,
+        numbers: numbers,
     }
 }
 
@@ -102,7 +123,8 @@ fn groups(out: &mut [u8], at: usize, said: Said) -> usize {
         at,
         b"groups in it: #; the last is group #, with its header at block #; the next would stand at block #\n|\
         groups in it: none; group # would be the first, at block #\n|\
-        groups in it: not known from block # on, where a body of one is unsound\n|",
+        groups in it before the unsound body's: #; the last is group #, with its header at block #\n|\
+        groups in it before the unsound body's: none\n|",
         said.template,
         numbers,
     )
@@ -119,9 +141,9 @@ fn ceiling_at(area: &[u8], i: usize) -> u64 {
     header.ceiling
 }
 
-// The ceiling of the last group that the walk reached. No generation below it is left, as far as the file says.
-fn generations_said(area: &[u8], walked: Walked) -> Said {
-    let Walked::Stopped { last, .. } = walked else {
+// The ceiling of the last good group.
+fn ceiling_said(area: &[u8], good: Walked) -> Said {
+    let Walked::Stopped { last, .. } = good else {
         return says(0, 0, 0);
     };
     match last {
@@ -130,27 +152,28 @@ fn generations_said(area: &[u8], walked: Walked) -> Said {
     }
 }
 
-fn generations(out: &mut [u8], at: usize, said: Said) -> usize {
+fn ceiling(out: &mut [u8], at: usize, said: Said) -> usize {
     let numbers = said.numbers;
     fill(
         out,
         at,
         b"\n|\
-        generations left below the ceiling, #: none, as far as the file says; after a restart the first claim waits for a checkpoint\n\n|\
-        generations left below the ceiling, 0: none; after a restart the first claim waits for a checkpoint\n\n",
+        ceiling: #, of that group; where a higher one was seen, a restart from it goes back over checkpoints\n\n|\
+        ceiling: 0, as no such group is found; where a higher one was seen, a restart goes back over checkpoints\n\n",
         said.template,
         numbers,
     )
 }
 
-// The half in use, how much of it is left, its groups and its generations.
+// The half in use, how much of it is left, its groups and its ceiling.
 fn contents(out: &mut [u8], at: usize, area: &[u8], walked: Walked) -> usize {
     let from = starts::origin(area);
     let hi = starts::limit(area) as u64;
     let mut next = half(out, at, from.block as u64, hi);
     next = left(out, next, left_said(hi, walked));
-    next = groups(out, next, groups_said(from.number, walked));
-    generations(out, next, generations_said(area, walked))
+    let good = good_walk(area, walked);
+    next = groups(out, next, groups_said(from.number, walked, good));
+    ceiling(out, next, ceiling_said(area, good))
 }
 
 // Of an area and the walk over it, with an empty line in front and behind.

@@ -2,7 +2,9 @@
 // body that is expected at its place (`header_verdict`, `body_verdict`), or as what it says it is (`by_itself`).
 ghost use mathlib.Core.Path.{_≡_};
 ghost use lib.ListN.{length};
-ghost use Rattle.inspect.specs.Verdicts.{openingVerdict, sizesVerdict, headerRest, headerVerdict, bodyRest, bodyVerdict, seen, seenOf};
+ghost use Rattle.inspect.specs.Verdicts.{openingVerdict, sizesVerdict, headerRest, headerVerdict, bodyRest, bodyVerdict, ownBodyVerdict};
+ghost use Rattle.inspect.specs.Verdicts.{seen, seenOf};
+use types::numbers::larger;
 use types::numbers::shorter;
 
 // The tests of a block: it has 512 bytes; its kind; its check; its group number; zeros where they are laid down; the lengths of
@@ -142,6 +144,16 @@ pub fn body_verdict(block: &[u8], number: u64, index: usize, used: usize) -> Ver
     }
 }
 
+// The body of group `number` that a block says it is: from 1 on, and with at most 500 bytes used.
+fn own_body_verdict(block: &[u8], number: u64) -> Verdict
+    requires { ⌜ length (now block) ≡ 512 ⌝ }
+    ensures { λ r. ⌜ r ≡ ownBodyVerdict number (now (block .entry)) ⌝ }
+{
+    let index = larger(block[1] as u64, 1);
+    let used = shorter(raw::read_u16(block, 2) as usize, 500);
+    body_verdict(block, number, index as usize, used)
+}
+
 // What a block at `at` is by itself: zeros, or sound as the header or the body that it says it is, of the group that it names.
 pub fn by_itself(block: &[u8], hi: usize, at: usize) -> Seen
     ensures { λ r. ⌜ r ≡ seen hi at (now (block .entry)) ⌝ }
@@ -154,8 +166,7 @@ pub fn by_itself(block: &[u8], hi: usize, at: usize) -> Seen
     }
     let group = raw::read_u32(block, 4) as u64;
     if block[0] == 2 {
-        let used = raw::read_u16(block, 2) as usize;
-        let body = body_verdict(block, group, block[1] as usize, used);
+        let body = own_body_verdict(block, group);
         return or_fault(body, Seen::Body);
     }
     let header = header_verdict(block, hi, group, at);

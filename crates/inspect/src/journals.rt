@@ -1,16 +1,23 @@
 // A journal: what a restart would find, or why it is refused and what to do; what an operator asks next; then the blocks.
 use crate::facts::facts;
+use crate::facts::good_walk;
 use crate::listing::listed;
+use crate::missed::highest_named;
+use crate::missed::lost;
 use crate::missed::missed;
 use crate::other::other;
 use crate::other::other_unsound;
-use crate::refusals::advice;
+use crate::refusals::journal_advice;
 use crate::refusals::refused;
+use crate::said::Said;
+use crate::said::less;
+use crate::said::says;
 use answers::Numbers;
 use consumer::Configuration;
 use consumer::Settings;
 use delivery::DeliveryConfig;
 use hours::Hours;
+use journal::LastGroup;
 use journal::Walked;
 use lease::LeaseConfig;
 use starts::StartAnswer;
@@ -41,21 +48,26 @@ fn configuration() -> Configuration {
     }
 }
 
-// That a restart finds the group before the one that comes next, or none.
-fn finds(out: &mut [u8], at: usize, next: u64) -> usize {
-    let mut template: usize = 0;
-    let mut last: u64 = 0;
-    if 1 < next {
-        template = 1;
-        last = next - 1;
+// That a restart finds the last group of a walk, whatever its number, or none.
+fn found_said(walked: Walked) -> Said {
+    let Walked::Stopped { last, number, .. } = walked else {
+        return says(0, 0, 0);
+    };
+    match last {
+        LastGroup::At(_) => says(1, less(number, 1), 0),
+        LastGroup::None => says(0, 0, 0),
     }
+}
+
+fn finds(out: &mut [u8], at: usize, said: Said) -> usize {
+    let numbers = said.numbers;
     fill(
         out,
         at,
         b"a restart finds no checkpoint, and begins as a fresh start does\n|\
         a restart finds the checkpoint of group #\n",
-        template,
-        [last, 0, 0, 0],
+        said.template,
+        numbers,
     )
 }
 
@@ -63,7 +75,7 @@ fn no_restart(out: &mut [u8], at: usize, numbers: Numbers) -> usize {
     let number = [numbers.0, 0, 0, 0];
     let mut next = fill(out, at, b"a restart is refused: # ", 0, number);
     next = refused(out, next, numbers);
-    advice(out, next, numbers.0)
+    journal_advice(out, next, numbers.0)
 }
 
 // Whether a walk below block `hi` ended at the header of group `number`, sound in all but its fit.
@@ -77,6 +89,15 @@ fn is_unfit(area: &[u8], hi: usize, number: u64, block: usize) -> bool {
     let from = 512 * block;
     let to = from + 512;
     journal::is_sound_but_fit(&area[from..to], number)
+}
+
+// The greatest group that a block names; 0 where headers stand behind a walk below block `hi` that ended at a block: then a restart is
+// refused, and what is out of reach is said.
+fn highest_unsaid(area: &[u8], hi: usize, block: usize) -> u64 {
+    if journal::header_behind(area, hi, block) {
+        return 0;
+    }
+    highest_named(area)
 }
 
 // What a walk below block `hi` that ended at a block, where group `number` would come next, should not have ended at, and what the
@@ -93,7 +114,23 @@ fn ended(out: &mut [u8], at: usize, area: &[u8], hi: usize, number: u64, block: 
         );
     }
     let next = missed(out, at, area, hi, number, block);
-    other(out, next, area, number)
+    other(out, next, area, number, highest_unsaid(area, hi, block))
+}
+
+// Whose body at a block is unsound, what is out of reach with it, and what the other half has.
+fn unsound(out: &mut [u8], at: usize, area: &[u8], body: usize) -> usize {
+    let Walked::Stopped { number, block, .. } = good_walk(area, Walked::Damaged(body)) else {
+        return at;
+    };
+    let mut next = fill(
+        out,
+        at,
+        b"why: the header of group #, at block #, is sound, and its body at block # is not\n",
+        0,
+        [number, block as u64, body as u64, 0],
+    );
+    next = lost(out, next, area, number);
+    other_unsound(out, next, area)
 }
 
 // Why the groups end where they should not, and warnings.
@@ -102,7 +139,7 @@ fn reasons(out: &mut [u8], at: usize, area: &[u8], walked: Walked) -> usize {
         Walked::Stopped { number, block, .. } => {
             ended(out, at, area, starts::limit(area), number, block)
         }
-        Walked::Damaged(block) => other_unsound(out, at, area, block),
+        Walked::Damaged(block) => unsound(out, at, area, block),
         Walked::BadArea => at,
     }
 }
@@ -116,7 +153,7 @@ fn verdict(out: &mut [u8], at: usize, area: &[u8], walked: Walked) -> usize {
         return reasons(out, refusal, area, walked);
     };
     let consumer = started.consumer;
-    let mut next = finds(out, at, consumer.next.number);
+    let mut next = finds(out, at, found_said(walked));
     next = reasons(out, next, area, walked);
     shown::state(out, next, consumer)
 }

@@ -9,6 +9,7 @@ use crate::blocks::Row;
 use crate::places;
 use crate::places::Place;
 use crate::said::Said;
+use crate::said::less;
 use consumer::halves::half_blocks;
 use text::templates::fill;
 use types::numbers::saturating_add;
@@ -121,6 +122,23 @@ fn half_template(half: usize, used: usize) -> usize {
     3
 }
 
+// The end of a heading: behind the second half, where the number of blocks is odd, stands one that is in neither.
+fn heading_end(out: &mut [u8], at: usize, area: &[u8], half: usize) -> usize {
+    let blocks = area.len() / 512;
+    let mut template: usize = 0;
+    if half != 0 {
+        template = blocks % 2;
+    }
+    let last = less(blocks as u64, 1);
+    fill(
+        out,
+        at,
+        b"\n|; block # is in neither half\n",
+        template,
+        [last, 0, 0, 0],
+    )
+}
+
 // Which half begins at block `half`, whether it is in use, and its blocks.
 fn half_heading(out: &mut [u8], at: usize, area: &[u8], half: usize) -> usize {
     let blocks = half_blocks(area.len());
@@ -129,16 +147,17 @@ fn half_heading(out: &mut [u8], at: usize, area: &[u8], half: usize) -> usize {
     }
     let used = starts::origin(area).block;
     let last = saturating_add(half as u64, (blocks - 1) as u64);
-    fill(
+    let next = fill(
         out,
         at,
-        b"the first half, in use: blocks # to #\n|\
-        the first half, not in use: blocks # to #\n|\
-        the second half, in use: blocks # to #\n|\
-        the second half, not in use: blocks # to #\n",
+        b"the first half, in use: blocks # to #|\
+        the first half, not in use: blocks # to #|\
+        the second half, in use: blocks # to #|\
+        the second half, not in use: blocks # to #",
         half_template(half, used),
         [half as u64, last, 0, 0],
-    )
+    );
+    heading_end(out, next, area, half)
 }
 
 // The whole blocks of an area, half by half. A block more than the halves have stands behind the second.

@@ -1,10 +1,12 @@
-// Headers behind the block where the walk ended: it should have reached them, and a restart is refused (SPEC.md, "Restart").
+// Headers behind the block where the walk ended: it should have reached them, and a restart is refused (SPEC.md, "Restart"). And the
+// greatest group that any header or body names.
 ghost use mathlib.Core.Path.{_≡_};
 ghost use Prim.Native.Nat.{_-_, min};
 ghost use Rattle.journal.specs.Area.{blocks};
 ghost use Rattle.journal.specs.Blocks.{groupOf};
-ghost use Rattle.inspect.specs.Missed.{firstOf, firstHeader, named, HeadersAre};
+ghost use Rattle.inspect.specs.Missed.{firstOf, firstHeader, named, HeadersAre, namedBy, highestNamed};
 use crate::said::Said;
+use crate::said::less;
 use crate::said::says;
 use text::templates::fill;
 use types::numbers::larger;
@@ -71,6 +73,41 @@ pub fn headers_behind(area: &[u8], from: usize, hi: usize) -> Headers
     }
 }
 
+// The group that a block of kind 1 or 2 with a right check names, 0 for any other block.
+fn named_by(block: &[u8]) -> u64
+    ensures { λ r. ⌜ r ≡ namedBy (now (block .entry)) ⌝ }
+{
+    if journal::is_head(block) {
+        return group_of(block);
+    }
+    if block.len() != 512 {
+        return 0;
+    }
+    if block[0] != 2 {
+        return 0;
+    }
+    if !crc::is_sealed(block) {
+        return 0;
+    }
+    group_of(block)
+}
+
+// The greatest group that such a block of an area names, 0 where there is none.
+pub fn highest_named(area: &[u8]) -> u64
+    ensures { λ r. ⌜ r ≡ highestNamed (now (area .entry)) ⌝ }
+{
+    let end = area.len() / 512;
+    let mut number: u64 = 0;
+    let mut i: usize = 0;
+    while i < end {
+        let start = 512 * i;
+        let to = start + 512;
+        number = larger(number, named_by(&area[start..to]));
+        i += 1;
+    }
+    number
+}
+
 // The group that block i names, 0 where there is no such block.
 fn group_at(area: &[u8], i: usize) -> u64 {
     if area.len() / 512 <= i {
@@ -81,31 +118,51 @@ fn group_at(area: &[u8], i: usize) -> u64 {
     group_of(&area[from..to])
 }
 
-// What is out of reach where group `next` would come next: the groups from there to the last one that a header names, of each of
-// which a checkpoint was written.
-fn lost_said(next: u64, headers: Headers) -> Said {
-    if headers.number < next {
+// What is out of reach where group `next` would come next and headers name groups up to `number`: those from there to the last one of
+// which a checkpoint was finished. Such a one has a header, or is the one before group `highest`, which a block names: no block of a
+// group is written before the header of the one before. Whether group `highest` was finished, a body alone doesn't say.
+fn lost_said(next: u64, number: u64, highest: u64) -> Said {
+    let last = larger(number, less(highest, 1));
+    if last < next {
         return says(1, next, 0);
+    }
+    if last == next {
+        return one_lost_said(next, highest);
+    }
+    let count = saturating_add(last - next, 1);
+    if last < highest {
+        return Said {
+            template: 2,
+            numbers: [next, last, highest, count],
+        };
     }
     Said {
         template: 0,
-        numbers: [
-            next,
-            headers.number,
-            saturating_add(headers.number - next, 1),
-            0,
-        ],
+        numbers: [next, last, count, 0],
     }
 }
 
-fn lost(out: &mut [u8], at: usize, next: u64, headers: Headers) -> usize {
-    let said = lost_said(next, headers);
+// The same where group `next` is the last one that was finished.
+fn one_lost_said(next: u64, highest: u64) -> Said {
+    if next < highest {
+        return says(4, next, highest);
+    }
+    says(3, next, 0)
+}
+
+// Of an area on which a restart is refused, where the groups that it can read end before group `next`.
+pub fn lost(out: &mut [u8], at: usize, area: &[u8], next: u64) -> usize {
+    let headers = headers_behind(area, 0, area.len() / 512);
+    let said = lost_said(next, headers.number, highest_named(area));
     let numbers = said.numbers;
     fill(
         out,
         at,
         b"out of reach: groups # to #; checkpoints lost: at least #\n|\
-        out of reach: groups that can't be told, as none of these blocks names group # or one after it\n",
+        out of reach: groups that can't be told, as no header names group # or one after it\n|\
+        out of reach: groups # to #, and perhaps #; checkpoints lost: at least #\n|\
+        out of reach: group #; checkpoints lost: at least 1\n|\
+        out of reach: group #, and perhaps #; checkpoints lost: at least 1\n",
         said.template,
         numbers,
     )
@@ -133,5 +190,5 @@ pub fn missed(out: &mut [u8], at: usize, area: &[u8], hi: usize, next: u64, bloc
             headers.count as u64,
         ],
     );
-    lost(out, said, next, headers)
+    lost(out, said, area, next)
 }

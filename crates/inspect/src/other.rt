@@ -1,5 +1,6 @@
-// The half that isn't in use. A restart doesn't judge it; but where it has later groups than the half in use, the first block of it may
-// be worn, and a restart goes back over checkpoints without a word.
+// What says that a restart goes back over checkpoints without a word. The half that isn't in use, which a restart doesn't judge: where
+// it has later groups than the half in use, the first block of it may be worn. And any block that names a later group than the next
+// one: a header before it is worn.
 ghost use mathlib.Core.Path.{_≡_};
 ghost use Rattle.inspect.specs.Places.{otherHalf};
 use crate::missed::headers_behind;
@@ -59,27 +60,39 @@ fn warned(out: &mut [u8], at: usize, said: Said) -> usize {
         may be worn: then a restart goes back over checkpoints, and gives generations a second time. Keep a copy of this file\n|\
         beware: both halves begin with group #, which no checkpoint leaves; the first is in use\n|\
         beware: the half that isn't in use names group #, and the half in use neither group # nor a later one. The first block of the \
-        other may be worn: then the half in use is the older one. Keep a copy of this file\n",
+        other may be worn: then the half in use is the older one. Keep a copy of this file\n|\
+        beware: a block names group #, and group # would come next, which no checkpoint and no power failure leaves. A header is worn: a \
+        restart goes back over checkpoints, and gives generations a second time; checkpoints lost: at least #. Keep a copy of this file, \
+        and stop all workers before a restart\n",
         said.template,
         numbers,
     )
 }
 
-// Of a walk that ended where group `next` would come next.
-pub fn other(out: &mut [u8], at: usize, area: &[u8], next: u64) -> usize {
-    warned(out, at, other_said(area, other_half(area), next, 1))
+// What is said of the other half; and where that is nothing, that a block names group `highest`, if that is later than group `next`,
+// which would come next.
+fn or_above(said: Said, next: u64, highest: u64) -> Said {
+    if said.template != 0 {
+        return said;
+    }
+    if highest <= next {
+        return said;
+    }
+    Said {
+        template: 4,
+        numbers: [highest, next, highest - next, 0],
+    }
 }
 
-// Of a walk that met an unsound body at a block: all headers of the half in use count, those behind that body too.
-pub fn other_unsound(out: &mut [u8], at: usize, area: &[u8], block: usize) -> usize {
-    let why = fill(
-        out,
-        at,
-        b"why: the header of a group is sound, and its body at block # is not\n",
-        0,
-        [block as u64, 0, 0, 0],
-    );
+// Of a walk that ended where group `next` would come next, on an area whose blocks name groups up to `highest`.
+pub fn other(out: &mut [u8], at: usize, area: &[u8], next: u64, highest: u64) -> usize {
+    let said = other_said(area, other_half(area), next, 1);
+    warned(out, at, or_above(said, next, highest))
+}
+
+// Of a walk that met an unsound body: all headers of the half in use count, those behind that body too.
+pub fn other_unsound(out: &mut [u8], at: usize, area: &[u8]) -> usize {
     let used = headers_behind(area, starts::origin(area).block, starts::limit(area));
     let next = saturating_add(used.number, 1);
-    warned(out, why, other_said(area, other_half(area), next, 3))
+    warned(out, at, other_said(area, other_half(area), next, 3))
 }

@@ -31,6 +31,14 @@ pub fn same(a: Said, b: Said) -> bool {
     x[3] == y[3]
 }
 
+// A number less another, 0 where it is not above it.
+pub fn less(a: u64, b: u64) -> u64 {
+    if a < b {
+        return 0;
+    }
+    a - b
+}
+
 // A byte as a u64.
 fn wide(x: u8) -> u64 {
     x as u64

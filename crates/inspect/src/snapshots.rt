@@ -1,6 +1,6 @@
 // A cursor snapshot and an attempt snapshot: that it is sound and what it has, or the refusal, beside which no range and no pair stands.
-use crate::refusals::advice;
 use crate::refusals::refused;
+use crate::refusals::snapshot_advice;
 use crate::said::Said;
 use crate::said::byte;
 use crate::said::says;
@@ -16,7 +16,7 @@ fn no_snapshot(out: &mut [u8], at: usize, read: Numbers) -> usize {
     let number = [read.0, 0, 0, 0];
     let mut next = fill(out, at, b"refused: # ", 0, number);
     next = refused(out, next, read);
-    advice(out, next, read.0)
+    snapshot_advice(out, next, read.0)
 }
 
 fn no_cursor(out: &mut [u8], at: usize, len: u64, read: Numbers) -> usize {

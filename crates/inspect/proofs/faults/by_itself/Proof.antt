@@ -1,6 +1,5 @@
 -- `by_itself` meets its contract. Assumes nothing.
 use borrow.Author.Needs.{needs}
-use native.Mathlib.Omega.{arith}
 use mathlib.Core.Path.{sym, _∙_}
 use borrow.Author.Tests.{eq-eqb, ne-eqb}
 use Rattle.inspect.proofs.faults.by_itself.Statement.{statement}
@@ -24,26 +23,14 @@ cast-group c = search needs
 shared-slice-read-if3 : tie.Need-shared-slice-read-if3
 shared-slice-read-if3 c = search needs
 
-read-u16-requires : tie.Need-read-u16-requires
-read-u16-requires c κs = search needs
-
-cast-used : tie.Need-cast-used
-cast-used c = search needs
-
-shared-slice-read-body-verdict : tie.Need-shared-slice-read-body-verdict
-shared-slice-read-body-verdict c = search needs
-
-cast-body-verdict : tie.Need-cast-body-verdict
-cast-body-verdict c = omega (arith, c .shared-slice-known3 .given 1)
-
-body-verdict-requires : tie.Need-body-verdict-requires
-body-verdict-requires c κs = search needs
+own-body-verdict-requires : tie.Need-own-body-verdict-requires
+own-body-verdict-requires c κs = search needs
 
 or-fault-requires : tie.Need-or-fault-requires
 or-fault-requires c κs = search needs
 
 returns-3 : tie.Need-returns-3
-returns-3 c = let t = c .before .before .before .before in let z = t .before .before .before in rw (eq-eqb _ 512 (z .before .before .if1 .left), sym (z .before .all-zero .ensures) ∙ z .if2 .left, eq-eqb _ 2 (t .if3 .taken), c .or-fault .ensures, c .before .body-verdict .ensures, c .before .before .before .read-u16 .ensures, t .before .before .read-u32 .ensures)
+returns-3 c = let t = c .before .before in let z = t .before .before .before in rw (eq-eqb _ 512 (z .before .before .if1 .left), sym (z .before .all-zero .ensures) ∙ z .if2 .left, eq-eqb _ 2 (t .if3 .taken), c .or-fault .ensures, c .before .own-body-verdict .ensures, t .before .before .read-u32 .ensures)
 
 header-verdict-requires : tie.Need-header-verdict-requires
 header-verdict-requires c κs = search needs
@@ -64,11 +51,7 @@ by-itself-spec =
     read-u32-requires
     cast-group
     shared-slice-read-if3
-    read-u16-requires
-    cast-used
-    shared-slice-read-body-verdict
-    cast-body-verdict
-    body-verdict-requires
+    own-body-verdict-requires
     or-fault-requires
     returns-3
     header-verdict-requires
