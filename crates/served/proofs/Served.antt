@@ -5,7 +5,7 @@ use mathlib.Core.Path.{_≡_, refl, sym, ap, subst, _∙_}
 use mathlib.Core.List.{List, [], _∷_}
 use mathlib.Core.Option.{Option, none, some, Option·map, Option·none-ne-some}
 use lib.Dec.{eqb}
-use lib.ListN.{length}
+use lib.ListN.{length, replicate}
 use Rattle.types.specs.Refusal.{Result, refused, done}
 use Rattle.types.specs.Refusal as refusal
 use Rattle.types.proofs.Cases.{split, both}
@@ -16,16 +16,17 @@ use Rattle.consumer.specs.declared.Configuration.{Configuration}
 use Rattle.starts.specs.Starting.{configurationOf}
 use Rattle.starts.specs.Restart as restarts
 use Rattle.starts.specs.Restart.{start}
+use Rattle.starts.proofs.Zeros.{start-restart}
 use Rattle.machine.specs.Calls.{Call, ask, step, restart, u64}
 use Rattle.machine.specs.Transitions.{Phase, idle, writing, off, After, restartedAs, transition}
-use Rattle.machine.specs.View.{phaseOf, Sound, planAfter}
+use Rattle.machine.specs.View.{phaseOf, Sound, OffIs, planAfter}
 use Rattle.machine.specs.declared.Machine.{Machine}
 use Rattle.machine.proofs.Planned.{plan-is-call}
 use Rattle.answers.specs.Numbers.{numbersOf, noValues, numbersIn}
 use Rattle.answers.specs.declared.Numbers.{Numbers}
 use Rattle.power_cut.specs.Cut.{Cut, old, new, torn, isTorn, cutAt, powerCut}
 use Rattle.server.specs.Kinds.{askAt, callAt}
-use Rattle.server.specs.Transitions.{Answered, answeredWith, answeredBy, onCall, StartedAs, StartIs}
+use Rattle.server.specs.Transitions.{Answered, answeredWith, answeredBy, onCall, StartedAs, StartIs, CallIs}
 use Rattle.server.proofs.Found.{on-state}
 use Rattle.server.proofs.AsCalls.{ask-is-call}
 use Rattle.server.proofs.Planned.{plan-transition}
@@ -39,7 +40,7 @@ use Rattle.crash_safety.proofs.Reached.{reached}
 use Rattle.crash_safety.proofs.Demand3.{demand-3}
 use Rattle.crash_safety.proofs.Batch.{batch-bound}
 use Rattle.crash_safety.proofs.Ran.{fresh-fits}
-use Rattle.served.specs.Served.{Served, rests, asks, asks-nothing, plans, begins, steps, strays, fails, reopens, answeredAs, leftBy, answersTo, IsServed, ServedIsRun, Demand3Served}
+use Rattle.served.specs.Served.{Served, rests, asks, asks-nothing, plans, begins, steps, strays, fails, reopens, answeredAs, leftBy, answersTo, IsServed, ServedIsRun, HoldsServed, Demand3Served, Demand3Opened}
 use Rattle.served.specs.Served as served
 
 -- ## one item
@@ -191,17 +192,40 @@ record Fresh (s : Configuration) (size : ℕ) (m : Machine) : Type 0 where
   configuration : m .configuration ≡ s
   sound : Sound m
 
-fresh-from : (before : Machine) (s : Configuration) (size : ℕ) (n : Numbers) (m : Machine) → StartIs before s size n m → n .0 ≡ 0 → Fresh s size m
-fresh-from before s size n m h accepted = from (start (configurationOf s) size) refl (h .is) (h .made)
+started : (before : Machine) (s : Configuration) (size : ℕ) (n : Numbers) (m : Machine) → StartIs before s size n m → n .0 ≡ 0 → Fresh s size m
+started before s size n m h accepted = from (start (configurationOf s) size) refl (h .is) (h .made)
   where
     from : (r : Result State) → start (configurationOf s) size ≡ r → n ≡ numbersOf (refusal.answered noValues r) → StartedAs r s before m → Fresh s size m
     from (refused f) e is made = absurd (number-not-0 f (sym (ap (λ (x : Numbers). x .0) is) ∙ accepted))
     from (done v) e is made = record { state = v; is = e; phase = made .0; configuration = made .1; sound = made .2 }
 
-pub demand-3-served : Demand3Served
-unfolding Demand3Served Demand3 BatchBound transition
-demand-3-served before s size n m h accepted is ns last end p =
-    let f = fresh-from before s size n m h accepted in
+-- so does a restart on a zeroed journal
+opened : (s : Configuration) (size : ℕ) (m : Machine) (n : Numbers) (m′ : Machine) → OffIs s m → CallIs m 0 18 0 0 0 0 (replicate size 0) [] n m′ (replicate size 0) [] → n .0 ≡ 0
+    → Fresh s size m′
+unfolding transition
+opened s size m n m′ is-off k accepted = from (restarts.restart c a) refl (rw (is-off .configuration) at (k .is))
+  where
+    c : state.Configuration
+    c = configurationOf s
+
+    a : List ℕ
+    a = replicate size 0
+
+    from : (r : Result State) → restarts.restart c a ≡ r → answeredWith n (phaseOf m′) a [] ≡ answeredBy (phaseOf m) a [] (restartedAs (phaseOf m) a r) → Fresh s size m′
+    from (refused f) e is = absurd (number-not-0 f (sym (ap (λ (x : Answered). x .numbers .0) is) ∙ accepted))
+    from (done v) e is =
+        record {
+          state = v;
+          is = start-restart c size ∙ e;
+          phase = ap (λ (x : Answered). x .phase) is;
+          configuration = k .configuration ∙ is-off .configuration;
+          sound = k .sound;
+        }
+
+holds-from : (s : Configuration) (size : ℕ) (m : Machine) → Fresh s size m → (is : List Item) (ns : List Numbers) (last : Machine) (end : List ℕ)
+    → Served m (replicate size 0) is ns last end → HoldsServed s size is ns last end
+unfolding Demand3 BatchBound transition
+holds-from s size m f is ns last end p =
     let c : state.Configuration = configurationOf s in
     let done-so = serves (f .sound) p in
     let fits = fresh-fits c size m (f .state) (f .is) (f .phase) (f .sound) in
@@ -217,3 +241,11 @@ demand-3-served before s size n m h accepted is ns last end p =
       batch = λ l. batch-bound c size (f .state) is l fits (f .is);
       reopened = λ u k u′ is-off made. ap (λ (x : Answered). x .numbers .0) (rw (is-off .configuration, finds) at (made (is-off .sound) [] .is));
     }
+
+pub demand-3-served : Demand3Served
+unfolding Demand3Served
+demand-3-served before s size n m h accepted = holds-from s size m (started before s size n m h accepted)
+
+pub demand-3-opened : Demand3Opened
+unfolding Demand3Opened
+demand-3-opened s size m n m′ is-off h accepted = holds-from s size m′ (opened s size m n m′ is-off (h (is-off .sound) []) accepted)

@@ -76,8 +76,8 @@ pub data Served : Machine → List ℕ → List Item → List Numbers → Machin
       → (Sound m → (out : List ℕ) → CallIs m 0 18 0 0 0 0 a out n m′ a out)
       → Served m′ a is ns last end
       → Served m a (call restart ∷ is) (n ∷ ns) last end
-  -- the power fails while a step's block is written: the program is started anew, with what the failure left of the journal and a
-  -- machine that `ninotskev_off` made
+  -- the power fails while a step's block is written, or its write answers an error: the program goes on anew, with what the failure left of
+  -- the journal and a machine that `ninotskev_off` made
   fails : {m last : Machine} {a end : List ℕ} {is : List Item} {ns : List Numbers}
       (k : Cut) (t : After) (m′ : Machine) → powerCut (phaseOf m) a k ≡ some t → OffIs (m .configuration) m′
       → Served m′ (t .area) is ns last end
@@ -134,4 +134,12 @@ unfoldable pub Demand3Served : Type 0
 Demand3Served =
     (before : Machine) (s : Configuration) (size : ℕ) (n : Numbers) (m : Machine) → StartIs before s size n m → n .0 ≡ 0
     → (is : List Item) (ns : List Numbers) (last : Machine) (end : List ℕ) → Served m (replicate size 0) is ns last end
+    → HoldsServed s size is ns last end
+
+-- and every one whose first call on the zeroed journal is a restart, which is a start too and doesn't count among the restarts
+unfoldable pub Demand3Opened : Type 0
+Demand3Opened =
+    (s : Configuration) (size : ℕ) (m : Machine) (n : Numbers) (m′ : Machine) → OffIs s m
+    → (Sound m → (out : List ℕ) → CallIs m 0 18 0 0 0 0 (replicate size 0) out n m′ (replicate size 0) out) → n .0 ≡ 0
+    → (is : List Item) (ns : List Numbers) (last : Machine) (end : List ℕ) → Served m′ (replicate size 0) is ns last end
     → HoldsServed s size is ns last end
