@@ -1,7 +1,7 @@
 // The check of short inputs, four bytes at a step. An array of constants is copied to the stack at each call, which costs a short
 // input more than its check; the arms of a `match` on the numbers from 0 on become a table in read-only memory where the compiler
 // puts the function in its caller's place. It does so with few arms anywhere, and with many where the source has one call. So the
-// nibbles' tables are two functions here: one for four bytes, and one for a byte, which has what that needs of them once more.
+// nibbles' tables are two functions here: one for four bytes, and a short one for a single byte, whose numbers the first has too.
 ghost use mathlib.Core.Path.{_≡_};
 ghost use Prim.Native.Nat.{_+_, _-_, _*_, _/_, _%_, _^_, _<_, _≤_};
 ghost use lib.ListN.{length, drop};
@@ -60,7 +60,7 @@ fn after_half(register: u32, half: u32) -> u32
     sum
 }
 
-// What the nibble of x that has z behind it comes to.
+// What the nibble of x that has z nibbles behind it comes to.
 fn passed(x: u32, z: u32) -> u32
     requires { ⌜ z < 8 ⌝ }
     ensures { λ r. ⌜ r ≡ nibble (16 * z + x / 2 ^ (28 - 4 * z) % 16) ⌝ }

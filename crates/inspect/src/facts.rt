@@ -65,7 +65,7 @@ fn left(out: &mut [u8], at: usize, said: Said) -> usize {
     )
 }
 
-// The walk over the good groups: those before the one whose body is unsound, where the walk met one. That one passes the body's block,
+// The walk over the groups in front: those before the one whose body is unsound, where the walk met one. That one passes the body's block,
 // and no group before it does.
 pub fn good_walk(area: &[u8], walked: Walked) -> Walked {
     let Walked::Damaged(body) = walked else {
@@ -75,7 +75,7 @@ pub fn good_walk(area: &[u8], walked: Walked) -> Walked {
     journal::walk(area, body, from.number, from.block)
 }
 
-// The groups of the half in use, which begins with group `first`: all, or the good ones.
+// The groups of the half in use, which begins with group `first`: all, or those in front.
 fn groups_said(first: u64, walked: Walked, good: Walked) -> Said {
     let Walked::Stopped {
         last,
@@ -141,7 +141,7 @@ fn ceiling_at(area: &[u8], i: usize) -> u64 {
     header.ceiling
 }
 
-// The ceiling of the last good group.
+// The ceiling of the last group in front.
 fn ceiling_said(area: &[u8], good: Walked) -> Said {
     let Walked::Stopped { last, .. } = good else {
         return says(0, 0, 0);

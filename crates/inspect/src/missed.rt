@@ -158,11 +158,11 @@ pub fn lost(out: &mut [u8], at: usize, area: &[u8], next: u64) -> usize {
     fill(
         out,
         at,
-        b"out of reach: groups # to #; checkpoints lost: at least #\n|\
+        b"out of reach: groups # to #; checkpoints a restart can't reach: at least #\n|\
         out of reach: groups that can't be told, as no header names group # or one after it\n|\
-        out of reach: groups # to #, and perhaps #; checkpoints lost: at least #\n|\
-        out of reach: group #; checkpoints lost: at least 1\n|\
-        out of reach: group #, and perhaps #; checkpoints lost: at least 1\n",
+        out of reach: groups # to #, and perhaps #; checkpoints a restart can't reach: at least #\n|\
+        out of reach: group #; checkpoints a restart can't reach: at least 1\n|\
+        out of reach: group #, and perhaps #; checkpoints a restart can't reach: at least 1\n",
         said.template,
         numbers,
     )

@@ -57,12 +57,12 @@ fn warned(out: &mut [u8], at: usize, said: Said) -> usize {
         at,
         b"|\
         beware: the half that isn't in use names group #, and in the half in use group # would come next. The first block of the other \
-        may be worn: then a restart goes back over checkpoints, and gives generations a second time. Keep a copy of this file\n|\
+        may be worn: then a restart goes back over checkpoints, and may give generations a second time. Keep a copy of this file\n|\
         beware: both halves begin with group #, which no checkpoint leaves; the first is in use\n|\
         beware: the half that isn't in use names group #, and the half in use neither group # nor a later one. The first block of the \
         other may be worn: then the half in use is the older one. Keep a copy of this file\n|\
         beware: a block names group #, and group # would come next, which no checkpoint and no power failure leaves. A header is worn: a \
-        restart goes back over checkpoints, and gives generations a second time; checkpoints lost: at least #. Keep a copy of this file, \
+        restart goes back over checkpoints, and may give generations a second time; checkpoints a restart can't reach: at least #. Keep a copy of this file, \
         and stop all workers before a restart\n",
         said.template,
         numbers,

@@ -198,7 +198,7 @@ pub struct Changed {
 }
 
 // A call that changes a table lends copies of the columns that it reads and changes: with a reference into the table itself the compiler
-// copies all of it once more.
+// copies all of it once more. `shift_deadlines` alone, which changes two columns whole, lends these.
 impl LeaseTable {
     // An empty table. Its generations begin at 0, so by itself it fences off no token from before a restart: whoever keeps leases over
     // restarts begins above every generation given before (`starting_at`), as the consumer does.
