@@ -1,5 +1,6 @@
 -- The headers from a block on, by kind and check alone, and the groups that they name: `inspect` asks behind the block
--- where a walk ended. And the greatest group that a header or a body of an area names, by kind and check alone too.
+-- where a walk ended; the greatest group that a header or a body of an area names, by kind and check alone too; and the walk over the
+-- groups in front of an unsound body.
 -- SPEC.md, "Programs".
 use Prim.Native.Nat.{ℕ, zero, suc, max}
 use mathlib.Core.Path.{_≡_}
@@ -7,9 +8,15 @@ use mathlib.Core.Bool.{Bool, cond, _||_}
 use mathlib.Core.List.{List, [], _∷_}
 use mathlib.Core.Option.{Option, none, some}
 use lib.ListN.{length}
+use Rattle.types.specs.Refusal.{Result}
 use Rattle.journal.specs.Area.{blockAt, blocks}
+use Rattle.journal.specs.Answers.{walkIn, walkedOf}
 use Rattle.journal.specs.Blocks.{groupOf}
 use Rattle.journal.specs.Sound.{hasHeaderKind, isKind}
+use Rattle.journal.specs.Walks.{Stop}
+use Rattle.journal.specs.declared.Walked.{Walked}
+use Rattle.journal.specs.declared.Walked.the-variants as walked
+use Rattle.starts.specs.Restart.{origin}
 use Rattle.inspect.specs.declared.missed.FirstHeader.{FirstHeader}
 use Rattle.inspect.specs.declared.missed.FirstHeader.the-variants.{At, None}
 use Rattle.inspect.specs.declared.missed.Headers.{Headers}
@@ -53,3 +60,9 @@ highestFrom a (suc m) i = max (namedBy (blockAt a i)) (highestFrom a m (suc i))
 -- and that one of all blocks names
 abbrev pub highestNamed : List ℕ → ℕ
 highestNamed a = highestFrom a (blocks a) 0
+
+-- a walk, or where it met an unsound body, the one that no group may pass into that body's block
+abbrev pub inFront : List ℕ → Walked → Result Stop
+inFront a (walked.Stopped last k i) = walkedOf (walked.Stopped last k i)
+inFront a walked.BadArea = walkedOf walked.BadArea
+inFront a (walked.Damaged j) = walkIn j (origin a .number) (origin a .block) a

@@ -1,5 +1,8 @@
 // What an operator asks of a journal: how long it is, which half is in use and how much of it is left, which groups it has, and its
 // ceiling.
+ghost use mathlib.Core.Path.{_≡_};
+ghost use Rattle.journal.specs.Answers.{walkedOf};
+ghost use Rattle.inspect.specs.Missed.{inFront};
 use crate::said::Said;
 use crate::said::less;
 use crate::said::says;
@@ -67,12 +70,17 @@ fn left(out: &mut [u8], at: usize, said: Said) -> usize {
 
 // The walk over the groups in front: those before the one whose body is unsound, where the walk met one. That one passes the body's block,
 // and no group before it does.
-pub fn good_walk(area: &[u8], walked: Walked) -> Walked {
-    let Walked::Damaged(body) = walked else {
-        return walked;
-    };
-    let from = starts::origin(area);
-    journal::walk(area, body, from.number, from.block)
+pub fn good_walk(area: &[u8], walked: Walked) -> Walked
+    ensures { λ r. ⌜ walkedOf r ≡ inFront (now (area .entry)) walked ⌝ }
+{
+    match walked {
+        Walked::Stopped { .. } => walked,
+        Walked::BadArea => walked,
+        Walked::Damaged(body) => {
+            let from = starts::origin(area);
+            journal::walk(area, body, from.number, from.block)
+        }
+    }
 }
 
 // The groups of the half in use, which begins with group `first`: all, or those in front.
