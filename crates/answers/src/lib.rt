@@ -1,5 +1,6 @@
 // Where an answer becomes numbers: the refusal's number, 0 where nothing was refused, and its values. For what crosses to another
 // language, and for what the programs print.
+#![tactic(auto)]
 ghost use Rattle.std.specs.Prelude.{◌≡◌, ℕ, List, [], ◌∷◌, ◌++◌, get_or, take};
 ghost use Rattle.types.specs.Refusal.{code, done, numbered, answered};
 ghost use Rattle.types.specs.Table.{unless};
@@ -35,7 +36,7 @@ use types::numbers::shorter;
 
 // What a call answers: the refusal's number, 0 where nothing was refused; how many values there are; and the first five of them.
 #[repr(C)]
-#[derive(Drop)]
+#[derive(Clone, Copy)]
 pub struct Numbers(
     pub u64,
     pub u64,

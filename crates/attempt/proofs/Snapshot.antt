@@ -4,7 +4,7 @@
 use Prim.Native.Nat.{ℕ, zero, suc, ◌+◌, ◌-◌, ◌*◌, ◌%◌, ◌^◌, ◌<◌, ◌≤◌}
 use native.Mathlib.Omega.{arith}
 use mathlib.Core.Path.{◌≡◌, refl, sym, ap, ◌∙◌}
-use mathlib.Core.Bool.{Bool, true, false, not, or_false}
+use mathlib.Core.Bool.{Bool, true, false, not, or-false}
 use mathlib.Core.List.{List, [], ◌∷◌, ◌++◌, append_assoc}
 use lib.ListN.{length, take, drop, get_or, length-append}
 use lib.Seq.{drop-drop, take-add, take_at, drop_at}
@@ -226,7 +226,7 @@ old-refuses l = old_reader_refuses (encode_attempts2 l) (omega (arith, attempts-
 -- on all other bytes the two readers answer alike
 pub readers_agree : (b : List ℕ) → (get_or b 0 0 ≡ 2 → ⊥) → decode_attempts b ≡ old_reader b
 unfolding decode_attempts old_reader
-readers_agree b h = rw (ne_eqb (get_or b 0 0) 2 h, or_false)
+readers_agree b h = rw (ne_eqb (get_or b 0 0) 2 h, or-false)
 
 -- ---- writing what was read
 

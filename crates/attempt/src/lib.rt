@@ -1,6 +1,7 @@
 // The attempt snapshot: delivery counts as bytes that outlast a restart, closed by a check. Its versions and where the numbers of
 // a pair stand are known here alone. Version 1 is the original's; version 2 has all offsets first, so that counts which change
 // leave the offsets' bytes as they are.
+#![tactic(auto)]
 ghost use Rattle.std.specs.Prelude.{◌≡◌, ◌++◌, ◌+◌, ◌*◌, ◌<◌, ◌≤◌, min, length, take, drop, get_or};
 ghost use Rattle.types.specs.Limits.{MAX};
 ghost use Rattle.types.specs.Refusal.{done};
@@ -39,7 +40,7 @@ pub fn snapshot_len(count: usize) -> usize
 }
 
 // What encoding answers: the position behind the snapshot, or refusal 19 or 20.
-#[derive(Drop)]
+#[derive(Clone, Copy)]
 pub enum Encode {
     Next(usize),
     TooManyPairs,
@@ -47,7 +48,7 @@ pub enum Encode {
 }
 
 // Why bytes are no attempt snapshot: refusals 13 to 19.
-#[derive(Drop)]
+#[derive(Clone, Copy)]
 pub enum AttemptSnapshotError {
     Truncated,
     UnsupportedVersion(u8),
@@ -59,14 +60,14 @@ pub enum AttemptSnapshotError {
 }
 
 // What decoding answers: the number of pairs, or a refusal.
-#[derive(Drop)]
+#[derive(Clone, Copy)]
 pub enum Decode {
     Pairs(usize),
     Refused(AttemptSnapshotError),
 }
 
 // What decoding into a lent list answers: that, or refusal 20.
-#[derive(Drop)]
+#[derive(Clone, Copy)]
 pub enum Fill {
     Pairs(usize),
     Refused(AttemptSnapshotError),
@@ -74,7 +75,7 @@ pub enum Fill {
 }
 
 // The pairs are the first `count` of the array; a refusal has none.
-#[derive(Drop)]
+#[derive(Clone, Copy)]
 pub struct Decoded {
     pub outcome: Decode,
     pub pairs: [Pair; PAIRS],

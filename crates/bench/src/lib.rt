@@ -1,5 +1,6 @@
 // What the benchmarks run on this side: whole loops of calls, so that no call from another language is measured. Nothing
 // else uses them.
+#![tactic(auto)]
 ghost use Rattle.std.specs.Prelude.{◌≡◌, ◌+◌, ◌≤◌};
 ghost use Rattle.types.specs.Limits.{MAX};
 ghost use Rattle.types.specs.Zipped.{zipped};
@@ -17,7 +18,7 @@ use types::{Generation, Offset};
 
 // Where a cursor and a lease table stand: the committed offset, the number of leases and the next generation.
 #[repr(C)]
-#[derive(Drop)]
+#[derive(Clone, Copy)]
 pub struct Stand {
     pub committed: u64,
     pub held: u64,

@@ -1,1 +1,2 @@
 // Cases of the refusals, computed on the definitions: see specs/ and proofs/.
+#![tactic(auto)]

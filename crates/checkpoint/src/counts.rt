@@ -14,7 +14,7 @@ use lease::in_place::slot_at;
 use types::limits::{CARRIED, LEASES};
 
 // The next count, and how many it takes of the leases and of the carried ones.
-#[derive(Drop)]
+#[derive(Clone, Copy)]
 pub struct NextCount {
     pub offset: u64,
     pub attempt: u32,

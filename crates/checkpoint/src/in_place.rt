@@ -19,7 +19,7 @@ use types::limits::{CARRIED, LEASES, MAX32, RANGES, WORKERS};
 use types::numbers;
 
 // What a begin answers, and the numbers of the record that it begins.
-#[derive(Drop)]
+#[derive(Clone, Copy)]
 pub struct BegunAt {
     pub answer: BeginAnswer,
     pub written: usize,
@@ -28,7 +28,7 @@ pub struct BegunAt {
 }
 
 // What a step answers, and the numbers that steps change.
-#[derive(Drop)]
+#[derive(Clone, Copy)]
 pub struct SteppedAt {
     pub answer: StepAnswer,
     pub written: usize,
@@ -54,7 +54,7 @@ pub fn bodies_of(cursor_len: usize, attempt_len: usize) -> usize
 }
 
 // Where a group goes: the block of its header, and how many blocks are zeroed before it, from there on.
-#[derive(Drop)]
+#[derive(Clone, Copy)]
 pub struct Place {
     pub block: usize,
     pub zeros: usize,
@@ -216,7 +216,7 @@ fn header_of(number: u64, ceiling: u64, cursor_len: usize, attempt_len: usize) -
 }
 
 // A block write: where, what, whether it is the checkpoint's last, and whether a sync is due after it.
-#[derive(Drop)]
+#[derive(Clone, Copy)]
 struct NextWrite {
     at: usize,
     block: Block,

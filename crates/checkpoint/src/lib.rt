@@ -1,5 +1,6 @@
 // A checkpoint, block write by block write: begin takes the consumer into a writing record, each step makes the next block
 // write, and the last one, the header's, gives the consumer back. While a record is out there is no consumer to call.
+#![tactic(auto)]
 ghost use Rattle.consumer.specs.View.{Sound};
 ghost use Rattle.checkpoint.specs.Writing.{SoundWriting, SteppedIs};
 ghost use Rattle.checkpoint.specs.Parts.{unbegun, BegunAs};
@@ -12,7 +13,7 @@ use consumer::Consumer;
 // The consumer, the number of blocks written, and what is written: the snapshots of the cursor and of all attempt counts, one
 // behind the other at the front of the payload.
 #[repr(C)]
-#[derive(Drop)]
+#[derive(Clone, Copy)]
 pub struct Writing {
     pub consumer: Consumer,
     pub written: usize,
@@ -22,7 +23,7 @@ pub struct Writing {
 }
 
 // What begin answers: the number of block writes, or refusal 38, 39 or 31.
-#[derive(Drop)]
+#[derive(Clone, Copy)]
 pub enum BeginAnswer {
     Begun { writes: usize },
     JournalFull,
@@ -32,7 +33,7 @@ pub enum BeginAnswer {
 
 // What a step answers: the block that it wrote, or refusal 4. A sync is due after the last block before the header, and after the
 // header, which is the last one.
-#[derive(Drop)]
+#[derive(Clone, Copy)]
 pub enum StepAnswer {
     Wrote { block: usize, sync: bool },
     Finished { block: usize },
@@ -40,14 +41,14 @@ pub enum StepAnswer {
 }
 
 // Beside a refusal nothing is begun in the record, which has the very consumer and is not to be stepped.
-#[derive(Drop)]
+#[derive(Clone, Copy)]
 pub struct Begun {
     pub answer: BeginAnswer,
     pub writing: Writing,
 }
 
 // Behind the last write the record's consumer is the one to go on with, and the record is not to be stepped.
-#[derive(Drop)]
+#[derive(Clone, Copy)]
 pub struct Stepped {
     pub answer: StepAnswer,
     pub writing: Writing,

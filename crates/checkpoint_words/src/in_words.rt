@@ -49,7 +49,7 @@ fn begin_permitted(words: &mut [u64], payload: &mut [u8; 3606]) -> BeginAnswer
 }
 
 // How long the two snapshots of a payload are.
-#[derive(Drop)]
+#[derive(Clone, Copy)]
 struct Lengths {
     cursor: usize,
     attempts: usize,

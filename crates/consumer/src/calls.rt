@@ -13,7 +13,7 @@ use types::{Generation, Offset};
 
 // What a claim answers: a hand_out_lem for delivery or for the dead letters, with its token and the number of hand-outs so far,
 // this one counted; or refusal 38, 39, 21, 22, 35 with the clock of the next opening, 23, 25, 26 or 27.
-#[derive(Drop)]
+#[derive(Clone, Copy)]
 pub enum ClaimAnswer {
     Deliver { token: LeaseToken, deliveries: u32 },
     DeadLetter { token: LeaseToken, deliveries: u32 },
@@ -29,7 +29,7 @@ pub enum ClaimAnswer {
 }
 
 // What Ack and Term answer: the offset is settled, or refusal 38, 39, 24, 40 or 29.
-#[derive(Drop)]
+#[derive(Clone, Copy)]
 pub enum SettleAnswer {
     Settled,
     Fenced,
@@ -40,7 +40,7 @@ pub enum SettleAnswer {
 }
 
 // What Nack answers: when the offset can be claimed again, or refusal 38, 39, 24, 40, 25 or 26.
-#[derive(Drop)]
+#[derive(Clone, Copy)]
 pub enum NackAnswer {
     Requeued { deadline: u64 },
     Fenced,
@@ -52,7 +52,7 @@ pub enum NackAnswer {
 }
 
 // What Progress answers: the new deadline, or refusal 38, 39, 24, 40 or 28.
-#[derive(Drop)]
+#[derive(Clone, Copy)]
 pub enum ProgressAnswer {
     Extended { deadline: u64 },
     Fenced,
@@ -63,7 +63,7 @@ pub enum ProgressAnswer {
 }
 
 // What Commit answers: everything below the bound is settled, it was before, or refusal 38 or 39.
-#[derive(Drop)]
+#[derive(Clone, Copy)]
 pub enum CommitAnswer {
     Committed,
     Unchanged,
@@ -71,31 +71,31 @@ pub enum CommitAnswer {
     NotPermitted,
 }
 
-#[derive(Drop)]
+#[derive(Clone, Copy)]
 pub struct Claimed {
     pub answer: ClaimAnswer,
     pub consumer: Consumer,
 }
 
-#[derive(Drop)]
+#[derive(Clone, Copy)]
 pub struct Settled {
     pub answer: SettleAnswer,
     pub consumer: Consumer,
 }
 
-#[derive(Drop)]
+#[derive(Clone, Copy)]
 pub struct Nacked {
     pub answer: NackAnswer,
     pub consumer: Consumer,
 }
 
-#[derive(Drop)]
+#[derive(Clone, Copy)]
 pub struct Progressed {
     pub answer: ProgressAnswer,
     pub consumer: Consumer,
 }
 
-#[derive(Drop)]
+#[derive(Clone, Copy)]
 pub struct Committed {
     pub answer: CommitAnswer,
     pub consumer: Consumer,

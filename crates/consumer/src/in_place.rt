@@ -27,7 +27,7 @@ use types::lent::Listed;
 use types::limits::{CARRIED, LEASES, MAX, RANGES, WORKERS};
 
 // What a claim answers, and the numbers of the table after it.
-#[derive(Drop)]
+#[derive(Clone, Copy)]
 pub struct ClaimedAt {
     pub answer: ClaimAnswer,
     pub len: usize,
@@ -136,7 +136,7 @@ pub fn claim_in_place<'a>(
 }
 
 // What Ack and Term answer, and the numbers of the cursor and of the leases after them.
-#[derive(Drop)]
+#[derive(Clone, Copy)]
 pub struct SettledAt {
     pub answer: SettleAnswer,
     pub committed: u64,
@@ -212,7 +212,7 @@ pub fn settle_in_place<'a>(
 }
 
 // What Nack answers, and the next generation after it.
-#[derive(Drop)]
+#[derive(Clone, Copy)]
 pub struct NackedAt {
     pub answer: NackAnswer,
     pub next_generation: u64,
@@ -358,7 +358,7 @@ pub fn progress_in_place<'a>(
 }
 
 // What Commit answers, and the numbers of the cursor and of the table after it.
-#[derive(Drop)]
+#[derive(Clone, Copy)]
 pub struct CommittedAt {
     pub answer: CommitAnswer,
     pub committed: u64,

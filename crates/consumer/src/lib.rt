@@ -2,6 +2,7 @@
 // and where the next checkpoint goes. Every call says which worker makes it, takes the state by value and gives it back beside its
 // answer; a refusal gives back the very state that it was handed. Times are nanoseconds of any clock: it may stand still or run
 // backwards.
+#![tactic(auto)]
 use cursor::AckCursor;
 use delivery::DeliveryConfig;
 use hours::Hours;
@@ -22,7 +23,7 @@ pub mod steps;
 
 // What a consumer keeps of its configuration, beside what its lease table keeps.
 #[repr(C)]
-#[derive(Drop)]
+#[derive(Clone, Copy)]
 pub struct Settings {
     pub delivery: DeliveryConfig,
     // A byte for each worker, worker 0's first.
@@ -32,7 +33,7 @@ pub struct Settings {
 
 // The configuration: what a consumer is started with.
 #[repr(C)]
-#[derive(Drop)]
+#[derive(Clone, Copy)]
 pub struct Configuration {
     pub settings: Settings,
     pub lease: LeaseConfig,
@@ -40,7 +41,7 @@ pub struct Configuration {
 
 // Where the next checkpoint goes: its group number, and the block of its header.
 #[repr(C)]
-#[derive(Drop)]
+#[derive(Clone, Copy)]
 pub struct NextGroup {
     pub number: u64,
     pub block: usize,
@@ -48,7 +49,7 @@ pub struct NextGroup {
 
 // Generations are given out below the ceiling alone. The area is the journal's, in bytes.
 #[repr(C)]
-#[derive(Drop)]
+#[derive(Clone, Copy)]
 pub struct Consumer {
     pub cursor: AckCursor,
     pub table: LeaseTable,

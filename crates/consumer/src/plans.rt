@@ -16,7 +16,7 @@ use types::Offset;
 use types::limits::{RANGES, WORKERS};
 
 // What a plan is answered: how many looks it took, or refusal 38, 39, 36 or 37.
-#[derive(Drop)]
+#[derive(Clone, Copy)]
 pub enum PlanAnswer {
     Answered(usize),
     UnequalLengths,
@@ -109,7 +109,7 @@ impl Consumer {
 }
 
 // A plan over a lent list, which is gone through twice: to find an offset below the one before it, then to answer each.
-#[derive(Drop)]
+#[derive(Clone, Copy)]
 struct PlanWalk {
     // Whether each offset is answered: none is below the one before it.
     answering: bool,

@@ -15,14 +15,14 @@ use types::{Offset, lent};
 
 // Whether a checkpoint is due, and why: no generation is left below the ceiling, or redeliveries since the last checkpoint have
 // reached the threshold.
-#[derive(Drop)]
+#[derive(Clone, Copy)]
 pub struct Due {
     pub ceiling: bool,
     pub threshold: bool,
 }
 
 // What the waiting list answers: how many places were filled, or refusal 38, 39 or 20.
-#[derive(Drop)]
+#[derive(Clone, Copy)]
 pub enum WaitingAnswer {
     Filled(usize),
     OutTooShort,

@@ -26,7 +26,7 @@ pub const LOOK: u8 = 64;
 pub const SUPERVISOR: u8 = 128;
 
 // Whether a worker may do something, or refusal 38 or 39.
-#[derive(Drop)]
+#[derive(Clone, Copy)]
 pub enum Permission {
     Granted,
     UnknownWorker,

@@ -21,7 +21,7 @@ use types::lent::AttemptCounts;
 use types::limits::{CARRIED, LEASES, RANGES, WORKERS};
 
 // What an export answers: how many bytes each snapshot has, or refusal 38, 39 or 20.
-#[derive(Drop)]
+#[derive(Clone, Copy)]
 pub enum ExportAnswer {
     Exported { cursor_len: u16, attempt_len: u16 },
     OutTooShort,

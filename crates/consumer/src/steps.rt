@@ -29,7 +29,7 @@ use types::limits::{CARRIED, LEASES, MAX, RANGES, WORKERS};
 use types::numbers;
 
 // A claim is open, its offset at this place or missing there, or what it is refused with.
-#[derive(Drop)]
+#[derive(Clone, Copy)]
 pub enum ClaimTest {
     Open(Place),
     Refused(ClaimAnswer),
@@ -201,7 +201,7 @@ pub fn handed_out(max_deliver: u32, outcome: Claim) -> ClaimAnswer
 }
 
 // What a call with a token is refused with before its own tests: 38, 39, 24 or 40.
-#[derive(Drop)]
+#[derive(Clone, Copy)]
 pub enum TokenRefusal {
     UnknownWorker,
     NotPermitted,
@@ -210,14 +210,14 @@ pub enum TokenRefusal {
 }
 
 // The lease that a token owns: how often it was handed out, and its place.
-#[derive(Drop)]
+#[derive(Clone, Copy)]
 pub struct HeldAt {
     pub deliveries: u32,
     pub at: usize,
 }
 
 // The lease of a token, or what the call is refused with.
-#[derive(Drop)]
+#[derive(Clone, Copy)]
 pub enum TokenTest {
     Held(HeldAt),
     Refused(TokenRefusal),
@@ -349,7 +349,7 @@ pub fn extended(outcome: ExtendOutcome) -> ProgressAnswer
 }
 
 // Whether a commit goes on, or what it answers at once.
-#[derive(Drop)]
+#[derive(Clone, Copy)]
 pub enum CommitTest {
     Open,
     Answered(CommitAnswer),

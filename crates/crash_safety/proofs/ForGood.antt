@@ -3,7 +3,7 @@
 use Prim.Native.Nat.{ℕ}
 use native.Mathlib.Omega.{arith}
 use mathlib.Core.Path.{◌≡◌, refl, ◌∙◌}
-use mathlib.Core.Bool.{true, false, or_true}
+use mathlib.Core.Bool.{true, false, or-true}
 use mathlib.Core.List.{List, [], ◌∷◌, ◌++◌}
 use mathlib.Core.Option.{some, none-ne-some}
 use lib.Dec.{eqb}
@@ -68,7 +68,7 @@ module _ (o : ℕ) where
 
   within-one : (b : Book) (x : Effect) → Within b → Within (note b x)
   within-one b (handing x h) k = k
-  within-one b (settling named) k = λ e. rw (k e) (or_true (named o))
+  within-one b (settling named) k = λ e. rw (k e) (or-true (named o))
   within-one b (requeuing x) k = k
   within-one b renewing k = λ e. e
   within-one b (restarting (refused r)) k = k
@@ -82,7 +82,7 @@ module _ (o : ℕ) where
 
   both_one : (b : Book) (x : Effect) → Both b → Both (note b x)
   both_one b (handing x h) k = k
-  both_one b (settling named) k = (k.0, rw k.1 (or_true (named o)))
+  both_one b (settling named) k = (k.0, rw k.1 (or-true (named o)))
   both_one b (requeuing x) k = k
   both_one b renewing k = (k.1, k.1)
   both_one b (restarting (refused r)) k = k
@@ -135,7 +135,7 @@ module _ (o : ℕ) where
 
   page-one : (b : Book) (x : Effect) → is_restart x ≡ 0 → OnPage o b → OnPage o (note b x)
   page-one b (handing y h) z k = k
-  page-one b (settling named) z k = rw k (or_true (named o))
+  page-one b (settling named) z k = rw k (or-true (named o))
   page-one b (requeuing y) z k = k
   page-one b renewing z k = k
   page-one b (restarting a) z k = absurd (omega arith)

@@ -2,7 +2,7 @@
 -- with the book. Assumes nothing.
 use Prim.Native.Nat.{ℕ}
 use mathlib.Core.Path.{◌≡◌, refl, sym, ◌∙◌}
-use mathlib.Core.Bool.{Bool, true, false, ◌||◌, or_true}
+use mathlib.Core.Bool.{Bool, true, false, ◌||◌, or-true}
 use mathlib.Core.List.{List, [], ◌∷◌}
 use mathlib.Core.Option.{some, none-ne-some}
 use Rattle.types.specs.Refusal.{refused, done}
@@ -26,7 +26,7 @@ module _ (o : ℕ) where
     pub copy : b.copy.settled o ≡ true → seen ≡ true
 
   later : (p q : Bool) → q ≡ true → (p || q) ≡ true
-  later p q e = rw e (or_true p)
+  later p q e = rw e (or-true p)
 
   either : (p q r : Bool) → (q ≡ true → r ≡ true) → (p || q) ≡ true → (p || r) ≡ true
   either true q r f e = refl
@@ -50,7 +50,7 @@ module _ (o : ℕ) where
       moved (settles x o) seen (settled_in es o) (all es (settles x o || seen) (note b x) (one seen b x k) h)
     where
       moved : (p q r : Bool) → (p || q || r) ≡ true → (q || (p || r)) ≡ true
-      moved true q r h = or_true q
+      moved true q r h = or-true q
       moved false q r h = h
 
 -- ## every list

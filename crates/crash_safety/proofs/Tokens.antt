@@ -4,7 +4,7 @@
 use Prim.Native.Nat.{ℕ, suc, ◌≤◌, ◌<◌}
 use native.Mathlib.Omega.{arith}
 use mathlib.Core.Path.{◌≡◌, refl, sym, ◌∙◌}
-use mathlib.Core.Bool.{Bool, true, false, ◌&&◌, true≢false, or_true}
+use mathlib.Core.Bool.{Bool, true, false, ◌&&◌, true≢false, or-true}
 use mathlib.Core.List.{List, [], ◌∷◌}
 use mathlib.Core.Option.{Option, none, some, none-ne-some}
 use lib.Dec.{ltb, eqb}
@@ -86,7 +86,7 @@ module _ (t : Tokens) (floor : ℕ) (leases : List (Entry Lease)) (k : Known t f
         given_below = λ o g d. split (eqb o h.offset && eqb g h.generation)
             (λ q. omega (arith, eqb-true g h.generation (both (eqb o h.offset) (eqb g h.generation) q).1))
             (λ q. omega (arith, k.given_below o g (either (eqb o h.offset && eqb g h.generation) (t.given o g) d q)));
-        lost-given = λ o g d. rw (k.lost-given o g d) (or_true (eqb o h.offset && eqb g h.generation));
+        lost-given = λ o g d. rw (k.lost-given o g d) (or-true (eqb o h.offset && eqb g h.generation));
         held_new = λ o g q d. split (eqb o h.offset)
             (λ s. let same : h.generation ≡ g = some_inj (rw s at q) in omega (arith, k.given_below o g (k.lost-given o g d)))
             (λ s. k.held_new o g (rw s at q) d);

@@ -1,7 +1,7 @@
 -- Bits of numbers: there and back, sums of bits, the parts of a register, its complement. Assumes nothing.
 use Prim.Native.Nat.{ℕ, zero, suc, ◌+◌, ◌*◌, ◌/◌, ◌%◌, ◌^◌, ◌<◌}
 use native.Mathlib.Omega.{arith}
-use native.Mathlib.Nat.{mod-lt, zero-lt-suc, pow-suc, div-add-mod', div-lt_iff_lt-mul, zero-add, suc_add, div-one}
+use native.Mathlib.Nat.{mod-lt, zero-lt-suc, pow-suc, div-add-mod', div-lt_iff_lt-mul, zero-add, suc-add, div-one}
 use native.Mathlib.Numerals.{add-one, one-add}
 use mathlib.Core.Path.{◌≡◌, refl, sym, ap, ap₂, ◌∙◌}
 use mathlib.Core.Bool.{Bool, true, false, cond, not, xor}
@@ -73,7 +73,7 @@ unfolding bits
 bits-split zero k n = rw (zero-add, div-one)
 bits-split (suc j) k n =
     let half : n / 2 / 2 ^ j ≡ n / 2 ^ suc j = shr-shr n 1 j ∙ ap (λ (i : ℕ). n / 2 ^ i) (one-add j) in
-    rw (suc_add, ← half) (ap (◌∷◌ (eqb (n % 2) 1)) (bits-split j k (n / 2)))
+    rw (suc-add, ← half) (ap (◌∷◌ (eqb (n % 2) 1)) (bits-split j k (n / 2)))
 
 pub bits-low : (k n : ℕ) → bits k (n % 2 ^ k) ≡ bits k n
 unfolding bits

@@ -77,7 +77,7 @@ fn after_one(register: u32, byte: u8) -> u32
 }
 
 // What a nibble comes to as the upper one of a byte, with none behind it, and as the lower one, with one behind it.
-#[derive(Drop)]
+#[derive(Clone, Copy)]
 struct InByte(u32, u32);
 
 fn in_byte(v: u32) -> InByte

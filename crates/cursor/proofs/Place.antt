@@ -5,7 +5,7 @@ use Prim.Native.Nat.{ℕ, zero, suc, ◌+◌, ◌≤◌, ◌<◌, max}
 use native.Mathlib.Omega.{arith}
 use native.Mathlib.Numerals.{add-one}
 use mathlib.Core.Path.{◌≡◌, refl, ap, ◌∙◌}
-use mathlib.Core.Bool.{Bool, true, false, cond, ◌&&◌, ◌||◌, or_false, or_true}
+use mathlib.Core.Bool.{Bool, true, false, cond, ◌&&◌, ◌||◌, or-false, or-true}
 use mathlib.Core.List.{List, [], ◌∷◌}
 use lib.Dec.{ltb, leb, eqb, leb-suc-suc}
 use lib.ListN.{length, drop, set}
@@ -51,13 +51,13 @@ end-least o lo (r ∷ rs) a =
     (λ p. rw p (omega arith))
 
 pub settled_at : (o lo : ℕ) (l : List Range) → Above lo l → settled (cursor lo l) o ≡ ltb o (end_before lo (place o l) l)
-settled_at o lo [] a = or_false (ltb o lo)
+settled_at o lo [] a = or-false (ltb o lo)
 settled_at o lo (r ∷ rs) a =
     split (leb r.start o)
     (λ p. let h = leb-true r.start o p in
     rw (p, end_step lo (place o rs) r rs, le-ltb o lo (omega arith)) (settled_at o r.end rs a.3))
     (λ p. let h = leb-false r.start o p in
-    rw (p, inside-above o r.end rs a.3 (omega arith)) (or_false (ltb o lo)))
+    rw (p, inside-above o r.end rs a.3 (omega arith)) (or-false (ltb o lo)))
 
 next-step : (o i : ℕ) (r : Range) (rs : List Range) → next_at o (suc i) (r ∷ rs) ≡ next_at o i rs
 next-step o i r rs = rw (leb-suc-suc (suc i) (length rs))
@@ -74,7 +74,7 @@ near-at o lo (r ∷ rs) a u =
     rw (p, end_step lo (place o rs) r rs, next-step o (place o rs) r rs, ne_eqb lo o (λ z. omega arith), ne_eqb r.start (o + 1) (λ z. omega arith))
     (near-at o r.end rs a.3 (rw (p, end_step lo (place o rs) r rs) at u)))
     (λ p. let k = leb-false r.start o p in
-    rw (p, next-first o r rs, ne_eqb r.end o (λ z. omega arith), touches-above o r.end rs a.3 (omega arith), or_false (eqb r.start (o + 1))))
+    rw (p, next-first o r rs, ne_eqb r.end o (λ z. omega arith), touches-above o r.end rs a.3 (omega arith), or-false (eqb r.start (o + 1))))
 
 -- a range in front of a cursor whose committed offset was the range's end
 abbrev pushed : ℕ → Range → Cursor → Cursor
@@ -171,13 +171,13 @@ module _ (c : Cursor) (o i : ℕ) (a : Above c.committed c.ahead) (e : i ≡ pla
     spot-between p q = (next_in q, record { unsettled = unsettled; nearby = rw (near-is, eq-eqb end o p); made = rw (made-is, eq-eqb end o p, q, add-one i) })
 
     pub spot-before : (end ≡ o → ⊥) → next_at o i c.ahead ≡ true → Spotted c o (Before i)
-    spot-before p q = (next_in q, record { unsettled = unsettled; nearby = rw (near-is, q) (or_true (eqb end o)); made = rw (made-is, ne_eqb end o p, q) })
+    spot-before p q = (next_in q, record { unsettled = unsettled; nearby = rw (near-is, q) (or-true (eqb end o)); made = rw (made-is, ne_eqb end o p, q) })
 
     pub spot-apart : (end ≡ o → ⊥) → next_at o i c.ahead ≡ false → Spotted c o (Apart i)
     spot-apart p q = (few, record { unsettled = unsettled; nearby = rw (near-is, ne_eqb end o p, q); made = rw (made-is, ne_eqb end o p, q) })
 
 pub spot_max : (c : Cursor) (o : ℕ) → o ≡ MAX → Spotted c o Settled
-spot_max c o e = rw (eq-eqb o MAX e) (or_true (settled c o))
+spot_max c o e = rw (eq-eqb o MAX e) (or-true (settled c o))
 
 pub place_none : (o lo : ℕ) (l : List Range) → Above lo l → o ≤ lo → place o l ≡ 0
 place_none o lo [] a h = refl

@@ -5,7 +5,7 @@ use native.Mathlib.Omega.{arith}
 use native.Mathlib.Nat.{le_of_suc-le-suc}
 use native.Mathlib.Numerals.{add-one}
 use mathlib.Core.Path.{◌≡◌, refl, sym, ◌∙◌}
-use mathlib.Core.Bool.{Bool, true, false, ◌&&◌, ◌||◌, or_assoc, or_comm, or_false, true≢false}
+use mathlib.Core.Bool.{Bool, true, false, ◌&&◌, ◌||◌, or_assoc, or_comm, or-false, true≢false}
 use mathlib.Core.List.{List, [], ◌∷◌}
 use lib.Dec.{ltb, leb, eqb}
 use lib.ListN.{length, drop, get_or}
@@ -27,7 +27,7 @@ or_left a b c = sym (or_assoc a b c) ∙ rw (or_comm a b) (or_assoc b a c)
 within_join : (s m e o : ℕ) → s ≤ m → m ≤ e → within s e o ≡ (within s m o || within m e o)
 within_join s m e o h k =
     split (ltb o m)
-    (λ p. let q = ltb-true o m p in rw (p, lt-ltb o e (omega arith), lt-leb m o q) (sym (or_false _)))
+    (λ p. let q = ltb-true o m p in rw (p, lt-ltb o e (omega arith), lt-leb m o q) (sym (or-false _)))
     (λ p. let q = ltb-false o m p in rw (p, le-leb m o q, le-leb s o (omega arith)))
 
 within-one : (n o : ℕ) → within n (n + 1) o ≡ eqb o n

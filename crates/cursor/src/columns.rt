@@ -18,7 +18,7 @@ use types::limits::RANGES;
 use types::numbers::shorter;
 
 // What the test of a snapshot answers: beside a refusal both numbers are 0.
-#[derive(Drop)]
+#[derive(Clone, Copy)]
 pub struct Checked {
     pub outcome: Decode,
     pub committed: u64,

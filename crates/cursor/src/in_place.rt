@@ -21,7 +21,7 @@ use types::limits::{MAX, RANGES};
 use types::numbers::larger;
 
 // What an ack answers, beside the columns.
-#[derive(Drop)]
+#[derive(Clone, Copy)]
 pub struct Noted {
     pub outcome: BoundedAck,
     pub committed: u64,
@@ -50,7 +50,7 @@ pub fn ack_in_place(
 }
 
 // What a commit answers, beside the columns.
-#[derive(Drop)]
+#[derive(Clone, Copy)]
 pub struct Moved {
     pub advanced: bool,
     pub committed: u64,
@@ -107,7 +107,7 @@ pub fn encode_in_place<'a>(
 }
 
 // What becomes of a column of which the first places are in use.
-#[derive(Drop)]
+#[derive(Clone, Copy)]
 pub(crate) enum Edit {
     Keep,
     // This number is set at a place.
@@ -126,7 +126,7 @@ pub(crate) fn apply(column: &mut [u64; RANGES], runs: usize, edit: Edit)
 }
 
 // What an ack answers, and what becomes of each column.
-#[derive(Drop)]
+#[derive(Clone, Copy)]
 pub(crate) struct AckPlan {
     pub(crate) noted: Noted,
     pub(crate) starts: Edit,
@@ -232,7 +232,7 @@ fn join(committed: u64, ends: &[u64; RANGES], runs: usize, at: usize) -> AckPlan
 }
 
 // What a commit answers, and what becomes of both columns.
-#[derive(Drop)]
+#[derive(Clone, Copy)]
 pub(crate) struct CommitPlan {
     pub(crate) moved: Moved,
     pub(crate) both: Edit,
@@ -272,7 +272,7 @@ pub(crate) fn plan_commit<'a>(
 }
 
 // Where an offset stands. Places count from 0, and committed is the end before place 0.
-#[derive(Drop)]
+#[derive(Clone, Copy)]
 pub(crate) enum Spot {
     // Acked before, or the last offset of all.
     Settled,

@@ -2,6 +2,7 @@
 // the offset below which all are acked; what is acked ahead of it is kept as ranges, in order and apart from each other.
 // An ack at committed moves it over that offset and over the range that begins right behind it. A cursor goes in by value
 // and comes back; nothing is kept elsewhere, and an ack or a commit shifts its ranges within its own columns.
+#![tactic(auto)]
 ghost use Rattle.std.specs.Prelude.{◌≡◌, ℕ, ◌+◌, ◌<◌, min, List, [], ◌∷◌, ◌++◌, length, set};
 ghost use Rattle.types.specs.Identifiers.{offset};
 ghost use Rattle.types.specs.Refusal.{done};
@@ -36,7 +37,7 @@ pub mod snapshots;
 
 // The offsets from start up to, and not including, end.
 #[repr(C)]
-#[derive(Drop)]
+#[derive(Clone, Copy)]
 pub struct Range {
     pub start: u64,
     pub end: u64,
@@ -45,7 +46,7 @@ pub struct Range {
 // The ranges ahead are [starts[i], ends[i]) for i below runs, each nonempty and starting above the end before it, the
 // first above committed.
 #[repr(C)]
-#[derive(Drop)]
+#[derive(Clone, Copy)]
 pub struct AckCursor {
     pub committed: u64,
     pub starts: [u64; RANGES],
@@ -56,7 +57,7 @@ pub struct AckCursor {
 // What a bounded ack answers. Recorded: it was new. Duplicate: the offset was acked before, or is the last of all, which
 // is never acked. Shed, refusal 29: it would have made a range more than the limit; the offset still reads as unacked
 // and comes again later, a duplicate and no loss. A caller should count these: many of them say that acks leave too many gaps.
-#[derive(Drop)]
+#[derive(Clone, Copy)]
 pub enum BoundedAck {
     Recorded,
     Duplicate,
@@ -64,21 +65,21 @@ pub enum BoundedAck {
 }
 
 // What an ack answers. The cursor stands first: behind a smaller field it would be copied once more on its way out.
-#[derive(Drop)]
+#[derive(Clone, Copy)]
 pub struct Acked {
     pub cursor: AckCursor,
     pub outcome: BoundedAck,
 }
 
 // The cursor, first as in `Acked`, and whether the bound was above committed.
-#[derive(Drop)]
+#[derive(Clone, Copy)]
 pub struct Committed {
     pub cursor: AckCursor,
     pub advanced: bool,
 }
 
 // Ranges that no cursor has: refusals 10, 11 and 12.
-#[derive(Drop)]
+#[derive(Clone, Copy)]
 pub enum AckCursorError {
     // start is not below end.
     EmptyRange { start: u64, end: u64 },
@@ -89,7 +90,7 @@ pub enum AckCursorError {
 }
 
 // Bytes that are no snapshot: refusals 6 to 9, and those of the ranges.
-#[derive(Drop)]
+#[derive(Clone, Copy)]
 pub enum SnapshotError {
     // Shorter than a snapshot without ranges.
     Truncated,
@@ -103,28 +104,28 @@ pub enum SnapshotError {
 }
 
 // Whether ranges are those of a cursor.
-#[derive(Drop)]
+#[derive(Clone, Copy)]
 pub enum Resume {
     Resumed,
     Refused(AckCursorError),
 }
 
 // Beside a refusal stands the cursor that `new` gives.
-#[derive(Drop)]
+#[derive(Clone, Copy)]
 pub struct Resumed {
     pub outcome: Resume,
     pub cursor: AckCursor,
 }
 
 // Whether bytes are a snapshot.
-#[derive(Drop)]
+#[derive(Clone, Copy)]
 pub enum Decode {
     Restored,
     Refused(SnapshotError),
 }
 
 // Beside a refusal stands the cursor that `new` gives.
-#[derive(Drop)]
+#[derive(Clone, Copy)]
 pub struct Decoded {
     pub outcome: Decode,
     pub cursor: AckCursor,
@@ -330,7 +331,7 @@ impl AckCursor {
 
 // A resumption under way: whether the ranges so far are those of a cursor, the first 128 of them, how many they are, up to
 // 129, and their last end, which is committed before the first.
-#[derive(Drop)]
+#[derive(Clone, Copy)]
 struct Resuming {
     outcome: Resume,
     committed: u64,

@@ -22,7 +22,7 @@ use types::{Offset, lent};
 const STRETCHES: usize = RANGES + 1;
 
 // What the list of stretches answers: how many places of the lent list were filled, or refusal 32 or 20.
-#[derive(Drop)]
+#[derive(Clone, Copy)]
 pub enum OpenAnswer {
     Filled(usize),
     BoundsReversed,
@@ -31,7 +31,7 @@ pub enum OpenAnswer {
 
 // Stretches that were found and are to be listed: those of a cursor between a and b. `first` is the place of the first range that starts
 // above a, `count` how many stretches there are.
-#[derive(Drop)]
+#[derive(Clone, Copy)]
 struct Between {
     cursor: AckCursor,
     a: u64,
@@ -41,7 +41,7 @@ struct Between {
 }
 
 // Where the stretches begin, and how many they are.
-#[derive(Drop)]
+#[derive(Clone, Copy)]
 struct Gaps {
     first: usize,
     count: usize,

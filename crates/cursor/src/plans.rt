@@ -10,7 +10,7 @@ use types::limits::RANGES;
 
 // What a plan is answered. The number of looks is at most that of the offsets and the ranges together, and offsets in memory are fewer
 // than 2^60, so it is no number that a usize couldn't hold.
-#[derive(Drop)]
+#[derive(Clone, Copy)]
 pub enum PlanAnswer {
     // The list is filled: how many looks that took.
     Answered(usize),
@@ -77,7 +77,7 @@ pub(crate) fn plan_columns<'a>(
 }
 
 // Where a list falls first.
-#[derive(Drop)]
+#[derive(Clone, Copy)]
 enum Fall {
     None,
     // The place of the second member of a pair.
@@ -129,7 +129,7 @@ fn answer_all<'a>(
 }
 
 // What one offset makes of the walk: the range that it stands on then, with how many the offset was compared, and the answer.
-#[derive(Drop)]
+#[derive(Clone, Copy)]
 pub struct Step {
     pub at: usize,
     pub looks: usize,

@@ -1,4 +1,5 @@
 // The delivery policy: the acknowledgement verbs, when a message has been handed out too often, and how long a retry waits.
+#![tactic(auto)]
 ghost use Rattle.std.specs.Prelude.{◌≡◌, not, ◌&&◌, ◌-◌, ◌≤◌, min, max, length, take};
 ghost use Rattle.types.specs.Refusal.{done};
 ghost use Rattle.delivery.specs.Policy.{unlimited, destination, disposition, scheduled, delayed, capped_delay, nack_backoff, effective_nack_delay};
@@ -7,7 +8,7 @@ ghost use Rattle.delivery.specs.Config.{view, Sound, LentBackoffs, dispositionOf
 use types::limits::MAX32;
 
 // What a consumer says of a message that it was handed.
-#[derive(Drop)]
+#[derive(Clone, Copy)]
 pub enum AckVerb {
     // Done: not handed out again, unless a restart finds a state that doesn't have it yet.
     Ack,
@@ -20,7 +21,7 @@ pub enum AckVerb {
 }
 
 // What becomes of a message that is handed out.
-#[derive(Drop)]
+#[derive(Clone, Copy)]
 pub enum Disposition {
     Deliver,
     // It has been handed out more often than the limit allows.
@@ -28,7 +29,7 @@ pub enum Disposition {
 }
 
 // The delay of a nack: the consumer's own, or what the schedule has.
-#[derive(Drop)]
+#[derive(Clone, Copy)]
 pub enum Delay {
     Explicit(u64),
     Schedule,
@@ -36,7 +37,7 @@ pub enum Delay {
 
 // The delivery settings of one consumer. The backoffs are the first `backoff_len` of the array.
 #[repr(C)]
-#[derive(Drop)]
+#[derive(Clone, Copy)]
 pub struct DeliveryConfig {
     pub max_deliver: u32,
     pub allow_unlimited: bool,
@@ -46,7 +47,7 @@ pub struct DeliveryConfig {
 }
 
 // What making a config answers: it was built, or refusal 1 or 2.
-#[derive(Drop)]
+#[derive(Clone, Copy)]
 pub enum ConfigOutcome {
     Built,
     UnlimitedDeliverNotAllowed,
@@ -54,7 +55,7 @@ pub enum ConfigOutcome {
 }
 
 // Beside a refusal stands a config of the defaults.
-#[derive(Drop)]
+#[derive(Clone, Copy)]
 pub struct Configured {
     pub outcome: ConfigOutcome,
     pub config: DeliveryConfig,

@@ -1,1 +1,2 @@
 // Examples computed on the definitions: see specs/ and proofs/.
+#![tactic(auto)]

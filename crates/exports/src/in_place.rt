@@ -11,7 +11,7 @@ use cursor::{AckCursor, BoundedAck};
 use types::limits::RANGES;
 
 // What an ack answers in a number, beside the columns.
-#[derive(Drop)]
+#[derive(Clone, Copy)]
 struct NotedNumber {
     number: u64,
     committed: u64,

@@ -1,6 +1,7 @@
 // What programs in other languages call: the snapshots and the check, on numbers and slices. A slice crosses as a pointer
 // and a length, a list of ranges or pairs as a column for each field. Nothing is required of a caller but that its slices
 // are there, and that one that is written to overlaps no other.
+#![tactic(auto)]
 ghost use Rattle.std.specs.Prelude.{◌≡◌};
 ghost use Rattle.types.specs.Keyed.{entries};
 ghost use Rattle.types.specs.Zipped.{zipped};

@@ -1,5 +1,6 @@
 // Opening hours: which half hours of a week are open, whether a clock lies in one of them, and when the next one begins. Times are
 // nanoseconds; a clock and the shift may pass the largest number together, so both are taken within a week first.
+#![tactic(auto)]
 ghost use Rattle.std.specs.Prelude.{◌≡◌, ◌/◌, ◌%◌, ◌^◌, ◌<◌};
 ghost use Rattle.types.specs.Table.{first};
 ghost use Rattle.hours.specs.Hours.{firstOpen, anyAbove, isOpen, next_opening, hours_rows};
@@ -24,7 +25,7 @@ const PAST_BITS: u64 = 281474976710656;
 // The hours of a consumer, if it has any: without them it is open always. A day is a number whose bits 0 to 47 are its half hours, bit
 // 0 the one from midnight; Monday comes first. Clock 0 lies the shift after Monday midnight.
 #[repr(C)]
-#[derive(Drop)]
+#[derive(Clone, Copy)]
 pub struct Hours {
     pub given: bool,
     pub shift: u64,
@@ -32,7 +33,7 @@ pub struct Hours {
 }
 
 // Whether hours are accepted, or what they are refused with: 33, 34.
-#[derive(Drop)]
+#[derive(Clone, Copy)]
 pub enum HoursTest {
     Accepted,
     BadHours,
@@ -40,7 +41,7 @@ pub enum HoursTest {
 }
 
 // Whether it is open at a clock, or else the clock at which it opens next.
-#[derive(Drop)]
+#[derive(Clone, Copy)]
 pub enum Opening {
     Now,
     At(u64),

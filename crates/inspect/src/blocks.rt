@@ -10,7 +10,7 @@ use consumer::halves::half_blocks;
 use text::templates::fill;
 
 // What a block is, and how that is what is expected at its place.
-#[derive(Drop)]
+#[derive(Clone, Copy)]
 pub struct Row {
     pub what: Said,
     pub rest: Said,

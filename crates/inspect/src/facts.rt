@@ -11,7 +11,7 @@ use text::output::put;
 use text::templates::fill;
 
 // How a journal lies in its file: as its blocks, side by side; or, as one of several journals, with a block in each sector.
-#[derive(Drop)]
+#[derive(Clone, Copy)]
 pub enum Layout {
     SideBySide,
     InSectors {

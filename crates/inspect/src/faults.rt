@@ -8,7 +8,7 @@ use types::numbers::{larger, shorter};
 
 // The tests of a block: it has 512 bytes; its kind; its check; its group number; zeros where they are laid down; the lengths of
 // the two snapshots; the body count; the group fits the area. Of a body: its index, and the bytes that it uses.
-#[derive(Drop)]
+#[derive(Clone, Copy)]
 pub enum Fault {
     Length,
     Kind,
@@ -24,14 +24,14 @@ pub enum Fault {
 }
 
 // Whether a block is sound, or the first test that it fails.
-#[derive(Drop)]
+#[derive(Clone, Copy)]
 pub enum Verdict {
     Sound,
     Unsound(Fault),
 }
 
 // What a block is by itself: zeros, a header, a body, or neither.
-#[derive(Drop)]
+#[derive(Clone, Copy)]
 pub enum Seen {
     Empty,
     Header,

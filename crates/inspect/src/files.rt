@@ -8,7 +8,7 @@ use sectors::{Form, State};
 use text::output::flush;
 
 // Which journal of a file is asked for: its number, counted from 0, or no one in particular.
-#[derive(Drop)]
+#[derive(Clone, Copy)]
 pub enum Asked {
     All,
     One(u64),
@@ -16,7 +16,7 @@ pub enum Asked {
 }
 
 // What stands behind the bytes that were read of a file.
-#[derive(Drop)]
+#[derive(Clone, Copy)]
 pub enum Behind {
     Nothing,
     More,

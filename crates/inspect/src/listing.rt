@@ -12,7 +12,7 @@ use text::templates::fill;
 use types::numbers::saturating_add;
 
 // Where a run of blocks ends of which the same is said: the block behind it, counted in its half, and what is expected there.
-#[derive(Drop)]
+#[derive(Clone, Copy)]
 pub struct Run {
     pub end: usize,
     pub place: Place,

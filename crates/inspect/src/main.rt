@@ -1,5 +1,6 @@
 // Prints what a file has, for people: the journals of consumers, a cursor snapshot or an attempt snapshot, as the first argument says.
 // The first line is the verdict. The file is opened for reading and never changed. What can't be read is said on standard error.
+#![tactic(auto)]
 use files::{Asked, Behind};
 use libc::STDERR_FILENO;
 use text::output;
@@ -20,7 +21,7 @@ mod said;
 mod snapshots;
 
 // What a file is printed as, which the first argument names.
-#[derive(Drop)]
+#[derive(Clone, Copy)]
 enum Kind {
     Journal,
     Cursor,

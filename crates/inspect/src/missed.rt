@@ -10,14 +10,14 @@ use text::templates::fill;
 use types::numbers::{larger, saturating_add, shorter};
 
 // Blocks that have kind 1 and a right check: how many they are, and the greatest group number that they name.
-#[derive(Drop)]
+#[derive(Clone, Copy)]
 pub struct Headers {
     pub count: usize,
     pub number: u64,
 }
 
 // The first such block, if there is one.
-#[derive(Drop)]
+#[derive(Clone, Copy)]
 enum FirstHeader {
     At(usize),
     None,

@@ -10,7 +10,7 @@ use consumer::halves::half_blocks;
 
 // The header of group `number`; body `index`, from 1, of the `bodies` of a group whose snapshots have `total` bytes; nothing, where
 // the groups ended at the header of group `number`; or nothing, in a half without groups.
-#[derive(Drop)]
+#[derive(Clone, Copy)]
 pub enum Place {
     Header {
         number: u64,
@@ -28,7 +28,7 @@ pub enum Place {
 }
 
 // A block judged as what is expected at its place, or seen by itself where nothing is.
-#[derive(Drop)]
+#[derive(Clone, Copy)]
 pub enum Judged {
     Header(Verdict),
     Body(Verdict),

@@ -1,5 +1,5 @@
 // What is printed: a template, by its number in a text of templates, and the numbers that it takes.
-#[derive(Drop)]
+#[derive(Clone, Copy)]
 pub struct Said {
     pub template: usize,
     pub numbers: [u64; 4],

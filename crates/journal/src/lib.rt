@@ -1,6 +1,7 @@
 // The journal's blocks: writing one, telling whether it is sound, walking from group to group, and reading a group's
 // payload. An area is 1 to 128 blocks of 512 bytes; whatever is no such area, and whatever part is no block, is
 // refused as 4.
+#![tactic(auto)]
 ghost use Rattle.std.specs.Prelude.{◌≡◌, suc, ◌+◌, ◌*◌, ◌-◌, ◌≤◌, ◌<◌, min, length, take, drop, replicate, ◌++◌};
 ghost use Rattle.types.specs.Table.{answer};
 ghost use Rattle.crc.specs.Seal.{sealed};
@@ -15,7 +16,7 @@ use types::numbers::shorter;
 // What the header of a group says: its number, the generation ceiling, and the lengths of the cursor snapshot and of
 // the attempt snapshot.
 #[repr(C)]
-#[derive(Drop)]
+#[derive(Clone, Copy)]
 pub struct Header {
     pub number: u32,
     pub ceiling: u64,
@@ -24,7 +25,7 @@ pub struct Header {
 }
 
 // A block to be written: a header, body `index`, from 1, of the payload, or zeros.
-#[derive(Drop)]
+#[derive(Clone, Copy)]
 pub enum Block {
     Header(Header),
     Body { number: u32, index: u8 },
@@ -32,21 +33,21 @@ pub enum Block {
 }
 
 // What writing a block answers: it is written, or refusal 4.
-#[derive(Drop)]
+#[derive(Clone, Copy)]
 pub enum Filled {
     Written,
     BadArea,
 }
 
 // The header block of the last group of a walk, if there was one.
-#[derive(Drop)]
+#[derive(Clone, Copy)]
 pub enum LastGroup {
     At(usize),
     None,
 }
 
 // What a walk answers: the last group, the number expected next and the block where it would stand, or refusals 4 and 5.
-#[derive(Drop)]
+#[derive(Clone, Copy)]
 pub enum Walked {
     Stopped {
         last: LastGroup,
@@ -58,7 +59,7 @@ pub enum Walked {
 }
 
 // What reading a payload answers: the number of its bytes, or refusals 4 and 20.
-#[derive(Drop)]
+#[derive(Clone, Copy)]
 pub enum Payload {
     Read(usize),
     BadArea,
@@ -66,7 +67,7 @@ pub enum Payload {
 }
 
 // What one turn of the walk finds: no sound header, an unsound body's block, or the block behind a sound group.
-#[derive(Drop)]
+#[derive(Clone, Copy)]
 enum GroupAt {
     Nothing,
     Unsound(usize),

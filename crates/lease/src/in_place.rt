@@ -24,7 +24,7 @@ use types::limits::{CARRIED, COUNTS, LEASES, MAX};
 use types::{Generation, Offset, numbers};
 
 // What a claim answers, and the numbers of the table after it.
-#[derive(Drop)]
+#[derive(Clone, Copy)]
 pub struct ClaimedAt {
     pub outcome: Claim,
     pub len: usize,
@@ -309,7 +309,7 @@ pub fn extend_at<'a>(
 }
 
 // What a nack answers, and what the next grant or nack takes.
-#[derive(Drop)]
+#[derive(Clone, Copy)]
 pub struct NackedAt {
     pub outcome: NackOutcome,
     pub next_generation: u64,
@@ -345,7 +345,7 @@ pub fn nack_at(
 }
 
 // How many leases and how many carried counts there are after those below a bound were released.
-#[derive(Drop)]
+#[derive(Clone, Copy)]
 pub struct ReleasedAt {
     pub len: usize,
     pub carried_len: usize,
@@ -443,7 +443,7 @@ pub fn lease_in_place<'a>(
 
 // The lease that a token owns, where it owns one: how often it was handed out, the worker who claimed it, and its place, where a call
 // with the token finds it again.
-#[derive(Drop)]
+#[derive(Clone, Copy)]
 pub enum Hold {
     Held {
         deliveries: u32,

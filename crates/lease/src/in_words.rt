@@ -22,7 +22,7 @@ use tables::Place;
 use types::{Generation, Offset, numbers};
 
 // What a claim that is granted hands out: the token, and how often its message was handed out so far, this time counted.
-#[derive(Drop)]
+#[derive(Clone, Copy)]
 pub struct HandOut {
     pub token: LeaseToken,
     pub deliveries: u32,

@@ -2,6 +2,7 @@
 // was handed out. A message in flight is handed out again once its lease's deadline has come; each hand_out_lem takes a new
 // generation, so that whoever held the message before is fenced off. The caller brings the time, in nanoseconds of any
 // clock: it may stand still or run backwards.
+#![tactic(auto)]
 ghost use Rattle.std.specs.Prelude.{◌≡◌, map, length};
 ghost use Rattle.types.specs.Limits.{LEASES};
 ghost use Rattle.types.specs.Refusal.{done, optional};
@@ -30,7 +31,7 @@ mod stored;
 // How long a hand_out_lem lasts, in nanoseconds. A hard cap below the visibility shortens every lease to the cap; where one
 // of the two is 0, a lease runs out the moment it is granted.
 #[repr(C)]
-#[derive(Drop)]
+#[derive(Clone, Copy)]
 pub struct LeaseConfig {
     // How long a message that was handed out stays in flight.
     pub visibility_nanos: u64,
@@ -84,14 +85,14 @@ impl LeaseConfig {
 // Names one hand_out_lem of a message: an ack, an extension or a nack carries it, and works only while the lease of the
 // offset has this generation.
 #[repr(C)]
-#[derive(Drop)]
+#[derive(Clone, Copy)]
 pub struct LeaseToken {
     pub offset: Offset,
     pub generation: Generation,
 }
 
 #[repr(C)]
-#[derive(Drop)]
+#[derive(Clone, Copy)]
 pub struct Lease {
     pub generation: Generation,
     // When the current attempt began: the hard cap runs from here, anew with each attempt.
@@ -103,7 +104,7 @@ pub struct Lease {
 }
 
 // What a claim answers: the token with the number of hand-outs so far, this one counted; or refusal 23, 25 or 27.
-#[derive(Drop)]
+#[derive(Clone, Copy)]
 pub enum Claim {
     Granted { token: LeaseToken, deliveries: u32 },
     InFlight,
@@ -112,14 +113,14 @@ pub enum Claim {
 }
 
 // What an ack answers: the lease is gone, or refusal 24.
-#[derive(Drop)]
+#[derive(Clone, Copy)]
 pub enum AckOutcome {
     Acked,
     Fenced,
 }
 
 // What an extension answers: the new deadline, or refusal 28 or 24.
-#[derive(Drop)]
+#[derive(Clone, Copy)]
 pub enum ExtendOutcome {
     Extended(u64),
     CapReached,
@@ -127,7 +128,7 @@ pub enum ExtendOutcome {
 }
 
 // What a nack answers: when the message can be claimed again, or refusal 24 or 25.
-#[derive(Drop)]
+#[derive(Clone, Copy)]
 pub enum NackOutcome {
     Requeued { deadline: u64 },
     Fenced,
@@ -135,14 +136,14 @@ pub enum NackOutcome {
 }
 
 // What resuming attempt counts answers: nothing, or refusal 19.
-#[derive(Drop)]
+#[derive(Clone, Copy)]
 pub enum ResumeOutcome {
     Resumed,
     TooManyPairs,
 }
 
 // An attempt count, where there is one.
-#[derive(Drop)]
+#[derive(Clone, Copy)]
 pub enum Attempts {
     Some(u32),
     None,
@@ -151,7 +152,7 @@ pub enum Attempts {
 // At most 64 leases and 128 carried attempt counts, each sorted by offset: the offsets in one array, and at the same places of another
 // the counts, or the slots of the leases.
 #[repr(C)]
-#[derive(Drop)]
+#[derive(Clone, Copy)]
 pub struct LeaseTable {
     pub config: LeaseConfig,
     pub offsets: [u64; LEASES],
@@ -176,38 +177,38 @@ pub struct LeaseTable {
 }
 
 // What a call answers, and the table after it, which comes first: behind a few bytes of an answer it would be copied once more.
-#[derive(Drop)]
+#[derive(Clone, Copy)]
 pub struct Claimed {
     pub table: LeaseTable,
     pub outcome: Claim,
 }
 
-#[derive(Drop)]
+#[derive(Clone, Copy)]
 pub struct Acked {
     pub table: LeaseTable,
     pub outcome: AckOutcome,
 }
 
-#[derive(Drop)]
+#[derive(Clone, Copy)]
 pub struct Extended {
     pub table: LeaseTable,
     pub outcome: ExtendOutcome,
 }
 
-#[derive(Drop)]
+#[derive(Clone, Copy)]
 pub struct Nacked {
     pub table: LeaseTable,
     pub outcome: NackOutcome,
 }
 
-#[derive(Drop)]
+#[derive(Clone, Copy)]
 pub struct Resumed {
     pub table: LeaseTable,
     pub outcome: ResumeOutcome,
 }
 
 // Whether there was something to change, and the table.
-#[derive(Drop)]
+#[derive(Clone, Copy)]
 pub struct Changed {
     pub table: LeaseTable,
     pub changed: bool,

@@ -11,7 +11,7 @@ use crate::{Attempts, Lease, LeaseTable, in_place};
 use types::Offset;
 
 // The lease of an offset, where it has one.
-#[derive(Drop)]
+#[derive(Clone, Copy)]
 pub enum LeaseAt {
     Some(Lease),
     None,

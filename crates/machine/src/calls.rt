@@ -12,7 +12,7 @@ use types::lent::Listed;
 use types::{Generation, Offset};
 
 // What is asked of a consumer without changing it.
-#[derive(Drop)]
+#[derive(Clone, Copy)]
 pub enum Question {
     // The list goes into the lent one.
     Waiting { now: u64 },
@@ -30,7 +30,7 @@ pub enum Question {
 }
 
 // A call on the consumer's state.
-#[derive(Drop)]
+#[derive(Clone, Copy)]
 pub enum Ask {
     Claim {
         offset: Offset,
@@ -52,7 +52,7 @@ pub enum Ask {
 }
 
 // A call: a worker's on the state, a worker's begin of a checkpoint, its steps, and a restart.
-#[derive(Drop)]
+#[derive(Clone, Copy)]
 pub enum Call {
     Ask { worker: u64, ask: Ask },
     Begin { worker: u64 },
@@ -61,7 +61,7 @@ pub enum Call {
 }
 
 // What is told of a lease: all but who holds it.
-#[derive(Drop)]
+#[derive(Clone, Copy)]
 pub struct LeaseFigures {
     pub generation: Generation,
     pub attempt_start: u64,
@@ -69,14 +69,14 @@ pub struct LeaseFigures {
     pub deliveries: u32,
 }
 
-#[derive(Drop)]
+#[derive(Clone, Copy)]
 pub enum LeaseReply {
     Some(LeaseFigures),
     None,
 }
 
 // What each question is answered, or refusal 38 or 39.
-#[derive(Drop)]
+#[derive(Clone, Copy)]
 pub enum Reply {
     Waiting(Listed),
     Committed(Offset),
@@ -94,7 +94,7 @@ pub enum Reply {
 }
 
 // What each call on the state is answered.
-#[derive(Drop)]
+#[derive(Clone, Copy)]
 pub enum AskAnswer {
     Claimed(ClaimAnswer),
     Acked(SettleAnswer),
@@ -106,7 +106,7 @@ pub enum AskAnswer {
 }
 
 // What each call is answered; NotNow where it can't be made where it stands.
-#[derive(Drop)]
+#[derive(Clone, Copy)]
 pub enum CallAnswer {
     Asked(AskAnswer),
     Begun(BeginAnswer),
@@ -115,7 +115,7 @@ pub enum CallAnswer {
     NotNow,
 }
 
-#[derive(Drop)]
+#[derive(Clone, Copy)]
 pub struct Asked {
     pub answer: AskAnswer,
     pub consumer: Consumer,

@@ -29,7 +29,7 @@ use types::Offset;
 use types::limits::{CARRIED, LEASES, RANGES, WORKERS};
 
 // What of a consumer its calls look at and leave.
-#[derive(Drop)]
+#[derive(Clone, Copy)]
 pub struct Fixed {
     pub config: LeaseConfig,
     pub hours: Hours,
@@ -42,7 +42,7 @@ pub struct Fixed {
 }
 
 // The numbers of a consumer that its calls change.
-#[derive(Drop)]
+#[derive(Clone, Copy)]
 pub struct Figures {
     pub committed: u64,
     pub runs: usize,
@@ -53,7 +53,7 @@ pub struct Figures {
 }
 
 // What a call answers, and the numbers after it.
-#[derive(Drop)]
+#[derive(Clone, Copy)]
 pub struct AskedAt {
     pub answer: AskAnswer,
     pub figures: Figures,

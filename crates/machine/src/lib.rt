@@ -1,5 +1,6 @@
 // The one way to call a consumer: every call of demand 3's lists is one `call` here, on the machine that the one before left. A call
 // that can't be made where it stands is answered NotNow and changes nothing.
+#![tactic(auto)]
 ghost use Rattle.std.specs.Prelude.{◌≡◌, List, ℕ, length};
 ghost use Rattle.types.specs.Refusal.{Result};
 ghost use Rattle.consumer.specs.State.{State};
@@ -22,20 +23,20 @@ pub mod snapshots;
 
 // Who can be called is a number: 0 the consumer in the record, 1 the record itself, 2 nobody, so that only a restart is possible.
 #[repr(C)]
-#[derive(Drop)]
+#[derive(Clone, Copy)]
 pub struct Machine {
     pub configuration: Configuration,
     pub phase: u64,
     pub writing: Writing,
 }
 
-#[derive(Drop)]
+#[derive(Clone, Copy)]
 pub struct Called {
     pub answer: CallAnswer,
     pub machine: Machine,
 }
 
-#[derive(Drop)]
+#[derive(Clone, Copy)]
 pub struct Started {
     pub answer: StartAnswer,
     pub machine: Machine,

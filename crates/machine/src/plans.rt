@@ -6,7 +6,7 @@ use crate::Machine;
 use consumer::plans::PlanAnswer;
 
 // What a plan is answered; NotNow where the consumer can't be called.
-#[derive(Drop)]
+#[derive(Clone, Copy)]
 pub enum PlanCall {
     Planned(PlanAnswer),
     NotNow,

@@ -7,7 +7,7 @@ use crate::Machine;
 use consumer::snapshots::ExportAnswer;
 
 // What an export is answered; NotNow where the consumer can't be called.
-#[derive(Drop)]
+#[derive(Clone, Copy)]
 pub enum ExportCall {
     Exported(ExportAnswer),
     NotNow,

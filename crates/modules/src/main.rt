@@ -1,5 +1,6 @@
 // Runs a list of operations on the ported modules. It reads the list from standard input, at most 4,096 operations of it, and answers
 // each with a line of numbers, the last of them the digest of the state; docs/ORACLE.md has the lines.
+#![tactic(auto)]
 ghost use Rattle.std.specs.Prelude.{◌≤◌, ◌+◌, length};
 ghost use Rattle.modules.specs.Reading.{Going};
 
@@ -9,7 +10,7 @@ use text::words::Numbers;
 use text::{lines, output, words};
 
 // The input, and how many numbers of operations were read; or the input has ended.
-#[derive(Drop)]
+#[derive(Clone, Copy)]
 struct Reading {
     input: Input,
     n: usize,

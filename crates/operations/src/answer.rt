@@ -4,7 +4,7 @@ use answers::Numbers;
 use lease::Attempts;
 
 // The first `count` of a number and three values; an operation that is none answers none.
-#[derive(Drop)]
+#[derive(Clone, Copy)]
 pub struct Answer {
     pub count: u64,
     pub number: u64,

@@ -1,5 +1,6 @@
 // Lists of operations on a cursor, a lease table, a delivery config, a list of entries and bytes, in numbers: docs/ORACLE.md has
 // them. For the comparison with the original, and for the program `modules`.
+#![tactic(auto)]
 ghost use Rattle.std.specs.Prelude.{◌≤◌, ◌+◌, ◌≡◌, length, set};
 ghost use Rattle.cursor.specs.View as cursors;
 ghost use Rattle.lease.specs.State as tables;
@@ -23,7 +24,7 @@ mod questions;
 mod state;
 
 // What an operation leaves and answers.
-#[derive(Drop)]
+#[derive(Clone, Copy)]
 struct Done {
     state: State,
     answer: Answer,

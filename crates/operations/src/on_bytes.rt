@@ -10,7 +10,7 @@ use cursor::AckCursor;
 use types::Pair;
 
 // What an operation leaves and answers.
-#[derive(Drop)]
+#[derive(Clone, Copy)]
 pub struct Done {
     pub bytes: Bytes,
     pub answer: Answer,

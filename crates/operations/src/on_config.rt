@@ -8,7 +8,7 @@ use crate::state::List;
 use delivery::{ConfigOutcome, DeliveryConfig};
 
 // What an operation leaves and answers.
-#[derive(Drop)]
+#[derive(Clone, Copy)]
 pub struct Done {
     pub config: DeliveryConfig,
     pub answer: Answer,

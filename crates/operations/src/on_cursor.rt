@@ -9,7 +9,7 @@ use cursor::{AckCursor, Acked, BoundedAck, Decode, Resume};
 use types::Offset;
 
 // What an operation leaves and answers.
-#[derive(Drop)]
+#[derive(Clone, Copy)]
 pub struct Done {
     pub cursor: AckCursor,
     pub answer: Answer,

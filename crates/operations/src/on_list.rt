@@ -11,7 +11,7 @@ use types::numbers::wide;
 use types::{Pair, lent};
 
 // What an operation leaves and answers.
-#[derive(Drop)]
+#[derive(Clone, Copy)]
 pub struct Done {
     pub list: List,
     pub answer: Answer,

@@ -12,7 +12,7 @@ use lease::{
 use types::{Generation, Offset};
 
 // What an operation leaves and answers.
-#[derive(Drop)]
+#[derive(Clone, Copy)]
 pub struct Done {
     pub table: LeaseTable,
     pub answer: Answer,

@@ -6,7 +6,7 @@ use delivery::DeliveryConfig;
 use lease::{LeaseConfig, LeaseTable};
 
 // An operation's number and its numbers, 0 where it has fewer.
-#[derive(Drop)]
+#[derive(Clone, Copy)]
 pub struct Op {
     pub number: u64,
     pub w: u64,
@@ -16,7 +16,7 @@ pub struct Op {
 }
 
 // The first n of 256 entries A B.
-#[derive(Drop)]
+#[derive(Clone, Copy)]
 pub struct List {
     pub a: [u64; 256],
     pub b: [u64; 256],
@@ -24,13 +24,13 @@ pub struct List {
 }
 
 // The first n of 4,096 bytes.
-#[derive(Drop)]
+#[derive(Clone, Copy)]
 pub struct Bytes {
     pub all: [u8; 4096],
     pub n: usize,
 }
 
-#[derive(Drop)]
+#[derive(Clone, Copy)]
 pub struct State {
     pub cursor: AckCursor,
     pub table: LeaseTable,

@@ -1,4 +1,5 @@
 // A simulated power failure in a checkpoint's step, for programs that try what a restart then finds. It is no part of a server.
+#![tactic(auto)]
 ghost use Rattle.std.specs.Prelude.{◌≡◌};
 ghost use Rattle.machine.specs.View.{Sound};
 ghost use Rattle.power_cut.specs.Cut.{new, torn};
@@ -8,7 +9,7 @@ use checkpoint::StepAnswer;
 use machine::Machine;
 
 // What the failure leaves of the block being written: what it was, what it was to be, or bytes whose check fails.
-#[derive(Drop)]
+#[derive(Clone, Copy)]
 pub enum Kind {
     Old,
     New,
@@ -17,13 +18,13 @@ pub enum Kind {
 
 // The step answers nothing: only whether a header block was left new is seen. NotNow where no block is being written, and
 // where no failure leaves such bytes.
-#[derive(Drop)]
+#[derive(Clone, Copy)]
 pub enum CutAnswer {
     Failed { header: bool },
     NotNow,
 }
 
-#[derive(Drop)]
+#[derive(Clone, Copy)]
 pub struct Failed {
     pub answer: CutAnswer,
     pub machine: Machine,

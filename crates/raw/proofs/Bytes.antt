@@ -3,7 +3,7 @@
 use Prim.Native.Nat.{ℕ, zero, suc, ◌+◌, ◌-◌, ◌*◌, ◌/◌, ◌%◌, ◌^◌, ◌<◌, ◌≤◌}
 use native.Mathlib.Omega.{arith}
 use native.Mathlib.Numerals.{add-one}
-use native.Mathlib.Nat.{zero-add, suc_add, add-zero, add_assoc, pow-succ', pow-le-pow_right}
+use native.Mathlib.Nat.{zero-add, suc-add, add-zero, add_assoc, pow-succ', pow-le-pow_right}
 use mathlib.Core.Path.{◌≡◌, refl, sym, ap, ◌∙◌}
 use mathlib.Core.Logic.{◌⊎◌, ⊎_elim}
 use mathlib.Core.List.{List, [], ◌∷◌, ◌++◌, append_assoc}
@@ -81,7 +81,7 @@ le-unle (b ∷ bs) p =
 part-front : (k q : ℕ) (l : List ℕ) → take k (drop q l) ≡ drop q (take (q + k) l)
 part-front k zero l = rw zero-add
 part-front k (suc q) [] = rw (take-nil, take-nil, drop-nil)
-part-front k (suc q) (x ∷ l) = rw (suc_add, part-front k q l)
+part-front k (suc q) (x ∷ l) = rw (suc-add, part-front k q l)
 
 -- one byte is a number
 pub number-byte : (pos : ℕ) (bs : List ℕ) → number_at 1 pos bs ≡ get_or bs pos 0

@@ -1,13 +1,14 @@
 // Little-endian numbers in byte slices, at any position. Reading past the end sees zeros; a write without room changes
 // no byte and says so. Numbers of four and eight bytes that are there are put together from bytes at fixed distances, which
 // the compiler makes one load or one store of. And slices of zeros.
+#![tactic(auto)]
 ghost use Rattle.std.specs.Prelude.{◌≡◌, ◌+◌, ◌*◌, ◌<◌, ◌≤◌, ltb, length, replicate};
 ghost use Rattle.types.specs.Table.{answer};
 ghost use Rattle.raw.specs.Bytes.{all_zero, le, number_at, ReadIs, overwrite, write, outcome_of};
 ghost use Rattle.raw.specs.Word.{four_at, word_at};
 
 // What a write answers: the position behind what was written, or refusal 20.
-#[derive(Drop)]
+#[derive(Clone, Copy)]
 pub enum Write {
     Next(usize),
     OutTooShort,

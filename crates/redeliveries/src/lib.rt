@@ -1,13 +1,14 @@
 // The redelivery counter: how many grants had a count of 2 or more since the attempt counts were last made durable. It is a
 // small state of its own, lent to the functions that change it; the two with plain parameters serve whoever keeps the number
 // elsewhere.
+#![tactic(auto)]
 ghost use Rattle.std.specs.Prelude.{◌≡◌};
 ghost use Rattle.redeliveries.specs.Counter.{after_grant, after_flush, counter};
 
 use types::limits::MAX32;
 
 #[repr(C)]
-#[derive(Drop)]
+#[derive(Clone, Copy)]
 pub struct Redeliveries {
     pub since_flush: u32,
 }

@@ -9,7 +9,7 @@ use machine::calls::Call;
 use power_cut::Kind;
 
 // What a power failure leaves of the machine, and its answer.
-#[derive(Drop)]
+#[derive(Clone, Copy)]
 pub struct Failed {
     pub machine: Machine,
     pub said: Said,

@@ -1,6 +1,7 @@
 // Runs a script of calls, with power failures, against a consumer and its journal. It reads lines from the file that its argument
 // names, or from standard input, and writes an answer line for each; `script` has the lines, `printing` the answers, docs/REPLAY.md
 // both.
+#![tactic(auto)]
 mod blocks;
 mod printing;
 mod script;
@@ -18,7 +19,7 @@ use text::{lines, output};
 
 // The input, how many bytes of answers wait, what is being run, and whether bad lines are told what they should be; or the input has
 // ended.
-#[derive(Drop)]
+#[derive(Clone, Copy)]
 struct State {
     input: Input,
     at: usize,
@@ -28,7 +29,7 @@ struct State {
 }
 
 // What a line leaves, and how many bytes of answers wait.
-#[derive(Drop)]
+#[derive(Clone, Copy)]
 struct Done {
     session: Session,
     at: usize,

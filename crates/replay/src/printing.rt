@@ -89,7 +89,7 @@ pub const IMPORTED: usize = 38;
 const EXPORTED: usize = 39;
 
 // An answer: a template and its numbers. Behind those of a list, a plan, an export, a block and the state stand their entries.
-#[derive(Drop)]
+#[derive(Clone, Copy)]
 pub struct Said {
     pub template: usize,
     pub numbers: [u64; 4],

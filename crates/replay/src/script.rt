@@ -111,7 +111,7 @@ pub const NUMBERS: usize = 129;
 
 // A line's form; the first form that begins with its first word, or BAD; how many numbers it has, and the first of them, 0 where it has
 // fewer. Those of an import are its first generation and how many bytes each of its two words is.
-#[derive(Drop)]
+#[derive(Clone, Copy)]
 pub struct Line {
     pub form: usize,
     pub near: usize,

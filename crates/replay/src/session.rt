@@ -26,7 +26,7 @@ use types::numbers::shorter;
 // The machine, how many bytes of the lent area are its journal, which is none before the first start, and the worker who calls. The rights
 // and the hours in the machine's configuration are those that were said last: a start, an import and a restart hand them in, and nothing
 // else looks at them.
-#[derive(Drop)]
+#[derive(Clone, Copy)]
 pub struct Session {
     pub machine: Machine,
     pub len: usize,
@@ -34,14 +34,14 @@ pub struct Session {
 }
 
 // What a line leaves, and its answer.
-#[derive(Drop)]
+#[derive(Clone, Copy)]
 pub struct Acted {
     pub session: Session,
     pub said: Said,
 }
 
 // A power failure, or another line.
-#[derive(Drop)]
+#[derive(Clone, Copy)]
 enum Cutting {
     Cut(Kind),
     Other,

@@ -1,4 +1,5 @@
 // A journal's file in sectors of 4,096 bytes: what sector 0 says of it, and where its blocks stand, one at the front of each sector.
+#![tactic(auto)]
 ghost use Rattle.std.specs.Prelude.{◌≡◌, false, ◌+◌, ◌*◌, ◌≤◌, length};
 ghost use Rattle.journal.specs.Area.{write_at};
 ghost use Rattle.sectors.specs.File.{wrong_blocks, wrong_journals, file_bytes, form_of, PlaceIs, front, unread};
@@ -8,7 +9,7 @@ ghost use Rattle.sectors.specs.Marks.{mark_of, is_blank, is_begun, state_of};
 const MAGIC: u64 = 0x564b_5354_4f4e_494e;
 
 // What sector 0 says of a file, or what of it is wrong, with what it has there; of a wrong length what the file should have.
-#[derive(Drop)]
+#[derive(Clone, Copy)]
 pub enum Form {
     Sound { blocks: u32, journals: u32 },
     Magic,
@@ -111,7 +112,7 @@ pub fn put_unread(area: &mut [u8], at: usize)
 }
 
 // What a file for several journals says of one of them.
-#[derive(Drop)]
+#[derive(Clone, Copy)]
 pub enum State {
     Free,
     Unfinished,

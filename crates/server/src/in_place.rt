@@ -22,7 +22,7 @@ use starts::StartAnswer;
 use types::limits::{CARRIED, LEASES, RANGES, WORKERS};
 
 // What a call on the state answers, and the numbers of the machine that it changes.
-#[derive(Drop)]
+#[derive(Clone, Copy)]
 pub struct AskDone {
     pub numbers: Numbers,
     pub figures: Figures,
@@ -305,7 +305,7 @@ pub fn export_in_place(
 }
 
 // What a begin answers, and the numbers of the machine that it changes.
-#[derive(Drop)]
+#[derive(Clone, Copy)]
 pub struct BeginDone {
     pub numbers: Numbers,
     pub phase: u64,
@@ -315,7 +315,7 @@ pub struct BeginDone {
 }
 
 // What a step answers, and the numbers of the machine that it changes.
-#[derive(Drop)]
+#[derive(Clone, Copy)]
 pub struct StepDone {
     pub numbers: Numbers,
     pub phase: u64,
@@ -327,7 +327,7 @@ pub struct StepDone {
 }
 
 // What a restart answers, and the numbers of the machine that it changes.
-#[derive(Drop)]
+#[derive(Clone, Copy)]
 pub struct RestartDone {
     pub numbers: Numbers,
     pub phase: u64,

@@ -8,14 +8,14 @@ use machine::calls::{Ask, Call, Question};
 use types::{Generation, Offset};
 
 // A call on the state, or a number that is none.
-#[derive(Drop)]
+#[derive(Clone, Copy)]
 pub enum Asking {
     Ask(Ask),
     None,
 }
 
 // A call on a machine, or a number that is none.
-#[derive(Drop)]
+#[derive(Clone, Copy)]
 pub enum Calling {
     Call(Call),
     None,

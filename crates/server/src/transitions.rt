@@ -12,7 +12,7 @@ use machine::{Machine, Started};
 use starts::StartAnswer;
 use types::Generation;
 
-#[derive(Drop)]
+#[derive(Clone, Copy)]
 pub struct MachineAnswer {
     pub numbers: Numbers,
     pub machine: Machine,

@@ -1,4 +1,5 @@
 // What the programs print alike: the state of a consumer.
+#![tactic(auto)]
 ghost use Rattle.std.specs.Prelude.{◌≡◌, [], ◌∷◌, get_or};
 ghost use Rattle.types.specs.Keyed.{entry};
 ghost use Rattle.lease.specs.State.{nil, stored_in, leases_of, carried_of};

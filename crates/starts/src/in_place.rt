@@ -25,7 +25,7 @@ use types::limits::{CARRIED, LEASES, PAIRS, RANGES};
 use types::{Generation, Pair};
 
 // What a restart or an import answers, and the numbers of the consumer that goes on. Beside a refusal they are a fresh consumer's.
-#[derive(Drop)]
+#[derive(Clone, Copy)]
 pub struct RestartedAt {
     pub answer: StartAnswer,
     pub committed: u64,

@@ -1,4 +1,5 @@
 // How a consumer starts: fresh, from what its journal has, or from the snapshots of another server.
+#![tactic(auto)]
 ghost use Rattle.std.specs.Prelude.{◌≡◌, ◌≤◌, not, ◌&&◌, [], ◌∷◌, ◌++◌, leb, length};
 ghost use Rattle.types.specs.Limits.{LEASES};
 ghost use Rattle.types.specs.Refusal.{Result, BadArea};
@@ -25,7 +26,7 @@ pub mod in_place;
 
 // What a start, a restart or an import answers: a consumer, or a refusal: 1 to 3, those of the hours (33 and 34), 4, 5, the cursor snapshot's (6
 // to 12), or the attempt snapshot's (13 to 19).
-#[derive(Drop)]
+#[derive(Clone, Copy)]
 pub enum StartAnswer {
     Started,
     UnlimitedDeliverNotAllowed,
@@ -40,7 +41,7 @@ pub enum StartAnswer {
 }
 
 // Beside a refusal stands the fresh consumer of this configuration, which is not to be called.
-#[derive(Drop)]
+#[derive(Clone, Copy)]
 pub struct Started {
     pub answer: StartAnswer,
     pub consumer: Consumer,
@@ -215,7 +216,7 @@ fn started_with(
 }
 
 // The first block of a half as its opening: a header sound in all but the expected number, or none.
-#[derive(Drop)]
+#[derive(Clone, Copy)]
 struct Opening {
     opens: bool,
     number: u64,

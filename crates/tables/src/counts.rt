@@ -13,7 +13,7 @@ use types::limits::{CARRIED, COUNTS};
 use types::numbers::larger_count;
 
 // The places of a key, one or none, and the count there, 0 where there is none.
-#[derive(Drop)]
+#[derive(Clone, Copy)]
 pub struct Span {
     pub from: usize,
     pub to: usize,
@@ -21,14 +21,14 @@ pub struct Span {
 }
 
 // What stands at a place of two columns, if they go so far.
-#[derive(Drop)]
+#[derive(Clone, Copy)]
 pub(crate) enum Head {
     Some(Pair),
     None,
 }
 
 // The first pair of two lists, and how many of each it takes; of both empty, zeros.
-#[derive(Drop)]
+#[derive(Clone, Copy)]
 pub(crate) struct Pick {
     pub offset: u64,
     pub attempt: u32,
@@ -62,7 +62,7 @@ fn count_at(counts: &[u32], at: usize) -> u32
 
 // The carried counts while pairs are taken in one by one, in the first `len` places of two columns; or there would be more than
 // 128.
-#[derive(Drop)]
+#[derive(Clone, Copy)]
 pub struct Carried {
     pub offsets: [u64; CARRIED],
     pub counts: [u32; CARRIED],

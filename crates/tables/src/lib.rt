@@ -1,4 +1,5 @@
 // Columns of sorted tables: arrays of numbers of which the first `len` places are in use.
+#![tactic(auto)]
 ghost use Rattle.std.specs.Prelude.{◌≡◌, ◌+◌, ◌≤◌, length, take};
 ghost use Rattle.std.proofs.Math.Seq.{paste};
 ghost use Rattle.types.specs.Limits.{LEASES};
@@ -12,7 +13,7 @@ use types::numbers::shorter;
 pub mod counts;
 
 // Where a key stands, or where it would stand.
-#[derive(Drop)]
+#[derive(Clone, Copy)]
 pub enum Place {
     Found(usize),
     Missing(usize),

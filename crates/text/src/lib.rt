@@ -1,6 +1,7 @@
 // Text for the programs: lines taken from a lent buffer that is filled from a descriptor (`lines`), the words and numbers of a
 // line (`words`), answers gathered in a lent buffer that is written out when it is full (`output`), and texts with numbers in them
 // (`templates`).
+#![tactic(auto)]
 pub mod lines;
 pub mod output;
 pub mod templates;

@@ -7,7 +7,7 @@ use crate::words::find;
 
 // The bytes of the buffer that are still to be taken: from a place up to another. `long`: they go on with a line that was too
 // long, which began with `first`. `ended`: nothing comes behind them.
-#[derive(Drop)]
+#[derive(Clone, Copy)]
 pub struct Input {
     pub from: usize,
     pub to: usize,
@@ -18,7 +18,7 @@ pub struct Input {
 
 // What comes next: a line, from a place of the buffer up to another; a line that was too long, by its first byte; nothing until
 // more is read; nothing at all.
-#[derive(Drop)]
+#[derive(Clone, Copy)]
 pub enum Found {
     Line { from: usize, to: usize },
     TooLong { first: u8 },
@@ -26,7 +26,7 @@ pub enum Found {
     End,
 }
 
-#[derive(Drop)]
+#[derive(Clone, Copy)]
 pub struct Taken {
     pub found: Found,
     pub input: Input,

@@ -3,7 +3,7 @@ ghost use Rattle.std.specs.Prelude.{◌≡◌, drop, set};
 ghost use Rattle.text.specs.Words.{SPACE, same_bytes, FoundAt, later_words, number, with_digit, number_of, Gathered, hex_digit, hex_byte, byte_of, Decoded};
 
 // A number: one or more decimal digits, leading zeros allowed, that make no more than a u64 holds.
-#[derive(Drop)]
+#[derive(Clone, Copy)]
 pub enum Number {
     Value(u64),
     None,
@@ -101,7 +101,7 @@ fn store(out: &mut [u64], i: usize, n: u64)
 }
 
 // How many words stand behind one, where each of them is a number.
-#[derive(Drop)]
+#[derive(Clone, Copy)]
 pub enum Numbers {
     Count(usize),
     Bad,
@@ -129,7 +129,7 @@ pub fn parse_numbers(line: &[u8], from: usize, out: &mut [u64]) -> Numbers
 }
 
 // A byte, or none.
-#[derive(Drop)]
+#[derive(Clone, Copy)]
 enum Byte {
     Is(u8),
     No,

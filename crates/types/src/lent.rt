@@ -10,7 +10,7 @@ use crate::numbers::shorter;
 use crate::{Offset, Pair};
 
 // What a list into lent memory answers: how many places were filled, or refusal 20.
-#[derive(Drop)]
+#[derive(Clone, Copy)]
 pub enum Listed {
     Filled(usize),
     OutTooShort,
@@ -18,7 +18,7 @@ pub enum Listed {
 
 // Offsets, in the first `len` places.
 #[repr(C)]
-#[derive(Drop)]
+#[derive(Clone, Copy)]
 pub struct OffsetList {
     pub offsets: [u64; CARRIED],
     pub len: usize,
@@ -27,7 +27,7 @@ pub struct OffsetList {
 // Attempt counts by offset: the offsets in one array, their counts at the same places of the other, of which the first `len`
 // are in use. A lease table has at most 192.
 #[repr(C)]
-#[derive(Drop)]
+#[derive(Clone, Copy)]
 pub struct AttemptCounts {
     pub offsets: [u64; COUNTS],
     pub attempts: [u32; COUNTS],

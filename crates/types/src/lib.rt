@@ -1,5 +1,6 @@
 // The identifiers that the log and the lease table hand out, each a type of its own so that none is taken for another, and an
 // offset with its attempt count.
+#![tactic(auto)]
 ghost use Rattle.std.specs.Prelude.{◌≡◌};
 ghost use Rattle.types.specs.Refusal.{done, optional};
 ghost use Rattle.types.specs.Identifiers.{offset, checked_next, next_of};
@@ -10,24 +11,24 @@ pub mod numbers;
 
 // A position in the log: it names a message.
 #[repr(C)]
-#[derive(Drop)]
+#[derive(Clone, Copy)]
 pub struct Offset(pub u64);
 
 // Names one hand_out_lem of a message.
 #[repr(C)]
-#[derive(Drop)]
+#[derive(Clone, Copy)]
 pub struct Generation(pub u64);
 
 // An offset with its attempt count.
 #[repr(C)]
-#[derive(Drop)]
+#[derive(Clone, Copy)]
 pub struct Pair {
     pub offset: u64,
     pub attempt: u32,
 }
 
 // The offset behind another one, if there is one.
-#[derive(Drop)]
+#[derive(Clone, Copy)]
 pub enum NextOffset {
     Some(Offset),
     None,

@@ -1,6 +1,7 @@
 // The compiled check on RFC 3720's examples (B.4) and on the digits 1 to 9, each whole, in two parts, and behind other bytes, so
 // that it goes the way of a block. A line has the example, the check computed and the one that it should be. The RFC prints a check
 // as bytes, the lowest first.
+#![tactic(auto)]
 ghost use Rattle.std.specs.Prelude.{◌≡◌};
 ghost use Rattle.crc.specs.Crc32c.{crc};
 

@@ -9,3 +9,4 @@
 //     Told       a struct of numbers behind a `&mut`, opened and closed
 //     Plain      arguments that own nothing but facts
 // Each law is over a list: a walk does not grow with the locals, the fields or the columns.
+#![tactic(auto)]

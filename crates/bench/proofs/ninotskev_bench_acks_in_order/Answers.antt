@@ -1,0 +1,31 @@
+-- `ninotskev_bench_acks_in_order` meets its contract. The loop's invariant: the acks from i on lead from the cursor to the end.
+-- Assumes nothing.
+use Prim.Native.Nat.{◌-◌, ◌≤◌}
+use native.Mathlib.Omega.{arith}
+use native.Mathlib.Nat.{sub-zero}
+use mathlib.Core.Path.{◌≡◌, sym, ap, ◌∙◌}
+use borrow.Author.Rules.{rules}
+use Rattle.cursor.specs.Cursor.{Cursor, resume}
+use Rattle.cursor.specs.View.{view, Sound}
+use Rattle.bench.specs.Drivers.{rising, acks}
+use Rattle.bench.proofs.Drivers.{left_by, acks-next, acks-over}
+use Rattle.bench.proofs.ninotskev_bench_acks_in_order.Goals as goal
+
+pub loop-i-init : goal.loop-i-init
+loop-i-init c = (omega arith, c.new-cursor.ensures.sound, rw c.new-cursor.ensures.is (simp sub-zero))
+
+pub ack-acked-requires : goal.ack-acked-requires
+ack-acked-requires c = c.loop-i.invariant.1
+
+pub loop-i-preserved : goal.loop-i-preserved
+loop-i-preserved c =
+    let k = c.before in
+    let l = k.before.before in
+    let n = l.args.n in
+    let u = k.ack-acked.ensures in
+    (omega arith, u.sound, rw (left_by u.is) (sym (acks-next (view l.loop-i.cursor) l.loop-i.i n k.loop-i-test.true)) ∙ l.loop-i.invariant.2)
+
+pub returns : goal.returns
+returns c =
+    let l = c.before in
+    ap (λ (k : Cursor). k.committed) (sym (acks-over (view l.loop-i.cursor) l.loop-i.i l.args.n c.loop-i-test.false) ∙ l.loop-i.invariant.2)

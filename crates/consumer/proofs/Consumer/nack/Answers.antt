@@ -1,0 +1,26 @@
+-- `Consumer::nack` meets its contract: the parts of a consumer, lent to `nack_in_place`, are that consumer. Assumes nothing.
+use mathlib.Core.Path.{sym, subst}
+use borrow.Author.Rules.{rules}
+use Rattle.delivery.specs.Config.{delay_of}
+use Rattle.consumer.specs.Calls.{nack}
+use Rattle.consumer.specs.Parts.{Whole}
+use Rattle.consumer.specs.View.{view, Answers, nack_of}
+use Rattle.consumer.specs.declared.Consumer.{Consumer}
+use Rattle.consumer.proofs.Arrays.{table-full, backoffs-full}
+use Rattle.consumer.proofs.Consumer.nack.Goals as goal
+use Rattle.consumer.proofs.Consumer.nack.Goals.{Start}
+
+whole : (s : Start) → Whole s.args.self
+whole s = record { full = table-full s.args.self.table _ s.well-formed.0.1.1.1.0; sound = s.requires }
+
+pub nack_in_place-done-requires : goal.nack_in_place-done-requires
+nack_in_place-done-requires c =
+    let s = c.before.before.before.before.before.before.before.before.before.before.before.before.before.before.before.before.before.before.before in
+    (record { full = backoffs-full s.args.self.settings _ s.well-formed.0.1.1.1.1.1.1.1.0; few = s.requires.settings.delivery.few }, s.requires.table.len)
+
+pub returns : goal.returns
+returns c =
+    let k = c.before.before in
+    let s = k.before.before.before.before.before.before.before.before.before.before.before.before.before.before.before.before.before.before.before.before in
+    let x = s.args.self in
+    subst (λ (y : Consumer). Answers (nack_of k.nack_in_place-done.result.answer) x y (nack (view x) s.args.worker s.args.token.offset.0 s.args.token.generation.0 s.args.now (delay_of s.args.delay))) (sym c.with_table.ensures) (k.nack_in_place-done.ensures x (whole (goal.at.returns c).Start))

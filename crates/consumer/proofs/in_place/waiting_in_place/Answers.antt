@@ -1,0 +1,14 @@
+-- `waiting_in_place` meets its contract: what is listed is the waiting list. Assumes nothing.
+use Prim.Native.Nat.{ℕ}
+use mathlib.Core.Path.{◌∙◌, ap}
+use mathlib.Core.List.{List}
+use borrow.Author.Rules.{rules}
+use Rattle.types.specs.Lists.{listed}
+use Rattle.consumer.proofs.in_place.waiting_in_place.Goals as goal
+
+pub returns : goal.returns
+returns c x w =
+    let l = c.before.before in
+    let k = l.before.before in
+    let s = k.before.before in
+    l.list_numbers.ensures ∙ ap (λ (y : List ℕ). listed y s.args.out.now) (k.waiting_list-list.ensures x w)

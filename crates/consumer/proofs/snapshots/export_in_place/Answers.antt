@@ -1,0 +1,47 @@
+-- `export_in_place` meets its contract: who may not look is refused, and else both snapshots are encoded. Assumes nothing.
+-- a consumer with the parts that were handed in
+use borrow.Author.Rules.{rules}
+use Rattle.cursor.specs.View.{ack_cursor}
+use Rattle.lease.specs.Parts.{listing_all}
+use Rattle.consumer.specs.Export.{Snapshots, snapshots}
+use Rattle.consumer.specs.View.{view}
+use Rattle.consumer.specs.Parts.{permitting, exporting}
+use Rattle.consumer.specs.declared.Consumer.{Consumer}
+use Rattle.consumer.proofs.Exported.{export-unknown, export_not_permitted, export-permitted}
+use Rattle.consumer.proofs.snapshots.export_in_place.Goals as goal
+use Rattle.consumer.proofs.snapshots.export_in_place.Goals.{Start}
+
+abbrev given : Start → Consumer → Consumer
+given s =
+    let a = s.args in
+    exporting a.rights.now (ack_cursor a.committed a.starts.now a.ends.now a.runs)
+    (listing_all a.len a.carried-len a.offsets.now a.slots.now a.deliveries.now a.carried-offsets.now a.carried-counts.now)
+
+abbrev lent : Start → Snapshots
+lent s = snapshots s.args.cursor.now s.args.attempts.now
+
+pub encode_both-requires : goal.encode_both-requires
+encode_both-requires c =
+    let s = c.before.before.before.before.before.before.before in
+    record { consumer = permitting s.args.rights.now s.requires.consumer; cursor = s.requires.cursor; whole = s.requires.whole }
+
+pub returns-in-UnknownWorker : goal.returns-in-UnknownWorker
+returns-in-UnknownWorker c x l =
+    let k = c.before.before in
+    let s = k.before.before.before in
+    export-unknown (view (given (goal.at.returns-in-UnknownWorker c).Start x)) s.args.worker (lent (goal.at.returns-in-UnknownWorker c).Start) k.permission_of-permission.result k.permission_of-permission.ensures c.in-UnknownWorker.is
+
+pub returns-in-NotPermitted : goal.returns-in-NotPermitted
+returns-in-NotPermitted c x l =
+    let k = c.before.before in
+    let s = k.before.before.before in
+    export_not_permitted (view (given (goal.at.returns-in-NotPermitted c).Start x)) s.args.worker (lent (goal.at.returns-in-NotPermitted c).Start) k.permission_of-permission.result k.permission_of-permission.ensures c.in-NotPermitted.is
+
+pub returns-in-Granted : goal.returns-in-Granted
+returns-in-Granted c x l =
+    let b = c.before.before.before.before in
+    let d = b.before.before.before in
+    let k = d.before.before in
+    let s = k.before.before.before in
+    export-permitted (view (given (goal.at.returns-in-Granted c).Start x)) s.args.worker (lent (goal.at.returns-in-Granted c).Start) k.permission_of-permission.result k.permission_of-permission.ensures d.in-Granted.is b.encode_both.result _
+    (b.encode_both.ensures (permitting s.args.rights.now x) l s.args.worker)

@@ -1,0 +1,25 @@
+-- `handed_out` meets its contract: each case of the table's answer and of the disposition is that of the answer. Assumes nothing.
+use mathlib.Core.Path.{sym, ap, ◌∙◌}
+use borrow.Author.Rules.{rules}
+use Rattle.delivery.specs.Config.{dispositionOf}
+use Rattle.lease.specs.Answers.{claim_of}
+use Rattle.lease.specs.declared.Claim.{Claim}
+use Rattle.consumer.specs.Parts.{handed_out}
+use Rattle.consumer.proofs.CallsClaim.{handed}
+use Rattle.consumer.proofs.steps.handed_out.Goals as goal
+
+pub returns-in-Deliver : goal.returns-in-Deliver
+returns-in-Deliver c =
+    let d = c.before.before in
+    let o = d.before.before in
+    let s = o.before.before in
+    handed s.args.max_deliver_lem o.in-Granted.token o.outcome-1.given.0.1.0 (sym (ap dispositionOf c.in-Deliver.is) ∙ d.disposition_of-disposition.ensures)
+    ∙ ap (λ (x : Claim). handed_out s.args.max_deliver_lem (claim_of x)) (sym o.in-Granted.is)
+
+pub returns-in-DeadLetter : goal.returns-in-DeadLetter
+returns-in-DeadLetter c =
+    let d = c.before.before in
+    let o = d.before.before in
+    let s = o.before.before in
+    handed s.args.max_deliver_lem o.in-Granted.token o.outcome-1.given.0.1.0 (sym (ap dispositionOf c.in-DeadLetter.is) ∙ d.disposition_of-disposition.ensures)
+    ∙ ap (λ (x : Claim). handed_out s.args.max_deliver_lem (claim_of x)) (sym o.in-Granted.is)

@@ -1,0 +1,20 @@
+-- `is_at_ceiling` meets its contract. Assumes nothing.
+use Prim.Native.Nat.{ℕ}
+use mathlib.Core.Path.{ap, ◌∙◌}
+use mathlib.Core.List.{List}
+use lib.Dec.{leb}
+use Rattle.words.specs.Columns.{word}
+use Rattle.lease.specs.Layout as lease
+use Rattle.consumer_words.specs.Layout.{CEILING}
+use Rattle.consumer_words.proofs.State.{table-part, lent-table}
+use borrow.Author.Rules.{rules}
+use Rattle.consumer_words.proofs.reads.is_at_ceiling.Goals as goal
+
+pub next_generation-next-requires : goal.next_generation-next-requires
+next_generation-next-requires c = lent-table c.requires
+
+pub returns : goal.returns
+returns c =
+    let n = c.before.before in
+    let s = n.before.before.before in
+    ap (leb (word CEILING s.args.words.now)) (n.next_generation-next.ensures ∙ ap (λ (x : List ℕ). (lease.view x).next_generation) (table-part s.args.words.now))

@@ -1,0 +1,38 @@
+-- `AckCursor::ahead_len` meets its contract. The loop's invariant: the sum with the offsets of the ranges that are left is
+-- the whole. The measure is how many ranges are left. Assumes nothing.
+use Prim.Native.Nat.{◌+◌, ◌-◌, ◌≤◌}
+use native.Mathlib.Omega.{arith}
+use mathlib.Core.Path.{◌≡◌}
+use lib.ListN.{drop}
+use borrow.Author.Rules.{rules}
+use Rattle.cursor.specs.Ranges.{offsets}
+use Rattle.cursor.specs.View.{view, Whole}
+use Rattle.cursor.proofs.Search.{range_nonempty, sum-next, sum_over, sum_fits}
+use Rattle.cursor.proofs.AckCursor.ahead_len.Goals as goal
+use Rattle.cursor.proofs.AckCursor.ahead_len.Goals.{Start}
+
+whole : (s : Start) → Whole s.args.self
+whole s = record { starts = search rules; ends = search rules; sound = s.requires }
+
+pub overflow_sub-sum : goal.overflow_sub-sum
+overflow_sub-sum c =
+    let p = c.before.before.before in
+    let s = p.before in
+    omega (arith, range_nonempty s.args.self (whole (goal.at.overflow_sub-sum c).Start) p.loop-i.i (omega arith))
+
+pub overflow_add-sum : goal.overflow_add-sum
+overflow_add-sum c =
+    let p = c.before.before.before in
+    let s = p.before in
+    omega (arith, sum-next s.args.self (whole (goal.at.overflow_add-sum c).Start) p.loop-i.i (omega arith), sum_fits s.args.self (whole (goal.at.overflow_add-sum c).Start))
+
+pub loop-i-preserved : goal.loop-i-preserved
+loop-i-preserved c =
+    let p = c.before.before.before in
+    let s = p.before in
+    (omega arith, omega (arith, sum-next s.args.self (whole (goal.at.loop-i-preserved c).Start) p.loop-i.i (omega arith)))
+
+pub returns : goal.returns
+returns c =
+    let s = c.before.before in
+    omega (arith, sum_over s.args.self (whole (goal.at.returns c).Start) c.loop-i.i (omega arith))

@@ -1,0 +1,40 @@
+-- `write_ranges` meets its contract. The loop's invariant: the ranges that are left, written from the next place on, give
+-- what all of them give at the start. Assumes nothing.
+use Prim.Native.Nat.{◌+◌, ◌-◌, ◌*◌, ◌≤◌}
+use native.Mathlib.Omega.{arith}
+use mathlib.Core.Path.{◌≡◌, refl, sym, ◌∙◌}
+use lib.ListN.{length, take, drop}
+use borrow.Author.Rules.{rules}
+use Rattle.types.specs.Zipped.{zipped}
+use Rattle.raw.specs.Bytes.{overwrite}
+use Rattle.cursor.specs.Ranges.{range}
+use Rattle.cursor.specs.Snapshot.{ranges_bytes}
+use Rattle.cursor.proofs.Writing.{put-more, put-end}
+use Rattle.cursor.proofs.codec.write_ranges.Goals as goal
+
+pub loop-i-init : goal.loop-i-init
+loop-i-init c = (omega arith, omega arith, refl, refl)
+
+pub loop-i-preserved : goal.loop-i-preserved
+loop-i-preserved c =
+    let w = c.before.before in
+    let v = w.before.before.before.before.before in
+    let p = v.before.before.before.before in
+    let l = p.loop-i in
+    let s = p.before.before.before.before in
+    let a = s.args in (
+      omega arith,
+      omega arith,
+      w.write_u64-in-loop-i.auto.0 ∙ v.write_u64.auto.0 ∙ l.invariant.2,
+      put-more a.n a.starts.now a.ends.now s.requires.0 s.requires.1 l.i l.pos l.out v.write_u64.new.0 w.write_u64-in-loop-i.new.0 (omega arith) (omega arith) v.write_u64.ensures w.write_u64-in-loop-i.ensures ∙ l.invariant.3,
+    )
+
+pub shape_of-out : goal.shape_of-out
+shape_of-out c = c.loop-i.invariant.2
+
+pub returns : goal.returns
+returns c =
+    let l = c.loop-i in
+    let s = c.before.before.before.before.before in
+    let a = s.args in
+    sym (put-end a.n a.starts.now a.ends.now s.requires.0 s.requires.1 l.i l.pos l.out (omega arith)) ∙ l.invariant.3

@@ -1,0 +1,11 @@
+-- `commit_in_place` meets its contract. Assumes nothing.
+use borrow.Author.Rules.{rules}
+use Rattle.cursor.specs.View.{ack_cursor}
+use Rattle.cursor.proofs.Edits.{commit-made}
+use Rattle.cursor.proofs.in_place.commit_in_place.Goals as goal
+
+pub returns : goal.returns
+returns c =
+    let p = c.before.before.before.before.before in
+    let a = p.args in
+    commit-made (ack_cursor a.committed a.starts.now a.ends.now a.runs) a.bound p.plan_commit-plan.result c.apply.new.0 c.apply-2.new.0 p.plan_commit-plan.ensures c.apply.ensures c.apply-2.ensures

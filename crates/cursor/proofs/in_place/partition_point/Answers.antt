@@ -1,0 +1,16 @@
+-- `partition_point` meets its contract. Assumes nothing.
+use native.Mathlib.Numerals.{add-one}
+use mathlib.Core.Path.{ap, ◌∙◌}
+use Prim.Native.Nat.{ℕ, ◌+◌}
+use lib.ListN.{take}
+use Rattle.types.specs.Sorted.{below}
+use Rattle.tables.proofs.Search.{boundary_below}
+use borrow.Author.Rules.{rules}
+use Rattle.cursor.proofs.in_place.partition_point.Goals as goal
+
+pub returns : goal.returns
+returns c =
+    let s = c.before.before in
+    let ks = take s.args.n s.args.column.now in
+    boundary_below (s.args.x + 1) c.position_after.result 0 ks s.requires c.position_after.ensures
+    ∙ ap (λ (k : ℕ). below k ks) (add-one s.args.x)

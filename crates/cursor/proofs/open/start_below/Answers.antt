@@ -1,0 +1,31 @@
+-- `start_below` meets its contract. Assumes nothing.
+use Prim.Native.Nat.{◌<◌}
+use native.Mathlib.Omega.{arith}
+use mathlib.Core.Path.{◌≡◌, ◌∙◌}
+use lib.ListN.{take, get_or}
+use lib.Seq.{length-take-le, get_or-take}
+use borrow.Author.Rules.{rules}
+use Rattle.cursor.proofs.Unsettled.{get_d_in, get_d_past}
+use Rattle.cursor.proofs.open.start_below.Goals as goal
+use Rattle.cursor.proofs.open.start_below.Goals.{Start}
+
+-- the start at a place of the first n
+start : (s : Start) → s.args.at < s.args.n → get_or (take s.args.n s.args.starts.now) s.args.at s.args.b ≡ get_or s.args.starts.now s.args.at 0
+start s h =
+    get_or-take s.args.n s.args.starts.now s.args.at s.args.b h
+    ∙ get_d_in s.args.starts.now s.args.at s.args.b 0 (omega (arith, s.requires))
+
+pub returns-then-start-b : goal.returns-then-start-b
+returns-then-start-b c =
+    let s = c.before.before.before in
+    omega (arith, start (goal.at.returns-then-start-b c).Start c.if-at-n.true, c.if-start-b.true)
+
+pub returns-else-start-b : goal.returns-else-start-b
+returns-else-start-b c =
+    let s = c.before.before.before in
+    omega (arith, start (goal.at.returns-else-start-b c).Start c.if-at-n.true, c.if-start-b.false)
+
+pub returns-else-at-n : goal.returns-else-at-n
+returns-else-at-n c =
+    let s = c.before in
+    omega (arith, get_d_past (take s.args.n s.args.starts.now) s.args.at s.args.b (rw (length-take-le s.args.n s.args.starts.now s.requires) c.if-at-n.false))

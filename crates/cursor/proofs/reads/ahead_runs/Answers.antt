@@ -1,0 +1,10 @@
+-- `ahead_runs` meets its contract. Assumes nothing.
+use borrow.Author.Rules.{rules}
+use mathlib.Core.Path.{sym}
+use Rattle.cursor.specs.Layout.{cursor_in}
+use Rattle.cursor.proofs.Search.{runs-is}
+use Rattle.cursor.proofs.Words.{whole}
+use Rattle.cursor.proofs.reads.ahead_runs.Goals as goal
+
+pub returns : goal.returns
+returns c = let s = c.before in sym (runs-is (cursor_in s.args.cursor.now) (whole s.requires))

@@ -1,0 +1,16 @@
+-- `step_to` meets its contract. Assumes nothing.
+use borrow.Author.Rules.{rules}
+use mathlib.Core.Path.{subst}
+use Rattle.cursor.specs.Plan.{StepIs}
+use Rattle.cursor.specs.View.{view}
+use Rattle.cursor.specs.declared.AckCursor.{AckCursor}
+use Rattle.cursor.proofs.Words.{parts_are, parts_whole}
+use Rattle.cursor.proofs.reads.step_to.Goals as goal
+
+pub step_columns-requires : goal.step_columns-requires
+step_columns-requires c = parts_whole c.requires
+
+pub returns : goal.returns
+returns c =
+    let s = c.before.before.before.before.before.before in
+    subst (λ (g : AckCursor). StepIs (view g) s.args.at s.args.offset c.step_columns.result) (parts_are s.args.cursor.now) c.step_columns.ensures

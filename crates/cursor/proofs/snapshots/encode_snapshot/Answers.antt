@@ -1,0 +1,15 @@
+-- `encode_snapshot` meets its contract. Assumes nothing.
+use borrow.Author.Rules.{rules}
+use mathlib.Core.Path.{ap, ◌∙◌}
+use Rattle.raw.specs.Bytes.{write}
+use Rattle.cursor.specs.Snapshot.{encode_cursor}
+use Rattle.cursor.specs.View.{view}
+use Rattle.cursor.specs.declared.AckCursor.{AckCursor}
+use Rattle.cursor.proofs.Words.{parts_are}
+use Rattle.cursor.proofs.snapshots.encode_snapshot.Goals as goal
+
+pub returns : goal.returns
+returns c =
+    let k = c.before.before in
+    let s = k.before.before.before.before.before.before.before.before in
+    k.encode_columns.ensures ∙ ap (λ (g : AckCursor). write s.args.at (encode_cursor (view g)) s.args.out.now) (parts_are s.args.cursor.now)

@@ -1,0 +1,12 @@
+-- `LeaseTable::carried_count` meets its contract: the parts of a table, lent to `carried_in_place`, are that table's.
+-- Assumes nothing.
+use Rattle.lease.proofs.Whole.{whole}
+use Rattle.lease.proofs.LeaseTable.carried_count.Goals as goal
+
+pub carried_in_place-requires : goal.carried_in_place-requires
+carried_in_place-requires c = c.requires.carried-len
+
+pub returns : goal.returns
+returns c =
+    let s = c.before.before.before.before in
+    c.carried_in_place.ensures s.args.self (whole s.well-formed.0 s.requires)

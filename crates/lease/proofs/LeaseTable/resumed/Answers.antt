@@ -1,0 +1,21 @@
+-- `LeaseTable::resumed` meets its contract. Assumes nothing.
+use native.Mathlib.Omega.{arith}
+use mathlib.Core.Path.{◌≡◌, refl}
+use lib.ListN.{length}
+use borrow.Author.Rules.{rules}
+use Rattle.types.specs.Limits.{CARRIED}
+use Rattle.types.proofs.Columns.{length-used}
+use Rattle.lease.proofs.Carried.{resume-refused, resumed}
+use Rattle.lease.proofs.LeaseTable.resumed.Goals as goal
+
+pub returns-then-carried : goal.returns-then-carried
+returns-then-carried c = resume-refused c.args.self c.requires.0 c.args.carried c.requires.1 c.if-carried.true
+
+pub returns : goal.returns
+returns c =
+    let s = c.before.before.before in
+    let held = s.args.carried in
+    let f : length held.offsets ≡ CARRIED = search rules in
+    let g : length held.counts ≡ CARRIED = search rules in
+    let n = length-used 0 held.len held.offsets held.counts (omega (arith, s.requires.1.few)) (omega (arith, s.requires.1.few)) in
+    resumed s.args.self s.requires.0 held s.requires.1 c.if-carried.false (omega (arith, n, s.requires.1.few)) (record { len = s.requires.0.len; carried-len = s.requires.1.few; slots = s.requires.0.slots; is = refl })

@@ -1,0 +1,15 @@
+-- `all_counts_in_place` meets its contract, on every table that has the parts that it is lent.
+-- Assumes nothing.
+use mathlib.Core.Path.{subst}
+use borrow.Author.Rules.{rules}
+use Rattle.types.specs.Lists.{ListsCounts}
+use Rattle.lease.specs.Parts.{listing_all}
+use Rattle.lease.proofs.Merge.{all-counted}
+use Rattle.lease.proofs.in_place.all_counts_in_place.Goals as goal
+
+pub returns : goal.returns
+returns c t w =
+    let l = c.before.before.before in
+    let s = l.before in
+    let table = listing_all s.args.len s.args.carried_len s.args.offsets.now s.args.slots.now s.args.deliveries.now s.args.carried_offsets.now s.args.carried_counts.now t in
+    subst (ListsCounts c.merged.result) (all-counted table w.sound _ (l.lease_counts_in_place-leased.ensures table w).is) c.merged.ensures

@@ -1,0 +1,44 @@
+-- `claim_at` meets its contract: that of `LeaseTable::claim`, on the table of the numbers and columns that it is lent.
+-- Assumes nothing.
+-- the table that the arguments are
+use native.Mathlib.Omega.{arith}
+use mathlib.Core.Path.{subst}
+use lib.ListN.{take}
+use Rattle.tables.specs.Search.{Placed}
+use Rattle.tables.proofs.Search.{found-used}
+use Rattle.lease.specs.Parts.{gathered}
+use Rattle.lease.specs.declared.LeaseTable.{LeaseTable}
+use Rattle.lease.proofs.in_place.claim_at.Goals as goal
+use Rattle.lease.proofs.in_place.claim_at.Goals.{Start}
+
+abbrev table : Start → LeaseTable
+table s =
+    gathered s.args.config s.args.len s.args.carried_len s.args.next s.args.redeliveries
+    s.args.offsets.now s.args.slots.now s.args.generations.now s.args.attempt_starts.now s.args.deadlines.now s.args.deliveries.now s.args.workers.now s.args.carried_offsets.now s.args.carried_counts.now
+
+pub enum_known-place : goal.enum_known-place
+enum_known-place c = c.in-Found.keys1
+
+pub claim_again-requires : goal.claim_again-requires
+claim_again-requires c =
+    let p = c.before.before.before.before.before.before.before in
+    let s = p.before.before in
+    omega (arith, found-used s.args.offset s.args.len s.args.offsets.now s.requires.1 p.in-Found.is, s.requires.0.sound.len)
+
+pub enum_known-place-in-Missing-1 : goal.enum_known-place-in-Missing-1
+enum_known-place-in-Missing-1 c = c.in-Found.keys2
+
+pub claim_first-requires : goal.claim_first-requires
+claim_first-requires c =
+    let p = c.before.before.before.before.before.before.before.before.before.before in
+    let s = p.before.before in
+    (s.requires.0, subst (Placed s.args.offset (take s.args.len s.args.offsets.now)) p.in-Missing.is s.requires.1)
+
+pub returns-in-Found : goal.returns-in-Found
+returns-in-Found c =
+    let p = c.before.before.before.before.before.before.before.before in
+    let s = p.before.before in
+    c.claim_again.ensures (table (goal.at.returns-in-Found c).Start) s.requires.0 (subst (Placed s.args.offset (take s.args.len s.args.offsets.now)) p.in-Found.is s.requires.1)
+
+pub returns-in-Missing : goal.returns-in-Missing
+returns-in-Missing c = c.claim_first.ensures

@@ -1,0 +1,91 @@
+-- `lease_counts_in_place` meets its contract, on every table that has the parts that it is lent. The loop's invariant: the first i places
+-- hold the first i offsets and counts.
+-- Assumes nothing.
+use Prim.Native.Nat.{ℕ, ◌-◌, ◌≤◌}
+use native.Mathlib.Omega.{arith}
+use mathlib.Core.Path.{◌≡◌, sym, ap, ◌∙◌}
+use mathlib.Core.List.{List}
+use lib.ListN.{get_or, replicate}
+use Rattle.types.specs.Limits.{LEASES}
+use Rattle.types.proofs.Loops.{Filling, filling, filling-more}
+use Rattle.tables.specs.Slots.{through}
+use Rattle.tables.proofs.Slots.{through-length}
+use Rattle.lease.specs.Parts.{Whole, listing}
+use Rattle.lease.specs.declared.LeaseTable.{LeaseTable}
+use Rattle.lease.proofs.Bounds.{in_use, in_list, next_place, offset_in_memory, count_in_memory, further, within}
+use Rattle.lease.proofs.Bounds as bounds
+use Rattle.lease.proofs.Lists.{counts-listed, count_at}
+use Rattle.lease.proofs.in_place.lease_counts_in_place.Goals as goal
+use Rattle.lease.proofs.in_place.lease_counts_in_place.Goals.{At-loop-i}
+
+abbrev zeros : List ℕ
+zeros = replicate 192 0
+
+few : (c : At-loop-i) → c.args.len ≤ LEASES
+few c = c.requires
+
+pub loop-i-init : goal.loop-i-init
+loop-i-init c t w =
+    let few = w.sound.len in
+    (filling c.args.offsets.now zeros c.args.len (omega (arith, few)), filling (through 0 c.args.slots.now c.args.deliveries.now) zeros c.args.len (omega (arith, few)))
+
+pub offset_bounds-offsets-i : goal.offset_bounds-offsets-i
+offset_bounds-offsets-i c = offset_in_memory c.loop-i-test.true (few (goal.at.offset_bounds-offsets-i c).At-loop-i)
+
+pub bounds-offsets-i : goal.bounds-offsets-i
+bounds-offsets-i c = in_use c.loop-i-test.true (few (goal.at.bounds-offsets-i c).At-loop-i)
+
+pub offset_bounds-listed-i : goal.offset_bounds-listed-i
+offset_bounds-listed-i c = offset_in_memory c.loop-i-test.true (few (goal.at.offset_bounds-listed-i c).At-loop-i)
+
+pub bounds-listed-i : goal.bounds-listed-i
+bounds-listed-i c = in_list c.loop-i-test.true (few (goal.at.bounds-listed-i c).At-loop-i)
+
+pub slot_at-slot-requires : goal.slot_at-slot-requires
+slot_at-slot-requires c = in_use c.loop-i-test.true (few (goal.at.slot_at-slot-requires c).At-loop-i)
+
+pub offset_bounds-deliveries-slot : goal.offset_bounds-deliveries-slot
+offset_bounds-deliveries-slot c = bounds.count_at c.slot_at-slot.ensures.1
+
+pub bounds-deliveries-slot : goal.bounds-deliveries-slot
+bounds-deliveries-slot c = c.slot_at-slot.ensures.1
+
+pub offset_bounds-attempts-i : goal.offset_bounds-attempts-i
+offset_bounds-attempts-i c = count_in_memory c.loop-i-test.true (few (goal.at.offset_bounds-attempts-i c).At-loop-i)
+
+pub bounds-attempts-i : goal.bounds-attempts-i
+bounds-attempts-i c = in_list c.loop-i-test.true (few (goal.at.bounds-attempts-i c).At-loop-i)
+
+pub overflow_add-i : goal.overflow_add-i
+overflow_add-i c = next_place c.loop-i-test.true (few (goal.at.overflow_add-i c).At-loop-i)
+
+pub loop-i-smaller : goal.loop-i-smaller
+loop-i-smaller c = further _ _ c.loop-i-test.true
+
+pub loop-i-preserved : goal.loop-i-preserved
+loop-i-preserved c t w =
+    let l = c.before in
+    let a = l.before.before in
+    let s = a.before.before in
+    let u = listing s.args.len s.args.offsets.now s.args.slots.now s.args.deliveries.now t in
+    let inv = a.loop-i.invariant t w in
+    let few = w.sound.len in
+    let i = a.loop-i.i in
+    let count : get_or s.args.deliveries.now l.slot_at-slot.result 0 ≡ get_or (through 0 s.args.slots.now s.args.deliveries.now) i 0 =
+    ap (λ (k : ℕ). get_or s.args.deliveries.now k 0) l.slot_at-slot.ensures.0 ∙ sym (count_at u w.full w.sound i (in_use a.loop-i-test.true few)) in (
+      filling-more 0 (within w.full.offsets few) a.loop-i-test.true inv.0,
+      rw count (filling-more 0 (within (through-length 0 s.args.slots.now s.args.deliveries.now ∙ w.full.slots) few) a.loop-i-test.true inv.1),
+    )
+
+pub returns : goal.returns
+returns c t w =
+    let l = c.loop-i in
+    let s = c.before.before in
+    let inv = l.invariant t w in
+    let e : l.i ≡ s.args.len = omega (arith, inv.0.inside, c.loop-i-test.false) in
+    record {
+      few = omega (arith, few (goal.at.returns c).At-loop-i);
+      is = counts-listed (listing s.args.len s.args.offsets.now s.args.slots.now s.args.deliveries.now t) w.full l.listed l.attempts (rw e at inv.0.done) (rw e at inv.1.done);
+      rest = rw e at inv.0.rest;
+      rest-attempts = rw e at inv.1.rest;
+    }

@@ -1,0 +1,124 @@
+-- `lease_counts` meets its contract. The loop's invariant: the first i places hold the first i offsets and
+-- counts. Assumes nothing.
+use Prim.Native.Nat.{ℕ, ◌+◌, ◌-◌, ◌<◌}
+use native.Mathlib.Omega.{arith}
+use mathlib.Core.Path.{◌≡◌, refl, sym, ap, subst, ◌∙◌}
+use mathlib.Core.List.{List}
+use lib.ListN.{get_or, set, replicate}
+use Rattle.types.specs.Limits.{LEASES}
+use Rattle.types.proofs.Loops.{Filling, filling, filling-more}
+use Rattle.words.specs.Columns.{word}
+use Rattle.words.proofs.Columns.{column-at}
+use Rattle.tables.specs.Slots.{through}
+use Rattle.tables.proofs.Slots.{through-length}
+use Rattle.lease.specs.Layout.{LEN, OFFSETS, table_in}
+use Rattle.lease.specs.declared.Lease.{Lease}
+use Rattle.lease.proofs.Bounds.{within}
+use Rattle.lease.proofs.Lists.{counts-listed, count_at}
+use Rattle.lease.proofs.InWords.{whole}
+use borrow.Author.Rules.{rules}
+use Rattle.lease.proofs.listings.lease_counts.Goals as goal
+
+abbrev zeros : List ℕ
+zeros = replicate 192 0
+
+pub loop-i-init : goal.loop-i-init
+loop-i-init c =
+    let s = c.before.before in
+    let w = s.args.table.now in
+    let x = table_in w in
+    let few = s.requires.table.len in
+    (refl, filling x.offsets zeros (word LEN w) (omega (arith, few)), filling (through 0 x.slots x.deliveries) zeros (word LEN w) (omega (arith, few)))
+
+pub lease_at-lease-requires : goal.lease_at-lease-requires
+lease_at-lease-requires c =
+    let s = c.before.before.before.before in
+    (s.requires, omega (arith, c.loop-i-test.true, s.requires.table.len))
+
+pub overflow_add-offsets : goal.overflow_add-offsets
+overflow_add-offsets c =
+    let t = c.before in
+    let s = t.before.before.before.before in
+    omega (arith, t.loop-i-test.true, s.requires.table.len)
+
+pub offset_bounds-table-i : goal.offset_bounds-table-i
+offset_bounds-table-i c =
+    let t = c.before in
+    let s = t.before.before.before.before in
+    omega (arith, t.loop-i-test.true, s.requires.table.len)
+
+pub bounds-table-i : goal.bounds-table-i
+bounds-table-i c =
+    let t = c.before.before in
+    let s = t.before.before.before.before in
+    omega (arith, t.loop-i-test.true, s.requires.table.len, s.requires.long)
+
+pub offset_bounds-offsets-i : goal.offset_bounds-offsets-i
+offset_bounds-offsets-i c =
+    let t = c.before.before in
+    let s = t.before.before.before.before in
+    omega (arith, t.loop-i-test.true, s.requires.table.len)
+
+pub bounds-offsets-i : goal.bounds-offsets-i
+bounds-offsets-i c =
+    let t = c.before.before in
+    let s = t.before.before.before.before in
+    omega (arith, t.loop-i-test.true, s.requires.table.len)
+
+pub offset_bounds-attempts-i : goal.offset_bounds-attempts-i
+offset_bounds-attempts-i c =
+    let t = c.before.before in
+    let s = t.before.before.before.before in
+    omega (arith, t.loop-i-test.true, s.requires.table.len)
+
+pub bounds-attempts-i : goal.bounds-attempts-i
+bounds-attempts-i c =
+    let t = c.before.before in
+    let s = t.before.before.before.before in
+    omega (arith, t.loop-i-test.true, s.requires.table.len)
+
+pub overflow_add-i : goal.overflow_add-i
+overflow_add-i c =
+    let t = c.before.before in
+    let s = t.before.before.before.before in
+    omega (arith, t.loop-i-test.true, s.requires.table.len)
+
+pub loop-i-smaller : goal.loop-i-smaller
+loop-i-smaller c =
+    let t = c.before.before in
+    omega (arith, t.loop-i-test.true)
+
+pub loop-i-preserved : goal.loop-i-preserved
+loop-i-preserved c =
+    let after-lease-at = c.before in
+    let t = after-lease-at.before in
+    let l = t.before in
+    let s = l.before.before.before in
+    let w = s.args.table.now in
+    let x = table_in w in
+    let i = l.loop-i.i in
+    let n = word LEN w in
+    let few = s.requires.table.len in
+    let full = (whole s.requires).full in
+    let low : i < LEASES = omega (arith, t.loop-i-test.true, few) in
+    let counts = through 0 x.slots x.deliveries in
+    let count : get_or counts i 0 ≡ after-lease-at.lease_at-lease.result.deliveries = count_at x full s.requires.table i low ∙ sym (ap (λ (h : Lease). h.deliveries) after-lease-at.lease_at-lease.ensures) in (
+      refl,
+      subst (λ (v : ℕ). Filling x.offsets zeros (set l.loop-i.offsets i v) n (i + 1)) (column-at OFFSETS LEASES w i low) (filling-more 0 (within full.offsets few) t.loop-i-test.true l.loop-i.invariant.1),
+      subst (λ (v : ℕ). Filling counts zeros (set l.loop-i.attempts i v) n (i + 1)) count (filling-more 0 (within (through-length 0 x.slots x.deliveries ∙ full.slots) few) t.loop-i-test.true l.loop-i.invariant.2),
+    )
+
+pub returns : goal.returns
+returns c =
+    let l = c.before in
+    let s = l.before.before.before in
+    let w = s.args.table.now in
+    let x = table_in w in
+    let inv = l.loop-i.invariant in
+    let e : l.loop-i.i ≡ word LEN w = omega (arith, inv.1.inside, c.loop-i-test.false) in
+    record {
+      few = omega (arith, s.requires.table.len);
+      is = counts-listed x (whole s.requires).full l.loop-i.offsets l.loop-i.attempts (rw e at inv.1.done) (rw e at inv.2.done);
+      rest = rw e at inv.1.rest;
+      rest-attempts = rw e at inv.2.rest;
+    }

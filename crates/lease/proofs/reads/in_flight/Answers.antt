@@ -1,0 +1,12 @@
+-- `in_flight` meets its contract. Assumes nothing.
+use mathlib.Core.Path.{sym}
+use Rattle.lease.specs.Layout.{table_in}
+use Rattle.lease.proofs.Slots.{in_flight_lem}
+use Rattle.lease.proofs.InWords.{whole}
+use borrow.Author.Rules.{rules}
+use Rattle.lease.proofs.reads.in_flight.Goals as goal
+
+pub returns : goal.returns
+returns c =
+    let s = c.before in
+    sym (in_flight_lem (table_in s.args.table.now) (whole s.requires).full s.requires.table)

@@ -1,0 +1,15 @@
+-- `slot_at` meets its contract. Assumes nothing.
+use Prim.Native.Nat.{◌+◌, ◌%◌, ◌<◌}
+use native.Mathlib.Omega.{arith}
+use lib.ListN.{get_or}
+use Rattle.types.specs.Limits.{LEASES}
+use Rattle.words.proofs.Columns.{column-at}
+use Rattle.lease.specs.Layout.{SLOTS}
+use borrow.Author.Rules.{rules}
+use Rattle.lease.proofs.stored.slot_at.Goals as goal
+
+pub returns : goal.returns
+returns c =
+    let s = c.before in
+    let low : get_or s.args.table.now (SLOTS + s.args.at) 0 % LEASES < LEASES = omega arith in
+    (rw (column-at SLOTS LEASES s.args.table.now s.args.at s.requires.1), low)

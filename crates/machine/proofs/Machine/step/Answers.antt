@@ -1,0 +1,31 @@
+-- `Machine::step` meets its contract: on the record alone, and what a step answers. Assumes nothing.
+use mathlib.Core.Path.{◌≡◌}
+use native.Mathlib.Omega.{arith}
+use borrow.Author.Rules.{rules}
+use Rattle.machine.proofs.Transitions.{not_stepped, sound-writing, step-called}
+use Rattle.machine.proofs.Machine.step.Goals as goal
+use Rattle.machine.proofs.Machine.step.Goals.{Else-self-ne1, Then-self-ne1}
+
+elsewhere : (c : Then-self-ne1) → c.args.self.phase ≡ 1 → ⊥
+elsewhere c e = omega arith
+
+here : (c : Else-self-ne1) → c.args.self.phase ≡ 1
+here c = omega arith
+
+pub returns-then-self-ne1 : goal.returns-then-self-ne1
+returns-then-self-ne1 c =
+    let s = c.before.before.before in
+    λ out. not_stepped s.args.self s.requires s.args.area.now out (elsewhere c)
+
+pub step-stepped-requires : goal.step-stepped-requires
+step-stepped-requires c =
+    let e = c.before in
+    let s = e.before.before.before in
+    sound-writing s.args.self s.requires (here (goal.at.step-stepped-requires c).Else-self-ne1)
+
+pub returns : goal.returns
+returns c =
+    let t = c.before.before.before.before.before in
+    let e = t.before.before in
+    let s = e.before.before.before in
+    λ out. step-called s.args.self (here (goal.at.returns c).Else-self-ne1) s.args.area.now t.step-stepped.new.1.0 t.step-stepped.result t.step-stepped.ensures out _ c.phase_after.ensures

@@ -1,0 +1,48 @@
+-- `ask_in_place` meets its contract: each kind of call goes to its own function. Assumes nothing.
+use lib.ListN.{length}
+use borrow.Author.Rules.{rules}
+use Rattle.machine.proofs.Replies.{lent, looked-asked, asked_as}
+use Rattle.machine.proofs.in_place.ask_in_place.Goals as goal
+
+pub returns-in-Claim : goal.returns-in-Claim
+returns-in-Claim c x w =
+    let g = c.before.before.before.before.before.before.before.before.before.before.before.before.before in
+    let s = g.before.before.before in
+    asked_as (length s.args.out.now) g.in-Claim.is (c.ask_claim.ensures (lent w) s.args.out.now w)
+
+pub returns-in-Ack : goal.returns-in-Ack
+returns-in-Ack c x w =
+    let g = c.before.before.before.before.before.before.before.before.before in
+    let s = g.before.before.before in
+    asked_as (length s.args.out.now) g.in-Ack.is (c.ask_ack.ensures (lent w) s.args.out.now w)
+
+pub returns-in-Term : goal.returns-in-Term
+returns-in-Term c x w =
+    let g = c.before.before.before.before.before.before.before.before.before in
+    let s = g.before.before.before in
+    asked_as (length s.args.out.now) g.in-Term.is (c.ask_term.ensures (lent w) s.args.out.now w)
+
+pub returns-in-Nack : goal.returns-in-Nack
+returns-in-Nack c x w =
+    let g = c.before.before.before.before.before.before.before.before in
+    let s = g.before.before.before in
+    asked_as (length s.args.out.now) g.in-Nack.is (c.ask_nack.ensures (lent w) s.args.out.now w)
+
+pub returns-in-Progress : goal.returns-in-Progress
+returns-in-Progress c x w =
+    let g = c.before.before.before.before.before.before.before.before.before in
+    let s = g.before.before.before in
+    asked_as (length s.args.out.now) g.in-Progress.is (c.ask_progress.ensures (lent w) s.args.out.now w)
+
+pub returns-in-Commit : goal.returns-in-Commit
+returns-in-Commit c x w =
+    let g = c.before.before.before.before.before.before.before.before in
+    let s = g.before.before.before in
+    asked_as (length s.args.out.now) g.in-Commit.is (c.ask_commit.ensures (lent w) s.args.out.now w)
+
+pub returns-in-Look : goal.returns-in-Look
+returns-in-Look c x w =
+    let k = c.before.before in
+    let g = k.before.before.before.before.before.before.before.before.before.before.before.before.before.before in
+    let s = g.before.before.before in
+    asked_as (length s.args.out.now) g.in-Look.is (looked-asked w.sound (k.look.ensures (lent w) w))

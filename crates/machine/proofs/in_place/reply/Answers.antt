@@ -1,0 +1,90 @@
+-- `reply` meets its contract: each question is answered from the parts that it looks at. Assumes nothing.
+use Prim.Native.Nat.{ℕ}
+use mathlib.Core.Path.{refl, sym, ap, ◌∙◌}
+use mathlib.Core.Bool.{Bool}
+use mathlib.Core.List.{[], ◌∷◌}
+use lib.ListN.{length}
+use borrow.Author.Rules.{rules}
+use Rattle.types.specs.Refusal.{done}
+use Rattle.lease.specs.Lookup.{lease_values}
+use Rattle.lease.proofs.Slots.{in_flight_lem}
+use Rattle.consumer.specs.Questions.{bit}
+use Rattle.consumer.specs.Standing.{View, view_values}
+use Rattle.consumer.specs.declared.queries.Due.{Due}
+use Rattle.consumer.proofs.CallsReturns.{table-whole}
+use Rattle.machine.specs.Answers.{question_of}
+use Rattle.machine.proofs.Replies.{lent, replied, waiting-replied, open_replied}
+use Rattle.machine.proofs.in_place.reply.Goals as goal
+
+pub returns-in-Waiting : goal.returns-in-Waiting
+returns-in-Waiting c x w =
+    let k = c.before.before in
+    let g = k.before.before.before in
+    let s = g.before.before.before in
+    waiting-replied (lent w) s.args.worker _ s.args.out.now k.waiting_in_place.new.1.1.1.1.1.1.1.0 k.waiting_in_place.result
+    (ap (question_of (length s.args.out.now)) g.in-Waiting.is) (k.waiting_in_place.ensures (lent w) w)
+
+pub returns-in-Committed : goal.returns-in-Committed
+returns-in-Committed c x w =
+    let g = c in
+    let s = g.before.before.before in
+    replied (lent w) s.args.worker s.args.out.now _ (ap (question_of (length s.args.out.now)) g.in-Committed.is) refl refl refl
+
+pub returns-in-IsSettled : goal.returns-in-IsSettled
+returns-in-IsSettled c x w =
+    let g = c.before.before in
+    let s = g.before.before.before in
+    replied (lent w) s.args.worker s.args.out.now _ (ap (question_of (length s.args.out.now)) g.in-IsSettled.is) refl (ap (λ (b : Bool). done (bit b ∷ [])) c.is_acked_in_place.ensures) refl
+
+pub returns-in-LeaseOf : goal.returns-in-LeaseOf
+returns-in-LeaseOf c x w =
+    let k = c.before in
+    let g = k.before.before in
+    let s = g.before.before.before in
+    replied (lent w) s.args.worker s.args.out.now _ (ap (question_of (length s.args.out.now)) g.in-LeaseOf.is) refl
+    (ap done (c.told_of.ensures ∙ ap lease_values (k.lease_in_place-lease.ensures (lent w).table (table-whole w)))) refl
+
+pub returns-in-CountOf : goal.returns-in-CountOf
+returns-in-CountOf c x w =
+    let g = c.before.before in
+    let s = g.before.before.before in
+    replied (lent w) s.args.worker s.args.out.now _ (ap (question_of (length s.args.out.now)) g.in-CountOf.is) refl (c.count_in_place.ensures (lent w) w s.args.worker) refl
+
+pub returns-in-InFlight : goal.returns-in-InFlight
+returns-in-InFlight c x w =
+    let g = c in
+    let s = g.before.before.before in
+    replied (lent w) s.args.worker s.args.out.now _ (ap (question_of (length s.args.out.now)) g.in-InFlight.is) refl (ap (λ (n : ℕ). done (n ∷ [])) (sym (in_flight_lem (lent w).table w.full w.sound.table))) refl
+
+pub returns-in-IsDue : goal.returns-in-IsDue
+returns-in-IsDue c x w =
+    let g = c.before in
+    let s = g.before.before.before in
+    replied (lent w) s.args.worker s.args.out.now _ (ap (question_of (length s.args.out.now)) g.in-IsDue.is) refl (ap (λ (d : Due). done (bit d.ceiling ∷ bit d.threshold ∷ [])) c.due.ensures) refl
+
+pub returns-in-BlocksLeft : goal.returns-in-BlocksLeft
+returns-in-BlocksLeft c x w =
+    let g = c.before in
+    let s = g.before.before.before in
+    replied (lent w) s.args.worker s.args.out.now _ (ap (question_of (length s.args.out.now)) g.in-BlocksLeft.is) refl (ap (λ (n : ℕ). done (n ∷ [])) c.blocks_left.ensures) refl
+
+pub returns-in-ViewOf : goal.returns-in-ViewOf
+returns-in-ViewOf c x w =
+    let g = c.before.before in
+    let s = g.before.before.before in
+    replied (lent w) s.args.worker s.args.out.now _ (ap (question_of (length s.args.out.now)) g.in-ViewOf.is) refl
+    (ap (λ (v : View). done (view_values v)) (c.view_in_place.ensures (lent w) w)) refl
+
+pub returns-in-OpenBetween : goal.returns-in-OpenBetween
+returns-in-OpenBetween c x w =
+    let k = c.before.before in
+    let g = k.before.before.before in
+    let s = g.before.before.before in
+    open_replied (lent w) s.args.worker _ _ s.args.out.now _ k.open_between_in_place.result
+    (ap (question_of (length s.args.out.now)) g.in-OpenBetween.is) k.open_between_in_place.ensures
+
+pub returns-in-NearestOpen : goal.returns-in-NearestOpen
+returns-in-NearestOpen c x w =
+    let g = c.before.before in
+    let s = g.before.before.before in
+    replied (lent w) s.args.worker s.args.out.now _ (ap (question_of (length s.args.out.now)) g.in-NearestOpen.is) refl (ap (λ (n : ℕ). done (n ∷ [])) c.nearest_in_place-nearest.ensures) refl

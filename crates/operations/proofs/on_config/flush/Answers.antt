@@ -1,0 +1,6 @@
+-- `flush` keeps the config sound. Assumes nothing.
+use borrow.Author.Rules.{rules}
+use Rattle.operations.proofs.on_config.flush.Goals as goal
+
+pub left-requires-2 : goal.left-requires-2
+left-requires-2 c = c.before.«with-attempts-flush-redeliveries».ensures.sound (search rules)

@@ -1,0 +1,26 @@
+-- `is_begun` meets its contract: it looks at the first block of each half. Assumes nothing.
+use Prim.Native.Nat.{◌/◌}
+use native.Mathlib.Omega.{arith}
+use mathlib.Core.Path.{sym, ap, ◌∙◌}
+use lib.ListN.{length}
+use lib.Seq.{length-take-le}
+use Rattle.journal.specs.Sound.{is_kind}
+use Rattle.journal.proofs.Area.{part-is}
+use Rattle.sectors.proofs.Marks.{front-block}
+use borrow.Author.Rules.{rules}
+use Rattle.sectors.proofs.is_begun.Goals as goal
+
+pub slice_bounds-is_head-end : goal.slice_bounds-is_head-end
+slice_bounds-is_head-end c =
+    let s = c.before.before in
+    sym (length-take-le 512 s.args.area.now (omega (arith, s.requires)))
+
+pub returns-then-is_head : goal.returns-then-is_head
+returns-then-is_head c = rw (front-block c.args.area.now, sym c.is_head.ensures ∙ c.if-is_head.true)
+
+pub returns : goal.returns
+returns c =
+    let a = c.args.area.now in
+    let first = c.before.before in
+    rw (front-block a, sym first.is_head.ensures ∙ first.if-is_head.false)
+    (c.is_head-2.ensures ∙ ap (is_kind 1) (part-is a (length a / 1024)))

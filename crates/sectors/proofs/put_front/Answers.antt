@@ -1,0 +1,22 @@
+-- `put_front` meets its contract: the front of the sector stands in the place of the block. Assumes nothing.
+use Prim.Native.Nat.{◌+◌, ◌*◌}
+use native.Mathlib.Omega.{arith}
+use mathlib.Core.Path.{◌≡◌, sym, ◌∙◌}
+use borrow.Author.Rules.{rules}
+use lib.ListN.{length, take}
+use lib.Seq.{length-take-le}
+use Rattle.raw.proofs.Bytes.{wrote}
+use Rattle.sectors.proofs.Area.{block-over}
+use Rattle.sectors.proofs.put_front.Goals as goal
+
+pub slice_bounds-write_bytes-end : goal.slice_bounds-write_bytes-end
+slice_bounds-write_bytes-end c =
+    let s = c.before.before.before.before in
+    sym (length-take-le 512 s.args.sector.now s.requires.1)
+
+pub returns : goal.returns
+returns c =
+    let s = c.before.before.before.before.before.before.before in
+    let whole : length (take 512 s.args.sector.now) ≡ 512 = length-take-le 512 s.args.sector.now s.requires.1 in
+    wrote (512 * s.args.at) (take 512 s.args.sector.now) s.args.area.now c.write_bytes.ensures (omega (arith, s.requires.0))
+    ∙ block-over s.args.area.now (take 512 s.args.sector.now) s.args.at whole

@@ -1,0 +1,37 @@
+-- `call_of` meets its contract: a number that isn't the machine's own is that of a call on the state. Assumes nothing.
+use Prim.Native.Nat.{ℕ}
+use mathlib.Core.Path.{sym, ap, ◌∙◌}
+use mathlib.Core.Option.{Option, map}
+use Rattle.machine.specs.Calls.{Call, ask}
+use Rattle.server.specs.Kinds.{call_at, asking_of}
+use Rattle.server.proofs.Found.{on-state}
+use borrow.Author.Rules.{rules}
+use Rattle.server.proofs.kinds.call_of.Goals as goal
+
+abbrev as_numbers : ℕ → ℕ → ℕ → ℕ → ℕ → ℕ → ℕ → Option Call
+as_numbers w a b c d room kind = call_at w kind a b c d room
+
+pub returns-in-16 : goal.returns-in-16
+returns-in-16 c room = ap (as_numbers c.args.worker c.args.a c.args.b c.args.c c.args.d room) (sym c.in-16.is)
+
+pub returns-in-17 : goal.returns-in-17
+returns-in-17 c room = ap (as_numbers c.args.worker c.args.a c.args.b c.args.c c.args.d room) (sym c.in-17.is)
+
+pub returns-in-18 : goal.returns-in-18
+returns-in-18 c room = ap (as_numbers c.args.worker c.args.a c.args.b c.args.c c.args.d room) (sym c.in-18.is)
+
+pub returns-in-Ask : goal.returns-in-Ask
+returns-in-Ask c room =
+    let k = c.before.before.before in
+    let x = k.args in
+    let r = k.in-16.rest in
+    ap (map (ask x.worker)) (ap (asking_of room) (sym c.in-Ask.is) ∙ k.ask_of-asking.ensures room)
+    ∙ on-state x.worker x.a x.b x.c x.d room x.kind r.0.0.1 r.0.1 r.1
+
+pub returns-in-None : goal.returns-in-None
+returns-in-None c room =
+    let k = c.before.before in
+    let x = k.args in
+    let r = k.in-16.rest in
+    ap (map (ask x.worker)) (ap (asking_of room) (sym c.in-None.is) ∙ k.ask_of-asking.ensures room)
+    ∙ on-state x.worker x.a x.b x.c x.d room x.kind r.0.0.1 r.0.1 r.1

@@ -1,0 +1,17 @@
+-- `made` meets its contract: the machine that was made, or the one that was handed in beside a refusal. Assumes nothing.
+use borrow.Author.Rules.{rules}
+use Rattle.server.proofs.InNumbers.{made-refused, made-done}
+use Rattle.server.proofs.transitions.made.Goals as goal
+
+pub returns-in_default : goal.returns-in_default
+returns-in_default c =
+    let k = c.before in
+    let x = k.args in
+    λ right s size h. made-refused right x.before s size x.made k.of_start-numbers.result h k.of_start-numbers.ensures c.in-Started.keys2
+
+pub returns : goal.returns
+returns c =
+    let t = c.before.before in
+    let k = t.before in
+    let x = k.args in
+    λ right s size h. made-done right x.before s size x.made k.of_start-numbers.result h k.of_start-numbers.ensures c.in-Started.is

@@ -1,0 +1,6 @@
+-- `import` meets its contract: what it answers is made of the parts that were read. Assumes nothing.
+use borrow.Author.Rules.{rules}
+use Rattle.starts.proofs.import.Goals as goal
+
+pub returns : goal.returns
+returns c = c.Started-with.ensures _ _ c.import_in_place-done.ensures

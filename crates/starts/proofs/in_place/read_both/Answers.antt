@@ -1,0 +1,11 @@
+-- `read_both` meets its contract: the two snapshots are parts of the bytes. Assumes nothing.
+use native.Mathlib.Omega.{arith}
+use mathlib.Core.Path.{sym}
+use lib.Seq.{length-take-le}
+use borrow.Author.Rules.{rules}
+use Rattle.starts.proofs.in_place.read_both.Goals as goal
+
+pub slice_bounds-read_snapshots-end : goal.slice_bounds-read_snapshots-end
+slice_bounds-read_snapshots-end c =
+    let s = c.before.before in
+    sym (length-take-le s.args.middle s.args.bytes.now (omega (arith, s.requires.0, s.requires.1)))

@@ -1,0 +1,16 @@
+-- `list_numbers` meets its contract. The loop's invariant: the first i numbers are written, the places behind the list are as they
+-- were. Assumes nothing.
+use Prim.Native.Nat.{◌-◌, ◌≤◌}
+use native.Mathlib.Omega.{arith}
+use mathlib.Core.Path.{◌≡◌}
+use lib.ListN.{length}
+use borrow.Author.Rules.{rules}
+use Rattle.types.specs.Lists.{listed_of}
+use Rattle.types.proofs.Listing.{Written, none_written, one_more, numbers_fit, numbers-written}
+use Rattle.types.proofs.lent.list_numbers.Given as goal
+
+abbrev pub invariant-loop-i : goal.invariant-loop-i
+invariant-loop-i l = Written l.numbers l.initial.out l.n l.i l.out
+
+abbrev pub decreases-loop-i : goal.decreases-loop-i
+decreases-loop-i l = l.n - l.i
