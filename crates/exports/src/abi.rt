@@ -6,8 +6,7 @@ ghost use Rattle.exports.specs.Abi.{abi};
 const ABI: u64 = 1;
 
 // The number of this interface.
-#[unsafe(no_mangle)]
-pub extern "C" fn ninotskev_exports_abi() -> u64
+pub fn ninotskev_exports_abi() -> u64
     ensures { result ≡ abi }
 {
     ABI

@@ -50,8 +50,7 @@ fn ack_parts(
 }
 
 // Records an ack, as `AckCursor::ack` does. Answers 0 where it was new, 1 for a duplicate, and 29 where it is shed.
-#[unsafe(no_mangle)]
-pub extern "C" fn ninotskev_cursor_ack(cursor: &mut AckCursor, offset: u64) -> u64
+pub fn ninotskev_cursor_ack(cursor: &mut AckCursor, offset: u64) -> u64
     requires { Sound cursor.old }
     ensures { AckedInPlace cursor.old result cursor.new (ackBounded (view cursor.old) offset 128) }
 {

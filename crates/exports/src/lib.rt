@@ -2,6 +2,7 @@
 // and a length, a list of ranges or pairs as a column for each field. Nothing is required of a caller but that its slices
 // are there, and that one that is written to overlaps no other.
 #![tactic(auto)]
+
 ghost use Rattle.std.specs.Prelude.{◌≡◌};
 ghost use Rattle.types.specs.Keyed.{entries};
 ghost use Rattle.types.specs.Zipped.{zipped};
@@ -21,8 +22,7 @@ pub mod abi;
 pub mod in_place;
 
 // The check of the bytes.
-#[unsafe(no_mangle)]
-pub extern "C" fn ninotskev_crc32c(bytes: &[u8]) -> u32
+pub fn ninotskev_crc32c(bytes: &[u8]) -> u32
     ensures { result ≡ crc bytes.now }
 {
     crc::crc32c(bytes)
@@ -30,8 +30,7 @@ pub extern "C" fn ninotskev_crc32c(bytes: &[u8]) -> u32
 
 // Writes the snapshot of a cursor, given by its committed offset and a range for each place that both columns have, from a
 // position on. Answers the position behind it, or 10, 11, 12 or 20.
-#[unsafe(no_mangle)]
-pub extern "C" fn ninotskev_encode_cursor<'a>(
+pub fn ninotskev_encode_cursor<'a>(
     committed: u64,
     starts: &'a [u64],
     ends: &'a [u64],
@@ -52,12 +51,7 @@ pub extern "C" fn ninotskev_encode_cursor<'a>(
 
 // Reads the snapshot of a cursor, and puts the starts and the ends of its ranges at the front of two lent columns. Answers the
 // committed offset and the number of ranges, or 6 to 12, or 20 where a column is too short.
-#[unsafe(no_mangle)]
-pub extern "C" fn ninotskev_decode_cursor(
-    input: &[u8],
-    starts: &mut [u64],
-    ends: &mut [u64],
-) -> Numbers
+pub fn ninotskev_decode_cursor(input: &[u8], starts: &mut [u64], ends: &mut [u64]) -> Numbers
     ensures { crossed result (columns starts.new ends.new) ≡ cross values (decode_ranges input.now (columns starts.old ends.old)) }
 {
     let checked = check_snapshot(input);
@@ -76,8 +70,7 @@ pub extern "C" fn ninotskev_decode_cursor(
 
 // Writes the snapshot of attempt counts, a pair for each place that both columns have, from a position on. Answers the
 // position behind it, or 19 or 20.
-#[unsafe(no_mangle)]
-pub extern "C" fn ninotskev_encode_attempts<'a>(
+pub fn ninotskev_encode_attempts<'a>(
     offsets: &'a [u64],
     attempts: &'a [u32],
     out: &mut [u8],
@@ -89,8 +82,7 @@ pub extern "C" fn ninotskev_encode_attempts<'a>(
 }
 
 // The same in version 2: all offsets, then all attempts.
-#[unsafe(no_mangle)]
-pub extern "C" fn ninotskev_encode_attempts_v2<'a>(
+pub fn ninotskev_encode_attempts_v2<'a>(
     offsets: &'a [u64],
     attempts: &'a [u32],
     out: &mut [u8],
@@ -103,12 +95,7 @@ pub extern "C" fn ninotskev_encode_attempts_v2<'a>(
 
 // Reads the snapshot of attempt counts, of either version, and puts its offsets and its counts at the front of two lent columns.
 // Answers the number of pairs, or 13 to 19, or 20 where a column is too short.
-#[unsafe(no_mangle)]
-pub extern "C" fn ninotskev_decode_attempts(
-    input: &[u8],
-    offsets: &mut [u64],
-    attempts: &mut [u32],
-) -> Numbers
+pub fn ninotskev_decode_attempts(input: &[u8], offsets: &mut [u64], attempts: &mut [u32]) -> Numbers
     ensures { crossed result (columns offsets.new attempts.new) ≡ cross values (decode_pairs input.now (columns offsets.old attempts.old)) }
 {
     let outcome = attempt::check(input);

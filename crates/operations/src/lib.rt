@@ -1,6 +1,7 @@
 // Lists of operations on a cursor, a lease table, a delivery config, a list of entries and bytes, in numbers: docs/ORACLE.md has
 // them. For the comparison with the original, and for the program `modules`.
 #![tactic(auto)]
+
 ghost use Rattle.std.specs.Prelude.{◌≤◌, ◌+◌, ◌≡◌, length, set};
 ghost use Rattle.cursor.specs.View as cursors;
 ghost use Rattle.lease.specs.State as tables;
@@ -213,8 +214,7 @@ fn put(out: &mut [u64], at: usize, answer: Answer, digest: u64)
 
 // Runs a list from a fresh state: five numbers an operation, six an answer, as far as both go. Answers how many numbers of `out` were
 // written; those behind them stay.
-#[unsafe(no_mangle)]
-pub extern "C" fn ninotskev_operations(ops: &[u64], out: &mut [u64]) -> usize
+pub fn ninotskev_operations(ops: &[u64], out: &mut [u64]) -> usize
     ensures { (result ≤ length out.old) × RanIs ops.now out.old result out.new }
 {
     let mut state = state::fresh();

@@ -13,16 +13,14 @@ const CONFIGURATION_BYTES: u64 = 248;
 const NUMBERS_BYTES: u64 = 56;
 
 // The number of this interface.
-#[unsafe(no_mangle)]
-pub extern "C" fn ninotskev_abi() -> u64
+pub fn ninotskev_abi() -> u64
     ensures { result ≡ abi }
 {
     ABI
 }
 
 // The bytes of a struct that crosses: 0 the machine, 1 its configuration, 2 an answer in numbers. Any other number answers 0.
-#[unsafe(no_mangle)]
-pub extern "C" fn ninotskev_abi_size(part: u64) -> u64
+pub fn ninotskev_abi_size(part: u64) -> u64
     ensures { result ≡ size_at part }
 {
     match part {

@@ -15,8 +15,7 @@ use consumer::Configuration;
 use machine::Machine;
 
 // `start`, into the machine's place, whatever stands there.
-#[unsafe(no_mangle)]
-pub extern "C" fn ninotskev_start(
+pub fn ninotskev_start(
     machine: &mut Machine,
     numbers: &mut Numbers,
     configuration: &Configuration,
@@ -33,8 +32,7 @@ pub extern "C" fn ninotskev_start(
 
 // `import`, into the machine's place, whatever stands there: the bytes of two snapshots and the first generation. A refusal leaves what
 // stands there.
-#[unsafe(no_mangle)]
-pub extern "C" fn ninotskev_import<'a>(
+pub fn ninotskev_import<'a>(
     machine: &mut Machine,
     numbers: &mut Numbers,
     configuration: &Configuration,
@@ -53,8 +51,7 @@ pub extern "C" fn ninotskev_import<'a>(
 }
 
 // A machine that is off, in its place: only a restart is possible. What else stood there stays, and nobody can call it.
-#[unsafe(no_mangle)]
-pub extern "C" fn ninotskev_off(machine: &mut Machine, configuration: &Configuration)
+pub fn ninotskev_off(machine: &mut Machine, configuration: &Configuration)
     ensures { SwitchedOff machine.old configuration.now machine.new }
 {
     machine.configuration = *configuration;
@@ -62,8 +59,7 @@ pub extern "C" fn ninotskev_off(machine: &mut Machine, configuration: &Configura
 }
 
 // `restart` on the machine in its place.
-#[unsafe(no_mangle)]
-pub extern "C" fn ninotskev_restart(machine: &mut Machine, numbers: &mut Numbers, area: &[u8])
+pub fn ninotskev_restart(machine: &mut Machine, numbers: &mut Numbers, area: &[u8])
     requires { Sound machine.old }
     ensures { (out : List ℕ) → CallIs machine.old 0 18 0 0 0 0 area.now out numbers.new machine.new area.now out }
 {
@@ -106,8 +102,7 @@ pub extern "C" fn ninotskev_restart(machine: &mut Machine, numbers: &mut Numbers
 }
 
 // A worker begins a checkpoint on the machine in its place: call 16.
-#[unsafe(no_mangle)]
-pub extern "C" fn ninotskev_begin(machine: &mut Machine, numbers: &mut Numbers, worker: u64)
+pub fn ninotskev_begin(machine: &mut Machine, numbers: &mut Numbers, worker: u64)
     requires { Sound machine.old }
     ensures { (area out : List ℕ) → CallIs machine.old worker 16 0 0 0 0 area out numbers.new machine.new area out }
 {
@@ -142,8 +137,7 @@ pub extern "C" fn ninotskev_begin(machine: &mut Machine, numbers: &mut Numbers, 
 }
 
 // Makes the next block write of a checkpoint, into the lent area: call 17.
-#[unsafe(no_mangle)]
-pub extern "C" fn ninotskev_step(machine: &mut Machine, numbers: &mut Numbers, area: &mut [u8])
+pub fn ninotskev_step(machine: &mut Machine, numbers: &mut Numbers, area: &mut [u8])
     requires { Sound machine.old }
     ensures { (out : List ℕ) → CallIs machine.old 0 17 0 0 0 0 area.old out numbers.new machine.new area.new out }
 {
@@ -171,8 +165,7 @@ pub extern "C" fn ninotskev_step(machine: &mut Machine, numbers: &mut Numbers, a
 }
 
 // A call of a worker on the state of the machine in its place.
-#[unsafe(no_mangle)]
-pub extern "C" fn ninotskev_ask(
+pub fn ninotskev_ask(
     machine: &mut Machine,
     numbers: &mut Numbers,
     worker: u64,
@@ -239,8 +232,7 @@ pub extern "C" fn ninotskev_ask(
 
 // Progress on the machine in its place: call 5 by itself. It is the call that a server makes most often, and this function reads only
 // the parts that it looks at, and stores no number of the machine.
-#[unsafe(no_mangle)]
-pub extern "C" fn ninotskev_progress(
+pub fn ninotskev_progress(
     machine: &mut Machine,
     numbers: &mut Numbers,
     worker: u64,
@@ -273,8 +265,7 @@ pub extern "C" fn ninotskev_progress(
 
 // A worker's plan on the machine in its place: which of a list of offsets are settled, into a lent byte list. It changes no number of the
 // machine.
-#[unsafe(no_mangle)]
-pub extern "C" fn ninotskev_plan(
+pub fn ninotskev_plan(
     machine: &mut Machine,
     numbers: &mut Numbers,
     worker: u64,
@@ -300,8 +291,7 @@ pub extern "C" fn ninotskev_plan(
 
 // A worker's export of the machine in its place: the snapshots of the cursor and of all counts, each at the front of its own lent bytes.
 // It changes no number of the machine.
-#[unsafe(no_mangle)]
-pub extern "C" fn ninotskev_export(
+pub fn ninotskev_export(
     machine: &mut Machine,
     numbers: &mut Numbers,
     worker: u64,

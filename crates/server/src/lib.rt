@@ -2,6 +2,7 @@
 // parts that it is lent (`in_place`), of a start by value (`transitions`), and the exported functions are thin over that (`calls`).
 // Before any of them a server asks whether it was built for this library (`abi`).
 #![tactic(auto)]
+
 pub mod abi;
 pub mod calls;
 pub mod in_place;
