@@ -1,4 +1,4 @@
-//! Links the archive that `rt staticlib bench` makes.
+//! Links the archive that `tools/build bench` makes.
 use std::path::Path;
 
 fn main() {
