@@ -9,7 +9,7 @@ use mathlib.Core.List.{List, [], ◌∷◌}
 use lib.Dec.{ltb}
 use lib.ListN.{length, take, drop, get_or, set, length-set, length-take}
 use Rattle.std.specs.Prelude.{map}
-use Rattle.std.proofs.lemmas.List.{map-set, length-map}
+use Rattle.std.proofs.lemmas.List.{map-set}
 use lib.Seq.{get_or-take, take-take, take-suc, take-suc-set, drop-set-lt, take-length}
 use borrow.Author.Tests.{ltb-true, ltb-false}
 use Rattle.types.specs.Refusal.{Result}

@@ -1,12 +1,9 @@
 -- `list_offsets` meets its contract: the walk of a listing (`Listing`), by what `offsets_fit` and `offset_at` answer.
 -- Assumes nothing.
-use Prim.Native.Nat.{◌≤◌}
 use native.Mathlib.Omega.{arith}
-use mathlib.Core.Path.{◌≡◌}
-use lib.ListN.{length}
 use Rattle.std.proofs.lemmas.List.{length-map}
-use Rattle.types.specs.Lists.{numbers_of, offsets_in, listed_of}
-use Rattle.types.proofs.Listing.{counted-fits, one_more-of, all-written}
+use Rattle.types.specs.Lists.{numbers_of, offsets_in}
+use Rattle.types.proofs.Listing.{counted-fits, one_more-of}
 use Rattle.types.proofs.lent.list_offsets.Goals as goal
 
 pub loop-i-preserved : goal.loop-i-preserved

@@ -1,13 +1,10 @@
 -- `list_pairs` meets its contract: the walk of a listing (`Listing`), by what `counts_fit` and `pair_at` answer.
 -- Assumes nothing.
-use Prim.Native.Nat.{◌≤◌}
 use native.Mathlib.Omega.{arith}
-use mathlib.Core.Path.{◌≡◌}
-use lib.ListN.{length}
 use Rattle.std.proofs.lemmas.List.{length-map}
 use Rattle.types.specs.Keyed.{entry}
-use Rattle.types.specs.Lists.{entry_of, entries_of, counts_in, listed_of}
-use Rattle.types.proofs.Listing.{counted-fits, one_more-of, all-written}
+use Rattle.types.specs.Lists.{entry_of, entries_of, counts_in}
+use Rattle.types.proofs.Listing.{counted-fits, one_more-of}
 use Rattle.types.proofs.lent.list_pairs.Goals as goal
 
 pub loop-i-preserved : goal.loop-i-preserved
