@@ -2,6 +2,7 @@
 // no byte and says so. Numbers of four and eight bytes that are there are put together from bytes at fixed distances, which
 // the compiler makes one load or one store of. And slices of zeros.
 #![tactic(auto)]
+
 ghost use Rattle.std.specs.Prelude.{◌≡◌, ◌+◌, ◌*◌, ◌<◌, ◌≤◌, ltb, length, replicate};
 ghost use Rattle.types.specs.Table.{answer};
 ghost use Rattle.raw.specs.Bytes.{all_zero, le, number_at, ReadIs, overwrite, write, outcome_of};

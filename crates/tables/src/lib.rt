@@ -1,5 +1,6 @@
 // Columns of sorted tables: arrays of numbers of which the first `len` places are in use.
 #![tactic(auto)]
+
 ghost use Rattle.std.specs.Prelude.{◌≡◌, ◌+◌, ◌≤◌, length, take};
 ghost use Rattle.std.proofs.Math.Seq.{paste};
 ghost use Rattle.types.specs.Limits.{LEASES};

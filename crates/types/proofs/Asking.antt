@@ -4,7 +4,7 @@
 --     asks         the call is made, and the answer is had with its machine value and with F
 use mathlib.Core.List.{List, [], ◌∷◌}
 use seplogic.Ra.Ura.{Ura}
-use mir.Syntax.{Name, Place, Opd as Operand, Body, seq, call}
+use mir.Syntax.{Callee, Place, Opd as Operand, Body, seq, call}
 use mir.Val.{Val}
 use base.Logic.{SProp, ent, emp, guard, ex_i}
 use base.Fml.{ftrue}
@@ -26,14 +26,14 @@ module _ {M : Type 1} {𝓤 : Ura M} (𝓛 : Logic 𝓤) where
   abbrev pub Answer : (X : RattleType) → (X.Denot → Type 0) → Val → Item 𝓤
   Answer X F w = later (some (λ (r : X.Denot). given (Is X r (w ∷ []) × F r) (‵ ftrue)))
 
-  pub record Answers (C : Calls 𝓤 H) (f : Name) (vs : List Val) (X : RattleType) (F : X.Denot → Type 0) : Type 2 where
+  pub record Answers (C : Calls 𝓤 H) (f : Callee) (vs : List Val) (X : RattleType) (F : X.Denot → Type 0) : Type 2 where
     pub Q : Val → SProp 𝓤
     pub called : ent 𝓤 (emp 𝓤) (C f vs Q)
     pub gives : (w : Val) → ent 𝓤 (Q w) (mean 𝓛 (Answer X F w))
 
   -- what a covered function gives that borrows nothing: its result, and what it ensures
   abbrev pub Result : (X : RattleType) → (X.Denot → SProp 𝓤) → Val → Item 𝓤
-  Result X P w = later (some (λ (r : X.Denot). (‵ ftrue ⊛ ‵ (X.own r (w ∷ []))) ⊛ raw (P r)))
+  Result X P w = later (some (λ (r : X.Denot). (‵ ftrue ⊛ ‵ (X.own_val r (w ∷ []))) ⊛ raw (P r)))
 
   pub answers_as : (X : RattleType) (P : X.Denot → SProp 𝓤) (F : X.Denot → Type 0) → ((r : X.Denot) → ent 𝓤 (P r) (fact 𝓤 (F r))) → (w : Val)
       → ent 𝓤 (mean 𝓛 (Result X P w)) (mean 𝓛 (Answer X F w))
@@ -42,7 +42,7 @@ module _ {M : Type 1} {𝓤 : Ura M} (𝓛 : Logic 𝓤) where
       facts ! X (Is X) (shows 𝓛 X) r (w ∷ []) (λ is. at_once ! $
       suffices ! _ (ex_i 𝓤 (λ (y : X.Denot). guard 𝓤 (Is X y (w ∷ []) × F y) (emp 𝓤)) r) $ check ! (is, p) $ nothing ! $ done !)))
 
-module _ {M : Type 1} {𝓤 : Ura M} {𝓛 : Logic 𝓤} {K : Type 0} {Γ : List (Item 𝓤)} {E : Env 𝓤 𝓛.H} {C : Calls 𝓤 𝓛.H} {f : Name} {xs : List Operand} {Λ : Loops 𝓤 𝓛.H} {q : Post 𝓤 𝓛.H} {d : Place} where
+module _ {M : Type 1} {𝓤 : Ura M} {𝓛 : Logic 𝓤} {K : Type 0} {Γ : List (Item 𝓤)} {E : Env 𝓤 𝓛.H} {C : Calls 𝓤 𝓛.H} {f : Callee} {xs : List Operand} {Λ : Loops 𝓤 𝓛.H} {q : Post 𝓤 𝓛.H} {d : Place} where
   open 𝓛 use {H}
 
   pub asks : K → FmC 𝓤 H 𝓛.laws C → {rest : Body} {vs : List Val} {X : RattleType} {F : X.Denot → Type 0} → Answers 𝓛 C f vs X F → Opds K 𝓛 (‵ ftrue ∷ Γ) E xs vs

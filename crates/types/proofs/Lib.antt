@@ -14,4 +14,3 @@ pub mod Loops
 pub mod Listing
 pub mod Walk
 pub mod Asking
-pub mod Filling

@@ -8,6 +8,8 @@ use mathlib.Core.Path.{◌≡◌, refl, ap, ◌∙◌}
 use mathlib.Core.List.{List, [], ◌∷◌}
 use lib.Dec.{ltb}
 use lib.ListN.{length, take, drop, get_or, set, length-set, length-take}
+use Rattle.std.specs.Prelude.{map}
+use Rattle.std.proofs.lemmas.List.{map-set}
 use lib.Seq.{get_or-take, take-take, take-suc, take-suc-set, drop-set-lt, take-length}
 use borrow.Author.Tests.{ltb-true, ltb-false}
 use Rattle.types.specs.Refusal.{Result}
@@ -48,6 +50,11 @@ module _ {A : Type 0} (list out : List A) where
     front = rw (add-one i, take-suc-set after i (get_or list i d) (omega (arith, fits.1, w.long)), take-suc list i d (omega (arith, fits.0)), w.front);
     rest = drop-set-lt n after i (get_or list i d) h ∙ w.rest;
   }
+
+  -- the same of a list of records that stand for the members
+  pub one_more-of : {X : Type 0} (f : X → A) (d : A) (n i : ℕ) (after : List X) (x : X) → i < n → (n ≤ length list) × (n ≤ length out) → f x ≡ get_or list i d
+      → Written n i (map f after) → Written n (i + 1) (map f (set after i x))
+  one_more-of f d n i after x h fits e w = rw (map-set f after i x, e) (one_more d n i (map f after) h fits w)
 
   pub all-written : (n : ℕ) (after : List A) (outcome : Result ℕ) → outcome ≡ roomFor (length list) (length out) → n ≡ counted outcome → Written n n after
       → answer outcome after ≡ listed list out

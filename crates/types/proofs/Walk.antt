@@ -52,7 +52,7 @@ module _ (T : Declared) (L : Laws T) {M : Type 1} {𝓤 : Ura M} (𝓛 : Logic �
   part_in plain is =
       qed 𝓛 (‵ (fat q (τ T) b o (val T L h)) ∷ []) ∵ use1 𝓛 (‵ (cell_at q (R T).mir (vals T L h) b o)) (𝓛.laws.at_raw q (τ T) b o (val T L h)) $
       owned ! (R T) (Is (R T)) (makes T plain 𝓛) h (vals T L h) is $ move ! (1 ∷ 0 ∷ []) $ fjoin ! $
-      fpack ! (List Val) (λ vs. fsep (cell_at q (R T).mir vs b o) ((R T).own h vs)) (vals T L h) $ done !
+      fpack ! (List Val) (λ vs. fsep (cell_at q (R T).mir vs b o) ((R T).own_val h vs)) (vals T L h) $ done !
 
   pub part_out : ent 𝓤 (sem 𝓛 (part_at (R T) q h b o)) (guard 𝓤 (Is (R T) h (vals T L h)) (sem 𝓛 (fat q (τ T) b o (val T L h))))
   unfolding part_of
@@ -87,7 +87,7 @@ module _ (E : RattleType) (spell : E.Denot → List Val) {M : Type 1} {𝓤 : Ur
   array_in one made is =
       qed 𝓛 (‵ (fat q σ b o (only us)) ∷ []) ∵ use1 𝓛 (‵ (cell_at q S.mir us b o)) (𝓛.laws.at_raw q σ b o (only us)) $
       owned ! S (Is S) (Array-Makes 𝓛 E made m) xs us is $ move ! (1 ∷ 0 ∷ []) $ fjoin ! $
-      fpack ! (List Val) (λ vs. fsep (cell_at q S.mir vs b o) (S.own xs vs)) us $
+      fpack ! (List Val) (λ vs. fsep (cell_at q S.mir vs b o) (S.own_val xs vs)) us $
       use1 𝓛 (‵ ((arr_parts (shares E) m).part q xs b o)) (Array-apart 𝓛 E q one m xs b o) $ fsplit ! $ drop ! $ done !
 
   pub array_out : Tells E (Is E) spell → length xs ≡ m → ent 𝓤 (sem 𝓛 (index.row E q xs b o)) (guard 𝓤 (Is S xs us) (sem 𝓛 (fat q σ b o (only us))))

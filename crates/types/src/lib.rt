@@ -1,6 +1,7 @@
 // The identifiers that the log and the lease table hand out, each a type of its own so that none is taken for another, and an
 // offset with its attempt count.
 #![tactic(auto)]
+
 ghost use Rattle.std.specs.Prelude.{◌≡◌};
 ghost use Rattle.types.specs.Refusal.{done, optional};
 ghost use Rattle.types.specs.Identifiers.{offset, checked_next, next_of};

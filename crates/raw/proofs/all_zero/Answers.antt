@@ -1,10 +1,7 @@
 -- `raw::all_zero` meets its contract. The invariant: the answer for the bytes from i on is the answer for all.
 -- Assumes nothing.
-use Prim.Native.Nat.{◌-◌, ◌≤◌}
 use native.Mathlib.Omega.{arith}
-use mathlib.Core.Path.{◌≡◌, refl}
-use lib.ListN.{length, drop}
-use Rattle.raw.specs.Bytes.{all_zero}
+use mathlib.Core.Path.{refl}
 use Rattle.raw.proofs.Zeros.{zero_more, zero_not, zero-all}
 use Rattle.raw.proofs.all_zero.Goals as goal
 

@@ -1,11 +1,9 @@
 -- `raw::all_zero` meets its contract. The invariant: the answer for the bytes from i on is the answer for all.
 -- Assumes nothing.
 use Prim.Native.Nat.{◌-◌, ◌≤◌}
-use native.Mathlib.Omega.{arith}
-use mathlib.Core.Path.{◌≡◌, refl}
+use mathlib.Core.Path.{◌≡◌}
 use lib.ListN.{length, drop}
 use Rattle.raw.specs.Bytes.{all_zero}
-use Rattle.raw.proofs.Zeros.{zero_more, zero_not, zero-all}
 use Rattle.raw.proofs.all_zero.Given as goal
 
 abbrev pub invariant-loop-i : goal.invariant-loop-i

@@ -1,10 +1,7 @@
 -- `raw::clear` meets its contract. The invariant: zeros stand up to i, and behind them what stood there. Assumes
 -- nothing.
-use Prim.Native.Nat.{◌-◌}
 use native.Mathlib.Omega.{arith}
-use borrow.Author.Rules.{rules}
-use lib.ListN.{length}
-use Rattle.raw.proofs.Zeros.{Clearing, clear_none, clear-more, cleared}
+use Rattle.raw.proofs.Zeros.{clear_none, clear-more, cleared}
 use Rattle.raw.proofs.clear.Goals as goal
 
 pub loop-i-init : goal.loop-i-init

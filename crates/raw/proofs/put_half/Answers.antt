@@ -1,7 +1,6 @@
 -- `raw::put_half` meets its contract: four stores in a row. Assumes nothing.
 use native.Mathlib.Omega.{arith}
 use lib.ListN.{length-set}
-use borrow.Author.Rules.{rules}
 use Rattle.raw.proofs.Word.{four-stored}
 use Rattle.raw.proofs.put_half.Goals as goal
 

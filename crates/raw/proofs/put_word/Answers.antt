@@ -1,7 +1,6 @@
 -- `raw::put_word` meets its contract: eight stores in a row. Assumes nothing.
 use native.Mathlib.Omega.{arith}
 use lib.ListN.{length-set}
-use borrow.Author.Rules.{rules}
 use Rattle.raw.proofs.Word.{eight-stored}
 use Rattle.raw.proofs.put_word.Goals as goal
 

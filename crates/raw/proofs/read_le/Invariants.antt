@@ -1,12 +1,9 @@
 -- `read_le` meets its contract. The loop's invariant: x is the number in the bytes from i up to where the loop began,
 -- and is below 256 for each of them. Assumes nothing.
-use Prim.Native.Nat.{◌+◌, ◌-◌, ◌*◌, ◌<◌, ◌≤◌, min}
-use native.Mathlib.Omega.{arith}
-use mathlib.Core.Path.{◌≡◌, refl}
-use mathlib.Core.Logic.{⊎_elim}
+use Prim.Native.Nat.{◌+◌, ◌-◌, ◌≤◌, min}
+use mathlib.Core.Path.{◌≡◌}
 use lib.ListN.{length}
 use Rattle.raw.specs.Bytes.{ReadIs}
-use Rattle.raw.proofs.Loops.{read_past, read_none, read_more, read_all, read_fits}
 use Rattle.raw.proofs.read_le.Given as goal
 
 abbrev pub invariant-loop-i : goal.invariant-loop-i

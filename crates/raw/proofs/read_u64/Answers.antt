@@ -1,6 +1,5 @@
 -- `raw::read_u64` meets its contract: bytes that are all there are read at once. Assumes nothing.
 use mathlib.Core.Path.{sym, ◌∙◌}
-use borrow.Author.Rules.{rules}
 use borrow.Author.Tests.{ltb-false}
 use Rattle.raw.proofs.Word.{word_number}
 use Rattle.raw.proofs.read_u64.Goals as goal

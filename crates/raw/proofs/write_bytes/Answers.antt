@@ -1,11 +1,9 @@
 -- `write_bytes` meets its contract. The loop's invariant: the bytes that are left, stored from `pos + i` on, give what all
 -- of them gave at the start. Assumes nothing.
-use Prim.Native.Nat.{◌-◌, ◌≤◌}
 use native.Mathlib.Omega.{arith}
 use mathlib.Core.Path.{refl}
-use borrow.Author.Rules.{rules}
-use lib.ListN.{length, drop, drop_of_length-le}
-use Rattle.raw.proofs.Loops.{Storing, refused-short, storing_none, storing-more, stored, drop-next}
+use lib.ListN.{drop_of_length-le}
+use Rattle.raw.proofs.Loops.{refused-short, storing_none, storing-more, stored, drop-next}
 use Rattle.raw.proofs.write_bytes.Goals as goal
 
 pub returns-then-too_short : goal.returns-then-too_short

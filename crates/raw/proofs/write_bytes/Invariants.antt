@@ -1,11 +1,8 @@
 -- `write_bytes` meets its contract. The loop's invariant: the bytes that are left, stored from `pos + i` on, give what all
 -- of them gave at the start. Assumes nothing.
 use Prim.Native.Nat.{◌-◌, ◌≤◌}
-use native.Mathlib.Omega.{arith}
-use mathlib.Core.Path.{refl}
-use borrow.Author.Rules.{rules}
-use lib.ListN.{length, drop, drop_of_length-le}
-use Rattle.raw.proofs.Loops.{Storing, refused-short, storing_none, storing-more, stored, drop-next}
+use lib.ListN.{length, drop}
+use Rattle.raw.proofs.Loops.{Storing}
 use Rattle.raw.proofs.write_bytes.Given as goal
 
 abbrev pub invariant-loop-i : goal.invariant-loop-i

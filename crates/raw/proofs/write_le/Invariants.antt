@@ -1,12 +1,8 @@
 -- `write_le` meets its contract. The loop's invariant: the bytes of what is left of the number, stored from `pos + i` on,
 -- give what all of them gave at the start. Assumes nothing.
 use Prim.Native.Nat.{◌-◌, ◌≤◌}
-use native.Mathlib.Omega.{arith}
-use native.Mathlib.Nat.{sub-zero}
-use borrow.Author.Rules.{rules}
 use Rattle.raw.specs.Bytes.{le}
-use Rattle.raw.proofs.Bytes.{length-le}
-use Rattle.raw.proofs.Loops.{Storing, refused-short, storing_none, storing-more, stored, le_next, le-end}
+use Rattle.raw.proofs.Loops.{Storing}
 use Rattle.raw.proofs.write_le.Given as goal
 
 abbrev pub invariant-loop-i : goal.invariant-loop-i

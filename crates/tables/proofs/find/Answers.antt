@@ -1,7 +1,6 @@
 -- `find` meets its contract.
 -- Assumes nothing.
 use native.Mathlib.Omega.{arith}
-use borrow.Author.Rules.{rules}
 use Rattle.tables.proofs.Search.{placed-found, placed_missing}
 use Rattle.tables.proofs.find.Goals as goal
 

@@ -1,10 +1,8 @@
 -- `insert_count` meets its contract. The loop's invariant: the number that is held belongs at i, the places before it being done and
 -- those behind the used ones as they were.
 -- Assumes nothing.
-use Prim.Native.Nat.{◌-◌}
 use native.Mathlib.Omega.{arith}
-use borrow.Author.Rules.{rules}
-use Rattle.tables.proofs.Gaps.{no_place, no_room, Opens, opens, opens-more, opens-done}
+use Rattle.tables.proofs.Gaps.{no_place, no_room, opens, opens-more, opens-done}
 use Rattle.tables.proofs.insert_count.Goals as goal
 
 pub returns-then-len-at : goal.returns-then-len-at

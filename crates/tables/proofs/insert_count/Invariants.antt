@@ -2,9 +2,7 @@
 -- those behind the used ones as they were.
 -- Assumes nothing.
 use Prim.Native.Nat.{◌-◌}
-use native.Mathlib.Omega.{arith}
-use borrow.Author.Rules.{rules}
-use Rattle.tables.proofs.Gaps.{no_place, no_room, Opens, opens, opens-more, opens-done}
+use Rattle.tables.proofs.Gaps.{Opens}
 use Rattle.tables.proofs.insert_count.Given as goal
 
 abbrev pub invariant-loop-i : goal.invariant-loop-i

@@ -2,8 +2,7 @@
 -- Assumes nothing.
 use Prim.Native.Nat.{◌+◌, ◌-◌, ◌/◌}
 use native.Mathlib.Omega.{arith}
-use borrow.Author.Rules.{rules}
-use Rattle.tables.proofs.Search.{Halving, halving, halving_up, halving_down, halved}
+use Rattle.tables.proofs.Search.{halving, halving_up, halving_down, halved}
 use Rattle.tables.proofs.position.Goals as goal
 
 pub loop-low-init : goal.loop-low-init

@@ -1,9 +1,7 @@
 -- `position` meets its contract.
 -- Assumes nothing.
-use Prim.Native.Nat.{◌+◌, ◌-◌, ◌/◌}
-use native.Mathlib.Omega.{arith}
-use borrow.Author.Rules.{rules}
-use Rattle.tables.proofs.Search.{Halving, halving, halving_up, halving_down, halved}
+use Prim.Native.Nat.{◌-◌}
+use Rattle.tables.proofs.Search.{Halving}
 use Rattle.tables.proofs.position.Given as goal
 
 abbrev pub invariant-loop-low : goal.invariant-loop-low

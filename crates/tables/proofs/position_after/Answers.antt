@@ -2,12 +2,11 @@
 -- Assumes nothing.
 use Prim.Native.Nat.{◌+◌, ◌-◌}
 use native.Mathlib.Omega.{arith}
-use borrow.Author.Rules.{rules}
 use Rattle.tables.proofs.Search.{boundary_end}
 use Rattle.tables.proofs.position_after.Goals as goal
 
 pub overflow_add-x : goal.overflow_add-x
-overflow_add-x c = omega (arith, c.shared_slice_known-then-end-gt0-1.given (c.shorter-end.result - 1))
+overflow_add-x c = omega (arith, c.type_inv.keys (c.shorter-end.result - 1))
 
 pub returns-else-x-keys : goal.returns-else-x-keys
 returns-else-x-keys c =

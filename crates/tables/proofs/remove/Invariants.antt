@@ -2,9 +2,7 @@
 -- those from it on as they were.
 -- Assumes nothing.
 use Prim.Native.Nat.{◌-◌}
-use native.Mathlib.Omega.{arith}
-use borrow.Author.Rules.{rules}
-use Rattle.tables.proofs.Gaps.{none_out, not_used, not_there, Closes, closes, closes-more, closes-done}
+use Rattle.tables.proofs.Gaps.{Closes}
 use Rattle.tables.proofs.remove.Given as goal
 
 abbrev pub invariant-loop-j : goal.invariant-loop-j

@@ -1,10 +1,8 @@
 -- `remove_counts` meets its contract. The loop's invariant: what stands from j on belongs at i, the places before it being done and
 -- those from it on as they were.
 -- Assumes nothing.
-use Prim.Native.Nat.{◌-◌}
 use native.Mathlib.Omega.{arith}
-use borrow.Author.Rules.{rules}
-use Rattle.tables.proofs.Gaps.{none_out, not_used, not_there, Closes, closes, closes-more, closes-done}
+use Rattle.tables.proofs.Gaps.{none_out, not_used, not_there, closes, closes-more, closes-done}
 use Rattle.tables.proofs.remove_counts.Goals as goal
 
 pub returns-then-to-from : goal.returns-then-to-from

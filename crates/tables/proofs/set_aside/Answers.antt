@@ -7,7 +7,6 @@ use lib.ListN.{take, drop, replicate}
 use lib.Seq.{take-paste}
 use Rattle.tables.specs.Slots.{set_aside}
 use Rattle.tables.proofs.Slots.{none_aside, all_aside, front_aside}
-use borrow.Author.Rules.{rules}
 use Rattle.tables.proofs.set_aside.Goals as goal
 
 pub returns-then-count-eq0 : goal.returns-then-count-eq0
@@ -22,16 +21,12 @@ returns-then-count-len c =
 
 pub returns : goal.returns
 returns c =
-    let y = c.before.before in
-    let r = y.before.before.before.before.before in
-    let k = r.before.before.before in
-    let s = k.before.before.before.before.before.before in
-    let a = s.args in
+    let a = c.args in
     let n = a.count in
-    let out = r.remove.new.0 in
-    let room = s.requires.2 in
+    let out = c.remove.new.column in
+    let room = c.requires.2 in
     let z : n ≡ 0 + n = omega arith in
-    let same : take n k.copy.new.0 ≡ take n a.slots.now =
-    ap (λ (m : ℕ). take m k.copy.new.0) z ∙ ap (take (0 + n)) k.copy.ensures ∙ take-paste (replicate 64 0) 0 a.slots.now n (omega arith) (omega (arith, s.requires.0, room)) in
-    front_aside a.len n a.slots.now s.requires.0 room r.remove.ensures
-    (y.copy-2.ensures ∙ ap (λ (x : List ℕ). take (a.len - n) out ++ x ++ drop (a.len - n + n) out) same)
+    let same : take n c.copy.new.column ≡ take n a.slots.now =
+    ap (λ (m : ℕ). take m c.copy.new.column) z ∙ ap (take (0 + n)) c.copy.ensures ∙ take-paste (replicate 64 0) 0 a.slots.now n (omega arith) (omega (arith, c.requires.0, room)) in
+    front_aside a.len n a.slots.now c.requires.0 room c.remove.ensures
+    (c.copy-2.ensures ∙ ap (λ (x : List ℕ). take (a.len - n) out ++ x ++ drop (a.len - n + n) out) same)

@@ -4,7 +4,6 @@ use Prim.Native.Nat.{ℕ, ◌≤◌}
 use native.Mathlib.Omega.{arith}
 use mathlib.Core.Path.{sym, ap, ◌∙◌}
 use lib.ListN.{length}
-use borrow.Author.Rules.{rules}
 use Rattle.tables.specs.Slots.{set_aside}
 use Rattle.tables.proofs.Columns.{taken-out-length}
 use Rattle.tables.proofs.Slots.{none_aside, front_aside}

@@ -11,7 +11,7 @@ use Rattle.tables.proofs.Search.{found-used, missing_inside}
 use Rattle.tables.specs.Carried.{held_in}
 use Rattle.tables.proofs.Carried.{pair-kept, pair-nothing, pair-carried, pair-refused, counted_anew, one_too_many, counted-more}
 use Rattle.tables.proofs.counts.carry_pair.Goals as goal
-use Rattle.tables.proofs.counts.carry_pair.Goals.{After-find-place, Else-carried, Else-pair-eq0, In-Found-2, Start}
+use Rattle.tables.proofs.counts.carry_pair.Goals.{Start}
 
 full : (c : Start) → length c.args.carried.offsets ≡ CARRIED
 full c = search rules
@@ -29,63 +29,39 @@ attempt-fits c = let h : c.args.pair.attempt < 2 ^ 32 = search rules in omega (a
 held : (c : Start) → length (held_in c.args.carried) ≡ c.args.carried.len
 held c = length-used 0 c.args.carried.len c.args.carried.offsets c.args.carried.counts (omega (arith, full c, c.requires.few)) (omega (arith, full-counts c, c.requires.few))
 
--- the two tests, and the entry
-abbrev some : After-find-place → Else-pair-eq0
-some c = c.before.before.before.before
-
-abbrev room : Else-pair-eq0 → Else-carried
-room c = c.before.before
-
-abbrev start : Else-carried → Start
-start c = c.before
-
-inside : (c : In-Found-2) → c.in-Found.at < CARRIED
-inside c =
-    let s = start (room (some c.before.before)) in
-    omega (arith, full s, found-used s.args.pair.offset s.args.carried.len s.args.carried.offsets c.find-place.ensures c.in-Found.is)
-
 pub returns-then-carried : goal.returns-then-carried
-returns-then-carried c = let s = c.before in pair-kept s.args.pair s.args.carried s.requires c.if-carried.true
+returns-then-carried c = pair-kept c.args.pair c.args.carried c.requires c.if-carried.true
 
 pub returns-then-pair-eq0 : goal.returns-then-pair-eq0
-returns-then-pair-eq0 c =
-    let s = start (goal.at.returns-then-pair-eq0 c).Else-carried in
-    pair-nothing s.args.pair s.args.carried s.requires c.if-carried.false (rw (held (goal.at.returns-then-pair-eq0 c).Start) s.requires.few) c.if-pair-eq0.true
+returns-then-pair-eq0 c = pair-nothing c.args.pair c.args.carried c.requires c.if-carried.false (rw (held (goal.at.returns-then-pair-eq0 c).Start) c.requires.few) c.if-pair-eq0.true
 
 pub offset_bounds-carried-at : goal.offset_bounds-carried-at
-offset_bounds-carried-at c = omega (arith, inside (goal.at.offset_bounds-carried-at c).In-Found-2)
+offset_bounds-carried-at c =
+    omega (arith, full (goal.at.offset_bounds-carried-at c).Start, found-used c.args.pair.offset c.args.carried.len c.args.carried.offsets c.find-place.ensures c.in-Found.is)
 
 pub bounds-carried-at : goal.bounds-carried-at
-bounds-carried-at c = inside (goal.at.bounds-carried-at c).In-Found-2
+bounds-carried-at c =
+    omega (arith, full (goal.at.bounds-carried-at c).Start, found-used c.args.pair.offset c.args.carried.len c.args.carried.offsets c.find-place.ensures c.in-Found.is)
 
 pub returns-in-Found : goal.returns-in-Found
 returns-in-Found c =
-    let p = c.before in
-    let e = some (goal.at.returns-in-Found c).After-find-place in
-    let s = start (room (goal.at.returns-in-Found c).Else-pair-eq0) in
-    pair-carried s.args.pair s.args.carried s.requires (room (goal.at.returns-in-Found c).Else-pair-eq0).if1.left (offset-fits (goal.at.returns-in-Found c).Start) (attempt-fits (goal.at.returns-in-Found c).Start) s.args.carried.len s.args.carried.offsets _ s.requires.few
-    (counted_anew s.args.carried.len s.args.carried.offsets s.args.carried.counts (full (goal.at.returns-in-Found c).Start) (full-counts (goal.at.returns-in-Found c).Start) s.requires.few s.requires.rising s.args.pair.offset s.args.pair.attempt e.if-pair-eq0.left p.find-place.ensures p.in-Found.is)
+    let k = (goal.at.returns-in-Found c).Start in
+    pair-carried c.args.pair c.args.carried c.requires c.if-carried.false (offset-fits k) (attempt-fits k) c.args.carried.len c.args.carried.offsets _ c.requires.few
+    (counted_anew c.args.carried.len c.args.carried.offsets c.args.carried.counts (full k) (full-counts k) c.requires.few c.requires.rising c.args.pair.offset c.args.pair.attempt c.if-pair-eq0.false c.find-place.ensures c.in-Found.is)
 
 pub returns-then-len-eq-CARRIED : goal.returns-then-len-eq-CARRIED
 returns-then-len-eq-CARRIED c =
-    let p = c.before.before in
-    let e = some (goal.at.returns-then-len-eq-CARRIED c).After-find-place in
-    let s = start (room (goal.at.returns-then-len-eq-CARRIED c).Else-pair-eq0) in
-    pair-refused s.args.pair s.args.carried s.requires (room (goal.at.returns-then-len-eq-CARRIED c).Else-pair-eq0).if1.left
-    (one_too_many s.args.carried.len s.args.carried.offsets s.args.carried.counts (full (goal.at.returns-then-len-eq-CARRIED c).Start) (full-counts (goal.at.returns-then-len-eq-CARRIED c).Start) s.requires.few s.requires.rising s.args.pair.offset s.args.pair.attempt e.if-pair-eq0.left p.find-place.ensures p.in-Missing.is c.if-len-eq-CARRIED.true)
+    let k = (goal.at.returns-then-len-eq-CARRIED c).Start in
+    pair-refused c.args.pair c.args.carried c.requires c.if-carried.false
+    (one_too_many c.args.carried.len c.args.carried.offsets c.args.carried.counts (full k) (full-counts k) c.requires.few c.requires.rising c.args.pair.offset c.args.pair.attempt c.if-pair-eq0.false c.find-place.ensures c.in-Missing.is c.if-len-eq-CARRIED.true)
 
 pub returns : goal.returns
 returns c =
-    let i = c.before.before in
-    let n = i.before.before in
-    let p = n.before.before in
-    let e = some (goal.at.returns c).After-find-place in
-    let s = start (room (goal.at.returns c).Else-pair-eq0) in
-    let at = p.in-Missing.at in
-    let few = s.requires.few in
-    let inside = missing_inside s.args.pair.offset s.args.carried.len s.args.carried.offsets p.find-place.ensures p.in-Missing.is in
-    pair-carried s.args.pair s.args.carried s.requires (room (goal.at.returns c).Else-pair-eq0).if1.left (offset-fits (goal.at.returns c).Start) (attempt-fits (goal.at.returns c).Start) (s.args.carried.len + 1) i.insert_128.new.0 c.insert_count_128.new.0
-    (omega (arith, few, n.if-len-eq-CARRIED.false))
-    (counted-more s.args.carried.len s.args.carried.offsets s.args.carried.counts (full (goal.at.returns c).Start) (full-counts (goal.at.returns c).Start) s.requires.few s.requires.rising s.args.pair.offset s.args.pair.attempt e.if-pair-eq0.left p.find-place.ensures p.in-Missing.is n.if-len-eq-CARRIED.false _ _
-    (put_in_front s.args.carried.len at s.args.pair.offset s.args.carried.offsets (omega (arith, inside)) (omega (arith, full (goal.at.returns c).Start, n.if-len-eq-CARRIED.false)) i.insert_128.ensures)
-    (put_in_front s.args.carried.len at s.args.pair.attempt s.args.carried.counts (omega (arith, inside)) (omega (arith, full-counts (goal.at.returns c).Start, n.if-len-eq-CARRIED.false)) c.insert_count_128.ensures))
+    let k = (goal.at.returns c).Start in
+    let few = c.requires.few in
+    let inside = missing_inside c.args.pair.offset c.args.carried.len c.args.carried.offsets c.find-place.ensures c.in-Missing.is in
+    pair-carried c.args.pair c.args.carried c.requires c.if-carried.false (offset-fits k) (attempt-fits k) (c.args.carried.len + 1) _ _
+    (omega (arith, few, c.if-len-eq-CARRIED.false))
+    (counted-more c.args.carried.len c.args.carried.offsets c.args.carried.counts (full k) (full-counts k) c.requires.few c.requires.rising c.args.pair.offset c.args.pair.attempt c.if-pair-eq0.false c.find-place.ensures c.in-Missing.is c.if-len-eq-CARRIED.false _ _
+    (put_in_front c.args.carried.len c.in-Missing.at c.args.pair.offset c.args.carried.offsets (omega (arith, inside)) (omega (arith, full k, c.if-len-eq-CARRIED.false)) c.insert_128.ensures)
+    (put_in_front c.args.carried.len c.in-Missing.at c.args.pair.attempt c.args.carried.counts (omega (arith, inside)) (omega (arith, full-counts k, c.if-len-eq-CARRIED.false)) c.insert_count_128.ensures))

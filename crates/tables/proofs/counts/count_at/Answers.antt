@@ -1,7 +1,6 @@
 -- `count_at` meets its contract.
 -- Assumes nothing.
 use mathlib.Core.Path.{sym}
-use borrow.Author.Rules.{rules}
 use lib.ListN.{get_or-eq_default}
 use Rattle.tables.proofs.counts.count_at.Goals as goal
 

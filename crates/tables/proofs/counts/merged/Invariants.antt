@@ -1,14 +1,10 @@
 -- `merged` meets its contract. The loop's invariant: what is filled, and what is left of the two lists merged, make the whole.
 -- Assumes nothing.
-use Prim.Native.Nat.{ℕ, ◌-◌, ◌≤◌, ◌<◌}
-use native.Mathlib.Omega.{arith}
-use mathlib.Core.Path.{◌≡◌}
-use mathlib.Core.List.{List}
-use lib.ListN.{take, drop}
-use borrow.Author.Rules.{rules}
-use Rattle.types.specs.Keyed.{Entry, entries}
+use Prim.Native.Nat.{◌-◌}
+use lib.ListN.{take}
+use Rattle.types.specs.Keyed.{entries}
 use Rattle.types.specs.Lists.{counts_in}
-use Rattle.tables.proofs.Merge.{next, next-is, Merging, merging, merging-end, merging-few, merging-more, merges}
+use Rattle.tables.proofs.Merge.{Merging}
 use Rattle.tables.proofs.counts.merged.Given as goal
 
 abbrev pub invariant-loop-k : goal.invariant-loop-k

@@ -1,7 +1,6 @@
 -- `pair_at` meets its contract.
 -- Assumes nothing.
 use native.Mathlib.Omega.{arith}
-use borrow.Author.Rules.{rules}
 use Rattle.tables.proofs.Merge.{pair-there, pair_missing}
 use Rattle.tables.proofs.counts.pair_at.Goals as goal
 

@@ -1,6 +1,5 @@
 -- `pick_lower` meets its contract.
 -- Assumes nothing.
-use borrow.Author.Rules.{rules}
 use borrow.Author.Tests.{lt-ltb, le-ltb}
 use Rattle.tables.proofs.counts.pick_lower.Goals as goal
 

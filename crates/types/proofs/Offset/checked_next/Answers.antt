@@ -1,5 +1,4 @@
 -- `Offset::checked_next` meets its contract. Assumes nothing.
-use borrow.Author.Rules.{rules}
 use borrow.Author.Tests.{eq-eqb, ne_eqb}
 use Rattle.types.proofs.Offset.checked_next.Goals as goal
 

@@ -1,12 +1,12 @@
 -- `list_numbers` meets its contract. The loop's invariant: the first i numbers are written, the places behind the list are as they
 -- were. Assumes nothing.
-use Prim.Native.Nat.{◌-◌, ◌≤◌}
+use Prim.Native.Nat.{◌≤◌}
 use native.Mathlib.Omega.{arith}
 use mathlib.Core.Path.{◌≡◌}
 use lib.ListN.{length}
 use borrow.Author.Rules.{rules}
 use Rattle.types.specs.Lists.{listed_of}
-use Rattle.types.proofs.Listing.{Written, none_written, one_more, numbers_fit, numbers-written}
+use Rattle.types.proofs.Listing.{none_written, one_more, numbers_fit, numbers-written}
 use Rattle.types.proofs.lent.list_numbers.Goals as goal
 use Rattle.types.proofs.lent.list_numbers.Goals.{After-count_of-n}
 

@@ -1,12 +1,7 @@
 -- `list_numbers` meets its contract. The loop's invariant: the first i numbers are written, the places behind the list are as they
 -- were. Assumes nothing.
-use Prim.Native.Nat.{◌-◌, ◌≤◌}
-use native.Mathlib.Omega.{arith}
-use mathlib.Core.Path.{◌≡◌}
-use lib.ListN.{length}
-use borrow.Author.Rules.{rules}
-use Rattle.types.specs.Lists.{listed_of}
-use Rattle.types.proofs.Listing.{Written, none_written, one_more, numbers_fit, numbers-written}
+use Prim.Native.Nat.{◌-◌}
+use Rattle.types.proofs.Listing.{Written}
 use Rattle.types.proofs.lent.list_numbers.Given as goal
 
 abbrev pub invariant-loop-i : goal.invariant-loop-i

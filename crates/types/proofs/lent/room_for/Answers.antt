@@ -1,5 +1,4 @@
 -- `room_for` meets its contract. Assumes nothing.
-use borrow.Author.Rules.{rules}
 use borrow.Author.Tests.{lt-ltb, le-ltb}
 use Rattle.types.proofs.lent.room_for.Goals as goal
 
