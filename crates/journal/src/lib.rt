@@ -2,6 +2,7 @@
 // payload. An area is 1 to 128 blocks of 512 bytes; whatever is no such area, and whatever part is no block, is
 // refused as 4.
 #![tactic(auto)]
+
 ghost use Rattle.std.specs.Prelude.{◌≡◌, suc, ◌+◌, ◌*◌, ◌-◌, ◌≤◌, ◌<◌, min, length, take, drop, replicate, ◌++◌};
 ghost use Rattle.types.specs.Table.{answer};
 ghost use Rattle.crc.specs.Seal.{sealed};

@@ -1,6 +1,6 @@
 -- `crc::after_bytes` meets its contract. The loop's invariant: the table is its rule taken at 0 to 255, and feeding the
 -- bytes that are left to the register as it is gives what feeding all of them to the first register gives. The first
--- `refl` of `loop-holds` is the table's test, which computes all its entries. Assumes nothing.
+-- `refl` of `loop-i-init` is the table's test, which computes all its entries. Assumes nothing.
 use Prim.Native.Nat.{◌≤◌, ◌-◌}
 use native.Mathlib.Omega.{arith}
 use mathlib.Core.Path.{◌≡◌, refl, ◌∙◌}
@@ -21,9 +21,8 @@ after_byte-register-requires c = tabulated remainder _ c.loop-i.invariant.0
 
 pub loop-i-preserved : goal.loop-i-preserved
 loop-i-preserved c =
-    let head = c.before.before.before.before in
-    let l = head.loop-i in
-    let passed = byte-passed head.args.bytes.now l.i l.register c.after_byte-register.result in
+    let l = c.loop-i in
+    let passed = byte-passed c.args.bytes.now l.i l.register c.after_byte-register.result in
     (l.invariant.0, omega arith, passed (omega arith) c.after_byte-register.ensures ∙ l.invariant.2)
 
 pub returns : goal.returns

@@ -1,6 +1,6 @@
 -- `crc::after_bytes` meets its contract. The loop's invariant: the table is its rule taken at 0 to 255, and feeding the
 -- bytes that are left to the register as it is gives what feeding all of them to the first register gives. The first
--- `refl` of `loop-holds` is the table's test, which computes all its entries. Assumes nothing.
+-- `refl` of `loop-i-init` is the table's test, which computes all its entries. Assumes nothing.
 use Prim.Native.Nat.{◌≤◌, ◌-◌}
 use native.Mathlib.Omega.{arith}
 use mathlib.Core.Path.{◌≡◌, refl, ◌∙◌}

@@ -1,5 +1,5 @@
 -- `crc::after_words` meets its contract. The loop's invariant is that of `after_bytes`, with eight bytes to a turn. The
--- first `refl` of `loop-holds` is the nibble tables' test, which computes all entries. Assumes nothing.
+-- first `refl` of `loop-i-init` is the nibble tables' test, which computes all entries. Assumes nothing.
 use Prim.Native.Nat.{◌≤◌, ◌-◌, ◌%◌}
 use native.Mathlib.Omega.{arith}
 use mathlib.Core.Path.{◌≡◌, refl, ◌∙◌}
@@ -22,10 +22,9 @@ after_word-register-requires c = tabulated nibble _ c.loop-i.invariant.0
 
 pub loop-i-preserved : goal.loop-i-preserved
 loop-i-preserved c =
-    let head = c.before.before.before.before in
-    let l = head.loop-i in
-    let bytes = head.args.bytes.now in
-    let b = bytes-known bytes head.shared_slice_known-1.given in
+    let l = c.loop-i in
+    let bytes = c.args.bytes.now in
+    let b = bytes-known bytes c.type_inv.bytes in
     let passed = number_passed bytes l.i l.register 8 c.after_word-register.result b (omega arith) in
     (l.invariant.0, omega arith, omega arith, passed (rw (c.word_at.ensures, word_number bytes l.i (omega arith)) at c.after_word-register.ensures) ∙ l.invariant.3)
 

@@ -1,5 +1,5 @@
 -- `crc::after_words` meets its contract. The loop's invariant is that of `after_bytes`, with eight bytes to a turn. The
--- first `refl` of `loop-holds` is the nibble tables' test, which computes all entries. Assumes nothing.
+-- first `refl` of `loop-i-init` is the nibble tables' test, which computes all entries. Assumes nothing.
 use Prim.Native.Nat.{◌≤◌, ◌-◌, ◌%◌}
 use native.Mathlib.Omega.{arith}
 use mathlib.Core.Path.{◌≡◌, refl, ◌∙◌}

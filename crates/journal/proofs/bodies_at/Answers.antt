@@ -2,7 +2,6 @@
 -- all is the first of those that are left. Assumes nothing.
 use Prim.Native.Nat.{◌+◌, ◌-◌}
 use native.Mathlib.Omega.{arith}
-use borrow.Author.Tests.{not-true, not-false}
 use Rattle.journal.proofs.Walker.{Scanned, scan_none, scan_more, scan_unsound, scan_all}
 use Rattle.journal.proofs.bodies_at.Goals as goal
 
@@ -14,21 +13,19 @@ used_in-used-requires c = c.requires.0
 
 pub returns-then-not-is_sound_body : goal.returns-then-not-is_sound_body
 returns-then-not-is_sound_body c =
-    let u = c.before.before.before in
-    scan_unsound _ _ _ _ _ _ u.loop-j.invariant _ _
-    u.loop-j-test.true
-    u.used_in-used.ensures
+    scan_unsound _ _ _ _ _ _ c.loop-j.invariant _ _
+    c.loop-j-test.true
+    c.used_in-used.ensures
     c.is_sound_body.ensures
-    (not-true _ c.if-not-is_sound_body.true)
+    c.if-not-is_sound_body.true
 
 pub loop-j-preserved : goal.loop-j-preserved
 loop-j-preserved c =
-    let u = c.before.before.before in
-    scan_more _ _ _ _ _ _ u.loop-j.invariant _ _
-    u.loop-j-test.true
-    u.used_in-used.ensures
+    scan_more _ _ _ _ _ _ c.loop-j.invariant _ _
+    c.loop-j-test.true
+    c.used_in-used.ensures
     c.is_sound_body.ensures
-    (not-false _ c.if-not-is_sound_body.false)
+    c.if-not-is_sound_body.false
 
 pub returns : goal.returns
 returns c = scan_all _ _ _ _ _ _ c.loop-j.invariant c.loop-j-test.false

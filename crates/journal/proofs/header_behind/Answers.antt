@@ -22,15 +22,13 @@ overflow_add-to c = omega (arith, c.shorter-end.ensures)
 
 pub returns-then-is_head : goal.returns-then-is_head
 returns-then-is_head c =
-    let l = c.before.before.before in
-    search_found _ _ _ _ c.is_head.ensures _ l.loop-i.invariant.0
-    (omega (arith, l.loop-i-test.true, l.shorter-end.ensures))
+    search_found _ _ _ _ c.is_head.ensures _ c.loop-i.invariant.0
+    (omega (arith, c.loop-i-test.true, c.shorter-end.ensures))
     c.if-is_head.true
 
 pub loop-i-preserved : goal.loop-i-preserved
 loop-i-preserved c =
-    let l = c.before.before.before.before in
-    (omega arith, search_more _ _ _ _ c.is_head.ensures c.if-is_head.false l.loop-i.invariant.1)
+    (omega arith, search_more _ _ _ _ c.is_head.ensures c.if-is_head.false c.loop-i.invariant.1)
 
 pub returns : goal.returns
 returns c = search_ended _ _ _ _ (omega (arith, c.shorter-end.ensures)) c.loop-i.invariant.1

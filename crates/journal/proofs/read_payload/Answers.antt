@@ -10,47 +10,39 @@ use Rattle.journal.specs.Area.{outside}
 use Rattle.journal.proofs.Area.{Inside, inside-says}
 use Rattle.journal.proofs.Reader.{read-nothing, read-outside, read_fits, read_short, read_done}
 use Rattle.journal.proofs.read_payload.Goals as goal
-use Rattle.journal.proofs.read_payload.Goals.{Else-outside, Else-outside-2, Start}
+use Rattle.journal.proofs.read_payload.Goals.{Else-outside, Else-outside-2}
 
 pub returns-then-outside : goal.returns-then-outside
 returns-then-outside c = read-nothing _ _ _ (sym c.outside.ensures ∙ c.if-outside.true)
 
-abbrev start : Else-outside → Start
-start c = c.before.before.before.before
-
 -- the header lies in the area
-inside : (c : Else-outside) → Inside (length (start c).args.area.now) (start c).args.at
+inside : (c : Else-outside) → Inside (length c.args.area.now) c.args.at
 inside c = inside-says _ _ (sym c.outside.ensures ∙ c.if-outside.false)
 
 pub overflow_mul-from : goal.overflow_mul-from
-overflow_mul-from c = omega (arith, (inside c).ranges)
+overflow_mul-from c = omega (arith, (inside (goal.at.overflow_mul-from c).Else-outside).fits)
 
 pub overflow_add-to : goal.overflow_add-to
-overflow_add-to c = omega (arith, (inside c).ranges)
+overflow_add-to c = omega (arith, (inside (goal.at.overflow_add-to c).Else-outside).fits)
 
 pub overflow_add-at : goal.overflow_add-at
 overflow_add-at c = omega (arith, (inside (goal.at.overflow_add-at c).Else-outside).fits, c.bodies_for-bodies.ensures)
 
 pub returns-then-outside-2 : goal.returns-then-outside-2
 returns-then-outside-2 c =
-    let n = c.before.before in
-    read-outside _ _ _ _ n.read_header-header.ensures _
-    n.bodies_for-bodies.ensures
+    read-outside _ _ _ _ c.read_header-header.ensures _
+    c.bodies_for-bodies.ensures
     (sym c.outside-2.ensures ∙ c.if-outside-2.true)
-
-abbrev first : Else-outside-2 → Start
-first c = start c.before.before.before.before.before.before.before
 
 -- the last body lies in the area
 there : (c : Else-outside-2)
-    → outside (length (first c).args.area.now) ((first c).args.at + c.bodies_for-bodies.result) ≡ false
+    → outside (length c.args.area.now) (c.args.at + c.bodies_for-bodies.result) ≡ false
 there c = sym c.outside-2.ensures ∙ c.if-outside-2.false
 
 pub returns-then-out-total : goal.returns-then-out-total
 returns-then-out-total c =
-    let n = c.before.before.before in
-    read_short _ _ _ _ n.read_header-header.ensures _
-    n.bodies_for-bodies.ensures
+    read_short _ _ _ _ c.read_header-header.ensures _
+    c.bodies_for-bodies.ensures
     (there (goal.at.returns-then-out-total c).Else-outside-2)
     c.if-out-total.true
 
@@ -59,19 +51,15 @@ overflow_add-at-2 c = omega (arith, (inside (goal.at.overflow_add-at-2 c).Else-o
 
 pub copy_payload-requires : goal.copy_payload-requires
 copy_payload-requires c =
-    let e = c.before.before in
-    let n = e.before.before in
-    let o = (first (goal.at.copy_payload-requires c).Else-outside-2).args.out.now in (
-      read_fits _ _ o _ n.read_header-header.ensures _ n.bodies_for-bodies.ensures (there (goal.at.copy_payload-requires c).Else-outside-2),
+    let o = c.args.out.now in (
+      read_fits _ _ o _ c.read_header-header.ensures _ c.bodies_for-bodies.ensures (there (goal.at.copy_payload-requires c).Else-outside-2),
       c.if-out-total.false,
     )
 
 pub returns : goal.returns
 returns c =
-    let e = c.before.before.before.before.before in
-    let n = e.before.before in
-    read_done _ _ _ _ n.read_header-header.ensures _
-    n.bodies_for-bodies.ensures
+    read_done _ _ _ _ c.read_header-header.ensures _
+    c.bodies_for-bodies.ensures
     (there (goal.at.returns c).Else-outside-2)
     _
     c.if-out-total.false

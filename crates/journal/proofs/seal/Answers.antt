@@ -10,7 +10,6 @@ slice_bounds-crc32c-end-2 c = simp length-take (omega arith)
 
 pub returns : goal.returns
 returns c =
-    let s = c.before.before.before.before.before.before.before in
-    seal-made s.args.block.now _ _ _ s.requires
+    seal-made c.args.block.now _ _ _ c.requires
     c.crc32c-check.ensures
     c.write_u32.ensures

@@ -12,7 +12,6 @@ use Rattle.raw.proofs.Bytes.{bytes-known}
 use Rattle.journal.specs.Area.{bad_length}
 use Rattle.journal.specs.Walks.{group, group_at, Stop, walk_from, walk}
 use Rattle.journal.specs.Answers.{walk_in, last_of, found_of}
-use Rattle.journal.proofs.Walker.{
 use Rattle.journal.proofs.walk.Given as goal
 
 abbrev pub invariant-loop-at : goal.invariant-loop-at

@@ -9,41 +9,35 @@ use Rattle.journal.specs.Area.{outside}
 use Rattle.journal.proofs.Area.{Inside, inside-says}
 use Rattle.journal.proofs.Writer.{outside-refused, part_filled}
 use Rattle.journal.proofs.write_block.Goals as goal
-use Rattle.journal.proofs.write_block.Goals.{Else-outside, Start}
+use Rattle.journal.proofs.write_block.Goals.{Else-outside}
 
 pub returns-then-outside : goal.returns-then-outside
 returns-then-outside c = outside-refused _ _ _ (sym c.outside.ensures ∙ c.if-outside.true)
 
-abbrev start : Else-outside → Start
-start c = c.before.before.before.before
-
 -- the block lies in the area
-there : (c : Else-outside) → outside (length (start c).args.area.now) (start c).args.at ≡ false
+there : (c : Else-outside) → outside (length c.args.area.now) c.args.at ≡ false
 there c = sym c.outside.ensures ∙ c.if-outside.false
 
-inside : (c : Else-outside) → Inside (length (start c).args.area.now) (start c).args.at
-inside c = inside-says _ _ (there c)
+inside : (c : Else-outside) → Inside (length c.args.area.now) c.args.at
+inside c = inside-says _ _ (sym c.outside.ensures ∙ c.if-outside.false)
 
 pub overflow_mul-start : goal.overflow_mul-start
-overflow_mul-start c = omega (arith, (inside c).ranges)
+overflow_mul-start c = omega (arith, (inside (goal.at.overflow_mul-start c).Else-outside).fits)
 
 pub overflow_add-end : goal.overflow_add-end
-overflow_add-end c = omega (arith, (inside c).ranges)
+overflow_add-end c = omega (arith, (inside (goal.at.overflow_add-end c).Else-outside).fits)
 
 pub returns-in-Header : goal.returns-in-Header
 returns-in-Header c =
-    let k = c.before.before.before.before in
-    rw k.in-Header.is
+    rw c.in-Header.is
     (part_filled _ _ _ _ _ (there (goal.at.returns-in-Header c).Else-outside) c.write_header.ensures)
 
 pub returns-in-Body : goal.returns-in-Body
 returns-in-Body c =
-    let k = c.before.before.before.before in
-    rw k.in-Body.is
+    rw c.in-Body.is
     (part_filled _ _ _ _ _ (there (goal.at.returns-in-Body c).Else-outside) c.write_body.ensures)
 
 pub returns-in-Zeros : goal.returns-in-Zeros
 returns-in-Zeros c =
-    let k = c.before.before.before.before in
-    rw k.in-Zeros.is
+    rw c.in-Zeros.is
     (part_filled _ _ _ _ _ (there (goal.at.returns-in-Zeros c).Else-outside) c.write_zeros.ensures)

@@ -14,9 +14,8 @@ loop-i-init c = (omega arith, refl)
 
 pub loop-i-preserved : goal.loop-i-preserved
 loop-i-preserved c =
-    let head = c.before.before.before in
-    let l = head.loop-i in
-    let passed = byte-passed head.args.bytes.now l.i l.register c.after_one-register.result in
+    let l = c.loop-i in
+    let passed = byte-passed c.args.bytes.now l.i l.register c.after_one-register.result in
     (omega arith, passed (omega arith) c.after_one-register.ensures ∙ l.invariant.1)
 
 pub returns : goal.returns

@@ -16,10 +16,9 @@ loop-i-init c = (omega arith, omega arith, refl)
 
 pub loop-i-preserved : goal.loop-i-preserved
 loop-i-preserved c =
-    let head = c.before.before.before in
-    let l = head.loop-i in
-    let bytes = head.args.bytes.now in
-    let b = bytes-known bytes head.shared_slice_known-1.given in
+    let l = c.loop-i in
+    let bytes = c.args.bytes.now in
+    let b = bytes-known bytes c.type_inv.bytes in
     let passed = number_passed bytes l.i l.register 4 c.after_half-register.result b (omega arith) in
     (omega arith, omega arith, passed (rw (c.half_at.ensures, half-number bytes l.i (omega arith)) at c.after_half-register.ensures) ∙ l.invariant.2)
 

@@ -8,8 +8,6 @@ use Rattle.crc.proofs.short.after_one.Goals as goal
 
 pub returns : goal.returns
 returns c =
-    let second = c.before.before in
-    let first = second.before in
-    let a = first.args in
-    by_fed a.register a.byte _ first.ranges.register.fits
-    (two_nibbles (bit_xor a.register a.byte % 256) _ _ (omega arith) first.in_byte-upper.ensures.0 second.in_byte-lower.ensures.1)
+    let a = c.args in
+    by_fed a.register a.byte _ c.ranges.register.fits
+    (two_nibbles (bit_xor a.register a.byte % 256) _ _ (omega arith) c.in_byte-upper.ensures.0 c.in_byte-lower.ensures.1)
