@@ -21,13 +21,12 @@ use borrow.Author.Rules.{rules}
 use Rattle.lease.proofs.listings.resume_attempts.Goals as goal
 
 pub loop-i-init : goal.loop-i-init
-loop-i-init c =
-    (
-      c.shorter-n.ensures,
-      omega arith,
-      c.carried_counts-carried.ensures.tidy,
-      ap (carry_on_all (entries c.args.offsets.now c.args.attempts.now)) c.carried_counts-carried.ensures.is,
-    )
+loop-i-init c = (
+  c.shorter-n.ensures,
+  omega arith,
+  c.carried_counts-carried.ensures.tidy,
+  ap (carry_on_all (entries c.args.offsets.now c.args.attempts.now)) c.carried_counts-carried.ensures.is,
+)
 
 pub carry_pair-carried-requires : goal.carry_pair-carried-requires
 carry_pair-carried-requires c =

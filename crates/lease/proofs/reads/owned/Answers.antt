@@ -19,11 +19,10 @@ lease_at-lease-requires c =
     (c.requires, in_use c.requires o c.in-Found.at (subst (PlacedIn o c.args.table.now) c.in-Found.is c.find-place.ensures))
 
 pub returns-then-lease-token : goal.returns-then-lease-token
-returns-then-lease-token c =
-    (
-      subst (PlacedIn c.args.token.offset.0 c.args.table.now) c.in-Found.is c.find-place.ensures,
-      sym (ap (λ (h : Lease). h.generation.0) c.lease_at-lease.ensures) ∙ c.if-lease-token.true,
-    )
+returns-then-lease-token c = (
+  subst (PlacedIn c.args.token.offset.0 c.args.table.now) c.in-Found.is c.find-place.ensures,
+  sym (ap (λ (h : Lease). h.generation.0) c.lease_at-lease.ensures) ∙ c.if-lease-token.true,
+)
 
 pub returns : goal.returns
 returns c =
