@@ -6,8 +6,6 @@ pub mod Workers
 pub mod Counts
 pub mod Leases
 pub mod Slots
-mod CountsHanded
-pub mod OffsetsHanded
 mod Bounds
 mod Returns
 mod Whole

@@ -1,15 +1,15 @@
 -- Two sorted lists of counts merged in one pass give what raising the one by each entry of the other gives.
 -- Assumes nothing.
-use Prim.Native.Nat.{ℕ, suc, max}
+use Prim.Native.Nat.{ℕ, suc, max, ◌<◌}
 use native.Mathlib.Omega.{arith}
 use native.Mathlib.Decide.{dec_lt, ℕ_discrete}
 use mathlib.Core.Path.{◌≡◌, refl, sym, ap, ◌∙◌}
 use mathlib.Core.List.{List, [], ◌∷◌}
-use mathlib.Core.Option.{none}
+use mathlib.Core.Option.{Option, none, get_or}
 use lib.ListN.{take}
 use lib.Seq.{take_all}
 use borrow.Author.Tests.{lt-ltb, le-ltb, eq-eqb, ne_eqb}
-use Rattle.types.specs.Keyed.{Entry, entry, lookup, Rising}
+use Rattle.types.specs.Keyed.{Entry, entry, lookup, put, Rising}
 use Rattle.types.proofs.Keyed.{rising-weaken, lookup-under, rising-map_values}
 use Rattle.tables.specs.Merge.{merge_entry, merge}
 use Rattle.lease.specs.State.{Table, Valid, Sound, view, carried_of}
@@ -19,12 +19,20 @@ use Rattle.lease.specs.declared.LeaseTable.{LeaseTable}
 use Rattle.lease.proofs.Counts.{all-counts-few}
 
 -- ## the merged list
+-- an entry of a smaller offset is no matter to a raise
+past-lookup : (c : Entry ℕ) (o : ℕ) (l : List (Entry ℕ)) → c.key < o → lookup o (c ∷ l) ≡ lookup o l
+past-lookup c o l h = rw (ne_eqb o c.key (λ q. omega arith))
+
+past-raise : (c : Entry ℕ) (o n : ℕ) (l : List (Entry ℕ)) → c.key < o → raise o n (c ∷ l) ≡ c ∷ raise o n l
+past-raise c o n l h =
+    rw (le-ltb o c.key (omega arith), ne_eqb o c.key (λ q. omega arith)) (ap (λ (x : Option ℕ). c ∷ put o (max (get_or x 0) n) l) (past-lookup c o l h))
+
 -- an entry below all of a list stays in front
 raise-past : (c : Entry ℕ) (k l : List (Entry ℕ)) → Rising (suc c.key) k → raise_all k (c ∷ l) ≡ c ∷ raise_all k l
 raise-past c [] l r = refl
 raise-past c (e ∷ k) l r =
-    rw (le-ltb e.key c.key (omega arith), ne_eqb e.key c.key (λ q. omega arith))
-    (raise-past c k (raise e.key e.value l) (rising-weaken (suc c.key) (suc e.key) k (omega (arith, r.0)) r.1))
+    ap (raise_all k) (past-raise c e.key e.value l (omega (arith, r.0)))
+    ∙ raise-past c k (raise e.key e.value l) (rising-weaken (suc c.key) (suc e.key) k (omega (arith, r.0)) r.1)
 
 -- one entry merged is one entry raised
 merge-entry : (lo : ℕ) (e : Entry ℕ) (k l : List (Entry ℕ)) → Rising (suc e.key) k → Rising lo l
@@ -40,8 +48,12 @@ merge-entry lo e k (c ∷ l) r s ih =
       | no h ↦ elim (ℕ_discrete e.key c.key) [
         | yes q ↦ rw (le-ltb e.key c.key (omega arith), eq-eqb e.key c.key q)
             (ap (λ (t : List (Entry ℕ)). entry e.key (max c.value e.value) ∷ t) (ih l (suc c.key) s.1) ∙ sym (raise-past (entry e.key (max c.value e.value)) k l r))
-        | no q ↦ rw (le-ltb e.key c.key (omega arith), ne_eqb e.key c.key q)
-            (ap (λ (t : List (Entry ℕ)). c ∷ t) (merge-entry (suc c.key) e k l r s.1 ih) ∙ sym (raise-past c k (raise e.key e.value l) (rising-weaken (suc c.key) (suc e.key) k (omega arith) r)))
+        | no q ↦
+            let p : c.key < e.key = omega arith in
+            let one : merge_entry e (merge k) (c ∷ l) ≡ c ∷ merge_entry e (merge k) l = rw (le-ltb e.key c.key (omega arith), ne_eqb e.key c.key q) refl in
+            one ∙ ap (λ (t : List (Entry ℕ)). c ∷ t) (merge-entry (suc c.key) e k l r s.1 ih)
+            ∙ sym (raise-past c k (raise e.key e.value l) (rising-weaken (suc c.key) (suc e.key) k (omega arith) r))
+            ∙ ap (raise_all k) (sym (past-raise c e.key e.value l p))
       ]
     ]
 

@@ -3,6 +3,7 @@
 // generation, so that whoever held the message before is fenced off. The caller brings the time, in nanoseconds of any
 // clock: it may stand still or run backwards.
 #![tactic(auto)]
+
 ghost use Rattle.std.specs.Prelude.{◌≡◌, map, length};
 ghost use Rattle.types.specs.Limits.{LEASES};
 ghost use Rattle.types.specs.Refusal.{done, optional};

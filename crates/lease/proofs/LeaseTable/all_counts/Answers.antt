@@ -8,5 +8,4 @@ all_counts_in_place-requires c = c.requires.len
 
 pub returns : goal.returns
 returns c =
-    let s = c.before.before.before.before.before.before.before in
-    c.all_counts_in_place.ensures s.args.self (whole s.well-formed.0 s.requires)
+    c.all_counts_in_place.ensures c.args.self (whole c.well_formed.0 c.requires)

@@ -6,4 +6,4 @@ use Rattle.lease.proofs.Whole.{filled}
 use Rattle.lease.proofs.LeaseTable.carried.Goals as goal
 
 pub returns : goal.returns
-returns c = sym (carried-length c.args.self (filled c.well-formed.0) c.requires)
+returns c = sym (carried-length c.args.self (filled c.well_formed.0) c.requires)

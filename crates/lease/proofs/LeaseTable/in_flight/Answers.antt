@@ -6,4 +6,4 @@ use Rattle.lease.proofs.Whole.{filled}
 use Rattle.lease.proofs.LeaseTable.in_flight.Goals as goal
 
 pub returns : goal.returns
-returns c = sym (in_flight_lem c.args.self (filled c.well-formed.0) c.requires)
+returns c = sym (in_flight_lem c.args.self (filled c.well_formed.0) c.requires)

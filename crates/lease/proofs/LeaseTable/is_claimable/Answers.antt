@@ -6,12 +6,8 @@ use Rattle.lease.proofs.LeaseTable.is_claimable.Goals as goal
 
 pub is_claimable_at-requires : goal.is_claimable_at-requires
 is_claimable_at-requires c =
-    let f = c.before.before.before in
-    let s = f.before.before.before.before in
-    placed-within s.args.offset.0 s.args.self.len s.args.self.offsets f.find-place.result s.requires.len f.find-place.ensures
+    placed-within c.args.offset.0 c.args.self.len c.args.self.offsets c.find-place.result c.requires.len c.find-place.ensures
 
 pub returns : goal.returns
 returns c =
-    let f = c.before.before.before.before in
-    let s = f.before.before.before.before in
-    c.is_claimable_at.ensures s.args.offset.0 s.args.self (whole s.well-formed.0 s.requires) f.find-place.ensures
+    c.is_claimable_at.ensures c.args.offset.0 c.args.self (whole c.well_formed.0 c.requires) c.find-place.ensures

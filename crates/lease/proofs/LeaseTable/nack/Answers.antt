@@ -7,40 +7,29 @@ use Rattle.lease.proofs.Whole.{filled, whole}
 use Rattle.lease.proofs.Tokens.{owned_at, owned-used, not_owned, nack-fenced}
 use Rattle.lease.proofs.Bounds.{in_use}
 use Rattle.lease.proofs.LeaseTable.nack.Goals as goal
-use Rattle.lease.proofs.LeaseTable.nack.Goals.{In-Found-2, Start}
+use Rattle.lease.proofs.LeaseTable.nack.Goals.{In-Found, Start}
 
 full : (s : Start) → Full s.args.self
-full s = filled s.well-formed.0
-
-abbrev start : In-Found-2 → Start
-start p = p.before.before.before.before.before.before.before.before.before
+full s = filled s.well_formed.0
 
 -- the lease that the token owns, at a place in use
-own : (p : In-Found-2) → let s = start p in OwnedAt s.args.token.offset.0 s.args.token.generation.0 (take s.args.self.len s.args.self.offsets) s.args.self.slots s.args.self.generations p.in-Found.at
-own p = let s = start p in owned_at s.args.token.offset.0 s.args.token.generation.0 (take s.args.self.len s.args.self.offsets) s.args.self.slots s.args.self.generations p.owned-place.ensures p.in-Found.is
+own : (p : In-Found) → let s = p in OwnedAt s.args.token.offset.0 s.args.token.generation.0 (take s.args.self.len s.args.self.offsets) s.args.self.slots s.args.self.generations p.in-Found.at
+own p = owned_at p.args.token.offset.0 p.args.token.generation.0 (take p.args.self.len p.args.self.offsets) p.args.self.slots p.args.self.generations p.owned-place.ensures p.in-Found.is
 
-used : (p : In-Found-2) → p.in-Found.at < (start p).args.self.len
-used p = let s = start p in owned-used s.args.token.offset.0 s.args.token.generation.0 s.args.self.len s.args.self.offsets s.args.self.slots s.args.self.generations (own p)
+used : (p : In-Found) → p.in-Found.at < p.args.self.len
+used p = owned-used p.args.token.offset.0 p.args.token.generation.0 p.args.self.len p.args.self.offsets p.args.self.slots p.args.self.generations (own p)
 
 pub owned-place-requires : goal.owned-place-requires
 owned-place-requires c = c.requires.len
 
-pub enum_known-place : goal.enum_known-place
-enum_known-place c = c.in-Found.keys1
-
-pub enum_told-1 : goal.enum_told-1
-enum_told-1 c = c.in-Found.keys2
-
 pub returns-in_default : goal.returns-in_default
 returns-in_default c =
-    let s = c.before.before.before.before.before.before.before.before.before in
-    nack-fenced s.args.self (full (goal.at.returns-in_default c).Start) s.requires s.args.token.offset.0 s.args.token.generation.0 (not_owned s.args.self (full (goal.at.returns-in_default c).Start) s.requires s.args.token.offset.0 s.args.token.generation.0 c.owned-place.ensures c.in_default.is) s.args.now s.args.delay_nanos
+    nack-fenced c.args.self (full (goal.at.returns-in_default c).Start) c.requires c.args.token.offset.0 c.args.token.generation.0 (not_owned c.args.self (full (goal.at.returns-in_default c).Start) c.requires c.args.token.offset.0 c.args.token.generation.0 c.owned-place.ensures c.in_default.is) c.args.now c.args.delay_nanos
 
 pub nack_at-done-requires : goal.nack_at-done-requires
-nack_at-done-requires c = let p = c.before.before.before.before.before in in_use (used (goal.at.nack_at-done-requires c).In-Found-2) (start (goal.at.nack_at-done-requires c).In-Found-2).requires.len
+nack_at-done-requires c = in_use (used (goal.at.nack_at-done-requires c).In-Found) ((goal.at.nack_at-done-requires c).Start).requires.len
 
 pub returns : goal.returns
 returns c =
-    let p = c.before.before.before.before.before.before.before in
-    let s = start (goal.at.returns c).In-Found-2 in
-    c.nack_at-done.ensures s.args.self (whole s.good.0 s.requires) s.args.token.offset.0 s.args.token.generation.0 (own (goal.at.returns c).In-Found-2)
+    let s = (goal.at.returns c).Start in
+    c.nack_at-done.ensures s.args.self (whole s.well_formed.0 s.requires) s.args.token.offset.0 s.args.token.generation.0 (own (goal.at.returns c).In-Found)

@@ -7,5 +7,4 @@ use Rattle.lease.proofs.LeaseTable.note_attempts_flushed.Goals as goal
 
 pub returns : goal.returns
 returns c =
-    let s = c.before in
-    becomes (record { len = s.requires.len; carried-len = s.requires.carried-len; slots = s.requires.slots; is = rw c.after_flush.ensures }) (valid-flushed (view s.args.self) s.requires.valid)
+    becomes (record { len = c.requires.len; carried-len = c.requires.carried-len; slots = c.requires.slots; is = rw c.after_flush.ensures }) (valid-flushed (view c.args.self) c.requires.valid)

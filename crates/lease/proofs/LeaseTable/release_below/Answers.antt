@@ -8,5 +8,4 @@ release_below_in_place-left-requires c = c.requires.len
 
 pub returns : goal.returns
 returns c =
-    let s = c.before.before.before.before.before.before.before.before.before in
-    c.release_below_in_place-left.ensures s.args.self (whole s.well-formed.0 s.requires)
+    c.release_below_in_place-left.ensures c.args.self (whole c.well_formed.0 c.requires)

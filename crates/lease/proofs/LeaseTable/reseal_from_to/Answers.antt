@@ -8,46 +8,29 @@ use Rattle.lease.proofs.Bounds.{in_use, time_at}
 use Rattle.lease.proofs.Tokens.{owned_at, owned-used, not_owned}
 use Rattle.lease.proofs.Questions.{not_resealed, resealed}
 use Rattle.lease.proofs.LeaseTable.reseal_from_to.Goals as goal
-use Rattle.lease.proofs.LeaseTable.reseal_from_to.Goals.{In-Found-2, Start}
+use Rattle.lease.proofs.LeaseTable.reseal_from_to.Goals.{In-Found, Start}
 
 full : (s : Start) → Full s.args.self
-full s = filled s.well-formed.0
-
-abbrev start : In-Found-2 → Start
-start p = p.before.before.before.before.before.before.before.before.before
+full s = filled s.well_formed.0
 
 -- the lease that the token owns, at a place in use
-own : (p : In-Found-2) → let s = start p in OwnedAt s.args.offset.0 s.args.from.0 (take s.args.self.len s.args.self.offsets) s.args.self.slots s.args.self.generations p.in-Found.at
-own p = let s = start p in owned_at s.args.offset.0 s.args.from.0 (take s.args.self.len s.args.self.offsets) s.args.self.slots s.args.self.generations p.owned-place.ensures p.in-Found.is
+own : (p : In-Found) → let s = p in OwnedAt s.args.offset.0 s.args.from.0 (take s.args.self.len s.args.self.offsets) s.args.self.slots s.args.self.generations p.in-Found.at
+own p = owned_at p.args.offset.0 p.args.from.0 (take p.args.self.len p.args.self.offsets) p.args.self.slots p.args.self.generations p.owned-place.ensures p.in-Found.is
 
-used : (p : In-Found-2) → p.in-Found.at < (start p).args.self.len
-used p = let s = start p in owned-used s.args.offset.0 s.args.from.0 s.args.self.len s.args.self.offsets s.args.self.slots s.args.self.generations (own p)
+used : (p : In-Found) → p.in-Found.at < p.args.self.len
+used p = owned-used p.args.offset.0 p.args.from.0 p.args.self.len p.args.self.offsets p.args.self.slots p.args.self.generations (own p)
 
 pub owned-place-requires : goal.owned-place-requires
 owned-place-requires c = c.requires.len
 
-pub enum_known-place : goal.enum_known-place
-enum_known-place c = c.in-Found.keys1
-
-pub enum_told-1 : goal.enum_told-1
-enum_told-1 c = c.in-Found.keys2
-
 pub returns-in_default : goal.returns-in_default
 returns-in_default c =
-    let s = c.before.before.before.before.before.before.before.before.before in
-    not_resealed s.args.self (full (goal.at.returns-in_default c).Start) s.requires s.args.offset.0 s.args.from.0 s.args.generation.0 (not_owned s.args.self (full (goal.at.returns-in_default c).Start) s.requires s.args.offset.0 s.args.from.0 c.owned-place.ensures c.in_default.is)
+    not_resealed c.args.self (full (goal.at.returns-in_default c).Start) c.requires c.args.offset.0 c.args.from.0 c.args.generation.0 (not_owned c.args.self (full (goal.at.returns-in_default c).Start) c.requires c.args.offset.0 c.args.from.0 c.owned-place.ensures c.in_default.is)
 
 pub slot_at-slot-requires : goal.slot_at-slot-requires
-slot_at-slot-requires c = let p = c.before.before in in_use (used (goal.at.slot_at-slot-requires c).In-Found-2) (start (goal.at.slot_at-slot-requires c).In-Found-2).requires.len
-
-pub offset_bounds-generations-slot : goal.offset_bounds-generations-slot
-offset_bounds-generations-slot c = time_at c.slot_at-slot.ensures.1
-
-pub bounds-generations-slot : goal.bounds-generations-slot
-bounds-generations-slot c = c.slot_at-slot.ensures.1
+slot_at-slot-requires c = in_use (used (goal.at.slot_at-slot-requires c).In-Found) ((goal.at.slot_at-slot-requires c).Start).requires.len
 
 pub returns : goal.returns
 returns c =
-    let p = c.before.before.before in
-    let s = start (goal.at.returns c).In-Found-2 in
-    rw c.slot_at-slot.ensures.0 (resealed s.args.self (full (goal.at.returns c).Start) s.requires s.args.offset.0 s.args.from.0 s.args.generation.0 (own (goal.at.returns c).In-Found-2))
+    let s = (goal.at.returns c).Start in
+    rw c.slot_at-slot.ensures.0 (resealed s.args.self (full (goal.at.returns c).Start) s.requires s.args.offset.0 s.args.from.0 s.args.generation.0 (own (goal.at.returns c).In-Found))

@@ -12,9 +12,8 @@ use Rattle.lease.proofs.LeaseTable.resume_pair.Goals as goal
 
 pub returns : goal.returns
 returns c =
-    let s = c.before.before.before in
-    let pair = s.args.pair in
-    let t = view s.args.self in
+    let pair = c.args.pair in
+    let t = view c.args.self in
     let is = c.carry_pair-carried.ensures.is ∙ ap (carry_on (entry_of pair)) c.carried_so_far.ensures.is in
     let r = c.resumed.result in
-    subst (Answers (resume_of r.outcome) s.args.self r.table) (ap (resumed_with t) is ∙ resumed-all t (entry_of pair ∷ []) s.requires.valid) c.resumed.ensures
+    subst (Answers (resume_of r.outcome) c.args.self r.table) (ap (resumed_with t) is ∙ resumed-all t (entry_of pair ∷ []) c.requires.valid) c.resumed.ensures

@@ -13,9 +13,8 @@ returns-then-carried c = resume-refused c.args.self c.requires.0 c.args.carried 
 
 pub returns : goal.returns
 returns c =
-    let s = c.before.before.before in
-    let held = s.args.carried in
+    let held = c.args.carried in
     let f : length held.offsets ≡ CARRIED = search rules in
     let g : length held.counts ≡ CARRIED = search rules in
-    let n = length-used 0 held.len held.offsets held.counts (omega (arith, s.requires.1.few)) (omega (arith, s.requires.1.few)) in
-    resumed s.args.self s.requires.0 held s.requires.1 c.if-carried.false (omega (arith, n, s.requires.1.few)) (record { len = s.requires.0.len; carried-len = s.requires.1.few; slots = s.requires.0.slots; is = refl })
+    let n = length-used 0 held.len held.offsets held.counts (omega (arith, c.requires.1.few)) (omega (arith, c.requires.1.few)) in
+    resumed c.args.self c.requires.0 held c.requires.1 c.if-carried.false (omega (arith, n, c.requires.1.few)) (record { len = c.requires.0.len; carried-len = c.requires.1.few; slots = c.requires.0.slots; is = refl })

@@ -10,18 +10,14 @@ use Rattle.lease.proofs.LeaseTable.shift_deadlines.Goals as goal
 
 pub shift-requires : goal.shift-requires
 shift-requires c =
-    let s = c.before in
-    let full : length s.args.self.attempt_starts ≡ LEASES = search rules in
+    let full : length c.args.self.attempt_starts ≡ LEASES = search rules in
     full
 
 pub shift-requires-2 : goal.shift-requires-2
 shift-requires-2 c =
-    let s = c.before.before.before in
-    let full : length s.args.self.deadlines ≡ LEASES = search rules in
+    let full : length c.args.self.deadlines ≡ LEASES = search rules in
     full
 
 pub returns : goal.returns
 returns c =
-    let a = c.before.before in
-    let s = a.before.before in
-    shifts s.args.self (filled s.well-formed.0) s.requires s.args.delta a.shift.new.0 c.shift-2.new.0 a.shift.ensures c.shift-2.ensures
+    shifts c.args.self (filled c.well_formed.0) c.requires c.args.delta c.shift.new.times c.shift-2.new.times c.shift.ensures c.shift-2.ensures

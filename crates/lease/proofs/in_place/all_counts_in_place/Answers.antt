@@ -9,7 +9,5 @@ use Rattle.lease.proofs.in_place.all_counts_in_place.Goals as goal
 
 pub returns : goal.returns
 returns c t w =
-    let l = c.before.before.before in
-    let s = l.before in
-    let table = listing_all s.args.len s.args.carried_len s.args.offsets.now s.args.slots.now s.args.deliveries.now s.args.carried_offsets.now s.args.carried_counts.now t in
-    subst (ListsCounts c.merged.result) (all-counted table w.sound _ (l.lease_counts_in_place-leased.ensures table w).is) c.merged.ensures
+    let table = listing_all c.args.len c.args.carried_len c.args.offsets.now c.args.slots.now c.args.deliveries.now c.args.carried_offsets.now c.args.carried_counts.now t in
+    subst (ListsCounts c.merged.result) (all-counted table w.sound _ (c.lease_counts_in_place-leased.ensures table w).is) c.merged.ensures

@@ -16,29 +16,17 @@ table s =
     gathered s.args.config s.args.len s.args.carried_len s.args.next s.args.redeliveries
     s.args.offsets.now s.args.slots.now s.args.generations.now s.args.attempt_starts.now s.args.deadlines.now s.args.deliveries.now s.args.workers.now s.args.carried_offsets.now s.args.carried_counts.now
 
-pub enum_known-place : goal.enum_known-place
-enum_known-place c = c.in-Found.keys1
-
 pub claim_again-requires : goal.claim_again-requires
 claim_again-requires c =
-    let p = c.before.before.before.before.before.before.before in
-    let s = p.before.before in
-    omega (arith, found-used s.args.offset s.args.len s.args.offsets.now s.requires.1 p.in-Found.is, s.requires.0.sound.len)
-
-pub enum_known-place-in-Missing-1 : goal.enum_known-place-in-Missing-1
-enum_known-place-in-Missing-1 c = c.in-Found.keys2
+    omega (arith, found-used c.args.offset c.args.len c.args.offsets.now c.requires.1 c.in-Found.is, c.requires.0.sound.len)
 
 pub claim_first-requires : goal.claim_first-requires
 claim_first-requires c =
-    let p = c.before.before.before.before.before.before.before.before.before.before in
-    let s = p.before.before in
-    (s.requires.0, subst (Placed s.args.offset (take s.args.len s.args.offsets.now)) p.in-Missing.is s.requires.1)
+    (c.requires.0, subst (Placed c.args.offset (take c.args.len c.args.offsets.now)) c.in-Missing.is c.requires.1)
 
 pub returns-in-Found : goal.returns-in-Found
 returns-in-Found c =
-    let p = c.before.before.before.before.before.before.before.before in
-    let s = p.before.before in
-    c.claim_again.ensures (table (goal.at.returns-in-Found c).Start) s.requires.0 (subst (Placed s.args.offset (take s.args.len s.args.offsets.now)) p.in-Found.is s.requires.1)
+    c.claim_again.ensures (table (goal.at.returns-in-Found c).Start) c.requires.0 (subst (Placed c.args.offset (take c.args.len c.args.offsets.now)) c.in-Found.is c.requires.1)
 
 pub returns-in-Missing : goal.returns-in-Missing
 returns-in-Missing c = c.claim_first.ensures

@@ -16,39 +16,22 @@ use Rattle.lease.proofs.in_place.extend_at.Goals.{After-cap, Start}
 abbrev table : Start → LeaseTable → LeaseTable
 table s = extending s.args.config s.args.slots.now s.args.attempt_starts.now s.args.deadlines.now
 
-abbrev start : After-cap → Start
-start k = k.before.before.before
-
 -- the cap of the attempt
-cap-is : (k : After-cap) → let s = start k in k.cap.result ≡ cap_from s.args.config (get_or s.args.attempt_starts.now (slot_in s.args.slots.now s.args.at) 0)
-cap-is k = let s = start k in k.cap.ensures ∙ ap (λ (i : ℕ). cap_from s.args.config (get_or s.args.attempt_starts.now i 0)) k.slot_at-slot.ensures.0
+cap-is : (k : After-cap) → let s = k in k.cap.result ≡ cap_from s.args.config (get_or s.args.attempt_starts.now (slot_in s.args.slots.now s.args.at) 0)
+cap-is k = k.cap.ensures ∙ ap (λ (i : ℕ). cap_from k.args.config (get_or k.args.attempt_starts.now i 0)) k.slot_at-slot.ensures.0
 
 pub slot_at-slot-requires : goal.slot_at-slot-requires
 slot_at-slot-requires c = c.requires
 
-pub offset_bounds-attempt_starts-slot : goal.offset_bounds-attempt_starts-slot
-offset_bounds-attempt_starts-slot c = time_at c.slot_at-slot.ensures.1
-
-pub bounds-attempt_starts-slot : goal.bounds-attempt_starts-slot
-bounds-attempt_starts-slot c = c.slot_at-slot.ensures.1
-
 pub returns-then-cap-now : goal.returns-then-cap-now
 returns-then-cap-now c t w o g p =
-    let s = start (goal.at.returns-then-cap-now c).After-cap in
+    let s = (goal.at.returns-then-cap-now c).Start in
     cap_reached (table (goal.at.returns-then-cap-now c).Start t) w.full w.sound o g p s.args.now (rw (cap-is (goal.at.returns-then-cap-now c).After-cap) at c.if-cap-now.true)
-
-pub offset_bounds-deadlines-slot : goal.offset_bounds-deadlines-slot
-offset_bounds-deadlines-slot c = time_at c.slot_at-slot.ensures.1
-
-pub bounds-deadlines-slot : goal.bounds-deadlines-slot
-bounds-deadlines-slot c = c.slot_at-slot.ensures.1
 
 pub returns : goal.returns
 returns c t w o g p =
-    let k = c.before.before in
-    let l = k.before.before in
-    let s = start (goal.at.returns c).After-cap in
-    rw l.slot_at-slot.ensures.0
+    let s = (goal.at.returns c).Start in
+    rw c.slot_at-slot.ensures.0
     (extended-to (table (goal.at.returns c).Start t) w.full w.sound o g p s.args.now c.deadline-deadline.result
-    (c.deadline-deadline.ensures ∙ ap (λ (i : ℕ). deadline_from s.args.config (get_or s.args.attempt_starts.now i 0) s.args.now) l.slot_at-slot.ensures.0)
+    (c.deadline-deadline.ensures ∙ ap (λ (i : ℕ). deadline_from s.args.config (get_or s.args.attempt_starts.now i 0) s.args.now) c.slot_at-slot.ensures.0)
     (rw (cap-is (goal.at.returns c).After-cap) at c.if-cap-now.false))

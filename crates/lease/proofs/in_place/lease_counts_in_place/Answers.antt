@@ -29,32 +29,8 @@ loop-i-init c t w =
     let few = w.sound.len in
     (filling c.args.offsets.now zeros c.args.len (omega (arith, few)), filling (through 0 c.args.slots.now c.args.deliveries.now) zeros c.args.len (omega (arith, few)))
 
-pub offset_bounds-offsets-i : goal.offset_bounds-offsets-i
-offset_bounds-offsets-i c = offset_in_memory c.loop-i-test.true (few (goal.at.offset_bounds-offsets-i c).At-loop-i)
-
-pub bounds-offsets-i : goal.bounds-offsets-i
-bounds-offsets-i c = in_use c.loop-i-test.true (few (goal.at.bounds-offsets-i c).At-loop-i)
-
-pub offset_bounds-listed-i : goal.offset_bounds-listed-i
-offset_bounds-listed-i c = offset_in_memory c.loop-i-test.true (few (goal.at.offset_bounds-listed-i c).At-loop-i)
-
-pub bounds-listed-i : goal.bounds-listed-i
-bounds-listed-i c = in_list c.loop-i-test.true (few (goal.at.bounds-listed-i c).At-loop-i)
-
 pub slot_at-slot-requires : goal.slot_at-slot-requires
 slot_at-slot-requires c = in_use c.loop-i-test.true (few (goal.at.slot_at-slot-requires c).At-loop-i)
-
-pub offset_bounds-deliveries-slot : goal.offset_bounds-deliveries-slot
-offset_bounds-deliveries-slot c = bounds.count_at c.slot_at-slot.ensures.1
-
-pub bounds-deliveries-slot : goal.bounds-deliveries-slot
-bounds-deliveries-slot c = c.slot_at-slot.ensures.1
-
-pub offset_bounds-attempts-i : goal.offset_bounds-attempts-i
-offset_bounds-attempts-i c = count_in_memory c.loop-i-test.true (few (goal.at.offset_bounds-attempts-i c).At-loop-i)
-
-pub bounds-attempts-i : goal.bounds-attempts-i
-bounds-attempts-i c = in_list c.loop-i-test.true (few (goal.at.bounds-attempts-i c).At-loop-i)
 
 pub overflow_add-i : goal.overflow_add-i
 overflow_add-i c = next_place c.loop-i-test.true (few (goal.at.overflow_add-i c).At-loop-i)
@@ -64,28 +40,24 @@ loop-i-smaller c = further _ _ c.loop-i-test.true
 
 pub loop-i-preserved : goal.loop-i-preserved
 loop-i-preserved c t w =
-    let l = c.before in
-    let a = l.before.before in
-    let s = a.before.before in
-    let u = listing s.args.len s.args.offsets.now s.args.slots.now s.args.deliveries.now t in
-    let inv = a.loop-i.invariant t w in
+    let u = listing c.args.len c.args.offsets.now c.args.slots.now c.args.deliveries.now t in
+    let inv = c.loop-i.invariant t w in
     let few = w.sound.len in
-    let i = a.loop-i.i in
-    let count : get_or s.args.deliveries.now l.slot_at-slot.result 0 ≡ get_or (through 0 s.args.slots.now s.args.deliveries.now) i 0 =
-    ap (λ (k : ℕ). get_or s.args.deliveries.now k 0) l.slot_at-slot.ensures.0 ∙ sym (count_at u w.full w.sound i (in_use a.loop-i-test.true few)) in (
-      filling-more 0 (within w.full.offsets few) a.loop-i-test.true inv.0,
-      rw count (filling-more 0 (within (through-length 0 s.args.slots.now s.args.deliveries.now ∙ w.full.slots) few) a.loop-i-test.true inv.1),
+    let i = c.loop-i.i in
+    let count : get_or c.args.deliveries.now c.slot_at-slot.result 0 ≡ get_or (through 0 c.args.slots.now c.args.deliveries.now) i 0 =
+    ap (λ (k : ℕ). get_or c.args.deliveries.now k 0) c.slot_at-slot.ensures.0 ∙ sym (count_at u w.full w.sound i (in_use c.loop-i-test.true few)) in (
+      filling-more 0 (within w.full.offsets few) c.loop-i-test.true inv.0,
+      rw count (filling-more 0 (within (through-length 0 c.args.slots.now c.args.deliveries.now ∙ w.full.slots) few) c.loop-i-test.true inv.1),
     )
 
 pub returns : goal.returns
 returns c t w =
     let l = c.loop-i in
-    let s = c.before.before in
     let inv = l.invariant t w in
-    let e : l.i ≡ s.args.len = omega (arith, inv.0.inside, c.loop-i-test.false) in
+    let e : l.i ≡ c.args.len = omega (arith, inv.0.inside, c.loop-i-test.false) in
     record {
       few = omega (arith, few (goal.at.returns c).At-loop-i);
-      is = counts-listed (listing s.args.len s.args.offsets.now s.args.slots.now s.args.deliveries.now t) w.full l.listed l.attempts (rw e at inv.0.done) (rw e at inv.1.done);
+      is = counts-listed (listing c.args.len c.args.offsets.now c.args.slots.now c.args.deliveries.now t) w.full l.listed l.attempts (rw e at inv.0.done) (rw e at inv.1.done);
       rest = rw e at inv.0.rest;
       rest-attempts = rw e at inv.1.rest;
     }

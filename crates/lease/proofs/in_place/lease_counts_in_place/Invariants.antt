@@ -17,6 +17,9 @@ use Rattle.lease.proofs.Bounds as bounds
 use Rattle.lease.proofs.Lists.{counts-listed, count_at}
 use Rattle.lease.proofs.in_place.lease_counts_in_place.Given as goal
 
+abbrev zeros : List ℕ
+zeros = replicate 192 0
+
 abbrev pub invariant-loop-i : goal.invariant-loop-i
 invariant-loop-i l =
     (t : LeaseTable) → Whole (listing l.len l.offsets l.slots l.deliveries t) → Filling l.offsets zeros l.listed l.len l.i × Filling (through 0 l.slots l.deliveries) zeros l.attempts l.len l.i

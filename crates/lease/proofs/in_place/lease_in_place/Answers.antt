@@ -9,36 +9,24 @@ use Rattle.lease.specs.Parts.{leasing}
 use Rattle.lease.specs.declared.LeaseTable.{LeaseTable}
 use Rattle.lease.proofs.Slots.{free, lease-at}
 use Rattle.lease.proofs.in_place.lease_in_place.Goals as goal
-use Rattle.lease.proofs.in_place.lease_in_place.Goals.{In-Found-2, Start}
+use Rattle.lease.proofs.in_place.lease_in_place.Goals.{In-Found, Start}
 
 abbrev table : Start → LeaseTable → LeaseTable
 table s = leasing s.args.len s.args.offsets.now s.args.slots.now s.args.generations.now s.args.attempt_starts.now s.args.deadlines.now s.args.deliveries.now s.args.workers.now
 
-abbrev start : In-Found-2 → Start
-start p = p.before.before.before.before
-
 -- the place that was found is within the columns
-inside : (p : In-Found-2) → p.in-Found.at < LEASES
+inside : (p : In-Found) → p.in-Found.at < LEASES
 inside p =
-    let s = start p in
-    omega (arith, found-used s.args.offset s.args.len s.args.offsets.now p.find-place.ensures p.in-Found.is, s.requires)
-
-pub enum_known-place : goal.enum_known-place
-enum_known-place c = c.in-Found.keys1
-
-pub enum_told-1 : goal.enum_told-1
-enum_told-1 c = c.in-Found.keys2
+    omega (arith, found-used p.args.offset p.args.len p.args.offsets.now p.find-place.ensures p.in-Found.is, p.requires)
 
 pub returns-in_default : goal.returns-in_default
 returns-in_default c t w =
-    let s = c.before.before.before.before in
     rw (free (table (goal.at.returns-in_default c).Start t) w.full w.sound c.find-place.ensures c.in_default.is).is
 
 pub lease_at-requires : goal.lease_at-requires
-lease_at-requires c = inside (goal.at.lease_at-requires c).In-Found-2
+lease_at-requires c = inside (goal.at.lease_at-requires c).In-Found
 
 pub returns : goal.returns
 returns c t w =
-    let p = c.before.before in
-    let s = start (goal.at.returns c).In-Found-2 in
-    rw (c.lease_at.ensures, lease-at (table (goal.at.returns c).Start t) w.full w.sound s.args.offset p.find-place.ensures p.in-Found.is)
+    let s = (goal.at.returns c).Start in
+    rw (c.lease_at.ensures, lease-at (table (goal.at.returns c).Start t) w.full w.sound s.args.offset c.find-place.ensures c.in-Found.is)

@@ -15,26 +15,11 @@ table s = requeuing s.args.next_generation s.args.slots.now s.args.generations.n
 
 pub returns-then-next_generation-eq-MAX : goal.returns-then-next_generation-eq-MAX
 returns-then-next_generation-eq-MAX c t w o g p =
-    let s = c.before in
-    none_left (table (goal.at.returns-then-next_generation-eq-MAX c).Start t) w.full w.sound o g p c.if-next_generation-eq-MAX.true s.args.now s.args.delay_nanos
+    none_left (table (goal.at.returns-then-next_generation-eq-MAX c).Start t) w.full w.sound o g p c.if-next_generation-eq-MAX.true c.args.now c.args.delay_nanos
 
 pub slot_at-slot-requires : goal.slot_at-slot-requires
 slot_at-slot-requires c = c.requires
 
-pub offset_bounds-generations-slot : goal.offset_bounds-generations-slot
-offset_bounds-generations-slot c = time_at c.slot_at-slot.ensures.1
-
-pub bounds-generations-slot : goal.bounds-generations-slot
-bounds-generations-slot c = c.slot_at-slot.ensures.1
-
-pub offset_bounds-deadlines-slot : goal.offset_bounds-deadlines-slot
-offset_bounds-deadlines-slot c = time_at c.slot_at-slot.ensures.1
-
-pub bounds-deadlines-slot : goal.bounds-deadlines-slot
-bounds-deadlines-slot c = c.slot_at-slot.ensures.1
-
 pub returns : goal.returns
 returns c t w o g p =
-    let l = c.before in
-    let s = l.before.before in
-    rw l.slot_at-slot.ensures.0 (requeued_to (table (goal.at.returns c).Start t) w.full w.sound o g p l.if-next_generation-eq-MAX.false s.args.now s.args.delay_nanos c.saturating_add-deadline.result c.saturating_add-deadline.ensures)
+    rw c.slot_at-slot.ensures.0 (requeued_to (table (goal.at.returns c).Start t) w.full w.sound o g p c.if-next_generation-eq-MAX.false c.args.now c.args.delay_nanos c.saturating_add-deadline.result c.saturating_add-deadline.ensures)

@@ -5,31 +5,22 @@ use Rattle.lease.proofs.InWords.{owned-low, ack-refused}
 use borrow.Author.Rules.{rules}
 use Rattle.lease.proofs.in_words.ack.Goals as goal
 
-pub enum_known-place : goal.enum_known-place
-enum_known-place c = c.in-Found.keys1
-
-pub enum_told-1 : goal.enum_told-1
-enum_told-1 c = c.in-Found.keys2
-
 pub returns-in_default : goal.returns-in_default
 returns-in_default c =
-    let After-owned = c.before.before in
-    let s = After-owned.before.before.before in
+    let After-owned = c in
+    let s = After-owned in
     ack-refused s.requires s.args.token.offset.0 s.args.token.generation.0 After-owned.owned-place.ensures c.in_default.is
 
 pub ack_at-requires : goal.ack_at-requires
 ack_at-requires c =
-    let after-place = c.before.before in
-    let After-owned = after-place.before.before in
-    let s = After-owned.before.before.before in
-    (s.requires, owned-low s.requires s.args.token.offset.0 s.args.token.generation.0 After-owned.owned-place.ensures after-place.in-Found.is)
+    let After-owned = c in
+    let s = After-owned in
+    (s.requires, owned-low s.requires s.args.token.offset.0 s.args.token.generation.0 After-owned.owned-place.ensures c.in-Found.is)
 
 pub returns : goal.returns
 returns c =
-    let after-ack-at = c.before.before in
-    let after-place = after-ack-at.before.before.before in
-    let After-owned = after-place.before.before in
-    let s = After-owned.before.before.before in
+    let After-owned = c in
+    let s = After-owned in
     let o = s.args.token.offset.0 in
     let g = s.args.token.generation.0 in
-    after-ack-at.ack_at.ensures o g (subst (OwnedIn o g s.args.table.now) after-place.in-Found.is After-owned.owned-place.ensures)
+    c.ack_at.ensures o g (subst (OwnedIn o g s.args.table.now) c.in-Found.is After-owned.owned-place.ensures)

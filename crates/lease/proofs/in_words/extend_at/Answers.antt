@@ -11,33 +11,21 @@ use Rattle.lease.proofs.in_words.extend_at.Goals as goal
 
 pub returns-then-cap-now : goal.returns-then-cap-now
 returns-then-cap-now c o g p =
-    let after-cap = c.before in
-    let after-lease-at = after-cap.before in
-    let after-config-of = after-lease-at.before.before in
-    let s = after-config-of.before.before.before in
-    let w = s.args.table.now in
-    let at = s.args.at in
-    let cap : after-cap.cap.result ≡ cap_from (config_in w) (held_at at (table_in w)).attempt_start = after-cap.cap.ensures ∙ ap (λ (k : LeaseConfig). cap_from k after-lease-at.lease_at-lease.result.attempt_start) after-config-of.config_of-config.ensures
-    ∙ ap (λ (h : Lease). cap_from (config_in w) h.attempt_start) after-lease-at.lease_at-lease.ensures in
-    cap_answers s.requires.0 o g p s.args.now (rw cap at c.if-cap-now.true)
+    let w = c.args.table.now in
+    let at = c.args.at in
+    let cap : c.cap.result ≡ cap_from (config_in w) (held_at at (table_in w)).attempt_start = c.cap.ensures ∙ ap (λ (k : LeaseConfig). cap_from k c.lease_at-lease.result.attempt_start) c.config_of-config.ensures
+    ∙ ap (λ (h : Lease). cap_from (config_in w) h.attempt_start) c.lease_at-lease.ensures in
+    cap_answers c.requires.0 o g p c.args.now (rw cap at c.if-cap-now.true)
 
 pub returns : goal.returns
 returns c o g p =
-    let after_table = c.before in
-    let after-put-lease = after_table.before in
-    let after-deadline = after-put-lease.before.before in
-    let after-if1 = after-deadline.before in
-    let after-cap = after-if1.before in
-    let after-lease-at = after-cap.before in
-    let after-config-of = after-lease-at.before.before in
-    let s = after-config-of.before.before.before in
-    let w = s.args.table.now in
-    let at = s.args.at in
-    let now = s.args.now in
-    let cap : after-cap.cap.result ≡ cap_from (config_in w) (held_at at (table_in w)).attempt_start = after-cap.cap.ensures ∙ ap (λ (k : LeaseConfig). cap_from k after-lease-at.lease_at-lease.result.attempt_start) after-config-of.config_of-config.ensures
-    ∙ ap (λ (h : Lease). cap_from (config_in w) h.attempt_start) after-lease-at.lease_at-lease.ensures in
-    extend-answers s.requires.0 o g p now after-deadline.deadline-deadline.result
-    (after-deadline.deadline-deadline.ensures ∙ ap (λ (k : LeaseConfig). deadline_from k after-lease-at.lease_at-lease.result.attempt_start now) after-config-of.config_of-config.ensures
-    ∙ ap (λ (h : Lease). deadline_from (config_in w) h.attempt_start now) after-lease-at.lease_at-lease.ensures)
-    (rw cap at after-if1.if-cap-now.false) after-put-lease.put_lease.new.0 (after_table.table-1.given ∙ s.requires.0.long)
-    (after-put-lease.put_lease.ensures ∙ ap (λ (h : Lease). holding at (with_deadline after-deadline.deadline-deadline.result h) (table_in w)) after-lease-at.lease_at-lease.ensures)
+    let w = c.args.table.now in
+    let at = c.args.at in
+    let now = c.args.now in
+    let cap : c.cap.result ≡ cap_from (config_in w) (held_at at (table_in w)).attempt_start = c.cap.ensures ∙ ap (λ (k : LeaseConfig). cap_from k c.lease_at-lease.result.attempt_start) c.config_of-config.ensures
+    ∙ ap (λ (h : Lease). cap_from (config_in w) h.attempt_start) c.lease_at-lease.ensures in
+    extend-answers c.requires.0 o g p now c.deadline-deadline.result
+    (c.deadline-deadline.ensures ∙ ap (λ (k : LeaseConfig). deadline_from k c.lease_at-lease.result.attempt_start now) c.config_of-config.ensures
+    ∙ ap (λ (h : Lease). deadline_from (config_in w) h.attempt_start now) c.lease_at-lease.ensures)
+    (rw cap at c.if-cap-now.false) c.put_lease.new.table (c.table-1.given ∙ c.requires.0.long)
+    (c.put_lease.ensures ∙ ap (λ (h : Lease). holding at (with_deadline c.deadline-deadline.result h) (table_in w)) c.lease_at-lease.ensures)

@@ -19,22 +19,15 @@ small s = omega arith
 
 pub lease_at-lease-requires : goal.lease_at-lease-requires
 lease_at-lease-requires c =
-    let s = c.before.before in
-    (s.requires.0, in_use s.requires.0 s.args.offset.0 s.args.at s.requires.1)
+    (c.requires.0, in_use c.requires.0 c.args.offset.0 c.args.at c.requires.1)
 
 pub grant-requires : goal.grant-requires
 grant-requires c =
-    let s = c.before.before.before.before.before in
-    let left = (claim-passed (view s.args.table.now) s.args.offset.0 s.args.now s.requires.2).generation-left in
-    (s.requires.0.long, s.requires.0.fits, in_use s.requires.0 s.args.offset.0 s.args.at s.requires.1, omega (arith, left, s.requires.0.table.valid.generation-fits))
+    let left = (claim-passed (view c.args.table.now) c.args.offset.0 c.args.now c.requires.2).generation-left in
+    (c.requires.0.long, c.requires.0.fits, in_use c.requires.0 c.args.offset.0 c.args.at c.requires.1, omega (arith, left, c.requires.0.table.valid.generation-fits))
 
 pub returns : goal.returns
 returns c =
-    let after_table = c.before in
-    let after-grant = after_table.before in
-    let after-saturating-next = after-grant.before.before in
-    let after-lease-at = after-saturating-next.before in
-    let s = after-lease-at.before.before.before in
-    again-answers s.requires.0 s.args.worker s.args.offset.0 s.args.at s.args.now (fits (goal.at.returns c).Start) (small (goal.at.returns c).Start) s.requires.2 s.requires.1
-    after-saturating-next.saturating_next-count.result (after-saturating-next.saturating_next-count.ensures ∙ ap (λ (h : Lease). sat32 h.deliveries 1) after-lease-at.lease_at-lease.ensures)
-    after-grant.grant.new.0 (after_table.table-1.given ∙ s.requires.0.long) after-grant.grant.ensures.0 after-grant.grant.result after-grant.grant.ensures.1
+    again-answers c.requires.0 c.args.worker c.args.offset.0 c.args.at c.args.now (fits (goal.at.returns c).Start) (small (goal.at.returns c).Start) c.requires.2 c.requires.1
+    c.saturating_next-count.result (c.saturating_next-count.ensures ∙ ap (λ (h : Lease). sat32 h.deliveries 1) c.lease_at-lease.ensures)
+    c.grant.new.table (c.table-1.given ∙ c.requires.0.long) c.grant.ensures.0 c.grant.result c.grant.ensures.1

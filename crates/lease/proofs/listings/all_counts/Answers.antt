@@ -14,11 +14,8 @@ use Rattle.lease.proofs.listings.all_counts.Goals as goal
 
 pub returns : goal.returns
 returns c =
-    let after-carried-counts = c.before.before.before.before.before.before in
-    let after-lease-counts = after-carried-counts.before in
-    let s = after-lease-counts.before.before in
-    let leased = counts_in after-lease-counts.lease_counts-leased.result in
+    let leased = counts_in c.lease_counts-leased.result in
     subst (ListsCounts c.merged.result)
-    (ap (λ (x : List (Entry ℕ)). take 192 (merge leased x)) (held_of after-carried-counts.carried_counts-carried.result after-carried-counts.carried_counts-carried.ensures.is)
-    ∙ all-counted (table_in s.args.table.now) s.requires.table leased after-lease-counts.lease_counts-leased.ensures.is)
+    (ap (λ (x : List (Entry ℕ)). take 192 (merge leased x)) (held_of c.carried_counts-carried.result c.carried_counts-carried.ensures.is)
+    ∙ all-counted (table_in c.args.table.now) c.requires.table leased c.lease_counts-leased.ensures.is)
     c.merged.ensures

@@ -18,6 +18,9 @@ use Rattle.lease.proofs.InWords.{whole, carried_narrow}
 use borrow.Author.Rules.{rules}
 use Rattle.lease.proofs.listings.carried_counts.Given as goal
 
+abbrev zeros : List ℕ
+zeros = replicate 128 0
+
 abbrev pub invariant-loop-i : goal.invariant-loop-i
 invariant-loop-i l =
     (l.len ≡ word CARRIED-LEN l.table) × Filling (table_in l.table).carried_offsets zeros l.offsets l.len l.i × Filling (table_in l.table).carried_counts zeros l.counts l.len l.i

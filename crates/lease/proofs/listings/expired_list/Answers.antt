@@ -17,109 +17,62 @@ use Rattle.lease.proofs.listings.expired_list.Goals as goal
 
 pub loop-i-init : goal.loop-i-init
 loop-i-init c =
-    let s = c.before.before in
-    let w = s.args.table.now in
-    (refl, listing_none (word LEN w) s.args.now (table_in w).offsets (table_in w).slots (table_in w).deadlines)
+    let w = c.args.table.now in
+    (refl, listing_none (word LEN w) c.args.now (table_in w).offsets (table_in w).slots (table_in w).deadlines)
 
 pub overflow_add-i : goal.overflow_add-i
 overflow_add-i c =
-    let s = c.before.before.before.before in
-    omega (arith, c.loop-i-test.true, s.requires.table.len)
+    omega (arith, c.loop-i-test.true, c.requires.table.len)
 
 pub lease_at-lease-requires : goal.lease_at-lease-requires
 lease_at-lease-requires c =
-    let s = c.before.before.before.before in
-    (s.requires, omega (arith, c.loop-i-test.true, s.requires.table.len))
+    (c.requires, omega (arith, c.loop-i-test.true, c.requires.table.len))
 
 pub overflow_add-listed : goal.overflow_add-listed
 overflow_add-listed c =
-    let t = c.before.before.before in
-    let s = t.before.before.before.before in
-    omega (arith, t.loop-i-test.true, s.requires.table.len)
-
-pub offset_bounds-table-at : goal.offset_bounds-table-at
-offset_bounds-table-at c =
-    let t = c.before.before.before in
-    let s = t.before.before.before.before in
-    omega (arith, t.loop-i-test.true, s.requires.table.len)
-
-pub bounds-table-at : goal.bounds-table-at
-bounds-table-at c =
-    let t = c.before.before.before.before in
-    let s = t.before.before.before.before in
-    omega (arith, t.loop-i-test.true, s.requires.table.len, s.requires.long)
-
-pub offset_bounds-listed-n : goal.offset_bounds-listed-n
-offset_bounds-listed-n c =
-    let t = c.before.before.before.before in
-    let l = t.before in
-    let s = l.before.before.before in
-    omega (arith, t.loop-i-test.true, s.requires.table.len, l.loop-i.invariant.1.few)
-
-pub bounds-listed-n : goal.bounds-listed-n
-bounds-listed-n c =
-    let t = c.before.before.before.before in
-    let l = t.before in
-    let s = l.before.before.before in
-    omega (arith, t.loop-i-test.true, s.requires.table.len, l.loop-i.invariant.1.few)
+    omega (arith, c.loop-i-test.true, c.requires.table.len)
 
 pub overflow_add-n : goal.overflow_add-n
 overflow_add-n c =
-    let t = c.before.before.before.before in
-    let l = t.before in
-    let s = l.before.before.before in
-    omega (arith, t.loop-i-test.true, s.requires.table.len, l.loop-i.invariant.1.few)
+    omega (arith, c.loop-i-test.true, c.requires.table.len, c.loop-i.invariant.1.few)
 
 pub loop-i-smaller-then-lease-now : goal.loop-i-smaller-then-lease-now
 loop-i-smaller-then-lease-now c =
-    let t = c.before.before.before.before in
-    omega (arith, t.loop-i-test.true)
+    omega (arith, c.loop-i-test.true)
 
 pub loop-i-preserved-then-lease-now : goal.loop-i-preserved-then-lease-now
 loop-i-preserved-then-lease-now c =
-    let after-if1 = c.before in
-    let after-lease-at = after-if1.before.before in
-    let t = after-lease-at.before in
-    let l = t.before in
-    let s = l.before.before.before in
-    let w = s.args.table.now in
-    let now = s.args.now in
+    let w = c.args.table.now in
+    let now = c.args.now in
     let x = table_in w in
-    let i = l.loop-i.i in
-    let n = l.loop-i.n in
-    let few = s.requires.table.len in
-    let low : i < LEASES = omega (arith, t.loop-i-test.true, few) in
-    let due : after-lease-at.lease_at-lease.result.deadline ≡ (held_at i x).deadline = ap (λ (h : Lease). h.deadline) after-lease-at.lease_at-lease.ensures in (
+    let i = c.loop-i.i in
+    let n = c.loop-i.n in
+    let few = c.requires.table.len in
+    let low : i < LEASES = omega (arith, c.loop-i-test.true, few) in
+    let due : c.lease_at-lease.result.deadline ≡ (held_at i x).deadline = ap (λ (h : Lease). h.deadline) c.lease_at-lease.ensures in (
       refl,
-      subst (λ (v : ℕ). Listing (word LEN w) now x.offsets x.slots x.deadlines (set l.loop-i.listed n v) (n + 1) (i + 1)) (column-at OFFSETS LEASES w i low)
-          (listing-expired (word LEN w) now x.offsets x.slots x.deadlines l.loop-i.invariant.1 t.loop-i-test.true few (rw due at after-if1.if-lease-now.true)),
+      subst (λ (v : ℕ). Listing (word LEN w) now x.offsets x.slots x.deadlines (set c.loop-i.listed n v) (n + 1) (i + 1)) (column-at OFFSETS LEASES w i low)
+          (listing-expired (word LEN w) now x.offsets x.slots x.deadlines c.loop-i.invariant.1 c.loop-i-test.true few (rw due at c.if-lease-now.true)),
     )
 
 pub loop-i-smaller : goal.loop-i-smaller
 loop-i-smaller c =
-    let t = c.before.before.before in
-    omega (arith, t.loop-i-test.true)
+    omega (arith, c.loop-i-test.true)
 
 pub loop-i-preserved : goal.loop-i-preserved
 loop-i-preserved c =
-    let after-lease-at = c.before.before in
-    let t = after-lease-at.before in
-    let l = t.before in
-    let s = l.before.before.before in
-    let w = s.args.table.now in
+    let w = c.args.table.now in
     let x = table_in w in
-    let due : after-lease-at.lease_at-lease.result.deadline ≡ (held_at l.loop-i.i x).deadline = ap (λ (h : Lease). h.deadline) after-lease-at.lease_at-lease.ensures in
-    (refl, listing-running (word LEN w) s.args.now x.offsets x.slots x.deadlines l.loop-i.invariant.1 t.loop-i-test.true (rw due at c.if-lease-now.false))
+    let due : c.lease_at-lease.result.deadline ≡ (held_at c.loop-i.i x).deadline = ap (λ (h : Lease). h.deadline) c.lease_at-lease.ensures in
+    (refl, listing-running (word LEN w) c.args.now x.offsets x.slots x.deadlines c.loop-i.invariant.1 c.loop-i-test.true (rw due at c.if-lease-now.false))
 
 pub returns : goal.returns
 returns c =
-    let l = c.before in
-    let s = l.before.before.before in
-    let w = s.args.table.now in
+    let w = c.args.table.now in
     let x = table_in w in
-    let inv = l.loop-i.invariant.1 in
+    let inv = c.loop-i.invariant.1 in
     record {
-      few = omega (arith, s.requires.table.len, inv.inside, inv.few);
-      is = expired-listed (word LEN w) s.args.now x.offsets x.slots x.deadlines inv c.loop-i-test.false x (whole s.requires);
+      few = omega (arith, c.requires.table.len, inv.inside, inv.few);
+      is = expired-listed (word LEN w) c.args.now x.offsets x.slots x.deadlines inv c.loop-i-test.false x (whole c.requires);
       rest = inv.rest;
     }

@@ -24,101 +24,52 @@ zeros = replicate 192 0
 
 pub loop-i-init : goal.loop-i-init
 loop-i-init c =
-    let s = c.before.before in
-    let w = s.args.table.now in
+    let w = c.args.table.now in
     let x = table_in w in
-    let few = s.requires.table.len in
+    let few = c.requires.table.len in
     (refl, filling x.offsets zeros (word LEN w) (omega (arith, few)), filling (through 0 x.slots x.deliveries) zeros (word LEN w) (omega (arith, few)))
 
 pub lease_at-lease-requires : goal.lease_at-lease-requires
 lease_at-lease-requires c =
-    let s = c.before.before.before.before in
-    (s.requires, omega (arith, c.loop-i-test.true, s.requires.table.len))
+    (c.requires, omega (arith, c.loop-i-test.true, c.requires.table.len))
 
 pub overflow_add-offsets : goal.overflow_add-offsets
 overflow_add-offsets c =
-    let t = c.before in
-    let s = t.before.before.before.before in
-    omega (arith, t.loop-i-test.true, s.requires.table.len)
-
-pub offset_bounds-table-i : goal.offset_bounds-table-i
-offset_bounds-table-i c =
-    let t = c.before in
-    let s = t.before.before.before.before in
-    omega (arith, t.loop-i-test.true, s.requires.table.len)
-
-pub bounds-table-i : goal.bounds-table-i
-bounds-table-i c =
-    let t = c.before.before in
-    let s = t.before.before.before.before in
-    omega (arith, t.loop-i-test.true, s.requires.table.len, s.requires.long)
-
-pub offset_bounds-offsets-i : goal.offset_bounds-offsets-i
-offset_bounds-offsets-i c =
-    let t = c.before.before in
-    let s = t.before.before.before.before in
-    omega (arith, t.loop-i-test.true, s.requires.table.len)
-
-pub bounds-offsets-i : goal.bounds-offsets-i
-bounds-offsets-i c =
-    let t = c.before.before in
-    let s = t.before.before.before.before in
-    omega (arith, t.loop-i-test.true, s.requires.table.len)
-
-pub offset_bounds-attempts-i : goal.offset_bounds-attempts-i
-offset_bounds-attempts-i c =
-    let t = c.before.before in
-    let s = t.before.before.before.before in
-    omega (arith, t.loop-i-test.true, s.requires.table.len)
-
-pub bounds-attempts-i : goal.bounds-attempts-i
-bounds-attempts-i c =
-    let t = c.before.before in
-    let s = t.before.before.before.before in
-    omega (arith, t.loop-i-test.true, s.requires.table.len)
+    omega (arith, c.loop-i-test.true, c.requires.table.len)
 
 pub overflow_add-i : goal.overflow_add-i
 overflow_add-i c =
-    let t = c.before.before in
-    let s = t.before.before.before.before in
-    omega (arith, t.loop-i-test.true, s.requires.table.len)
+    omega (arith, c.loop-i-test.true, c.requires.table.len)
 
 pub loop-i-smaller : goal.loop-i-smaller
 loop-i-smaller c =
-    let t = c.before.before in
-    omega (arith, t.loop-i-test.true)
+    omega (arith, c.loop-i-test.true)
 
 pub loop-i-preserved : goal.loop-i-preserved
 loop-i-preserved c =
-    let after-lease-at = c.before in
-    let t = after-lease-at.before in
-    let l = t.before in
-    let s = l.before.before.before in
-    let w = s.args.table.now in
+    let w = c.args.table.now in
     let x = table_in w in
-    let i = l.loop-i.i in
+    let i = c.loop-i.i in
     let n = word LEN w in
-    let few = s.requires.table.len in
-    let full = (whole s.requires).full in
-    let low : i < LEASES = omega (arith, t.loop-i-test.true, few) in
+    let few = c.requires.table.len in
+    let full = (whole c.requires).full in
+    let low : i < LEASES = omega (arith, c.loop-i-test.true, few) in
     let counts = through 0 x.slots x.deliveries in
-    let count : get_or counts i 0 ≡ after-lease-at.lease_at-lease.result.deliveries = count_at x full s.requires.table i low ∙ sym (ap (λ (h : Lease). h.deliveries) after-lease-at.lease_at-lease.ensures) in (
+    let count : get_or counts i 0 ≡ c.lease_at-lease.result.deliveries = count_at x full c.requires.table i low ∙ sym (ap (λ (h : Lease). h.deliveries) c.lease_at-lease.ensures) in (
       refl,
-      subst (λ (v : ℕ). Filling x.offsets zeros (set l.loop-i.offsets i v) n (i + 1)) (column-at OFFSETS LEASES w i low) (filling-more 0 (within full.offsets few) t.loop-i-test.true l.loop-i.invariant.1),
-      subst (λ (v : ℕ). Filling counts zeros (set l.loop-i.attempts i v) n (i + 1)) count (filling-more 0 (within (through-length 0 x.slots x.deliveries ∙ full.slots) few) t.loop-i-test.true l.loop-i.invariant.2),
+      subst (λ (v : ℕ). Filling x.offsets zeros (set c.loop-i.offsets i v) n (i + 1)) (column-at OFFSETS LEASES w i low) (filling-more 0 (within full.offsets few) c.loop-i-test.true c.loop-i.invariant.1),
+      subst (λ (v : ℕ). Filling counts zeros (set c.loop-i.attempts i v) n (i + 1)) count (filling-more 0 (within (through-length 0 x.slots x.deliveries ∙ full.slots) few) c.loop-i-test.true c.loop-i.invariant.2),
     )
 
 pub returns : goal.returns
 returns c =
-    let l = c.before in
-    let s = l.before.before.before in
-    let w = s.args.table.now in
+    let w = c.args.table.now in
     let x = table_in w in
-    let inv = l.loop-i.invariant in
-    let e : l.loop-i.i ≡ word LEN w = omega (arith, inv.1.inside, c.loop-i-test.false) in
+    let inv = c.loop-i.invariant in
+    let e : c.loop-i.i ≡ word LEN w = omega (arith, inv.1.inside, c.loop-i-test.false) in
     record {
-      few = omega (arith, s.requires.table.len);
-      is = counts-listed x (whole s.requires).full l.loop-i.offsets l.loop-i.attempts (rw e at inv.1.done) (rw e at inv.2.done);
+      few = omega (arith, c.requires.table.len);
+      is = counts-listed x (whole c.requires).full c.loop-i.offsets c.loop-i.attempts (rw e at inv.1.done) (rw e at inv.2.done);
       rest = rw e at inv.1.rest;
       rest-attempts = rw e at inv.2.rest;
     }

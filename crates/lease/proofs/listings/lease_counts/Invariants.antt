@@ -19,6 +19,9 @@ use Rattle.lease.proofs.InWords.{whole}
 use borrow.Author.Rules.{rules}
 use Rattle.lease.proofs.listings.lease_counts.Given as goal
 
+abbrev zeros : List ℕ
+zeros = replicate 192 0
+
 abbrev pub invariant-loop-i : goal.invariant-loop-i
 invariant-loop-i l =
     (l.len ≡ word LEN l.table) × Filling (table_in l.table).offsets zeros l.offsets l.len l.i × Filling (through 0 (table_in l.table).slots (table_in l.table).deliveries) zeros l.attempts l.len l.i

@@ -14,38 +14,26 @@ use Rattle.lease.proofs.listings.resume_with.Goals as goal
 
 pub returns-then-carried : goal.returns-then-carried
 returns-then-carried c =
-    let s = c.before.before in
-    resume-refused s.requires.0 s.args.carried s.requires.1 c.if-carried.true
+    resume-refused c.requires.0 c.args.carried c.requires.1 c.if-carried.true
 
 pub shape_of-table : goal.shape_of-table
 shape_of-table c =
-    let after-table2 = c.before in
-    let after-put-counts = after-table2.before in
-    let after_table = after-put-counts.before.before.before.before.before.before in
-    let after-copy = after_table.before in
-    let s = after-copy.before.before.before.before.before.before.before in
-    same-long CARRIED-OFFSETS CARRIED CARRIED-COUNTS CARRIED CARRIED-LEN s.args.carried.len s.args.table.now after-copy.copy.new.0 after-put-counts.put_counts.new.0 after_table.table-1.given.0 after-table2.table-2-1.given.0
+    same-long CARRIED-OFFSETS CARRIED CARRIED-COUNTS CARRIED CARRIED-LEN c.args.carried.len c.args.table.now c.copy.new.column c.put_counts.new.column c.table-1.given.0 c.table-2-1.given.0
 
 pub returns : goal.returns
 returns c =
-    let after-table2 = c.before in
-    let after-put-counts = after-table2.before in
-    let after_table = after-put-counts.before.before.before.before.before.before in
-    let after-copy = after_table.before in
-    let after-if1 = after-copy.before.before.before.before.before in
-    let s = after-if1.before.before in
-    let w = s.args.table.now in
-    let held = s.args.carried in
+    let w = c.args.table.now in
+    let held = c.args.carried in
     let n = held.len in
-    let ks = after-copy.copy.new.0 in
-    let vs = after-put-counts.put_counts.new.0 in
+    let ks = c.copy.new.column in
+    let vs = c.put_counts.new.column in
     let a : length held.offsets ≡ CARRIED = search rules in
     let b : length held.counts ≡ CARRIED = search rules in
     let z : n ≡ 0 + n = omega arith in
-    let few = s.requires.1.few in
-    let p : take n ks ≡ take n held.offsets = ap (λ (k : ℕ). take k ks) z ∙ ap (take (0 + n)) after-copy.copy.ensures ∙ take-paste (take CARRIED (drop CARRIED-OFFSETS w)) 0 held.offsets n (omega arith) (omega (arith, few, a)) in
-    let q : take n vs ≡ take n held.counts = ap (take n) after-put-counts.put_counts.ensures ∙ take_at (take n held.counts) _ n (length-take-le n held.counts (omega (arith, few, b))) in
-    let k = after_table.table-1.given.0 in
-    let m = after-table2.table-2-1.given.0 in
-    resume-answers s.requires.0 held s.requires.1 after-if1.if-carried.false a b ks vs p q (set (put_mid CARRIED-COUNTS CARRIED (put_mid CARRIED-OFFSETS CARRIED w ks) vs) CARRIED-LEN n)
-    (same-long CARRIED-OFFSETS CARRIED CARRIED-COUNTS CARRIED CARRIED-LEN n w ks vs k m ∙ s.requires.0.long) (counts-put w s.requires.0.long ks k vs m n)
+    let few = c.requires.1.few in
+    let p : take n ks ≡ take n held.offsets = ap (λ (k : ℕ). take k ks) z ∙ ap (take (0 + n)) c.copy.ensures ∙ take-paste (take CARRIED (drop CARRIED-OFFSETS w)) 0 held.offsets n (omega arith) (omega (arith, few, a)) in
+    let q : take n vs ≡ take n held.counts = ap (take n) c.put_counts.ensures ∙ take_at (take n held.counts) _ n (length-take-le n held.counts (omega (arith, few, b))) in
+    let k = c.table-1.given.0 in
+    let m = c.table-2-1.given.0 in
+    resume-answers c.requires.0 held c.requires.1 c.if-carried.false a b ks vs p q (set (put_mid CARRIED-COUNTS CARRIED (put_mid CARRIED-OFFSETS CARRIED w ks) vs) CARRIED-LEN n)
+    (same-long CARRIED-OFFSETS CARRIED CARRIED-COUNTS CARRIED CARRIED-LEN n w ks vs k m ∙ c.requires.0.long) (counts-put w c.requires.0.long ks k vs m n)

@@ -8,5 +8,4 @@ use Rattle.lease.proofs.reads.carried.Goals as goal
 
 pub returns : goal.returns
 returns c =
-    let s = c.before in
-    sym (carried-length (table_in s.args.table.now) (whole s.requires).full s.requires.table)
+    sym (carried-length (table_in c.args.table.now) (whole c.requires).full c.requires.table)

@@ -8,32 +8,24 @@ use Rattle.lease.proofs.InWords.{owned-low, none_held, held-is}
 use borrow.Author.Rules.{rules}
 use Rattle.lease.proofs.reads.hold_of.Goals as goal
 
-pub enum_known-place : goal.enum_known-place
-enum_known-place c = c.in-Found.keys1
-
-pub enum_told-1 : goal.enum_told-1
-enum_told-1 c = c.in-Found.keys2
-
 pub returns-in_default : goal.returns-in_default
 returns-in_default c =
-    let After-owned = c.before.before in
-    let s = After-owned.before.before in
+    let After-owned = c in
+    let s = After-owned in
     record { is = none_held s.requires s.args.token.offset.0 s.args.token.generation.0 After-owned.owned-place.ensures c.in_default.is; at = tt }
 
 pub lease_at-lease-requires : goal.lease_at-lease-requires
 lease_at-lease-requires c =
-    let after-place = c.before in
-    let After-owned = after-place.before.before in
-    let s = After-owned.before.before in
-    let low = owned-low s.requires s.args.token.offset.0 s.args.token.generation.0 After-owned.owned-place.ensures after-place.in-Found.is in
+    let After-owned = c in
+    let s = After-owned in
+    let low = owned-low s.requires s.args.token.offset.0 s.args.token.generation.0 After-owned.owned-place.ensures c.in-Found.is in
     (s.requires, omega (arith, low, s.requires.table.len))
 
 pub returns : goal.returns
 returns c =
-    let after-place = c.before.before in
-    let After-owned = after-place.before.before in
-    let s = After-owned.before.before in
+    let After-owned = c in
+    let s = After-owned in
     let o = s.args.token.offset.0 in
     let g = s.args.token.generation.0 in
-    let own = subst (OwnedIn o g s.args.table.now) after-place.in-Found.is After-owned.owned-place.ensures in
+    let own = subst (OwnedIn o g s.args.table.now) c.in-Found.is After-owned.owned-place.ensures in
     record { is = ap (λ (h : Lease). some (h.deliveries, h.worker)) c.lease_at-lease.ensures ∙ held-is s.requires o g own; at = own }

@@ -9,34 +9,25 @@ use Rattle.lease.proofs.InWords.{unowned, owned-low, its_own, its_lease}
 use borrow.Author.Rules.{rules}
 use Rattle.lease.proofs.reads.holds_active.Goals as goal
 
-pub enum_known-place : goal.enum_known-place
-enum_known-place c = c.in-Found.keys1
-
-pub enum_told-1 : goal.enum_told-1
-enum_told-1 c = c.in-Found.keys2
-
 pub returns-in_default : goal.returns-in_default
 returns-in_default c =
-    let After-owned = c.before.before in
-    let s = After-owned.before.before in
+    let After-owned = c in
+    let s = After-owned in
     rw (unowned s.requires s.args.token.offset.0 s.args.token.generation.0 After-owned.owned-place.ensures c.in_default.is)
 
 pub lease_at-lease-requires : goal.lease_at-lease-requires
 lease_at-lease-requires c =
-    let after-place = c.before in
-    let After-owned = after-place.before.before in
-    let s = After-owned.before.before in
-    let low = owned-low s.requires s.args.token.offset.0 s.args.token.generation.0 After-owned.owned-place.ensures after-place.in-Found.is in
+    let After-owned = c in
+    let s = After-owned in
+    let low = owned-low s.requires s.args.token.offset.0 s.args.token.generation.0 After-owned.owned-place.ensures c.in-Found.is in
     (s.requires, omega (arith, low, s.requires.table.len))
 
 pub returns : goal.returns
 returns c =
-    let after-lease-at = c.before in
-    let after-place = after-lease-at.before.before in
-    let After-owned = after-place.before.before in
-    let s = After-owned.before.before in
+    let After-owned = c in
+    let s = After-owned in
     let o = s.args.token.offset.0 in
     let g = s.args.token.generation.0 in
-    let own = subst (OwnedIn o g s.args.table.now) after-place.in-Found.is After-owned.owned-place.ensures in
-    let due : after-lease-at.lease_at-lease.result.deadline ≡ (held_at after-place.in-Found.at (table_in s.args.table.now)).deadline = ap (λ (h : Lease). h.deadline) after-lease-at.lease_at-lease.ensures in
+    let own = subst (OwnedIn o g s.args.table.now) c.in-Found.is After-owned.owned-place.ensures in
+    let due : c.lease_at-lease.result.deadline ≡ (held_at c.in-Found.at (table_in s.args.table.now)).deadline = ap (λ (h : Lease). h.deadline) c.lease_at-lease.ensures in
     rw (its_own s.requires o g own, its_lease s.requires o g own, due)

@@ -8,5 +8,4 @@ use Rattle.lease.proofs.reads.in_flight.Goals as goal
 
 pub returns : goal.returns
 returns c =
-    let s = c.before in
-    sym (in_flight_lem (table_in s.args.table.now) (whole s.requires).full s.requires.table)
+    sym (in_flight_lem (table_in c.args.table.now) (whole c.requires).full c.requires.table)

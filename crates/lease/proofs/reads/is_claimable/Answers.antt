@@ -9,17 +9,13 @@ use Rattle.lease.proofs.reads.is_claimable.Goals as goal
 
 pub find-place-requires : goal.find-place-requires
 find-place-requires c =
-    let s = c.before in
-    s.requires
+    c.requires
 
 pub is_running_at-requires : goal.is_running_at-requires
 is_running_at-requires c =
-    let s = c.before.before in
-    let w = s.args.table.now in
-    (s.requires, placed-within s.args.offset.0 (word LEN w) (column OFFSETS LEASES w) c.find-place.result s.requires.table.len c.find-place.ensures)
+    let w = c.args.table.now in
+    (c.requires, placed-within c.args.offset.0 (word LEN w) (column OFFSETS LEASES w) c.find-place.result c.requires.table.len c.find-place.ensures)
 
 pub returns : goal.returns
 returns c =
-    let after-find = c.before in
-    let s = after-find.before.before in
-    ap not (c.is_running_at.ensures s.args.offset.0 after-find.find-place.ensures)
+    ap not (c.is_running_at.ensures c.args.offset.0 c.find-place.ensures)

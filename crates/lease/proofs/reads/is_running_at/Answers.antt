@@ -9,28 +9,16 @@ use Rattle.lease.proofs.Slots.{free, lease-at}
 use Rattle.lease.proofs.InWords.{whole}
 use Rattle.lease.proofs.reads.is_running_at.Goals as goal
 
-pub enum_known-place : goal.enum_known-place
-enum_known-place c = c.in-Found.keys1
-
-pub enum_told-1 : goal.enum_told-1
-enum_told-1 c = c.in-Found.keys2
-
 pub returns-in_default : goal.returns-in_default
 returns-in_default c o p =
-    let s = c.before.before.before in
-    rw (free (table_in s.args.table.now) (whole s.requires.0).full s.requires.0.table p c.in_default.is).is
+    rw (free (table_in c.args.table.now) (whole c.requires.0).full c.requires.0.table p c.in_default.is).is
 
 pub lease_at-lease-requires : goal.lease_at-lease-requires
 lease_at-lease-requires c =
-    let after-place = c.before in
-    let s = after-place.before.before.before in
-    (s.requires.0, subst (PlaceWithin LEASES) after-place.in-Found.is s.requires.1)
+    (c.requires.0, subst (PlaceWithin LEASES) c.in-Found.is c.requires.1)
 
 pub returns : goal.returns
 returns c o p =
-    let after-lease-at = c.before in
-    let after-place = after-lease-at.before.before in
-    let s = after-place.before.before.before in
-    let t = table_in s.args.table.now in
-    let due : after-lease-at.lease_at-lease.result.deadline ≡ (held_at after-place.in-Found.at t).deadline = ap (λ (h : Lease). h.deadline) after-lease-at.lease_at-lease.ensures in
-    rw (lease-at t (whole s.requires.0).full s.requires.0.table o p after-place.in-Found.is, due)
+    let t = table_in c.args.table.now in
+    let due : c.lease_at-lease.result.deadline ≡ (held_at c.in-Found.at t).deadline = ap (λ (h : Lease). h.deadline) c.lease_at-lease.ensures in
+    rw (lease-at t (whole c.requires.0).full c.requires.0.table o p c.in-Found.is, due)

@@ -12,34 +12,24 @@ loop-i-init c =
     let w = c.args.words.now in
     (refl, filling (replicate (length w) 0) w (length w) (omega arith))
 
-pub bounds-words-i : goal.bounds-words-i
-bounds-words-i c =
-    let l = c.before in
-    omega (arith, l.loop-i.invariant.1.full)
-
 pub loop-i-preserved : goal.loop-i-preserved
 loop-i-preserved c =
-    let l = c.before in
-    let s = l.before in
-    let n = length s.args.words.now in
-    let i = l.loop-i.i in
-    let inv = l.loop-i.invariant.1 in (
+    let n = length c.args.words.now in
+    let i = c.loop-i.i in
+    let inv = c.loop-i.invariant.1 in (
       refl,
-      subst (λ (v : ℕ). Filling (replicate n 0) s.args.words.now (set l.loop-i.words i v) n (i + 1)) (get_or-replicate n i 0 0 c.loop-i-test.true)
+      subst (λ (v : ℕ). Filling (replicate n 0) c.args.words.now (set c.loop-i.words i v) n (i + 1)) (get_or-replicate n i 0 0 c.loop-i-test.true)
           (filling-more 0 (omega (arith, length-replicate {A = ℕ} n 0)) c.loop-i-test.true inv),
     )
 
 pub shape_of-words : goal.shape_of-words
 shape_of-words c =
-    let l = c.before in
-    l.loop-i.invariant.1.full
+    c.loop-i.invariant.1.full
 
 pub returns : goal.returns
 returns c =
-    let l = c.before in
-    let s = l.before in
-    let n = length s.args.words.now in
-    let inv = l.loop-i.invariant.1 in
-    let e : l.loop-i.i ≡ n = omega (arith, inv.inside, c.loop-i-test.false) in
-    sym (take_all n l.loop-i.words (omega (arith, inv.full))) ∙ ap (λ (k : ℕ). take k l.loop-i.words) (sym e) ∙ inv.done
+    let n = length c.args.words.now in
+    let inv = c.loop-i.invariant.1 in
+    let e : c.loop-i.i ≡ n = omega (arith, inv.inside, c.loop-i-test.false) in
+    sym (take_all n c.loop-i.words (omega (arith, inv.full))) ∙ ap (λ (k : ℕ). take k c.loop-i.words) (sym e) ∙ inv.done
     ∙ ap (λ (k : ℕ). take k (replicate n 0)) e ∙ take_all n (replicate n 0) (omega (arith, length-replicate {A = ℕ} n 0))

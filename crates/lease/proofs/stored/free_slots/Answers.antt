@@ -11,29 +11,20 @@ use Rattle.lease.proofs.stored.free_slots.Goals as goal
 pub loop-i-init : goal.loop-i-init
 loop-i-init c = (refl, omega arith, refl, refl)
 
-pub bounds-slots-i : goal.bounds-slots-i
-bounds-slots-i c =
-    let l = c.before in
-    omega (arith, l.loop-i.invariant.2)
-
 pub loop-i-preserved : goal.loop-i-preserved
 loop-i-preserved c =
-    let l = c.before in
-    let inv = l.loop-i.invariant in
-    let i = l.loop-i.i in
-    let h : i < length l.loop-i.slots = omega (arith, inv.2, c.loop-i-test.true) in
-    (refl, omega (arith, c.loop-i-test.true), length-set l.loop-i.slots i i ∙ inv.2, rw (add-one, take-suc-set l.loop-i.slots i i h, inv.3))
+    let inv = c.loop-i.invariant in
+    let i = c.loop-i.i in
+    let h : i < length c.loop-i.slots = omega (arith, inv.2, c.loop-i-test.true) in
+    (refl, omega (arith, c.loop-i-test.true), length-set c.loop-i.slots i i ∙ inv.2, rw (add-one, take-suc-set c.loop-i.slots i i h, inv.3))
 
 pub shape_of-slots : goal.shape_of-slots
 shape_of-slots c =
-    let l = c.before in
-    l.loop-i.invariant.2
+    c.loop-i.invariant.2
 
 pub returns : goal.returns
 returns c =
-    let l = c.before in
-    let s = l.before in
-    let n = length s.args.slots.now in
-    let inv = l.loop-i.invariant in
-    let e : l.loop-i.i ≡ n = omega (arith, inv.1, c.loop-i-test.false) in
-    sym (take_all n l.loop-i.slots (omega (arith, inv.2))) ∙ ap (λ (k : ℕ). take k l.loop-i.slots) (sym e) ∙ inv.3 ∙ ap upTo e
+    let n = length c.args.slots.now in
+    let inv = c.loop-i.invariant in
+    let e : c.loop-i.i ≡ n = omega (arith, inv.1, c.loop-i-test.false) in
+    sym (take_all n c.loop-i.slots (omega (arith, inv.2))) ∙ ap (λ (k : ℕ). take k c.loop-i.slots) (sym e) ∙ inv.3 ∙ ap upTo e

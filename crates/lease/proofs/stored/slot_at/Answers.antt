@@ -10,6 +10,5 @@ use Rattle.lease.proofs.stored.slot_at.Goals as goal
 
 pub returns : goal.returns
 returns c =
-    let s = c.before in
-    let low : get_or s.args.table.now (SLOTS + s.args.at) 0 % LEASES < LEASES = omega arith in
-    (rw (column-at SLOTS LEASES s.args.table.now s.args.at s.requires.1), low)
+    let low : get_or c.args.table.now (SLOTS + c.args.at) 0 % LEASES < LEASES = omega arith in
+    (rw (column-at SLOTS LEASES c.args.table.now c.args.at c.requires.1), low)
