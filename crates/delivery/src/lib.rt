@@ -1,5 +1,6 @@
 // The delivery policy: the acknowledgement verbs, when a message has been handed out too often, and how long a retry waits.
 #![tactic(auto)]
+
 ghost use Rattle.std.specs.Prelude.{◌≡◌, not, ◌&&◌, ◌-◌, ◌≤◌, min, max, length, take};
 ghost use Rattle.types.specs.Refusal.{done};
 ghost use Rattle.delivery.specs.Policy.{unlimited, destination, disposition, scheduled, delayed, capped_delay, nack_backoff, effective_nack_delay};

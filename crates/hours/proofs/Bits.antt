@@ -1,15 +1,15 @@
 -- Bits of a number: what is left of a day from a half hour on, and what the counts of ones and of trailing zeros say of it.
 -- Assumes nothing.
-use Prim.Native.Nat.{ℕ, zero, suc, ◌+◌, ◌*◌, ◌-◌, ◌/◌, ◌%◌, ◌^◌, ◌≤◌, ◌<◌}
+use Prim.Native.Nat.{ℕ, zero, suc, ◌+◌, ◌-◌, ◌/◌, ◌%◌, ◌^◌, ◌≤◌, ◌<◌}
 use native.Mathlib.Nat.{div-one, mod-lt}
 use native.Mathlib.Omega.{arith}
 use mathlib.Core.Path.{◌≡◌, refl, sym, ap, ◌∙◌}
-use mathlib.Core.Bool.{Bool, true, false}
+use mathlib.Core.Bool.{true, false}
 use lib.Dec.{eqb}
 use lib.Arith.{bin_ind}
 use lib.Pow.{shr-shr, shr_lt, field, mod-mod-pow, pow_pos}
 use lib.Count.{ones, ones_step, count_trailing_zeros}
-use borrow.Author.Tests.{eqb-true, eqb-false, eq-eqb, ne_eqb}
+use borrow.Author.Tests.{eqb-true, eqb-false}
 use Rattle.types.proofs.Cases.{split}
 use Rattle.hours.specs.Hours.{bit}
 

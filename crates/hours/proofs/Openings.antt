@@ -1,18 +1,18 @@
 -- The next opening: it is at or after the clock (`opening-after`), no clock before it is open (`opening-least`), it is open unless it is
 -- given as MAX (`opening-open`), and it is within a week (`opening-soon`). A week that 33 and 34 let through has an open half hour
 -- (`accepted-opens`), and so an opening from every clock on (`always-opens`). Assumes nothing.
-use Prim.Native.Nat.{ℕ, suc, ◌+◌, ◌*◌, ◌-◌, ◌/◌, ◌%◌, ◌≤◌, ◌<◌, min}
+use Prim.Native.Nat.{ℕ, ◌+◌, ◌*◌, ◌-◌, ◌/◌, ◌%◌, ◌≤◌, ◌<◌, min}
 use native.Mathlib.Omega.{arith}
-use mathlib.Core.Path.{◌≡◌, refl, sym, ap, ◌∙◌}
-use mathlib.Core.Bool.{Bool, true, false, cond, true≢false}
+use mathlib.Core.Path.{◌≡◌, sym, ap, ◌∙◌}
+use mathlib.Core.Bool.{true, false, true≢false}
 use mathlib.Core.List.{List}
 use mathlib.Core.Option.{Option, none, some}
-use lib.Dec.{ltb, eqb}
-use borrow.Author.Tests.{ltb-true, ltb-false, eqb-false, eqb-true}
+use lib.Dec.{ltb}
+use borrow.Author.Tests.{ltb-true, ltb-false, eqb-false}
 use Rattle.types.specs.Limits.{MAX, sat64}
 use Rattle.types.specs.Table.{Passed}
 use Rattle.types.proofs.Cases.{split}
-use Rattle.hours.specs.Hours.{Week, HALF_HOUR, WEEK, HALF_HOURS, open_half, half_at, beginning, open_at, firstOpen, opening, isOpen, next_opening, never_open, hours_rows}
+use Rattle.hours.specs.Hours.{Week, HALF_HOUR, WEEK, HALF_HOURS, open_half, half_at, beginning, open_at, firstOpen, opening, next_opening, hours_rows}
 use Rattle.hours.specs.View.{closed_until}
 use Rattle.hours.proofs.Search.{first-from, first-within, first-least, first_open_lem, first-is, open_again, first-again}
 

@@ -1,11 +1,10 @@
 -- What the code's hours stand for, by whether any are given: its answers as those of the definitions. Assumes nothing.
 use Prim.Native.Nat.{ℕ, ◌-◌, ◌*◌, ◌%◌, ◌≤◌, ◌<◌}
 use mathlib.Core.Path.{◌≡◌, refl, sym, ap, ◌∙◌}
-use mathlib.Core.Bool.{Bool, true, false, not, cond, ◌||◌}
+use mathlib.Core.Bool.{true, false}
 use mathlib.Core.Option.{Option, none, some}
 use native.Mathlib.Omega.{arith}
-use lib.Dec.{leb, eqb}
-use borrow.Author.Tests.{not-true, not-false, le-leb, lt-leb, eq-eqb, ne_eqb}
+use borrow.Author.Tests.{le-leb, lt-leb, eq-eqb, ne_eqb}
 use Rattle.types.specs.Limits.{sat64}
 use Rattle.types.specs.Refusal.{BadHours, NeverOpen}
 use Rattle.types.specs.Table.{first}
@@ -53,21 +52,21 @@ module _ (h : Hours) where
   abbrev pub week : Week
   week = week_of h.days h.shift
 
-  without : not h.given ≡ true → view h ≡ none
-  without e = rw (not-true h.given e)
+  without : h.given ≡ false → view h ≡ none
+  without e = rw e
 
-  given : not h.given ≡ false → view h ≡ some week
-  given e = rw (not-false h.given e)
+  given : h.given ≡ true → view h ≡ some week
+  given e = rw e
 
   -- ## at a clock
   module _ (now : ℕ) where
     abbrev pub from : ℕ
     from = openings.half week now
 
-    pub always : not h.given ≡ true → none ≡ closed_until (view h) now
+    pub always : h.given ≡ false → none ≡ closed_until (view h) now
     always e = rw (without e)
 
-    module _ (e : not h.given ≡ false) (found : ℕ) (is : found ≡ firstOpen h.days from HALF_HOURS) where
+    module _ (e : h.given ≡ true) (found : ℕ) (is : found ≡ firstOpen h.days from HALF_HOURS) where
       pub at_once : found ≡ from → none ≡ closed_until (view h) now
       at_once s = rw (given e) (sym (openings.open_now week now (sym is ∙ s)))
 
@@ -76,10 +75,10 @@ module _ (h : Hours) where
       later d r s = rw (given e) (ap some (s ∙ rw is refl) ∙ sym (openings.open_later week now (λ t. d (is ∙ t))))
 
   -- ## 33, 34
-  pub none_tested : not h.given ≡ true → none ≡ first (hours_rows (view h))
+  pub none_tested : h.given ≡ false → none ≡ first (hours_rows (view h))
   none_tested e = rw (without e)
 
-  module _ (e : not h.given ≡ false) where
+  module _ (e : h.given ≡ true) where
     pub bits_above : anyAbove h.days 7 ≡ true → some BadHours ≡ first (hours_rows (view h))
     bits_above a = rw (given e, a)
 

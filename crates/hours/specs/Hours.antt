@@ -1,7 +1,7 @@
 -- Opening hours. A week has 336 half hours, 48 to a day, and each is open or not; they are counted from the Monday midnight
 -- before clock 0 on, past the week's end too, so that every clock lies in one.
 -- SPEC.md, "Hours".
-use Rattle.std.specs.Prelude.{ℕ, zero, suc, ◌+◌, ◌*◌, ◌-◌, ◌/◌, ◌%◌, ◌^◌, min, Bool, true, false, not, cond, ◌||◌, List, [], ◌∷◌, leb, eqb, get_or}
+use Rattle.std.specs.Prelude.{ℕ, zero, suc, ◌+◌, ◌*◌, ◌-◌, ◌/◌, ◌%◌, ◌^◌, min, Bool, true, false, cond, ◌||◌, List, [], ◌∷◌, leb, eqb, get_or}
 use Rattle.std.proofs.Math.Option.{Option, none, some}
 use Rattle.types.specs.Limits.{MAX}
 use Rattle.types.specs.Refusal.{BadHours, NeverOpen}

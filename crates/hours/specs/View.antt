@@ -1,6 +1,6 @@
 -- What the code's hours and its answers stand for.
 -- SPEC.md, "Hours".
-use Rattle.std.specs.Prelude.{ℕ, Bool, true, false, cond, List}
+use Rattle.std.specs.Prelude.{ℕ, cond}
 use Rattle.std.proofs.Math.Option.{Option, none, some}
 use Rattle.types.specs.Refusal.{Refusal}
 use Rattle.types.specs.Refusal as refusal

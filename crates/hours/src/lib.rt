@@ -1,6 +1,7 @@
 // Opening hours: which half hours of a week are open, whether a clock lies in one of them, and when the next one begins. Times are
 // nanoseconds; a clock and the shift may pass the largest number together, so both are taken within a week first.
 #![tactic(auto)]
+
 ghost use Rattle.std.specs.Prelude.{◌≡◌, ◌/◌, ◌%◌, ◌^◌, ◌<◌};
 ghost use Rattle.types.specs.Table.{first};
 ghost use Rattle.hours.specs.Hours.{firstOpen, anyAbove, isOpen, next_opening, hours_rows};

@@ -1,5 +1,4 @@
 -- `asked_delay` meets its contract. Assumes nothing.
-use borrow.Author.Rules.{rules}
 use Rattle.delivery.proofs.asked_delay.Goals as goal
 
 pub returns-in-Schedule : goal.returns-in-Schedule

@@ -1,10 +1,8 @@
 -- `steps` meets its contract. The loop's invariant: the copied backoffs, with those not copied yet, are the list.
 -- Assumes nothing.
-use Prim.Native.Nat.{◌≤◌, ◌-◌}
 use native.Mathlib.Omega.{arith}
 use mathlib.Core.Path.{◌≡◌, refl, sym, ◌∙◌}
-use mathlib.Core.List.{◌++◌}
-use lib.ListN.{length, take, drop, length-set}
+use lib.ListN.{length, length-set}
 use Rattle.delivery.proofs.Copy.{copy_more, copy-end}
 use Rattle.delivery.proofs.steps.Goals as goal
 

@@ -1,11 +1,9 @@
 -- `steps` meets its contract. The loop's invariant: the copied backoffs, with those not copied yet, are the list.
 -- Assumes nothing.
 use Prim.Native.Nat.{◌≤◌, ◌-◌}
-use native.Mathlib.Omega.{arith}
-use mathlib.Core.Path.{◌≡◌, refl, sym, ◌∙◌}
+use mathlib.Core.Path.{◌≡◌}
 use mathlib.Core.List.{◌++◌}
-use lib.ListN.{length, take, drop, length-set}
-use Rattle.delivery.proofs.Copy.{copy_more, copy-end}
+use lib.ListN.{length, take, drop}
 use Rattle.delivery.proofs.steps.Given as goal
 
 abbrev pub invariant-loop-i : goal.invariant-loop-i

@@ -1,13 +1,9 @@
 -- `first_open` meets its contract. The loop's invariant: no half hour before the one that it stands at is open; beyond the first it
 -- stands at a midnight. Assumes nothing.
-use Prim.Native.Nat.{ℕ, ◌+◌, ◌-◌, ◌%◌, ◌≤◌, ◌<◌}
-use native.Mathlib.Omega.{arith}
-use mathlib.Core.Path.{◌≡◌, sym, ◌∙◌}
+use Prim.Native.Nat.{ℕ, ◌+◌, ◌-◌, ◌≤◌, ◌<◌}
+use mathlib.Core.Path.{◌≡◌}
 use mathlib.Core.Bool.{false}
-use borrow.Author.Rules.{rules}
 use Rattle.hours.specs.Hours.{open_half}
-use Rattle.hours.proofs.Bits.{no_ones, some_ones}
-use Rattle.hours.proofs.Search.{first_none, rest-within, day_closed, day_found}
 use Rattle.hours.proofs.first_open.Given as goal
 
 abbrev pub invariant-loop-at : goal.invariant-loop-at

@@ -1,6 +1,5 @@
 -- `Hours::is_open` meets its contract. Assumes nothing.
 use mathlib.Core.Path.{sym, ap, ◌∙◌}
-use borrow.Author.Rules.{rules}
 use Rattle.hours.specs.View.{view, opening_of}
 use Rattle.hours.proofs.View.{is_open_now, is_open_later}
 use Rattle.hours.proofs.Hours.is_open.Goals as goal

@@ -1,6 +1,5 @@
 -- `Hours::next_opening` meets its contract. Assumes nothing.
 use mathlib.Core.Path.{sym, ap, ◌∙◌}
-use borrow.Author.Rules.{rules}
 use Rattle.hours.specs.View.{view, opening_of}
 use Rattle.hours.proofs.View.{opening-is-now, opening-is-later}
 use Rattle.hours.proofs.Hours.next_opening.Goals as goal
