@@ -4,4 +4,3 @@ mod Writing
 pub mod PairByPair
 mod Reading
 mod ReadColumns
-mod LentEncoder

@@ -7,8 +7,6 @@ use mathlib.Core.Bool.{Bool, true, false}
 use mathlib.Core.List.{List, [], ◌∷◌, ◌++◌}
 use lib.ListN.{length, take, drop, get_or, set, length-map, take-append-drop}
 use lib.Seq.{take-suc-set, drop-set-lt, append_snoc}
-use types.Run.{OneOf, miss}
-use denote.Enum.Declared.{tag_of}
 use borrow.Author.Tests.{lt-ltb, le-ltb, le-leb, lt-leb, eq-eqb, ne_eqb}
 use Rattle.types.specs.Limits.{PAIRS}
 use Rattle.types.specs.Refusal.{Refusal, Result, refused, done}
@@ -28,9 +26,7 @@ use Rattle.types.specs.Lists.{entry_of, entries_of, counted}
 use Rattle.attempt.specs.declared.Decoded.{Decoded}
 use Rattle.attempt.specs.declared.AttemptSnapshotError.{AttemptSnapshotError}
 use Rattle.attempt.specs.declared.Decode.TheVariants as outcomes
-use Rattle.attempt.specs.declared.Fill.{Fill}
 use Rattle.attempt.specs.declared.Fill.TheVariants.{Pairs, Refused, OutTooShort}
-use Rattle.attempt.specs.contracts.Fill.{the_type}
 use Rattle.attempt.proofs.Snapshot.{length-read, accepted, accepts, fill-room, fill-short}
 
 -- ---- the tests of `check`, in their order
@@ -134,15 +130,6 @@ module _ (v n : ℕ) (b : List ℕ) where
   few h = rw (length-read (apart v) n n 0 b, le-ltb PAIRS n h)
 
 -- ---- outcomes
-
--- an outcome of the arms behind that of pairs
-abbrev pub Other : Fill → Type 0
-Other d = OneOf (1 ∷ 2 ∷ []) (tag_of the_type d)
-
-pub other-counted : (d : Fill) → Other d → 0 ≡ counted (fill_of d)
-other-counted (Pairs n) h = absurd (miss (1 ∷ 2 ∷ []) 0 tt h)
-other-counted (Refused error) h = refl
-other-counted OutTooShort h = refl
 
 module _ (b : List ℕ) where
   -- the tests refused, or let n pairs through

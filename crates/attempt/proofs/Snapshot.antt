@@ -3,7 +3,7 @@
 -- law has to look at the layout it does so by the Bool of `apart`. Assumes nothing.
 use Prim.Native.Nat.{ℕ, zero, suc, ◌+◌, ◌-◌, ◌*◌, ◌%◌, ◌^◌, ◌<◌, ◌≤◌}
 use native.Mathlib.Omega.{arith}
-use mathlib.Core.Path.{◌≡◌, refl, sym, ap, ◌∙◌}
+use mathlib.Core.Path.{◌≡◌, refl, sym, ap, ap₂, ◌∙◌}
 use mathlib.Core.Bool.{Bool, true, false, not, or-false}
 use mathlib.Core.List.{List, [], ◌∷◌, ◌++◌, append_assoc}
 use lib.ListN.{length, take, drop, get_or, length-append}
@@ -22,8 +22,8 @@ use Rattle.crc.specs.Crc32c.{crc}
 use Rattle.crc.specs.Seal.{sealed, is_sealed}
 use Rattle.crc.proofs.Seal.{length-sealed, bytes-sealed, sealed_ok, sealed-of}
 use Rattle.attempt.specs.Snapshot.{PairsFit, apart, offsets_bytes, attempts_bytes, pair_bytes, pairs_bytes, body_bytes}
-use Rattle.attempt.specs.Snapshot.{encode_attempts, encode_attempts2, offset_at, attempt_at, read_pairs, pair_count, pairs_in, known}
-use Rattle.attempt.specs.Snapshot.{frame_table, order_after, order_table, limit_table, pairs_table, decode_table, decode_attempts, old_reader, fill}
+use Rattle.attempt.specs.Snapshot.{encode_attempts, encode_attempts2, offset_at, attempt_at, read_pairs, pairs_as, pair_count, pairs_in, known}
+use Rattle.attempt.specs.Snapshot.{framed_table, frame_table, order_after, order_table, limit_table, pairs_table, decode_table, decode_attempts, old_reader, fill}
 
 -- ---- lengths
 
@@ -226,7 +226,12 @@ old-refuses l = old_reader_refuses (encode_attempts2 l) (omega (arith, attempts-
 -- on all other bytes the two readers answer alike
 pub readers_agree : (b : List ℕ) → (get_or b 0 0 ≡ 2 → ⊥) → decode_attempts b ≡ old_reader b
 unfolding decode_attempts old_reader
-readers_agree b h = rw (ne_eqb (get_or b 0 0) 2 h, or-false)
+readers_agree b h =
+    let two : eqb (get_or b 0 0) 2 ≡ false = ne_eqb (get_or b 0 0) 2 h in
+    let version : known (get_or b 0 0) ≡ eqb (get_or b 0 0) 1 = rw (two, or-false) in
+    let pairs : pairs_in b ≡ pairs_as 1 (pair_count b) b =
+    ap (λ (split : Bool). read_pairs split (pair_count b) (pair_count b) 0 b) two in
+    ap₂ (λ (k : Bool) (l : List (Entry ℕ)). checked (framed_table (λ v. k) b ++ pairs_table l) (done l)) version pairs
 
 -- ---- writing what was read
 

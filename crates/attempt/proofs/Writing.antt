@@ -166,15 +166,3 @@ first-many v pairs n at bs h = rw (lt-ltb PAIRS n h)
 
 pub first-few : (v : ℕ) (pairs : List Pair) (n at : ℕ) (bs : List ℕ) → n ≤ PAIRS → encode_front v n pairs at bs ≡ encode_version v (entries_of (take n pairs)) at bs
 first-few v pairs n at bs h = rw (le-ltb PAIRS n h)
-
--- ---- a lent list, of which an array holds as many pairs as fit
-pub lent-encoded : (v : ℕ) (ps first : List Pair) (m at : ℕ) (bs : List ℕ) → m ≡ min (length ps) 128 → take m first ≡ take m ps
-    → encode_front v (length ps) first at bs ≡ encode_version v (entries_of ps) at bs
-lent-encoded v ps first m at bs e front =
-    elim (dec_lt PAIRS (length ps)) [
-      | yes h ↦ rw (lt-ltb PAIRS (length ps) h, length-map ps entry_of, lt-ltb PAIRS (length ps) h)
-      | no h ↦
-          let all : m ≡ length ps = omega arith in
-          let whole : take (length ps) first ≡ ps = rw all at front ∙ take-length ps in
-          rw (le-ltb PAIRS (length ps) (omega arith), whole)
-    ]

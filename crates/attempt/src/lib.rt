@@ -2,6 +2,7 @@
 // a pair stand are known here alone. Version 1 is the original's; version 2 has all offsets first, so that counts which change
 // leave the offsets' bytes as they are.
 #![tactic(auto)]
+
 ghost use Rattle.std.specs.Prelude.{◌≡◌, ◌++◌, ◌+◌, ◌*◌, ◌<◌, ◌≤◌, min, length, take, drop, get_or};
 ghost use Rattle.types.specs.Limits.{MAX};
 ghost use Rattle.types.specs.Refusal.{done};

@@ -10,10 +10,8 @@ use Rattle.attempt.proofs.put_pair.Goals as goal
 
 pub returns : goal.returns
 returns c =
-    let second = c.before.before in
-    let first = second.before.before.before.before in
-    let a = first.args in
-    let offset = wrote a.to-offset (le 8 a.offset) a.out.now first.write_u64.ensures (omega arith) in
-    let room : a.to-attempt + 4 ≤ length first.write_u64.new.0 = omega (arith, first.write_u64.auto.0) in
-    wrote a.to-attempt (le 4 a.attempt) first.write_u64.new.0 second.write_u32.ensures room
-    ∙ ap (overwrite a.to-attempt (le 4 a.attempt)) offset
+    let a = c.args in
+    let offset = wrote a.to_offset (le 8 a.offset) a.out.now c.write_u64.ensures (omega arith) in
+    let room : a.to_attempt + 4 ≤ length c.write_u64.new.buf = omega (arith, c.write_u64.auto.buf) in
+    wrote a.to_attempt (le 4 a.attempt) c.write_u64.new.buf c.write_u32.ensures room
+    ∙ ap (overwrite a.to_attempt (le 4 a.attempt)) offset

@@ -37,20 +37,15 @@ overflow_add-to_attempt c = omega (arith, attempt-room c)
 
 pub put_pair-requires : goal.put_pair-requires
 put_pair-requires c =
-    let attempt = c.before.before.before in
-    let offset = attempt.before in
     (omega (arith, offset-room (goal.at.put_pair-requires c).After-offset_at), omega (arith, attempt-room (goal.at.put_pair-requires c).After-attempt_at))
 
 pub loop-i-preserved : goal.loop-i-preserved
 loop-i-preserved c =
-    let put = c.before.before in
-    let attempt = put.before.before.before.before in
-    let offset = attempt.before in
-    let l = offset.loop-i in
-    let a = offset.args in
-    let wrote = rw (offset.offset_at.ensures, attempt.attempt_at.ensures) at put.put_pair.ensures in (
+    let l = c.loop-i in
+    let a = c.args in
+    let wrote = rw (c.offset_at.ensures, c.attempt_at.ensures) at c.put_pair.ensures in (
       omega arith,
-      put.put_pair.auto.0 ∙ l.invariant.1,
+      c.put_pair.auto.out ∙ l.invariant.1,
       put-more (apart a.version) a.count a.at a.offsets.now a.attempts.now l.i l.out _ (omega arith) (omega arith) wrote
           ∙ l.invariant.2,
     )
@@ -60,12 +55,11 @@ shape_of-out c = c.loop-i.invariant.1
 
 pub returns : goal.returns
 returns c =
-    let s = c.before.before.before.before.before in
-    let a = s.args in
+    let a = c.args in
     let l = c.loop-i in
     let ks = a.offsets.now in
     let vs = a.attempts.now in
     let split = apart a.version in
     sym (put-end split a.count a.at ks vs l.i l.out (omega arith))
     ∙ l.invariant.2
-    ∙ put_all split a.count a.at (entries ks vs) a.out.now (length_both ks vs ∙ sym s.requires.0) s.requires.1
+    ∙ put_all split a.count a.at (entries ks vs) a.out.now (length_both ks vs ∙ sym c.requires.0) c.requires.1

@@ -41,9 +41,8 @@ slice_bounds-write_columns-end-2 c = sym (length-take-le _ c.loop-i.attempts (om
 
 pub returns : goal.returns
 returns c =
-    let h = c.before.before.before.before.before.before in
-    let l = h.loop-i in
-    let a = h.args in
+    let l = c.loop-i in
+    let a = c.args in
     let end : l.i ≡ a.count = omega arith in
     let pairs = rw end at l.invariant.3 in
     c.write_columns.ensures

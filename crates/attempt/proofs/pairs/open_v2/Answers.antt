@@ -10,11 +10,10 @@ use borrow.Author.Rules.{rules}
 use Rattle.attempt.proofs.pairs.open_v2.Goals as goal
 
 pub shape_of-out : goal.shape_of-out
-shape_of-out c = c.write_u32.auto.0 ∙ simp length-set
+shape_of-out c = c.write_u32.auto.buf ∙ simp length-set
 
 pub returns : goal.returns
 returns c =
-    let w = c.before.before in
-    let a = w.args in
+    let a = c.args in
     let byte = overwrite-byte a.at 2 a.out.now (omega arith) in
-    wrote-behind (a.at + 1) (le 4 a.count) (set a.out.now a.at 2) w.write_u32.ensures a.at (2 ∷ []) a.out.now refl byte (omega arith)
+    wrote-behind (a.at + 1) (le 4 a.count) (set a.out.now a.at 2) c.write_u32.ensures a.at (2 ∷ []) a.out.now refl byte (omega arith)

@@ -11,10 +11,8 @@ use Rattle.attempt.proofs.pairs.seal_v2.Goals as goal
 
 pub returns : goal.returns
 returns c =
-    let w = c.before.before in
-    let k = w.before.before in
-    let a = k.args in
+    let a = c.args in
     let bs = a.out.now in
     let part : a.at + (5 + 12 * a.count) - a.at ≡ 5 + 12 * a.count = omega arith in
-    let check : k.crc32c-check.result ≡ crc (take (5 + 12 * a.count) (drop a.at bs)) = rw part at k.crc32c-check.ensures in
-    rw (← check) (wrote (a.at + (5 + 12 * a.count)) (le 4 k.crc32c-check.result) bs w.write_u32.ensures (omega arith))
+    let check : c.crc32c-check.result ≡ crc (take (5 + 12 * a.count) (drop a.at bs)) = rw part at c.crc32c-check.ensures in
+    rw (← check) (wrote (a.at + (5 + 12 * a.count)) (le 4 c.crc32c-check.result) bs c.write_u32.ensures (omega arith))
