@@ -10,8 +10,8 @@ use Rattle.cursor.proofs.codec.write_body.Goals as goal
 use Rattle.cursor.proofs.codec.write_body.Goals.{After-write_u64}
 
 -- the output keeps its length
-kept : (w : After-write_u64) → let a = w.args in length w.write_u64.new.out ≡ length a.out.now
-kept w = w.write_u64.auto.out ∙ simp length-set
+kept : (w : After-write_u64) → let a = w.args in length w.write_u64.new.buf ≡ length a.out.now
+kept w = w.write_u64.auto.buf ∙ simp length-set
 
 pub write_ranges-requires : goal.write_ranges-requires
 write_ranges-requires c =
@@ -24,5 +24,5 @@ shape_of-out c =
 pub returns : goal.returns
 returns c =
     let a = c.args in
-    body-put (view (ack_cursor a.committed a.starts.now a.ends.now a.n)) a.n a.at a.out.now c.write_u64.new.out c.write_ranges.new.out
+    body-put (view (ack_cursor a.committed a.starts.now a.ends.now a.n)) a.n a.at a.out.now c.write_u64.new.buf c.write_ranges.new.out
     (count a.n a.starts.now a.ends.now c.requires.0 c.requires.1) c.requires.2 c.write_u64.ensures c.write_ranges.ensures

@@ -21,8 +21,8 @@ loop-i-preserved c =
     let a = c.args in (
       omega arith,
       omega arith,
-      c.write_u64-in-loop-i.auto.out ∙ c.write_u64.auto.out ∙ l.invariant.2,
-      put-more a.n a.starts.now a.ends.now c.requires.0 c.requires.1 l.i l.pos l.out c.write_u64.new.out c.write_u64-in-loop-i.new.out (omega arith) (omega arith) c.write_u64.ensures c.write_u64-in-loop-i.ensures ∙ l.invariant.3,
+      c.write_u64-in-loop-i.auto.buf ∙ c.write_u64.auto.buf ∙ l.invariant.2,
+      put-more a.n a.starts.now a.ends.now c.requires.0 c.requires.1 l.i l.pos l.out c.write_u64.new.buf c.write_u64-in-loop-i.new.buf (omega arith) (omega arith) c.write_u64.ensures c.write_u64-in-loop-i.ensures ∙ l.invariant.3,
     )
 
 pub shape_of-out : goal.shape_of-out

@@ -37,13 +37,13 @@ module _ (starts ends : List ℕ) (committed i : ℕ) (short : (i < length start
   more : take i (zipped range starts ends) ++ here ∷ [] ≡ take (i + 1) (zipped range starts ends)
   more = rw add-one (columns-more i starts ends short.0 short.1)
 
-  module _ {last : ℕ} {checked : Resume} (is : last ≡ last_end committed (take i (zipped range starts ends))) (clear : first (ranges_table committed (take i (zipped range starts ends))) ≡ none) (told : resume_fault checked ≡ first (range_table last here)) where
-    seen : first (ranges_table committed (take (i + 1) (zipped range starts ends))) ≡ resume_fault checked
-    seen =
-        ap (λ (x : List Range). first (ranges_table committed x)) (sym more)
-        ∙ walk-on committed (take i (zipped range starts ends)) clear here
-        ∙ ap (λ (e : ℕ). first (range_table e here)) (sym is)
-        ∙ sym told
+  seen : (checked : Resume) {last : ℕ} → last ≡ last_end committed (take i (zipped range starts ends)) → first (ranges_table committed (take i (zipped range starts ends))) ≡ none → resume_fault checked ≡ first (range_table last here)
+      → first (ranges_table committed (take (i + 1) (zipped range starts ends))) ≡ resume_fault checked
+  seen checked {last} is clear told =
+      ap (λ (x : List Range). first (ranges_table committed x)) (sym more)
+      ∙ walk-on committed (take i (zipped range starts ends)) clear here
+      ∙ ap (λ (e : ℕ). first (range_table e here)) (sym is)
+      ∙ sym told
 
 pub returns-in_default : goal.returns-in_default
 returns-in_default c =
@@ -54,7 +54,7 @@ returns-in_default c =
     ∙ sym
     (ap (λ (x : List Range). first (resume_table c.args.committed x)) (sym (take-append-drop (i + 1) z))
     ∙ walk-fault c.args.committed (take (i + 1) z) _ _
-    (seen c.args.starts.now c.args.ends.now c.args.committed i (omega (arith, c.shorter-n.ensures), omega (arith, c.shorter-n.ensures)) c.loop-i.invariant.1 c.loop-i.invariant.2 c.check_range-checked.ensures ∙ q))
+    (seen c.args.starts.now c.args.ends.now c.args.committed i (omega (arith, c.shorter-n.ensures), omega (arith, c.shorter-n.ensures)) c.check_range-checked.result c.loop-i.invariant.1 c.loop-i.invariant.2 c.check_range-checked.ensures ∙ q))
 
 pub loop-i-preserved : goal.loop-i-preserved
 loop-i-preserved c =
@@ -64,7 +64,7 @@ loop-i-preserved c =
     let short : (i < length starts) × (i < length ends) = (omega (arith, c.shorter-n.ensures), omega (arith, c.shorter-n.ensures)) in (
       omega arith,
       walk-last c.args.committed (take i (zipped range starts ends)) (here starts ends c.args.committed i short) ∙ ap (last_end c.args.committed) (more starts ends c.args.committed i short),
-      seen starts ends c.args.committed i short c.loop-i.invariant.1 c.loop-i.invariant.2 c.check_range-checked.ensures ∙ ap resume_fault c.in-Resumed.is,
+      seen starts ends c.args.committed i short c.check_range-checked.result c.loop-i.invariant.1 c.loop-i.invariant.2 c.check_range-checked.ensures ∙ ap resume_fault c.in-Resumed.is,
     )
 
 -- after the loop the walk has seen all of them

@@ -25,13 +25,13 @@ pub loop-i-init : goal.loop-i-init
 loop-i-init c = (omega arith, refl, refl, refl)
 
 -- with the range at i the walk has seen one more
-module _ (bytes : List ℕ) (committed i pos start end : ℕ) {last : ℕ} {checked : Resume} (there : pos ≡ 9 + 16 * i) (first-is : start ≡ number_at 8 pos bytes) (end-is : end ≡ number_at 8 (pos + 8) bytes) where
+module _ (bytes : List ℕ) (committed i pos start end : ℕ) (there : pos ≡ 9 + 16 * i) (first-is : start ≡ number_at 8 pos bytes) (end-is : end ≡ number_at 8 (pos + 8) bytes) where
   more : read_ranges i 9 bytes ++ range start end ∷ [] ≡ read_ranges (i + 1) 9 bytes
   more = one_more i pos bytes there _ _ first-is end-is
 
-  seen : last ≡ last_end committed (read_ranges i 9 bytes) → first (ranges_table committed (read_ranges i 9 bytes)) ≡ none → resume_fault checked ≡ first (range_table last (range start end))
+  seen : (checked : Resume) {last : ℕ} → last ≡ last_end committed (read_ranges i 9 bytes) → first (ranges_table committed (read_ranges i 9 bytes)) ≡ none → resume_fault checked ≡ first (range_table last (range start end))
       → first (ranges_table committed (read_ranges (i + 1) 9 bytes)) ≡ resume_fault checked
-  seen is clear told =
+  seen checked {last} is clear told =
       ap (λ (x : List Range). first (ranges_table committed x)) (sym more)
       ∙ walk-on committed (read_ranges i 9 bytes) clear (range start end)
       ∙ ap (λ (e : ℕ). first (range_table e (range start end))) (sym is)
@@ -46,7 +46,7 @@ returns-in_default c =
     ∙ sym
     (ap (λ (x : List Range). first (resume_table c.args.committed x)) (read-split (i + 1) c.args.runs bytes (omega arith))
     ∙ walk-fault c.args.committed (read_ranges (i + 1) 9 bytes) _ _
-    (seen bytes c.args.committed i c.loop-i.pos _ _ c.loop-i.invariant.1 c.read_u64-start.ensures c.read_u64-end.ensures c.loop-i.invariant.2 c.loop-i.invariant.3 c.check_range-checked.ensures ∙ q))
+    (seen bytes c.args.committed i c.loop-i.pos _ _ c.loop-i.invariant.1 c.read_u64-start.ensures c.read_u64-end.ensures c.check_range-checked.result c.loop-i.invariant.2 c.loop-i.invariant.3 c.check_range-checked.ensures ∙ q))
 
 pub loop-i-preserved : goal.loop-i-preserved
 loop-i-preserved c =
@@ -56,7 +56,7 @@ loop-i-preserved c =
       omega arith,
       walk-last c.args.committed (read_ranges i 9 bytes) (range c.read_u64-start.result c.read_u64-end.result)
       ∙ ap (last_end c.args.committed) (more bytes c.args.committed i c.loop-i.pos _ _ c.loop-i.invariant.1 c.read_u64-start.ensures c.read_u64-end.ensures),
-      seen bytes c.args.committed i c.loop-i.pos _ _ c.loop-i.invariant.1 c.read_u64-start.ensures c.read_u64-end.ensures c.loop-i.invariant.2 c.loop-i.invariant.3 c.check_range-checked.ensures ∙ ap resume_fault c.in-Resumed.is,
+      seen bytes c.args.committed i c.loop-i.pos _ _ c.loop-i.invariant.1 c.read_u64-start.ensures c.read_u64-end.ensures c.check_range-checked.result c.loop-i.invariant.2 c.loop-i.invariant.3 c.check_range-checked.ensures ∙ ap resume_fault c.in-Resumed.is,
     )
 
 -- after the loop the walk has seen all of them

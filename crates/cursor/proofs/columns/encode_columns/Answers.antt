@@ -1,5 +1,4 @@
 -- `encode_columns` meets its contract. Assumes nothing.
--- the cursor that the arguments are
 use Prim.Native.Nat.{◌+◌, ◌-◌, ◌*◌, ◌≤◌}
 use native.Mathlib.Omega.{arith}
 use mathlib.Core.Path.{◌≡◌, sym, ◌∙◌}
@@ -11,12 +10,9 @@ use Rattle.cursor.specs.declared.AckCursor.{AckCursor}
 use Rattle.cursor.proofs.View.{count}
 use Rattle.cursor.proofs.Writing.{too_short, encoded}
 use Rattle.cursor.proofs.columns.encode_columns.Goals as goal
-use Rattle.cursor.proofs.columns.encode_columns.Goals.{Args, Else-too_short, Start}
+use Rattle.cursor.proofs.columns.encode_columns.Goals.{Else-too_short, Start}
 
-abbrev g : Args → AckCursor
-g a = ack_cursor a.committed a.starts.now a.ends.now a.n
-
-size : (s : Start) → length (view (g s.args)).ahead ≡ s.args.n
+size : (s : Start) → length (view (ack_cursor s.args.committed s.args.starts.now s.args.ends.now s.args.n)).ahead ≡ s.args.n
 size s = count s.args.n s.args.starts.now s.args.ends.now s.requires.1 s.requires.2
 
 pub snapshot_len-len-requires : goal.snapshot_len-len-requires
@@ -25,7 +21,7 @@ snapshot_len-len-requires c = c.requires.0
 pub returns-then-too_short : goal.returns-then-too_short
 returns-then-too_short c =
     let a = c.args in
-    too_short (view (g c.args)) a.n a.at a.out.now (size (goal.at.returns-then-too_short c).Start)
+    too_short (view (ack_cursor c.args.committed c.args.starts.now c.args.ends.now c.args.n)) a.n a.at a.out.now (size (goal.at.returns-then-too_short c).Start)
     (rw (← c.snapshot_len-len.ensures) (ltb-true _ _ (sym c.too_short.ensures ∙ c.if-too_short.true)))
 
 -- there is room
@@ -43,4 +39,4 @@ pub returns : goal.returns
 returns c =
     let l = c.snapshot_len-len in
     let a = c.args in
-    encoded (view (g c.args)) a.n a.at a.out.now (size (goal.at.returns c).Start) c.write_body.new.out c.write_u32.new.out c.crc32c-check.result (l.result - 4) (room (goal.at.returns c).Else-too_short) (omega (arith, l.ensures)) c.write_body.ensures c.crc32c-check.ensures c.write_u32.ensures
+    encoded (view (ack_cursor c.args.committed c.args.starts.now c.args.ends.now c.args.n)) a.n a.at a.out.now (size (goal.at.returns c).Start) c.write_body.new.out c.write_u32.new.buf c.crc32c-check.result (l.result - 4) (room (goal.at.returns c).Else-too_short) (omega (arith, l.ensures)) c.write_body.ensures c.crc32c-check.ensures c.write_u32.ensures

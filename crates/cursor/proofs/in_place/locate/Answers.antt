@@ -1,5 +1,4 @@
 -- `locate` meets its contract: each answer by one law of the search. Assumes nothing.
--- the cursor that the arguments are
 use native.Mathlib.Omega.{arith}
 use borrow.Author.Rules.{rules}
 use Rattle.cursor.specs.View.{ack_cursor, view}
@@ -7,27 +6,24 @@ use Rattle.cursor.specs.declared.AckCursor.{AckCursor}
 use Rattle.cursor.proofs.Place.{spot_max}
 use Rattle.cursor.proofs.Search.{Looked, starts_rise, place-within, found-settled, found-behind, found_between, found_before, found-apart}
 use Rattle.cursor.proofs.in_place.locate.Goals as goal
-use Rattle.cursor.proofs.in_place.locate.Goals.{Args, After-stands_at-next, Start}
-
-abbrev g : Args → AckCursor
-g a = ack_cursor a.committed a.starts.now a.ends.now a.runs
+use Rattle.cursor.proofs.in_place.locate.Goals.{After-stands_at-next, Start}
 
 pub returns-then-x-eq-MAX : goal.returns-then-x-eq-MAX
-returns-then-x-eq-MAX c = spot_max (view (g c.args)) c.args.x c.if-x-eq-MAX.true
+returns-then-x-eq-MAX c = spot_max (view (ack_cursor c.args.committed c.args.starts.now c.args.ends.now c.args.runs)) c.args.x c.if-x-eq-MAX.true
 
 pub partition_point-i-requires : goal.partition_point-i-requires
-partition_point-i-requires c = starts_rise (g c.args) c.requires
+partition_point-i-requires c = starts_rise (ack_cursor c.args.committed c.args.starts.now c.args.ends.now c.args.runs) c.requires
 
 pub end_before-end-requires : goal.end_before-end-requires
 end_before-end-requires c =
-    omega (arith, place-within (g c.args) c.requires c.args.x c.partition_point-i.result c.partition_point-i.ensures, c.requires.sound.few, c.requires.ends)
+    omega (arith, place-within (ack_cursor c.args.committed c.args.starts.now c.args.ends.now c.args.runs) c.requires c.args.x c.partition_point-i.result c.partition_point-i.ensures, c.requires.sound.few, c.requires.ends)
 
 pub returns-then-x-end : goal.returns-then-x-end
 returns-then-x-end c =
-    found-settled (g c.args) c.requires c.args.x c.partition_point-i.result c.partition_point-i.ensures c.end_before-end.result c.end_before-end.ensures c.if-x-end.true
+    found-settled (ack_cursor c.args.committed c.args.starts.now c.args.ends.now c.args.runs) c.requires c.args.x c.partition_point-i.result c.partition_point-i.ensures c.end_before-end.result c.end_before-end.ensures c.if-x-end.true
 
 -- what was seen, where the offset is not settled
-looked : (c : After-stands_at-next) → Looked (g c.args) c.args.x c.partition_point-i.result c.end_before-end.result c.stands_at-next.result
+looked : (c : After-stands_at-next) → Looked (ack_cursor c.args.committed c.args.starts.now c.args.ends.now c.args.runs) c.args.x c.partition_point-i.result c.end_before-end.result c.stands_at-next.result
 looked c =
     record {
       place = c.partition_point-i.ensures;
@@ -39,16 +35,16 @@ looked c =
 
 pub returns-then-next : goal.returns-then-next
 returns-then-next c =
-    found_between (g c.args) c.requires (looked (goal.at.returns-then-next c).After-stands_at-next) c.if-end-x.true c.if-next.true
+    found_between (ack_cursor c.args.committed c.args.starts.now c.args.ends.now c.args.runs) c.requires (looked (goal.at.returns-then-next c).After-stands_at-next) c.if-end-x.true c.if-next.true
 
 pub returns-then-end-x : goal.returns-then-end-x
 returns-then-end-x c =
-    found-behind (g c.args) c.requires (looked (goal.at.returns-then-end-x c).After-stands_at-next) c.if-end-x.true c.if-next.false
+    found-behind (ack_cursor c.args.committed c.args.starts.now c.args.ends.now c.args.runs) c.requires (looked (goal.at.returns-then-end-x c).After-stands_at-next) c.if-end-x.true c.if-next.false
 
 pub returns-then-next-2 : goal.returns-then-next-2
 returns-then-next-2 c =
-    found_before (g c.args) c.requires (looked (goal.at.returns-then-next-2 c).After-stands_at-next) c.if-end-x.false c.if-next-2.true
+    found_before (ack_cursor c.args.committed c.args.starts.now c.args.ends.now c.args.runs) c.requires (looked (goal.at.returns-then-next-2 c).After-stands_at-next) c.if-end-x.false c.if-next-2.true
 
 pub returns : goal.returns
 returns c =
-    found-apart (g c.args) c.requires (looked (goal.at.returns c).After-stands_at-next) c.if-end-x.false c.if-next-2.false
+    found-apart (ack_cursor c.args.committed c.args.starts.now c.args.ends.now c.args.runs) c.requires (looked (goal.at.returns c).After-stands_at-next) c.if-end-x.false c.if-next-2.false

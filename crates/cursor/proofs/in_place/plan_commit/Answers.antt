@@ -1,5 +1,4 @@
 -- `plan_commit` meets its contract. Assumes nothing.
--- the cursor that the arguments are
 use Prim.Native.Nat.{◌≤◌}
 use mathlib.Core.Path.{refl}
 use native.Mathlib.Omega.{arith}
@@ -10,20 +9,17 @@ use Rattle.cursor.specs.declared.AckCursor.{AckCursor}
 use Rattle.cursor.proofs.Search.{long-starts, long-ends, starts_rise, place-within, found-committed}
 use Rattle.cursor.proofs.Answers.{not_advanced, moved}
 use Rattle.cursor.proofs.in_place.plan_commit.Goals as goal
-use Rattle.cursor.proofs.in_place.plan_commit.Goals.{Args, After-partition_point-k, Start}
-
-abbrev g : Args → AckCursor
-g a = ack_cursor a.committed a.starts.now a.ends.now a.runs
+use Rattle.cursor.proofs.in_place.plan_commit.Goals.{After-partition_point-k, Start}
 
 pub returns-then-bound-committed : goal.returns-then-bound-committed
-returns-then-bound-committed c = not_advanced (g c.args) c.args.bound c.requires.sound c.if-bound-committed.true
+returns-then-bound-committed c = not_advanced (ack_cursor c.args.committed c.args.starts.now c.args.ends.now c.args.runs) c.args.bound c.requires.sound c.if-bound-committed.true
 
 pub partition_point-k-requires : goal.partition_point-k-requires
 partition_point-k-requires c =
-    starts_rise (g c.args) c.requires
+    starts_rise (ack_cursor c.args.committed c.args.starts.now c.args.ends.now c.args.runs) c.requires
 
 within : (c : After-partition_point-k) → c.partition_point-k.result ≤ c.args.runs
-within c = place-within (g c.args) c.requires c.args.bound c.partition_point-k.result c.partition_point-k.ensures
+within c = place-within (ack_cursor c.args.committed c.args.starts.now c.args.ends.now c.args.runs) c.requires c.args.bound c.partition_point-k.result c.partition_point-k.ensures
 
 pub end_before-end-requires : goal.end_before-end-requires
 end_before-end-requires c = omega (arith, within (goal.at.end_before-end-requires c).After-partition_point-k, c.requires.sound.few, c.requires.ends)
@@ -34,7 +30,7 @@ overflow_sub-result c = within (goal.at.overflow_sub-result c).After-partition_p
 pub returns : goal.returns
 returns c =
     let k = c.partition_point-k.result in
-    moved (g c.args) c.args.bound c.requires.sound (omega arith) c.if-bound-committed.false _ (omega (arith, c.requires.sound.few))
-    (found-committed (g c.args) c.requires c.args.bound k c.partition_point-k.ensures c.end_before-end.result c.end_before-end.ensures (omega arith) _ _ _ c.larger.ensures
-    (taken-out-front c.args.runs 0 k c.args.starts.now (omega arith) (within (goal.at.returns c).After-partition_point-k) (long-starts (g c.args) c.requires) refl)
-    (taken-out-front c.args.runs 0 k c.args.ends.now (omega arith) (within (goal.at.returns c).After-partition_point-k) (long-ends (g c.args) c.requires) refl))
+    moved (ack_cursor c.args.committed c.args.starts.now c.args.ends.now c.args.runs) c.args.bound c.requires.sound (omega arith) c.if-bound-committed.false _ (omega (arith, c.requires.sound.few))
+    (found-committed (ack_cursor c.args.committed c.args.starts.now c.args.ends.now c.args.runs) c.requires c.args.bound k c.partition_point-k.ensures c.end_before-end.result c.end_before-end.ensures (omega arith) _ _ _ c.larger.ensures
+    (taken-out-front c.args.runs 0 k c.args.starts.now (omega arith) (within (goal.at.returns c).After-partition_point-k) (long-starts (ack_cursor c.args.committed c.args.starts.now c.args.ends.now c.args.runs) c.requires) refl)
+    (taken-out-front c.args.runs 0 k c.args.ends.now (omega arith) (within (goal.at.returns c).After-partition_point-k) (long-ends (ack_cursor c.args.committed c.args.starts.now c.args.ends.now c.args.runs) c.requires) refl))

@@ -7,13 +7,10 @@ use Rattle.cursor.specs.Layout.{cursor_in, view}
 use Rattle.cursor.proofs.Words.{whole}
 use borrow.Author.Rules.{rules}
 use Rattle.cursor.proofs.in_words.locate.Goals as goal
-use Rattle.cursor.proofs.in_words.locate.Goals.{Args, After-starts_at-next, Start}
-
-abbrev g : Args → AckCursor
-g a = cursor_in a.cursor.now
+use Rattle.cursor.proofs.in_words.locate.Goals.{After-starts_at-next, Start}
 
 -- what was seen, where the offset is not settled
-looked : (c : After-starts_at-next) → Looked (g c.args) c.args.x c.place_of-i.result c.end_before-end.result c.starts_at-next.result
+looked : (c : After-starts_at-next) → Looked (cursor_in c.args.cursor.now) c.args.x c.place_of-i.result c.end_before-end.result c.starts_at-next.result
 looked c =
     record {
       place = c.place_of-i.ensures.0;
@@ -29,20 +26,20 @@ returns-then-x-eq-MAX c =
 
 pub returns-then-x-end : goal.returns-then-x-end
 returns-then-x-end c =
-    found-settled (g c.args) (whole c.requires) c.args.x c.place_of-i.result c.place_of-i.ensures.0 c.end_before-end.result c.end_before-end.ensures c.if-x-end.true
+    found-settled (cursor_in c.args.cursor.now) (whole c.requires) c.args.x c.place_of-i.result c.place_of-i.ensures.0 c.end_before-end.result c.end_before-end.ensures c.if-x-end.true
 
 pub returns-then-next : goal.returns-then-next
 returns-then-next c =
-    found_between (g c.args) (whole c.requires) (looked (goal.at.returns-then-next c).After-starts_at-next) c.if-end-x.true c.if-next.true
+    found_between (cursor_in c.args.cursor.now) (whole c.requires) (looked (goal.at.returns-then-next c).After-starts_at-next) c.if-end-x.true c.if-next.true
 
 pub returns-then-end-x : goal.returns-then-end-x
 returns-then-end-x c =
-    found-behind (g c.args) (whole c.requires) (looked (goal.at.returns-then-end-x c).After-starts_at-next) c.if-end-x.true c.if-next.false
+    found-behind (cursor_in c.args.cursor.now) (whole c.requires) (looked (goal.at.returns-then-end-x c).After-starts_at-next) c.if-end-x.true c.if-next.false
 
 pub returns-then-next-2 : goal.returns-then-next-2
 returns-then-next-2 c =
-    found_before (g c.args) (whole c.requires) (looked (goal.at.returns-then-next-2 c).After-starts_at-next) c.if-end-x.false c.if-next-2.true
+    found_before (cursor_in c.args.cursor.now) (whole c.requires) (looked (goal.at.returns-then-next-2 c).After-starts_at-next) c.if-end-x.false c.if-next-2.true
 
 pub returns : goal.returns
 returns c =
-    found-apart (g c.args) (whole c.requires) (looked (goal.at.returns c).After-starts_at-next) c.if-end-x.false c.if-next-2.false
+    found-apart (cursor_in c.args.cursor.now) (whole c.requires) (looked (goal.at.returns c).After-starts_at-next) c.if-end-x.false c.if-next-2.false

@@ -1,5 +1,4 @@
 -- `find_open` meets its contract: the number of stretches by the two places. Assumes nothing.
--- the cursor that the arguments are
 use Prim.Native.Nat.{ℕ, ◌+◌, ◌-◌, ◌≤◌, ◌<◌}
 use native.Mathlib.Omega.{arith}
 use mathlib.Core.Path.{◌≡◌, sym, ap}
@@ -13,36 +12,33 @@ use Rattle.cursor.specs.declared.AckCursor.{AckCursor}
 use Rattle.cursor.proofs.Search.{starts_rise, place-within}
 use Rattle.cursor.proofs.Unsettled.{more, stretches_none, found-count}
 use Rattle.cursor.proofs.open.find_open.Goals as goal
-use Rattle.cursor.proofs.open.find_open.Goals.{After-end_before-end, After-partition_point-last, Args}
-
-abbrev g : Args → AckCursor
-g a = ack_cursor a.committed a.starts.now a.ends.now a.runs
+use Rattle.cursor.proofs.open.find_open.Goals.{After-end_before-end, After-partition_point-last}
 
 pub partition_point-first-requires : goal.partition_point-first-requires
-partition_point-first-requires c = starts_rise (g c.args) c.requires
+partition_point-first-requires c = starts_rise (ack_cursor c.args.committed c.args.starts.now c.args.ends.now c.args.runs) c.requires
 
 pub returns-then-b-a : goal.returns-then-b-a
 returns-then-b-a c =
-    (c.partition_point-first.ensures, sym (ap length (stretches_none (view (g c.args)) c.args.a c.args.b c.if-b-a.true)))
+    (c.partition_point-first.ensures, sym (ap length (stretches_none (view (ack_cursor c.args.committed c.args.starts.now c.args.ends.now c.args.runs)) c.args.a c.args.b c.if-b-a.true)))
 
 pub partition_point-last-requires : goal.partition_point-last-requires
 partition_point-last-requires c =
-    starts_rise (g c.args) c.requires
+    starts_rise (ack_cursor c.args.committed c.args.starts.now c.args.ends.now c.args.runs) c.requires
 
 -- the place of b is found
 within : (c : After-partition_point-last) → c.partition_point-last.result ≤ c.args.runs
-within c = place-within (g c.args) c.requires (c.args.b - 1) c.partition_point-last.result c.partition_point-last.ensures
+within c = place-within (ack_cursor c.args.committed c.args.starts.now c.args.ends.now c.args.runs) c.requires (c.args.b - 1) c.partition_point-last.result c.partition_point-last.ensures
 
 pub end_before-end-requires : goal.end_before-end-requires
 end_before-end-requires c = omega (arith, within (goal.at.end_before-end-requires c).After-partition_point-last, c.requires.sound.few, c.requires.ends)
 
-counted : (c : After-end_before-end) → c.partition_point-first.result + length (stretches (view (g c.args)) c.args.a c.args.b) ≡ c.partition_point-last.result + more (ltb c.end_before-end.result c.args.b)
+counted : (c : After-end_before-end) → c.partition_point-first.result + length (stretches (view (ack_cursor c.args.committed c.args.starts.now c.args.ends.now c.args.runs)) c.args.a c.args.b) ≡ c.partition_point-last.result + more (ltb c.end_before-end.result c.args.b)
 counted c =
-    found-count (g c.args) c.requires c.args.a c.args.b c.partition_point-first.result c.partition_point-last.result c.end_before-end.result c.if-b-a.false c.partition_point-first.ensures c.partition_point-last.ensures c.end_before-end.ensures
+    found-count (ack_cursor c.args.committed c.args.starts.now c.args.ends.now c.args.runs) c.requires c.args.a c.args.b c.partition_point-first.result c.partition_point-last.result c.end_before-end.result c.if-b-a.false c.partition_point-first.ensures c.partition_point-last.ensures c.end_before-end.ensures
 
 -- the stretches by the places, where what ends before b doesn't reach it
 abbrev Last : After-end_before-end → ℕ → Type 0
-Last c n = c.partition_point-first.result + length (stretches (view (g c.args)) c.args.a c.args.b) ≡ c.partition_point-last.result + n
+Last c n = c.partition_point-first.result + length (stretches (view (ack_cursor c.args.committed c.args.starts.now c.args.ends.now c.args.runs)) c.args.a c.args.b) ≡ c.partition_point-last.result + n
 
 one-behind : (c : After-end_before-end) → c.end_before-end.result < c.args.b → Last c 1
 one-behind c h = rw (lt-ltb _ _ h) at (counted c)

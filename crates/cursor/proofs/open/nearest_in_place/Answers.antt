@@ -1,5 +1,4 @@
 -- `nearest_in_place` meets its contract. Assumes nothing.
--- the cursor that the arguments are
 use native.Mathlib.Omega.{arith}
 use mathlib.Core.Path.{◌∙◌}
 use borrow.Author.Rules.{rules}
@@ -8,18 +7,15 @@ use Rattle.cursor.specs.declared.AckCursor.{AckCursor}
 use Rattle.cursor.proofs.Search.{starts_rise, place-within}
 use Rattle.cursor.proofs.Unsettled.{found_nearest}
 use Rattle.cursor.proofs.open.nearest_in_place.Goals as goal
-use Rattle.cursor.proofs.open.nearest_in_place.Goals.{Args, Start}
-
-abbrev g : Args → AckCursor
-g a = ack_cursor a.committed a.starts.now a.ends.now a.runs
+use Rattle.cursor.proofs.open.nearest_in_place.Goals.{Start}
 
 pub partition_point-i-requires : goal.partition_point-i-requires
-partition_point-i-requires c = starts_rise (g c.args) c.requires
+partition_point-i-requires c = starts_rise (ack_cursor c.args.committed c.args.starts.now c.args.ends.now c.args.runs) c.requires
 
 pub end_before-requires : goal.end_before-requires
 end_before-requires c =
-    omega (arith, place-within (g c.args) c.requires c.args.offset c.partition_point-i.result c.partition_point-i.ensures, c.requires.sound.few, c.requires.ends)
+    omega (arith, place-within (ack_cursor c.args.committed c.args.starts.now c.args.ends.now c.args.runs) c.requires c.args.offset c.partition_point-i.result c.partition_point-i.ensures, c.requires.sound.few, c.requires.ends)
 
 pub returns : goal.returns
 returns c =
-    c.larger.ensures ∙ found_nearest (g c.args) c.requires c.args.offset c.partition_point-i.result c.end_before.result c.partition_point-i.ensures c.end_before.ensures
+    c.larger.ensures ∙ found_nearest (ack_cursor c.args.committed c.args.starts.now c.args.ends.now c.args.runs) c.requires c.args.offset c.partition_point-i.result c.end_before.result c.partition_point-i.ensures c.end_before.ensures

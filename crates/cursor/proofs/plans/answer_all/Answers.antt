@@ -9,11 +9,6 @@ use Rattle.cursor.specs.declared.AckCursor.{AckCursor}
 use Rattle.cursor.proofs.Search.{runs-is}
 use Rattle.cursor.proofs.Plan.{Answering, looks-fit, answering-next, answered-looks, answered-bytes}
 use Rattle.cursor.proofs.plans.answer_all.Goals as goal
-use Rattle.cursor.proofs.plans.answer_all.Goals.{Args}
-
--- the cursor that the arguments are
-abbrev g : Args → AckCursor
-g a = ack_cursor a.committed a.starts.now a.ends.now a.runs
 
 pub loop-i-init : goal.loop-i-init
 loop-i-init c = (omega arith, refl, record { within = omega arith; long = sym c.requires.1; looks-is = omega arith; bytes-is = refl })
@@ -26,8 +21,8 @@ pub overflow_add-looks : goal.overflow_add-looks
 overflow_add-looks c =
     omega (
       arith,
-      looks-fit (view (g c.args)) c.args.offsets.now c.loop-i.out c.loop-i.at c.loop-i.looks c.loop-i.i c.loop-i.invariant.2 (omega arith) c.step_columns-step.result c.step_columns-step.ensures,
-      runs-is (g c.args) c.requires.0,
+      looks-fit (view (ack_cursor c.args.committed c.args.starts.now c.args.ends.now c.args.runs)) c.args.offsets.now c.loop-i.out c.loop-i.at c.loop-i.looks c.loop-i.i c.loop-i.invariant.2 (omega arith) c.step_columns-step.result c.step_columns-step.ensures,
+      runs-is (ack_cursor c.args.committed c.args.starts.now c.args.ends.now c.args.runs) c.requires.0,
       c.requires.0.sound.few,
       c.requires.1,
     )
@@ -39,7 +34,7 @@ pub loop-i-preserved : goal.loop-i-preserved
 loop-i-preserved c = (
   omega arith,
   simp length-set c.loop-i.invariant.1,
-  answering-next (view (g c.args)) c.args.offsets.now c.loop-i.out c.loop-i.at c.loop-i.looks c.loop-i.i c.loop-i.invariant.2 (omega arith) c.step_columns-step.result c.step_columns-step.ensures _ _ refl refl,
+  answering-next (view (ack_cursor c.args.committed c.args.starts.now c.args.ends.now c.args.runs)) c.args.offsets.now c.loop-i.out c.loop-i.at c.loop-i.looks c.loop-i.i c.loop-i.invariant.2 (omega arith) c.step_columns-step.result c.step_columns-step.ensures _ _ refl refl,
 )
 
 pub shape_of-out : goal.shape_of-out
@@ -48,6 +43,6 @@ shape_of-out c = c.loop-i.invariant.1
 pub returns : goal.returns
 returns c =
     let over = c.loop-i-test.false in (
-      answered-looks (view (g c.args)) c.args.offsets.now c.loop-i.out c.loop-i.at c.loop-i.looks c.loop-i.i c.loop-i.invariant.2 over,
-      answered-bytes (view (g c.args)) c.args.offsets.now c.loop-i.out c.loop-i.at c.loop-i.looks c.loop-i.i c.loop-i.invariant.2 over,
+      answered-looks (view (ack_cursor c.args.committed c.args.starts.now c.args.ends.now c.args.runs)) c.args.offsets.now c.loop-i.out c.loop-i.at c.loop-i.looks c.loop-i.i c.loop-i.invariant.2 over,
+      answered-bytes (view (ack_cursor c.args.committed c.args.starts.now c.args.ends.now c.args.runs)) c.args.offsets.now c.loop-i.out c.loop-i.at c.loop-i.looks c.loop-i.i c.loop-i.invariant.2 over,
     )

@@ -55,5 +55,5 @@ shape_of-cursor c =
 pub returns : goal.returns
 returns c =
     resume-made c.args.cursor.now c.requires c.copy.new.column c.cursor-1.given.0 c.copy-2.new.column c.cursor-2-1.given.0
-    c.check_columns-checked.result c.in-Resumed.is c.args.committed.0 c.args.starts.now c.args.ends.now (faultless c.in-Resumed.is c.check_columns-checked.ensures) c.shorter-runs.result c.shorter-runs.ensures (omega arith) (λ i. omega (arith, c.shared_slice_known-2.given i))
+    c.check_columns-checked.result c.in-Resumed.is c.args.committed.0 c.args.starts.now c.args.ends.now (faultless c.in-Resumed.is c.check_columns-checked.ensures) c.shorter-runs.result c.shorter-runs.ensures (omega arith) (λ i. omega (arith, c.type_inv.ends i))
     c.copy.ensures c.copy-2.ensures
