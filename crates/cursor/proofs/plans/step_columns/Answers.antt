@@ -10,7 +10,7 @@ use Rattle.cursor.proofs.plans.step_columns.Goals as goal
 use Rattle.cursor.proofs.plans.step_columns.Goals.{At-loop-to, Start}
 
 -- the offset so far
-walking : (p : At-loop-to) → Stepping (g p) p.requires p.args.at p.args.offset p.loop-to.to p.loop-to.looks
+walking : (p : At-loop-to) → Stepping (ack_cursor p.args.committed p.args.starts.now p.args.ends.now p.args.runs) p.requires p.args.at p.args.offset p.loop-to.to p.loop-to.looks
 walking p = p.loop-to.invariant p.requires
 
 pub returns-then-offset-committed : goal.returns-then-offset-committed
