@@ -16,15 +16,15 @@ fits c = counted-fits (view c.args.self).ahead c.args.out.now c.count_of-n.resul
 pub loop-i-init : goal.loop-i-init
 loop-i-init c = none_written (view c.args.self).ahead c.args.out.now c.count_of-n.result
 
-pub range_at-out-requires : goal.range_at-out-requires
-range_at-out-requires c = (c.requires, omega (arith, (fits (goal.at.range_at-out-requires c).After-count_of-n).0))
+pub range_at-requires : goal.range_at-requires
+range_at-requires c = (c.requires, omega (arith, (fits (goal.at.range_at-requires c).After-count_of-n).0))
 
 pub bounds-out-i : goal.bounds-out-i
 bounds-out-i c = omega (arith, c.loop-i.invariant.long, (fits (goal.at.bounds-out-i c).After-count_of-n).1)
 
 pub loop-i-preserved : goal.loop-i-preserved
 loop-i-preserved c =
-    rw c.range_at-out.ensures
+    rw c.range_at.ensures
     (one_more (view c.args.self).ahead c.args.out.now (range 0 0) c.count_of-n.result c.loop-i.i c.loop-i.out (omega arith) (fits (goal.at.loop-i-preserved c).After-count_of-n) c.loop-i.invariant)
 
 pub returns : goal.returns

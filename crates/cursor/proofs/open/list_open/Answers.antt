@@ -16,15 +16,15 @@ fits c = counted-fits (found_in c.args.found) c.args.out.now c.count_of-n.result
 pub loop-i-init : goal.loop-i-init
 loop-i-init c = none_written (found_in c.args.found) c.args.out.now c.count_of-n.result
 
-pub open_at-out-requires : goal.open_at-out-requires
-open_at-out-requires c = (c.requires, omega (arith, (fits (goal.at.open_at-out-requires c).After-count_of-n).0))
+pub open_at-requires : goal.open_at-requires
+open_at-requires c = (c.requires, omega (arith, (fits (goal.at.open_at-requires c).After-count_of-n).0))
 
 pub bounds-out-i : goal.bounds-out-i
 bounds-out-i c = omega (arith, c.loop-i.invariant.long, (fits (goal.at.bounds-out-i c).After-count_of-n).1)
 
 pub loop-i-preserved : goal.loop-i-preserved
 loop-i-preserved c =
-    rw c.open_at-out.ensures
+    rw c.open_at.ensures
     (one_more (found_in c.args.found) c.args.out.now (range 0 0) c.count_of-n.result c.loop-i.i c.loop-i.out (omega arith) (fits (goal.at.loop-i-preserved c).After-count_of-n) c.loop-i.invariant)
 
 pub returns : goal.returns
