@@ -16,4 +16,4 @@ read_column-requires-2 c =
 pub returns : goal.returns
 returns c =
     let bytes = c.args.input.now in
-    columns-decoded bytes _ c.check_snapshot-checked.ensures (bytes-known bytes c.shared_slice_known-1.given) _ _ c.read_column.ensures c.read_column-2.ensures
+    columns-decoded bytes _ c.check_snapshot-checked.ensures (bytes-known bytes c.type_inv.input) _ _ c.read_column.ensures c.read_column-2.ensures

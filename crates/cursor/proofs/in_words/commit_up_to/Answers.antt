@@ -18,15 +18,15 @@ both words starts ends = put_mid ENDS RANGES (put_mid STARTS RANGES words starts
 pub bounds-cursor-1-2 : goal.bounds-cursor-1-2
 bounds-cursor-1-2 c =
     let n = c.plan_commit-plan.result.moved in
-    omega (arith, length-set (both c.args.cursor.now c.apply.new.column c.apply-2.new.column) COMMITTED n.committed, both_long c.args.cursor.now c.requires.long c.apply.new.column c.cursor-1.given.0 c.apply-2.new.column c.cursor-2-1.given.0)
+    omega (arith, length-set (both c.args.cursor.now c.apply.new.column c.apply-2.new.column) COMMITTED n.committed, both_long c.args.cursor.now c.requires.long c.apply.new.column c.apply.auto.column c.apply-2.new.column c.apply-2.auto.column)
 
 pub shape_of-cursor : goal.shape_of-cursor
 shape_of-cursor c =
     let n = c.plan_commit-plan.result.moved in
     let ok = c.requires in
-    stored-long c.args.cursor.now ok.long c.apply.new.column c.cursor-1.given.0 c.apply-2.new.column c.cursor-2-1.given.0 n.committed n.runs ∙ sym ok.long
+    stored-long c.args.cursor.now ok.long c.apply.new.column c.apply.auto.column c.apply-2.new.column c.apply-2.auto.column n.committed n.runs ∙ sym ok.long
 
 pub returns : goal.returns
 returns c =
-    commit-answers c.args.cursor.now c.requires.long c.apply.new.column c.cursor-1.given.0 c.apply-2.new.column c.cursor-2-1.given.0
+    commit-answers c.args.cursor.now c.requires.long c.apply.new.column c.apply.auto.column c.apply-2.new.column c.apply-2.auto.column
     c.args.up_to.0 c.plan_commit-plan.result c.plan_commit-plan.ensures c.apply.ensures c.apply-2.ensures

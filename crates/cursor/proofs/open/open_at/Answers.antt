@@ -8,7 +8,7 @@ use Rattle.cursor.specs.View.{Whole}
 use Rattle.cursor.proofs.Search.{long-starts, long-ends}
 use Rattle.cursor.proofs.Unsettled.{found_within, found_at}
 use Rattle.cursor.proofs.open.open_at.Goals as goal
-use Rattle.cursor.proofs.open.open_at.Goals.{After-struct_known-1, Start}
+use Rattle.cursor.proofs.open.open_at.Goals.{Start}
 
 whole : (s : Start) → Whole s.args.found.cursor
 whole s = record { starts = search rules; ends = search rules; sound = s.requires.0.sound }

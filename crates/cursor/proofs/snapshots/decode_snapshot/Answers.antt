@@ -28,19 +28,19 @@ read_column-requires c =
 
 pub read_column-requires-2 : goal.read_column-requires-2
 read_column-requires-2 c =
-    (omega (arith, c.check_snapshot-checked.ensures.within), omega (arith, checked-few _ _ c.check_snapshot-checked.ensures, ends-long c.args.cursor.now c.requires c.read_column.new.column c.cursor-1.given.0))
+    (omega (arith, c.check_snapshot-checked.ensures.within), omega (arith, checked-few _ _ c.check_snapshot-checked.ensures, ends-long c.args.cursor.now c.requires c.read_column.new.column c.read_column.auto.column))
 
 pub bounds-cursor-1 : goal.bounds-cursor-1
 bounds-cursor-1 c =
-    omega (arith, length-set (both c.args.cursor.now c.read_column.new.column c.read_column-2.new.column) COMMITTED c.check_snapshot-checked.result.committed, both_long c.args.cursor.now c.requires c.read_column.new.column c.cursor-1.given.0 c.read_column-2.new.column c.cursor-2-1.given.0)
+    omega (arith, length-set (both c.args.cursor.now c.read_column.new.column c.read_column-2.new.column) COMMITTED c.check_snapshot-checked.result.committed, both_long c.args.cursor.now c.requires c.read_column.new.column c.read_column.auto.column c.read_column-2.new.column c.read_column-2.auto.column)
 
 pub shape_of-cursor : goal.shape_of-cursor
 shape_of-cursor c =
     let r = c.check_snapshot-checked.result in
-    stored-long c.args.cursor.now c.requires c.read_column.new.column c.cursor-1.given.0 c.read_column-2.new.column c.cursor-2-1.given.0 r.committed r.runs ∙ sym c.requires
+    stored-long c.args.cursor.now c.requires c.read_column.new.column c.read_column.auto.column c.read_column-2.new.column c.read_column-2.auto.column r.committed r.runs ∙ sym c.requires
 
 pub returns : goal.returns
 returns c =
     let bytes = c.args.input.now in
-    decode_made c.args.cursor.now c.requires c.read_column.new.column c.cursor-1.given.0 c.read_column-2.new.column c.cursor-2-1.given.0
-    bytes c.check_snapshot-checked.result c.check_snapshot-checked.ensures (bytes-known bytes c.shared_slice_known-1.given) c.in-Restored.is c.read_column.ensures c.read_column-2.ensures
+    decode_made c.args.cursor.now c.requires c.read_column.new.column c.read_column.auto.column c.read_column-2.new.column c.read_column-2.auto.column
+    bytes c.check_snapshot-checked.result c.check_snapshot-checked.ensures (bytes-known bytes c.type_inv.input) c.in-Restored.is c.read_column.ensures c.read_column-2.ensures

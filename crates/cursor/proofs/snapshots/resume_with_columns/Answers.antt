@@ -1,5 +1,4 @@
 -- `resume_with_columns` meets its contract. All is tested before a word is stored. Assumes nothing.
--- what was tested: the ranges are those of a cursor, and so many
 use borrow.Author.Rules.{rules}
 use Prim.Native.Nat.{ℕ, ◌≤◌, min}
 use native.Mathlib.Omega.{arith}
@@ -22,6 +21,7 @@ use Rattle.cursor.proofs.Words.{column-long, ends-long, both_long, stored-long}
 use Rattle.cursor.proofs.Made.{resume-kept, columns-few, resume-made}
 use Rattle.cursor.proofs.snapshots.resume_with_columns.Goals as goal
 
+-- what was tested: the ranges are those of a cursor, and so many
 faultless : {checked : Resume} {f : Option Refusal} → checked ≡ Resumed → resume_fault checked ≡ f → none ≡ f
 faultless {checked} {f} is told = sym (ap resume_fault is) ∙ told
 
@@ -42,18 +42,18 @@ copy-requires c =
 
 pub copy-requires-2 : goal.copy-requires-2
 copy-requires-2 c =
-    (omega (arith, few c.args.committed.0 c.args.starts.now c.args.ends.now c.in-Resumed.is c.check_columns-checked.ensures c.shorter-runs.ensures, ends-long c.args.cursor.now c.requires c.copy.new.column c.cursor-1.given.0), omega (arith, c.shorter-runs.ensures))
+    (omega (arith, few c.args.committed.0 c.args.starts.now c.args.ends.now c.in-Resumed.is c.check_columns-checked.ensures c.shorter-runs.ensures, ends-long c.args.cursor.now c.requires c.copy.new.column c.copy.auto.column), omega (arith, c.shorter-runs.ensures))
 
 pub bounds-cursor-1 : goal.bounds-cursor-1
 bounds-cursor-1 c =
-    omega (arith, length-set (both c.args.cursor.now c.copy.new.column c.copy-2.new.column) COMMITTED c.args.committed.0, both_long c.args.cursor.now c.requires c.copy.new.column c.cursor-1.given.0 c.copy-2.new.column c.cursor-2-1.given.0)
+    omega (arith, length-set (both c.args.cursor.now c.copy.new.column c.copy-2.new.column) COMMITTED c.args.committed.0, both_long c.args.cursor.now c.requires c.copy.new.column c.copy.auto.column c.copy-2.new.column c.copy-2.auto.column)
 
 pub shape_of-cursor : goal.shape_of-cursor
 shape_of-cursor c =
-    stored-long c.args.cursor.now c.requires c.copy.new.column c.cursor-1.given.0 c.copy-2.new.column c.cursor-2-1.given.0 c.args.committed.0 c.shorter-runs.result ∙ sym c.requires
+    stored-long c.args.cursor.now c.requires c.copy.new.column c.copy.auto.column c.copy-2.new.column c.copy-2.auto.column c.args.committed.0 c.shorter-runs.result ∙ sym c.requires
 
 pub returns : goal.returns
 returns c =
-    resume-made c.args.cursor.now c.requires c.copy.new.column c.cursor-1.given.0 c.copy-2.new.column c.cursor-2-1.given.0
+    resume-made c.args.cursor.now c.requires c.copy.new.column c.copy.auto.column c.copy-2.new.column c.copy-2.auto.column
     c.check_columns-checked.result c.in-Resumed.is c.args.committed.0 c.args.starts.now c.args.ends.now (faultless c.in-Resumed.is c.check_columns-checked.ensures) c.shorter-runs.result c.shorter-runs.ensures (omega arith) (λ i. omega (arith, c.type_inv.ends i))
     c.copy.ensures c.copy-2.ensures
