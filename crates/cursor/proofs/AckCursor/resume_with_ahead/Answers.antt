@@ -18,7 +18,7 @@ pub loop-i-preserved : goal.loop-i-preserved
 loop-i-preserved c = (
   omega arith,
   λ m t. subst (λ (ranges : List Range). Taken m ranges c.take_range-under_way.result) (take_more c.args.ahead.now c.loop-i.i _ c.loop-i-test.true)
-  (c.take_range-under_way.ensures m (take c.loop-i.i c.args.ahead.now) (c.loop-i.invariant.1 m t)),
+      (c.take_range-under_way.ensures m (take c.loop-i.i c.args.ahead.now) (c.loop-i.invariant.1 m t)),
 )
 
 pub returns : goal.returns

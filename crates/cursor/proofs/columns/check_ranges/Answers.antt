@@ -55,7 +55,7 @@ loop-i-preserved c =
       omega arith,
       omega arith,
       walk-last c.args.committed (read_ranges i 9 bytes) (range c.read_u64-start.result c.read_u64-end.result)
-      ∙ ap (last_end c.args.committed) (more bytes c.args.committed i c.loop-i.pos _ _ c.loop-i.invariant.1 c.read_u64-start.ensures c.read_u64-end.ensures),
+          ∙ ap (last_end c.args.committed) (more bytes c.args.committed i c.loop-i.pos _ _ c.loop-i.invariant.1 c.read_u64-start.ensures c.read_u64-end.ensures),
       seen bytes c.args.committed i c.loop-i.pos _ _ c.loop-i.invariant.1 c.read_u64-start.ensures c.read_u64-end.ensures c.check_range-checked.result c.loop-i.invariant.2 c.loop-i.invariant.3 c.check_range-checked.ensures ∙ ap resume_fault c.in-Resumed.is,
     )
 
