@@ -28,7 +28,8 @@ overflow_add-offset c =
 
 pub join-requires : goal.join-requires
 join-requires c =
-    (omega (arith, (found (view (ack_cursor c.args.committed c.args.starts.now c.args.ends.now c.args.runs)) c.args.offset c.in-Between.is c.locate-spot.ensures).0, runs-is (ack_cursor c.args.committed c.args.starts.now c.args.ends.now c.args.runs) c.requires), c.requires.sound.few)
+    let g = ack_cursor c.args.committed c.args.starts.now c.args.ends.now c.args.runs in
+    (omega (arith, (found (view g) c.args.offset c.in-Between.is c.locate-spot.ensures).0, runs-is g c.requires), c.requires.sound.few)
 
 pub overflow_add-end : goal.overflow_add-end
 overflow_add-end c =
@@ -36,30 +37,36 @@ overflow_add-end c =
 
 pub returns-then-runs-lt-RANGES : goal.returns-then-runs-lt-RANGES
 returns-then-runs-lt-RANGES c =
-    planned (ack_cursor c.args.committed c.args.starts.now c.args.ends.now c.args.runs) c.requires c.args.offset c.args.max_runs c.recorded-then-runs-lt-RANGES.ensures
-    (apart-planned (ack_cursor c.args.committed c.args.starts.now c.args.ends.now c.args.runs) c.requires c.args.offset c.args.max_runs (small (goal.at.returns-then-runs-lt-RANGES c).Start) c.in-Apart.i (found (view (ack_cursor c.args.committed c.args.starts.now c.args.ends.now c.args.runs)) c.args.offset c.in-Apart.is c.locate-spot.ensures) (omega arith))
+    let g = ack_cursor c.args.committed c.args.starts.now c.args.ends.now c.args.runs in
+    planned g c.requires c.args.offset c.args.max_runs c.recorded-then-runs-lt-RANGES.ensures
+    (apart-planned g c.requires c.args.offset c.args.max_runs (small (goal.at.returns-then-runs-lt-RANGES c).Start) c.in-Apart.i (found (view g) c.args.offset c.in-Apart.is c.locate-spot.ensures) (omega arith))
 
 pub returns-in-Settled : goal.returns-in-Settled
 returns-in-Settled c =
-    planned (ack_cursor c.args.committed c.args.starts.now c.args.ends.now c.args.runs) c.requires c.args.offset c.args.max_runs c.keeping.ensures
-    (settled-planned (ack_cursor c.args.committed c.args.starts.now c.args.ends.now c.args.runs) c.requires c.args.offset c.args.max_runs (found (view (ack_cursor c.args.committed c.args.starts.now c.args.ends.now c.args.runs)) c.args.offset c.in-Settled.is c.locate-spot.ensures))
+    let g = ack_cursor c.args.committed c.args.starts.now c.args.ends.now c.args.runs in
+    planned g c.requires c.args.offset c.args.max_runs c.keeping.ensures
+    (settled-planned g c.requires c.args.offset c.args.max_runs (found (view g) c.args.offset c.in-Settled.is c.locate-spot.ensures))
 
 pub returns-in-Behind : goal.returns-in-Behind
 returns-in-Behind c =
-    planned (ack_cursor c.args.committed c.args.starts.now c.args.ends.now c.args.runs) c.requires c.args.offset c.args.max_runs c.stretch.ensures
-    (behind-planned (ack_cursor c.args.committed c.args.starts.now c.args.ends.now c.args.runs) c.requires c.args.offset c.args.max_runs (small (goal.at.returns-in-Behind c).Start) c.in-Behind.i (found (view (ack_cursor c.args.committed c.args.starts.now c.args.ends.now c.args.runs)) c.args.offset c.in-Behind.is c.locate-spot.ensures))
+    let g = ack_cursor c.args.committed c.args.starts.now c.args.ends.now c.args.runs in
+    planned g c.requires c.args.offset c.args.max_runs c.stretch.ensures
+    (behind-planned g c.requires c.args.offset c.args.max_runs (small (goal.at.returns-in-Behind c).Start) c.in-Behind.i (found (view g) c.args.offset c.in-Behind.is c.locate-spot.ensures))
 
 pub returns-in-Between : goal.returns-in-Between
 returns-in-Between c =
-    planned (ack_cursor c.args.committed c.args.starts.now c.args.ends.now c.args.runs) c.requires c.args.offset c.args.max_runs c.join.ensures
-    (between-planned (ack_cursor c.args.committed c.args.starts.now c.args.ends.now c.args.runs) c.requires c.args.offset c.args.max_runs (small (goal.at.returns-in-Between c).Start) c.in-Between.i (found (view (ack_cursor c.args.committed c.args.starts.now c.args.ends.now c.args.runs)) c.args.offset c.in-Between.is c.locate-spot.ensures))
+    let g = ack_cursor c.args.committed c.args.starts.now c.args.ends.now c.args.runs in
+    planned g c.requires c.args.offset c.args.max_runs c.join.ensures
+    (between-planned g c.requires c.args.offset c.args.max_runs (small (goal.at.returns-in-Between c).Start) c.in-Between.i (found (view g) c.args.offset c.in-Between.is c.locate-spot.ensures))
 
 pub returns-in-Before : goal.returns-in-Before
 returns-in-Before c =
-    planned (ack_cursor c.args.committed c.args.starts.now c.args.ends.now c.args.runs) c.requires c.args.offset c.args.max_runs c.recorded.ensures
-    (before-planned (ack_cursor c.args.committed c.args.starts.now c.args.ends.now c.args.runs) c.requires c.args.offset c.args.max_runs (small (goal.at.returns-in-Before c).Start) c.in-Before.i (found (view (ack_cursor c.args.committed c.args.starts.now c.args.ends.now c.args.runs)) c.args.offset c.in-Before.is c.locate-spot.ensures))
+    let g = ack_cursor c.args.committed c.args.starts.now c.args.ends.now c.args.runs in
+    planned g c.requires c.args.offset c.args.max_runs c.recorded.ensures
+    (before-planned g c.requires c.args.offset c.args.max_runs (small (goal.at.returns-in-Before c).Start) c.in-Before.i (found (view g) c.args.offset c.in-Before.is c.locate-spot.ensures))
 
 pub returns-after-runs-max_runs : goal.returns-after-runs-max_runs
 returns-after-runs-max_runs c =
-    planned (ack_cursor c.args.committed c.args.starts.now c.args.ends.now c.args.runs) c.requires c.args.offset c.args.max_runs c.keeping-in-Apart.ensures
-    (shed-planned (ack_cursor c.args.committed c.args.starts.now c.args.ends.now c.args.runs) c.requires c.args.offset c.args.max_runs c.in-Apart.i (found (view (ack_cursor c.args.committed c.args.starts.now c.args.ends.now c.args.runs)) c.args.offset c.in-Apart.is c.locate-spot.ensures) (elim c.if-runs-max_runs.branch [ then-runs-max_runs+else-runs-lt-RANGES w ↦ omega arith | else-runs-max_runs w ↦ omega arith ]))
+    let g = ack_cursor c.args.committed c.args.starts.now c.args.ends.now c.args.runs in
+    planned g c.requires c.args.offset c.args.max_runs c.keeping-in-Apart.ensures
+    (shed-planned g c.requires c.args.offset c.args.max_runs c.in-Apart.i (found (view g) c.args.offset c.in-Apart.is c.locate-spot.ensures) (elim c.if-runs-max_runs.branch [ then-runs-max_runs+else-runs-lt-RANGES w ↦ omega arith | else-runs-max_runs w ↦ omega arith ]))

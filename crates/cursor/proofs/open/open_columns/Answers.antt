@@ -25,7 +25,7 @@ returns-then-out-count c =
 pub loop-i-init : goal.loop-i-init
 loop-i-init c = (omega arith, filling _ _ _ (omega arith))
 
--- in a turn: where it began, how many stretches there are, and that the place is one of the cursor's
+-- in a turn: how many stretches there are, and that the place is one of the cursor's
 few : (c : In-loop-i) → c.find_open-gaps.result.count ≤ 129
 few c =
     omega (arith, c.find_open-gaps.ensures.1, found-few (ack_cursor c.args.committed c.args.starts.now c.args.ends.now c.args.runs) c.requires c.args.a c.args.b)
@@ -45,7 +45,9 @@ pub overflow_add-first : goal.overflow_add-first
 overflow_add-first c = omega (arith, within (goal.at.overflow_add-first c).In-loop-i, c.requires.sound.few)
 
 pub stretch_at-stretch-requires : goal.stretch_at-stretch-requires
-stretch_at-stretch-requires c = (long-starts (ack_cursor c.args.committed c.args.starts.now c.args.ends.now c.args.runs) c.requires, omega (arith, within (goal.at.stretch_at-stretch-requires c).In-loop-i, long-ends (ack_cursor c.args.committed c.args.starts.now c.args.ends.now c.args.runs) c.requires))
+stretch_at-stretch-requires c =
+    let g = ack_cursor c.args.committed c.args.starts.now c.args.ends.now c.args.runs in
+    (long-starts g c.requires, omega (arith, within (goal.at.stretch_at-stretch-requires c).In-loop-i, long-ends g c.requires))
 
 pub overflow_mul-out : goal.overflow_mul-out
 overflow_mul-out c = omega (arith, few (goal.at.overflow_mul-out c).In-loop-i)
@@ -73,10 +75,11 @@ overflow_add-i c = omega (arith, few (goal.at.overflow_add-i c).In-loop-i)
 
 pub loop-i-preserved : goal.loop-i-preserved
 loop-i-preserved c =
+    let g = ack_cursor c.args.committed c.args.starts.now c.args.ends.now c.args.runs in
     let l = c.loop-i in
     let f = c.find_open-gaps in
-    let all = stretches (view (ack_cursor c.args.committed c.args.starts.now c.args.ends.now c.args.runs)) c.args.a c.args.b in
-    let is = found_at (ack_cursor c.args.committed c.args.starts.now c.args.ends.now c.args.runs) c.requires c.args.a c.args.b f.result.first l.i f.ensures.0 (listed (goal.at.loop-i-preserved c).In-loop-i) in
+    let all = stretches (view g) c.args.a c.args.b in
+    let is = found_at g c.requires c.args.a c.args.b f.result.first l.i f.ensures.0 (listed (goal.at.loop-i-preserved c).In-loop-i) in
     (omega arith, rw f.ensures.1 (two-more all c.args.out.now l.out l.i c.stretch_at-stretch.result (listed (goal.at.loop-i-preserved c).In-loop-i) (c.stretch_at-stretch.ensures ∙ is) (rw f.ensures.1 at l.invariant.1)))
 
 pub overflow_mul-filled : goal.overflow_mul-filled

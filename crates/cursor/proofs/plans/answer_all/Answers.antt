@@ -19,10 +19,11 @@ step_columns-step-requires c =
 
 pub overflow_add-looks : goal.overflow_add-looks
 overflow_add-looks c =
+    let g = ack_cursor c.args.committed c.args.starts.now c.args.ends.now c.args.runs in
     omega (
       arith,
-      looks-fit (view (ack_cursor c.args.committed c.args.starts.now c.args.ends.now c.args.runs)) c.args.offsets.now c.loop-i.out c.loop-i.at c.loop-i.looks c.loop-i.i c.loop-i.invariant.2 (omega arith) c.step_columns-step.result c.step_columns-step.ensures,
-      runs-is (ack_cursor c.args.committed c.args.starts.now c.args.ends.now c.args.runs) c.requires.0,
+      looks-fit (view g) c.args.offsets.now c.loop-i.out c.loop-i.at c.loop-i.looks c.loop-i.i c.loop-i.invariant.2 (omega arith) c.step_columns-step.result c.step_columns-step.ensures,
+      runs-is g c.requires.0,
       c.requires.0.sound.few,
       c.requires.1,
     )
@@ -42,7 +43,8 @@ shape_of-out c = c.loop-i.invariant.1
 
 pub returns : goal.returns
 returns c =
+    let g = ack_cursor c.args.committed c.args.starts.now c.args.ends.now c.args.runs in
     let over = c.loop-i-test.false in (
-      answered-looks (view (ack_cursor c.args.committed c.args.starts.now c.args.ends.now c.args.runs)) c.args.offsets.now c.loop-i.out c.loop-i.at c.loop-i.looks c.loop-i.i c.loop-i.invariant.2 over,
-      answered-bytes (view (ack_cursor c.args.committed c.args.starts.now c.args.ends.now c.args.runs)) c.args.offsets.now c.loop-i.out c.loop-i.at c.loop-i.looks c.loop-i.i c.loop-i.invariant.2 over,
+      answered-looks (view g) c.args.offsets.now c.loop-i.out c.loop-i.at c.loop-i.looks c.loop-i.i c.loop-i.invariant.2 over,
+      answered-bytes (view g) c.args.offsets.now c.loop-i.out c.loop-i.at c.loop-i.looks c.loop-i.i c.loop-i.invariant.2 over,
     )

@@ -21,7 +21,7 @@ pub range_at-range-requires : goal.range_at-range-requires
 range_at-range-requires c =
     (c.requires, omega (arith, c.ahead_runs-runs.ensures))
 
--- in a turn: where it began, and the range
+-- in a turn: the place is one of the list, and the range there
 listed : (c : After-range_at-range) → c.loop-i.i < length (view c.args.cursor.now).ahead
 listed c = omega (arith, c.ahead_runs-runs.ensures)
 

@@ -21,7 +21,7 @@ returns-then-out-runs c =
 pub loop-i-init : goal.loop-i-init
 loop-i-init c = (omega arith, filling _ _ _ (omega arith))
 
--- in a turn: where it began, how many ranges there are, and that there is room
+-- in a turn: how many ranges there are, and that there is room
 few : (c : In-loop-i) → c.ahead_runs-runs.result ≤ 128
 few c = omega (arith, c.ahead_runs-runs.ensures, c.requires.cursor.valid.few)
 
