@@ -11,7 +11,6 @@ pub mod Taking
 pub mod Walking
 pub mod Edits
 pub mod Unsettled
-pub mod OpenHanded
 pub mod Plan
 pub mod Words
 pub mod Made

@@ -3,7 +3,7 @@
 use Prim.Native.Nat.{ℕ, zero, suc, ◌+◌, ◌-◌, ◌*◌, ◌/◌, ◌≤◌, ◌<◌, min, max}
 use native.Mathlib.Omega.{arith}
 use native.Mathlib.Nat.{suc_inj, le_of_suc-le-suc}
-use mathlib.Core.Path.{◌≡◌, refl, sym, ap, ◌∙◌}
+use mathlib.Core.Path.{◌≡◌, refl, sym, ap, subst, ◌∙◌}
 use mathlib.Core.Bool.{Bool, true, false, cond, not, ◌&&◌, ◌||◌, and-false, or-true, true≢false}
 use mathlib.Core.List.{List, [], ◌∷◌}
 use lib.Dec.{ltb, leb}
@@ -171,10 +171,12 @@ nearest_open_lem o lo (r ∷ rs) a =
     split (leb r.start o)
     (λ p. let h = leb-true r.start o p in
     let up = nearest_up o r.end rs a.3 in
-    rw (p, le-ltb o lo (omega (arith, a.0)), le-ltb (nearest_open (cursor r.end rs) o) r.end up.1, and-false (leb r.start (nearest_open (cursor r.end rs) o)))
-    (nearest_open_lem o r.end rs a.3))
+    let e : nearest_open (cursor lo (r ∷ rs)) o ≡ nearest_open (cursor r.end rs) o = rw (p, le-ltb o lo (omega (arith, a.0))) in
+    subst (λ (x : ℕ). inside x (r ∷ rs) ≡ false) (sym e)
+    (rw (le-ltb (nearest_open (cursor r.end rs) o) r.end up.1, and-false (leb r.start (nearest_open (cursor r.end rs) o))) (nearest_open_lem o r.end rs a.3)))
     (λ p. let h = leb-false r.start o p in
-    rw (nearest_at o lo (r ∷ rs) a, p) (inside-above (max o lo) (max o lo) (r ∷ rs) (omega (arith, a.0), a.1, a.2, a.3) (omega arith)))
+    let e : nearest_open (cursor lo (r ∷ rs)) o ≡ max o lo = nearest_at o lo (r ∷ rs) a ∙ rw p in
+    subst (λ (x : ℕ). inside x (r ∷ rs) ≡ false) (sym e) (inside-above (max o lo) (max o lo) (r ∷ rs) (omega (arith, a.0), a.1, a.2, a.3) (omega arith)))
 
 nearest_least : (o lo y : ℕ) (l : List Range) → Above lo l → o ≤ y → y < nearest_open (cursor lo l) o → settled (cursor lo l) y ≡ true
 nearest_least o lo y [] a h k =

@@ -3,6 +3,7 @@
 // An ack at committed moves it over that offset and over the range that begins right behind it. A cursor goes in by value
 // and comes back; nothing is kept elsewhere, and an ack or a commit shifts its ranges within its own columns.
 #![tactic(auto)]
+
 ghost use Rattle.std.specs.Prelude.{◌≡◌, ℕ, ◌+◌, ◌<◌, min, List, [], ◌∷◌, ◌++◌, length, set};
 ghost use Rattle.types.specs.Identifiers.{offset};
 ghost use Rattle.types.specs.Refusal.{done};

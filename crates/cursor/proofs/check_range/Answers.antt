@@ -9,9 +9,9 @@ returns-then-end-start c = let a = c.args in rw (le-leb a.end a.start (omega ari
 pub returns-then-start-prev_end : goal.returns-then-start-prev_end
 returns-then-start-prev_end c =
     let a = c.args in
-    rw (lt-leb a.end a.start (omega arith), le-leb a.start a.prev-end (omega arith))
+    rw (lt-leb a.end a.start (omega arith), le-leb a.start a.prev_end (omega arith))
 
 pub returns : goal.returns
 returns c =
     let a = c.args in
-    rw (lt-leb a.end a.start (omega arith), lt-leb a.start a.prev-end (omega arith))
+    rw (lt-leb a.end a.start (omega arith), lt-leb a.start a.prev_end (omega arith))

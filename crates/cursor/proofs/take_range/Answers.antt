@@ -17,9 +17,6 @@ returns-in_default c n ranges t =
 
 pub returns : goal.returns
 returns c n ranges t =
-    let k = c.before.before.before.before.before in
-    let e = k.before in
-    let s = e.before.before in
-    let a = s.args in
-    take-one n ranges a.under_way t e.in-Resumed.is k.check_range-checked.result a.start a.end c.note_range-taken.result c.note_range-taken.new.0 c.note_range-taken.new.1.0 (full (goal.at.returns c).Start).0 (full (goal.at.returns c).Start).1 (omega arith)
-    k.check_range-checked.ensures c.note_range-taken.ensures.0 c.note_range-taken.ensures.1 c.note_range-taken.ensures.2
+    let a = c.args in
+    take-one n ranges a.under_way t c.in-Resumed.is c.check_range-checked.result a.start a.end c.note_range-taken.result c.note_range-taken.new.starts c.note_range-taken.new.ends (full (goal.at.returns c).Start).0 (full (goal.at.returns c).Start).1 (omega arith)
+    c.check_range-checked.ensures c.note_range-taken.ensures.0 c.note_range-taken.ensures.1 c.note_range-taken.ensures.2

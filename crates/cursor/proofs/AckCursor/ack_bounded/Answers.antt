@@ -5,6 +5,4 @@ use Rattle.cursor.proofs.AckCursor.ack_bounded.Goals as goal
 
 pub returns : goal.returns
 returns c =
-    let p = c.before.before.before.before.before in
-    let s = p.before.before.before.before in
-    ack-made s.args.self s.args.offset.0 s.args.max_runs p.plan_ack-plan.result c.apply.new.0 c.apply-2.new.0 p.plan_ack-plan.ensures c.apply.ensures c.apply-2.ensures
+    ack-made c.args.self c.args.offset.0 c.args.max_runs c.plan_ack-plan.result c.apply.new.column c.apply-2.new.column c.plan_ack-plan.ensures c.apply.ensures c.apply-2.ensures

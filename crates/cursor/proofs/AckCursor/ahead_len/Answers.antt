@@ -16,23 +16,16 @@ whole s = record { starts = search rules; ends = search rules; sound = s.require
 
 pub overflow_sub-sum : goal.overflow_sub-sum
 overflow_sub-sum c =
-    let p = c.before.before.before in
-    let s = p.before in
-    omega (arith, range_nonempty s.args.self (whole (goal.at.overflow_sub-sum c).Start) p.loop-i.i (omega arith))
+    omega (arith, range_nonempty c.args.self (whole (goal.at.overflow_sub-sum c).Start) c.loop-i.i (omega arith))
 
 pub overflow_add-sum : goal.overflow_add-sum
 overflow_add-sum c =
-    let p = c.before.before.before in
-    let s = p.before in
-    omega (arith, sum-next s.args.self (whole (goal.at.overflow_add-sum c).Start) p.loop-i.i (omega arith), sum_fits s.args.self (whole (goal.at.overflow_add-sum c).Start))
+    omega (arith, sum-next c.args.self (whole (goal.at.overflow_add-sum c).Start) c.loop-i.i (omega arith), sum_fits c.args.self (whole (goal.at.overflow_add-sum c).Start))
 
 pub loop-i-preserved : goal.loop-i-preserved
 loop-i-preserved c =
-    let p = c.before.before.before in
-    let s = p.before in
-    (omega arith, omega (arith, sum-next s.args.self (whole (goal.at.loop-i-preserved c).Start) p.loop-i.i (omega arith)))
+    (omega arith, omega (arith, sum-next c.args.self (whole (goal.at.loop-i-preserved c).Start) c.loop-i.i (omega arith)))
 
 pub returns : goal.returns
 returns c =
-    let s = c.before.before in
-    omega (arith, sum_over s.args.self (whole (goal.at.returns c).Start) c.loop-i.i (omega arith))
+    omega (arith, sum_over c.args.self (whole (goal.at.returns c).Start) c.loop-i.i (omega arith))

@@ -10,4 +10,4 @@ whole : (s : Start) → Whole s.args.self
 whole s = record { starts = search rules; ends = search rules; sound = s.requires }
 
 pub returns : goal.returns
-returns c = sym (runs-is c.args.self (whole c))
+returns c = sym (runs-is c.args.self (whole (goal.at.returns c).Start))

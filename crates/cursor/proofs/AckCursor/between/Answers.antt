@@ -5,5 +5,4 @@ use Rattle.cursor.proofs.AckCursor.between.Goals as goal
 
 pub returns : goal.returns
 returns c =
-    let s = c.before.before.before.before.before.before in
-    (record { sound = s.requires; first = c.find_open-gaps.ensures.0; count = c.find_open-gaps.ensures.1 }, refl)
+    (record { sound = c.requires; first = c.find_open-gaps.ensures.0; count = c.find_open-gaps.ensures.1 }, refl)

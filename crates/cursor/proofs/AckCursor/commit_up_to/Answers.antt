@@ -5,6 +5,4 @@ use Rattle.cursor.proofs.AckCursor.commit_up_to.Goals as goal
 
 pub returns : goal.returns
 returns c =
-    let p = c.before.before.before.before.before in
-    let s = p.before.before.before.before in
-    commit-made s.args.self s.args.up_to.0 p.plan_commit-plan.result c.apply.new.0 c.apply-2.new.0 p.plan_commit-plan.ensures c.apply.ensures c.apply-2.ensures
+    commit-made c.args.self c.args.up_to.0 c.plan_commit-plan.result c.apply.new.column c.apply-2.new.column c.plan_commit-plan.ensures c.apply.ensures c.apply-2.ensures

@@ -13,8 +13,7 @@ whole s = record { starts = search rules; ends = search rules; sound = s.require
 
 pub returns : goal.returns
 returns c =
-    let s = c.before.before in
-    let a = s.args in
+    let a = c.args in
     let w = whole (goal.at.returns c).Start in
-    let h : a.at < a.self.runs = rw (runs-is a.self w) at s.requires.1 in
+    let h : a.at < a.self.runs = rw (runs-is a.self w) at c.requires.1 in
     sym (range-is a.self.runs a.self.starts a.self.ends (long-starts a.self w) (long-ends a.self w) a.at h)

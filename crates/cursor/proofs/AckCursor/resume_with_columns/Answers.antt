@@ -18,7 +18,7 @@ pub loop-i-init : goal.loop-i-init
 loop-i-init c = (omega arith, λ m t. t)
 
 -- the number of ranges
-short : (c : At-loop-i) → let s = c.before.before.before.before.before in c.shorter-n.result ≡ min (length s.args.starts.now) (length s.args.ends.now)
+short : (c : At-loop-i) → c.shorter-n.result ≡ min (length c.args.starts.now) (length c.args.ends.now)
 short c = c.shorter-n.ensures
 
 pub offset_bounds-starts-i : goal.offset_bounds-starts-i
@@ -38,17 +38,13 @@ overflow_add-i c = omega (arith, short (goal.at.overflow_add-i c).At-loop-i)
 
 pub loop-i-preserved : goal.loop-i-preserved
 loop-i-preserved c =
-    let l = c.before.before.before.before in
-    let s = l.before.before.before.before.before in
     let n = short (goal.at.loop-i-preserved c).At-loop-i in
-    let more = columns-more l.loop-i.i s.args.starts.now s.args.ends.now (omega (arith, n)) (omega (arith, n)) in (
+    let more = columns-more c.loop-i.i c.args.starts.now c.args.ends.now (omega (arith, n)) (omega (arith, n)) in (
       omega arith,
-      λ m t. rw add-one (subst (λ ranges. Taken m ranges c.take_range-under_way.result) more (c.take_range-under_way.ensures m _ (l.loop-i.invariant.1 m t))),
+      λ m t. rw add-one (subst (λ ranges. Taken m ranges c.take_range-under_way.result) more (c.take_range-under_way.ensures m _ (c.loop-i.invariant.1 m t))),
     )
 
 pub returns : goal.returns
 returns c =
-    let l = c.before.before in
-    let s = l.before.before.before.before.before in
-    let all = columns-all l.loop-i.i s.args.starts.now s.args.ends.now (omega (arith, short (goal.at.returns c).At-loop-i, c.loop-i-test.false)) in
-    subst (λ ranges. ResumedIs s.args.committed.0 ranges c.finish.result) all (c.finish.ensures _ _ (l.loop-i.invariant.1 _ l.begin-under_way.ensures))
+    let all = columns-all c.loop-i.i c.args.starts.now c.args.ends.now (omega (arith, short (goal.at.returns c).At-loop-i, c.loop-i-test.false)) in
+    subst (λ ranges. ResumedIs c.args.committed.0 ranges c.finish.result) all (c.finish.ensures _ _ (c.loop-i.invariant.1 _ c.begin-under_way.ensures))

@@ -6,10 +6,6 @@ use borrow.Author.Rules.{rules}
 use borrow.Author.Tests.{not-true, not-false}
 use Rattle.cursor.proofs.Reading.{truncated, bad-length, other-version, bad-crc, framed}
 use Rattle.cursor.proofs.codec.check_frame.Goals as goal
-use Rattle.cursor.proofs.codec.check_frame.Goals.{Else-version-ne-SNAPSHOT_VERSION}
-
-abbrev bytes : Else-version-ne-SNAPSHOT_VERSION → List ℕ
-bytes c = c.args.input.now
 
 pub returns-then-len-lt-SNAPSHOT_MIN_LEN : goal.returns-then-len-lt-SNAPSHOT_MIN_LEN
 returns-then-len-lt-SNAPSHOT_MIN_LEN c = sym (truncated c.args.input.now c.if-len-lt-SNAPSHOT_MIN_LEN.true)
@@ -19,17 +15,12 @@ returns-then-ranges_len-ne0 c = sym (bad-length c.args.input.now c.if-len-lt-SNA
 
 pub returns-then-version-ne-SNAPSHOT_VERSION : goal.returns-then-version-ne-SNAPSHOT_VERSION
 returns-then-version-ne-SNAPSHOT_VERSION c =
-    let e = c.before.before in
-    sym (other-version e.args.input.now e.if-len-lt-SNAPSHOT_MIN_LEN.false e.if-ranges_len-ne0.false c.if-version-ne-SNAPSHOT_VERSION.true)
+    sym (other-version c.args.input.now c.if-len-lt-SNAPSHOT_MIN_LEN.false c.if-ranges_len-ne0.false c.if-version-ne-SNAPSHOT_VERSION.true)
 
 pub returns-then-not-is_sealed : goal.returns-then-not-is_sealed
 returns-then-not-is_sealed c =
-    let s = c.before in
-    let e = s.before.before.before in
-    sym (bad-crc (bytes (goal.at.returns-then-not-is_sealed c).Else-version-ne-SNAPSHOT_VERSION) e.if-len-lt-SNAPSHOT_MIN_LEN.false e.if-ranges_len-ne0.false s.if-version-ne-SNAPSHOT_VERSION.false (sym s.is_sealed.ensures ∙ not-true _ c.if-not-is_sealed.true))
+    sym (bad-crc c.args.input.now c.if-len-lt-SNAPSHOT_MIN_LEN.false c.if-ranges_len-ne0.false c.if-version-ne-SNAPSHOT_VERSION.false (sym c.is_sealed.ensures ∙ c.if-not-is_sealed.true))
 
 pub returns : goal.returns
 returns c =
-    let s = c.before in
-    let e = s.before.before.before in
-    sym (framed (bytes (goal.at.returns c).Else-version-ne-SNAPSHOT_VERSION) e.if-len-lt-SNAPSHOT_MIN_LEN.false e.if-ranges_len-ne0.false s.if-version-ne-SNAPSHOT_VERSION.false (sym s.is_sealed.ensures ∙ not-false _ c.if-not-is_sealed.false))
+    sym (framed c.args.input.now c.if-len-lt-SNAPSHOT_MIN_LEN.false c.if-ranges_len-ne0.false c.if-version-ne-SNAPSHOT_VERSION.false (sym c.is_sealed.ensures ∙ c.if-not-is_sealed.false))

@@ -17,16 +17,12 @@ loop-i-init c = (omega arith, omega arith, refl, refl)
 
 pub loop-i-preserved : goal.loop-i-preserved
 loop-i-preserved c =
-    let w = c.before.before in
-    let v = w.before.before.before.before.before in
-    let p = v.before.before.before.before in
-    let l = p.loop-i in
-    let s = p.before.before.before.before in
-    let a = s.args in (
+    let l = c.loop-i in
+    let a = c.args in (
       omega arith,
       omega arith,
-      w.write_u64-in-loop-i.auto.0 ∙ v.write_u64.auto.0 ∙ l.invariant.2,
-      put-more a.n a.starts.now a.ends.now s.requires.0 s.requires.1 l.i l.pos l.out v.write_u64.new.0 w.write_u64-in-loop-i.new.0 (omega arith) (omega arith) v.write_u64.ensures w.write_u64-in-loop-i.ensures ∙ l.invariant.3,
+      c.write_u64-in-loop-i.auto.buf ∙ c.write_u64.auto.buf ∙ l.invariant.2,
+      put-more a.n a.starts.now a.ends.now c.requires.0 c.requires.1 l.i l.pos l.out c.write_u64.new.buf c.write_u64-in-loop-i.new.buf (omega arith) (omega arith) c.write_u64.ensures c.write_u64-in-loop-i.ensures ∙ l.invariant.3,
     )
 
 pub shape_of-out : goal.shape_of-out
@@ -35,6 +31,5 @@ shape_of-out c = c.loop-i.invariant.2
 pub returns : goal.returns
 returns c =
     let l = c.loop-i in
-    let s = c.before.before.before.before.before in
-    let a = s.args in
-    sym (put-end a.n a.starts.now a.ends.now s.requires.0 s.requires.1 l.i l.pos l.out (omega arith)) ∙ l.invariant.3
+    let a = c.args in
+    sym (put-end a.n a.starts.now a.ends.now c.requires.0 c.requires.1 l.i l.pos l.out (omega arith)) ∙ l.invariant.3

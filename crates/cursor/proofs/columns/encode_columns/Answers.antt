@@ -1,5 +1,4 @@
 -- `encode_columns` meets its contract. Assumes nothing.
--- the cursor that the arguments are
 use Prim.Native.Nat.{◌+◌, ◌-◌, ◌*◌, ◌≤◌}
 use native.Mathlib.Omega.{arith}
 use mathlib.Core.Path.{◌≡◌, sym, ◌∙◌}
@@ -13,10 +12,7 @@ use Rattle.cursor.proofs.Writing.{too_short, encoded}
 use Rattle.cursor.proofs.columns.encode_columns.Goals as goal
 use Rattle.cursor.proofs.columns.encode_columns.Goals.{Else-too_short, Start}
 
-abbrev g : Start → AckCursor
-g s = ack_cursor s.args.committed s.args.starts.now s.args.ends.now s.args.n
-
-size : (s : Start) → length (view (g s)).ahead ≡ s.args.n
+size : (s : Start) → length (view (ack_cursor s.args.committed s.args.starts.now s.args.ends.now s.args.n)).ahead ≡ s.args.n
 size s = count s.args.n s.args.starts.now s.args.ends.now s.requires.1 s.requires.2
 
 pub snapshot_len-len-requires : goal.snapshot_len-len-requires
@@ -24,11 +20,9 @@ snapshot_len-len-requires c = c.requires.0
 
 pub returns-then-too_short : goal.returns-then-too_short
 returns-then-too_short c =
-    let t = c.before in
-    let s = t.before.before.before.before.before in
-    let a = s.args in
-    too_short (view (g (goal.at.returns-then-too_short c).Start)) a.n a.at a.out.now (size (goal.at.returns-then-too_short c).Start)
-    (rw (← t.snapshot_len-len.ensures) (ltb-true _ _ (sym t.too_short.ensures ∙ c.if-too_short.true)))
+    let a = c.args in
+    too_short (view (ack_cursor c.args.committed c.args.starts.now c.args.ends.now c.args.n)) a.n a.at a.out.now (size (goal.at.returns-then-too_short c).Start)
+    (rw (← c.snapshot_len-len.ensures) (ltb-true _ _ (sym c.too_short.ensures ∙ c.if-too_short.true)))
 
 -- there is room
 room : (c : Else-too_short) → let a = c.args in a.at + (13 + 16 * a.n) ≤ length a.out.now
@@ -36,20 +30,13 @@ room c = rw (← c.snapshot_len-len.ensures) (ltb-false _ _ (sym c.too_short.ens
 
 pub write_body-requires : goal.write_body-requires
 write_body-requires c =
-    let e = c.before in
-    let s = e.before.before.before.before.before.before in
-    (s.requires.1, s.requires.2, omega (arith, room (goal.at.write_body-requires c).Else-too_short))
+    (c.requires.1, c.requires.2, omega (arith, room (goal.at.write_body-requires c).Else-too_short))
 
 pub overflow_add-end : goal.overflow_add-end
 overflow_add-end c = omega (arith, room (goal.at.overflow_add-end c).Else-too_short)
 
 pub returns : goal.returns
 returns c =
-    let w = c.before.before in
-    let k = w.before.before in
-    let b = k.before.before.before.before.before in
-    let e = b.before.before in
-    let l = e.snapshot_len-len in
-    let s = e.before.before.before.before.before.before in
-    let a = s.args in
-    encoded (view (g (goal.at.returns c).Start)) a.n a.at a.out.now (size (goal.at.returns c).Start) b.write_body.new.1.1.1.1.0 w.write_u32.new.0 k.crc32c-check.result (l.result - 4) (room (goal.at.returns c).Else-too_short) (omega (arith, l.ensures)) b.write_body.ensures k.crc32c-check.ensures w.write_u32.ensures
+    let l = c.snapshot_len-len in
+    let a = c.args in
+    encoded (view (ack_cursor c.args.committed c.args.starts.now c.args.ends.now c.args.n)) a.n a.at a.out.now (size (goal.at.returns c).Start) c.write_body.new.out c.write_u32.new.buf c.crc32c-check.result (l.result - 4) (room (goal.at.returns c).Else-too_short) (omega (arith, l.ensures)) c.write_body.ensures c.crc32c-check.ensures c.write_u32.ensures

@@ -16,15 +16,13 @@ bounds-column-i c = omega (arith, c.loop-i.invariant.full)
 
 pub loop-i-preserved : goal.loop-i-preserved
 loop-i-preserved c =
-    let l = c.before.before in
-    let a = l.args in
-    column-more a.input.now a.count a.from _ c.read_u64.ensures (omega arith) l.loop-i.invariant
+    let a = c.args in
+    column-more a.input.now a.count a.from _ c.read_u64.ensures (omega arith) c.loop-i.invariant
 
 pub shape_of-column : goal.shape_of-column
 shape_of-column c = c.loop-i.invariant.full
 
 pub returns : goal.returns
 returns c =
-    let l = c.before in
-    let a = l.args in
-    column-all a.input.now a.count a.from (omega arith) l.loop-i.invariant
+    let a = c.args in
+    column-all a.input.now a.count a.from (omega arith) c.loop-i.invariant

@@ -6,6 +6,5 @@ use Rattle.cursor.proofs.in_place.ack_in_place.Goals as goal
 
 pub returns : goal.returns
 returns c =
-    let p = c.before.before.before.before.before in
-    let a = p.args in
-    ack-made (ack_cursor a.committed a.starts.now a.ends.now a.runs) a.offset a.max_runs p.plan_ack-plan.result c.apply.new.0 c.apply-2.new.0 p.plan_ack-plan.ensures c.apply.ensures c.apply-2.ensures
+    let a = c.args in
+    ack-made (ack_cursor a.committed a.starts.now a.ends.now a.runs) a.offset a.max_runs c.plan_ack-plan.result c.apply.new.column c.apply-2.new.column c.plan_ack-plan.ensures c.apply.ensures c.apply-2.ensures

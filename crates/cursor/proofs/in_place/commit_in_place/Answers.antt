@@ -6,6 +6,5 @@ use Rattle.cursor.proofs.in_place.commit_in_place.Goals as goal
 
 pub returns : goal.returns
 returns c =
-    let p = c.before.before.before.before.before in
-    let a = p.args in
-    commit-made (ack_cursor a.committed a.starts.now a.ends.now a.runs) a.bound p.plan_commit-plan.result c.apply.new.0 c.apply-2.new.0 p.plan_commit-plan.ensures c.apply.ensures c.apply-2.ensures
+    let a = c.args in
+    commit-made (ack_cursor a.committed a.starts.now a.ends.now a.runs) a.bound c.plan_commit-plan.result c.apply.new.column c.apply-2.new.column c.plan_commit-plan.ensures c.apply.ensures c.apply-2.ensures

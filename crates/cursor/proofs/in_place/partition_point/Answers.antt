@@ -10,7 +10,6 @@ use Rattle.cursor.proofs.in_place.partition_point.Goals as goal
 
 pub returns : goal.returns
 returns c =
-    let s = c.before.before in
-    let ks = take s.args.n s.args.column.now in
-    boundary_below (s.args.x + 1) c.position_after.result 0 ks s.requires c.position_after.ensures
-    ∙ ap (λ (k : ℕ). below k ks) (add-one s.args.x)
+    let ks = take c.args.n c.args.column.now in
+    boundary_below (c.args.x + 1) c.position_after.result 0 ks c.requires c.position_after.ensures
+    ∙ ap (λ (k : ℕ). below k ks) (add-one c.args.x)

@@ -8,26 +8,20 @@ use Rattle.cursor.proofs.in_words.apply.Goals as goal
 
 pub returns-then-at-column : goal.returns-then-at-column
 returns-then-at-column c =
-    let e = c.before.before in
-    let a = e.args in
-    edited-is a.runs a.column.now e.in-Set.is
+    let a = c.args in
+    edited-is a.runs a.column.now c.in-Set.is
 
 pub returns-else-at-column : goal.returns-else-at-column
 returns-else-at-column c =
-    let e = c.before.before in
-    let a = e.args in
-    sym (set_out a.column.now _ _ c.if-at-column.false) ∙ edited-is a.runs a.column.now e.in-Set.is
+    let a = c.args in
+    sym (set_out a.column.now _ _ c.if-at-column.false) ∙ edited-is a.runs a.column.now c.in-Set.is
 
 pub returns-in-Insert : goal.returns-in-Insert
 returns-in-Insert c =
-    let i = c.before.before in
-    let e = i.before.before.before in
-    let a = e.args in
-    i.insert.ensures ∙ edited-is a.runs a.column.now e.in-Insert.is
+    let a = c.args in
+    c.insert.ensures ∙ edited-is a.runs a.column.now c.in-Insert.is
 
 pub returns-in-Remove : goal.returns-in-Remove
 returns-in-Remove c =
-    let i = c.before.before in
-    let e = i.before.before.before in
-    let a = e.args in
-    i.remove.ensures ∙ edited-is a.runs a.column.now e.in-Remove.is
+    let a = c.args in
+    c.remove.ensures ∙ edited-is a.runs a.column.now c.in-Remove.is

@@ -14,14 +14,11 @@ use Rattle.cursor.proofs.in_words.end_before.Goals as goal
 
 pub returns-then-at-eq0 : goal.returns-then-at-eq0
 returns-then-at-eq0 c =
-    let e = c.before in
-    let w = e.args.cursor.now in
-    sym (ap (λ (n : ℕ). get_or (word COMMITTED w ∷ column ENDS RANGES w) n 0) e.if-at-eq0.true)
+    let w = c.args.cursor.now in
+    sym (ap (λ (n : ℕ). get_or (word COMMITTED w ∷ column ENDS RANGES w) n 0) c.if-at-eq0.true)
 
 pub returns : goal.returns
 returns c =
-    let e = c.before in
-    let s = e.before in
-    let w = s.args.cursor.now in
-    let h : s.args.at - 1 < RANGES = omega (arith, s.requires.1, e.if-at-eq0.false) in
-    sym (column-at ENDS RANGES w (s.args.at - 1) h) ∙ get_d_behind (word COMMITTED w) (column ENDS RANGES w) s.args.at 0 e.if-at-eq0.false
+    let w = c.args.cursor.now in
+    let h : c.args.at - 1 < RANGES = omega (arith, c.requires.1, c.if-at-eq0.false) in
+    sym (column-at ENDS RANGES w (c.args.at - 1) h) ∙ get_d_behind (word COMMITTED w) (column ENDS RANGES w) c.args.at 0 c.if-at-eq0.false

@@ -7,7 +7,4 @@ use Rattle.cursor.proofs.in_words.is_acked.Goals as goal
 
 pub returns : goal.returns
 returns c =
-    let e = c.before in
-    let p = e.before in
-    let s = p.before.before in
-    found-acked (cursor_in s.args.cursor.now) (whole s.requires) s.args.offset.0 p.place_of-at.result p.place_of-at.ensures.0 e.end_Before.result e.end_Before.ensures
+    found-acked (cursor_in c.args.cursor.now) (whole c.requires) c.args.offset.0 c.place_of-at.result c.place_of-at.ensures.0 c.end_before.result c.end_before.ensures

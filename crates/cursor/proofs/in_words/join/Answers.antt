@@ -15,18 +15,14 @@ use Rattle.cursor.proofs.in_words.join.Goals as goal
 
 pub returns-then-at-eq0 : goal.returns-then-at-eq0
 returns-then-at-eq0 c =
-    let t = c.before.before in
-    let s = t.before.before.before in
-    let w = s.args.cursor.now in
-    let i = s.args.at in
-    let h : i < RANGES = omega (arith, s.requires.1, s.requires.2) in
+    let w = c.args.cursor.now in
+    let i = c.args.at in
+    let h : i < RANGES = omega (arith, c.requires.1, c.requires.2) in
     c.recorded.ensures
     ∙ ap (λ (x : ℕ). ack_plan Recorded x (word RUNS w - 1) (Remove i (i + 1)) (Remove i (i + 1))) (sym (column-at ENDS RANGES w i h))
-    ∙ join_first (word COMMITTED w) (column ENDS RANGES w) (word RUNS w) i t.if-at-eq0.true
+    ∙ join_first (word COMMITTED w) (column ENDS RANGES w) (word RUNS w) i c.if-at-eq0.true
 
 pub returns : goal.returns
 returns c =
-    let t = c.before.before in
-    let s = t.before.before.before in
-    let w = s.args.cursor.now in
-    c.recorded-2.ensures ∙ join_behind (word COMMITTED w) (column ENDS RANGES w) (word RUNS w) s.args.at t.if-at-eq0.false
+    let w = c.args.cursor.now in
+    c.recorded-2.ensures ∙ join_behind (word COMMITTED w) (column ENDS RANGES w) (word RUNS w) c.args.at c.if-at-eq0.false

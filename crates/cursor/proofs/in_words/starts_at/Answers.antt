@@ -10,10 +10,8 @@ use Rattle.cursor.proofs.in_words.starts_at.Goals as goal
 
 pub returns-then-at-runs : goal.returns-then-at-runs
 returns-then-at-runs c =
-    let t = c.before in
-    let s = t.before.before in
-    let h : s.args.at < RANGES = omega (arith, t.if-at-runs.true, s.requires.1) in
-    simp (lt-ltb _ _ t.if-at-runs.true, column-at STARTS RANGES s.args.cursor.now s.args.at h)
+    let h : c.args.at < RANGES = omega (arith, c.if-at-runs.true, c.requires.1) in
+    simp (lt-ltb _ _ c.if-at-runs.true, column-at STARTS RANGES c.args.cursor.now c.args.at h)
 
 pub returns : goal.returns
 returns c =

@@ -8,7 +8,7 @@ use Rattle.cursor.specs.View.{Whole}
 use Rattle.cursor.proofs.Search.{long-starts, long-ends}
 use Rattle.cursor.proofs.Unsettled.{found_within, found_at}
 use Rattle.cursor.proofs.open.open_at.Goals as goal
-use Rattle.cursor.proofs.open.open_at.Goals.{After-struct_known-1, Start}
+use Rattle.cursor.proofs.open.open_at.Goals.{Start}
 
 whole : (s : Start) → Whole s.args.found.cursor
 whole s = record { starts = search rules; ends = search rules; sound = s.requires.0.sound }
@@ -16,17 +16,13 @@ whole s = record { starts = search rules; ends = search rules; sound = s.require
 within : (s : Start) → s.args.found.first + s.args.at ≤ s.args.found.cursor.runs
 within s = let f = s.args.found in found_within f.cursor (whole s) f.a f.b f.first s.args.at s.requires.0.first s.requires.1
 
-abbrev start : After-struct_known-1 → Start
-start c = c.before.before.before.before.before.before.before
-
 pub overflow_add-found : goal.overflow_add-found
-overflow_add-found c = omega (arith, within (start c), (start c).requires.0.sound.few)
+overflow_add-found c = omega (arith, within (goal.at.overflow_add-found c).Start, c.requires.0.sound.few)
 
 pub stretch_at-requires : goal.stretch_at-requires
-stretch_at-requires c = (long-starts (start c).args.found.cursor (whole (start c)), omega (arith, within (start c), long-ends (start c).args.found.cursor (whole (start c))))
+stretch_at-requires c = (long-starts c.args.found.cursor (whole (goal.at.stretch_at-requires c).Start), omega (arith, within (goal.at.stretch_at-requires c).Start, long-ends c.args.found.cursor (whole (goal.at.stretch_at-requires c).Start)))
 
 pub returns : goal.returns
 returns c =
-    let s = start (goal.at.returns c).After-struct_known-1 in
-    let f = s.args.found in
-    c.stretch_at.ensures ∙ found_at f.cursor (whole (goal.at.returns c).Start) f.a f.b f.first s.args.at s.requires.0.first s.requires.1
+    let f = c.args.found in
+    c.stretch_at.ensures ∙ found_at f.cursor (whole (goal.at.returns c).Start) f.a f.b f.first c.args.at c.requires.0.first c.requires.1

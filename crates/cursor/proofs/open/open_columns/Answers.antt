@@ -14,50 +14,40 @@ use Rattle.cursor.proofs.Unsettled.{found-few, found_within, found_at, two-more,
 use Rattle.cursor.proofs.open.open_columns.Goals as goal
 use Rattle.cursor.proofs.open.open_columns.Goals.{In-loop-i, Start}
 
--- the cursor that the arguments are
-abbrev g : Start → AckCursor
-g s = ack_cursor s.args.committed s.args.starts.now s.args.ends.now s.args.runs
-
 pub returns-then-b-a : goal.returns-then-b-a
 returns-then-b-a c =
-    let s = c.before.before.before.before in
-    numbers_reversed (view (g (goal.at.returns-then-b-a c).Start)) s.args.a s.args.b s.args.out.now c.if-b-a.true
+    numbers_reversed (view (ack_cursor c.args.committed c.args.starts.now c.args.ends.now c.args.runs)) c.args.a c.args.b c.args.out.now c.if-b-a.true
 
 pub returns-then-out-count : goal.returns-then-out-count
 returns-then-out-count c =
-    let f = c.before in
-    let s = f.before.before.before.before.before in
-    numbers-short (view (g (goal.at.returns-then-out-count c).Start)) s.args.a s.args.b s.args.out.now f.if-b-a.false (rw f.find_open-gaps.ensures.1 at c.if-out-count.true)
+    numbers-short (view (ack_cursor c.args.committed c.args.starts.now c.args.ends.now c.args.runs)) c.args.a c.args.b c.args.out.now c.if-b-a.false (rw c.find_open-gaps.ensures.1 at c.if-out-count.true)
 
 pub loop-i-init : goal.loop-i-init
 loop-i-init c = (omega arith, filling _ _ _ (omega arith))
 
--- in a turn: where it began, how many stretches there are, and that the place is one of the cursor's
-abbrev start : In-loop-i → Start
-start c = c.before.before.before.before.before.before.before.before
-
+-- in a turn: how many stretches there are, and that the place is one of the cursor's
 few : (c : In-loop-i) → c.find_open-gaps.result.count ≤ 129
 few c =
-    let s = start c in
-    omega (arith, c.find_open-gaps.ensures.1, found-few (g s) s.requires s.args.a s.args.b)
+    omega (arith, c.find_open-gaps.ensures.1, found-few (ack_cursor c.args.committed c.args.starts.now c.args.ends.now c.args.runs) c.requires c.args.a c.args.b)
 
-listed : (c : In-loop-i) → c.loop-i.i < length (stretches (view (g (start c))) (start c).args.a (start c).args.b)
+listed : (c : In-loop-i) → c.loop-i.i < length (stretches (view (ack_cursor c.args.committed c.args.starts.now c.args.ends.now c.args.runs)) c.args.a c.args.b)
 listed c = omega (arith, c.find_open-gaps.ensures.1)
 
-within : (c : In-loop-i) → c.find_open-gaps.result.first + c.loop-i.i ≤ (start c).args.runs
+within : (c : In-loop-i) → c.find_open-gaps.result.first + c.loop-i.i ≤ c.args.runs
 within c =
-    let s = start c in
     let f = c.find_open-gaps in
-    found_within (g s) s.requires s.args.a s.args.b f.result.first c.loop-i.i f.ensures.0 (listed c)
+    found_within (ack_cursor c.args.committed c.args.starts.now c.args.ends.now c.args.runs) c.requires c.args.a c.args.b f.result.first c.loop-i.i f.ensures.0 (listed c)
 
 room : (c : In-loop-i) → 2 * c.loop-i.i + 1 < length c.loop-i.out
 room c = let l = c.loop-i in omega (arith, l.invariant.1.room, l.invariant.1.full)
 
 pub overflow_add-first : goal.overflow_add-first
-overflow_add-first c = omega (arith, within c, (start c).requires.sound.few)
+overflow_add-first c = omega (arith, within (goal.at.overflow_add-first c).In-loop-i, c.requires.sound.few)
 
 pub stretch_at-stretch-requires : goal.stretch_at-stretch-requires
-stretch_at-stretch-requires c = let s = start c in (long-starts (g (goal.at.stretch_at-stretch-requires c).Start) s.requires, omega (arith, within c, long-ends (g (goal.at.stretch_at-stretch-requires c).Start) s.requires))
+stretch_at-stretch-requires c =
+    let g = ack_cursor c.args.committed c.args.starts.now c.args.ends.now c.args.runs in
+    (long-starts g c.requires, omega (arith, within (goal.at.stretch_at-stretch-requires c).In-loop-i, long-ends g c.requires))
 
 pub overflow_mul-out : goal.overflow_mul-out
 overflow_mul-out c = omega (arith, few (goal.at.overflow_mul-out c).In-loop-i)
@@ -85,19 +75,16 @@ overflow_add-i c = omega (arith, few (goal.at.overflow_add-i c).In-loop-i)
 
 pub loop-i-preserved : goal.loop-i-preserved
 loop-i-preserved c =
-    let t = c.before in
-    let s = start (goal.at.loop-i-preserved c).In-loop-i in
-    let l = t.loop-i in
-    let f = t.find_open-gaps in
-    let all = stretches (view (g (goal.at.loop-i-preserved c).Start)) s.args.a s.args.b in
-    let is = found_at (g (goal.at.loop-i-preserved c).Start) s.requires s.args.a s.args.b f.result.first l.i f.ensures.0 (listed (goal.at.loop-i-preserved c).In-loop-i) in
-    (omega arith, rw f.ensures.1 (two-more all s.args.out.now l.out l.i c.stretch_at-stretch.result (listed (goal.at.loop-i-preserved c).In-loop-i) (c.stretch_at-stretch.ensures ∙ is) (rw f.ensures.1 at l.invariant.1)))
+    let g = ack_cursor c.args.committed c.args.starts.now c.args.ends.now c.args.runs in
+    let l = c.loop-i in
+    let f = c.find_open-gaps in
+    let all = stretches (view g) c.args.a c.args.b in
+    let is = found_at g c.requires c.args.a c.args.b f.result.first l.i f.ensures.0 (listed (goal.at.loop-i-preserved c).In-loop-i) in
+    (omega arith, rw f.ensures.1 (two-more all c.args.out.now l.out l.i c.stretch_at-stretch.result (listed (goal.at.loop-i-preserved c).In-loop-i) (c.stretch_at-stretch.ensures ∙ is) (rw f.ensures.1 at l.invariant.1)))
 
 pub overflow_mul-filled : goal.overflow_mul-filled
 overflow_mul-filled c =
-    let f = c.before.before.before in
-    let s = f.before.before.before.before.before in
-    omega (arith, f.find_open-gaps.ensures.1, found-few (g (goal.at.overflow_mul-filled c).Start) s.requires s.args.a s.args.b)
+    omega (arith, c.find_open-gaps.ensures.1, found-few (ack_cursor c.args.committed c.args.starts.now c.args.ends.now c.args.runs) c.requires c.args.a c.args.b)
 
 pub shape_of-out : goal.shape_of-out
 shape_of-out c = c.loop-i.invariant.1.full
@@ -105,7 +92,5 @@ shape_of-out c = c.loop-i.invariant.1.full
 pub returns : goal.returns
 returns c =
     let l = c.loop-i in
-    let f = c.before.before.before in
-    let s = f.before.before.before.before.before in
-    let e : l.i ≡ f.find_open-gaps.result.count = omega (arith, l.invariant.0) in
-    numbers-put (view (g (goal.at.returns c).Start)) s.args.a s.args.b s.args.out.now f.if-b-a.false f.find_open-gaps.result.count l.out f.find_open-gaps.ensures.1 c.if-out-count.false (rw e at l.invariant.1)
+    let e : l.i ≡ c.find_open-gaps.result.count = omega (arith, l.invariant.0) in
+    numbers-put (view (ack_cursor c.args.committed c.args.starts.now c.args.ends.now c.args.runs)) c.args.a c.args.b c.args.out.now c.if-b-a.false c.find_open-gaps.result.count l.out c.find_open-gaps.ensures.1 c.if-out-count.false (rw e at l.invariant.1)

@@ -17,15 +17,12 @@ start s h =
 
 pub returns-then-start-b : goal.returns-then-start-b
 returns-then-start-b c =
-    let s = c.before.before.before in
     omega (arith, start (goal.at.returns-then-start-b c).Start c.if-at-n.true, c.if-start-b.true)
 
 pub returns-else-start-b : goal.returns-else-start-b
 returns-else-start-b c =
-    let s = c.before.before.before in
     omega (arith, start (goal.at.returns-else-start-b c).Start c.if-at-n.true, c.if-start-b.false)
 
 pub returns-else-at-n : goal.returns-else-at-n
 returns-else-at-n c =
-    let s = c.before in
-    omega (arith, get_d_past (take s.args.n s.args.starts.now) s.args.at s.args.b (rw (length-take-le s.args.n s.args.starts.now s.requires) c.if-at-n.false))
+    omega (arith, get_d_past (take c.args.n c.args.starts.now) c.args.at c.args.b (rw (length-take-le c.args.n c.args.starts.now c.requires) c.if-at-n.false))

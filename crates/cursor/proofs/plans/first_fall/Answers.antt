@@ -13,15 +13,12 @@ loop-i-init c = (omega arith, fall_rows_lem c.args.offsets.now)
 
 pub returns-then-offset-before : goal.returns-then-offset-before
 returns-then-offset-before c =
-    let p = c.before.before.before in
-    falls-here p.args.offsets.now p.loop-i p.loop-i.i (omega arith) p.loop-i.invariant.1 c.if-offset-before.true
+    falls-here c.args.offsets.now c.loop-i.before c.loop-i.i (omega arith) c.loop-i.invariant.1 c.if-offset-before.true
 
 pub loop-i-preserved : goal.loop-i-preserved
 loop-i-preserved c =
-    let p = c.before.before.before in
-    (omega arith, falls-later p.args.offsets.now p.loop-i p.loop-i.i (omega arith) p.loop-i.invariant.1 c.if-offset-before.false)
+    (omega arith, falls-later c.args.offsets.now c.loop-i.before c.loop-i.i (omega arith) c.loop-i.invariant.1 c.if-offset-before.false)
 
 pub returns : goal.returns
 returns c =
-    let p = c.before in
-    falls_nowhere p.args.offsets.now p.loop-i p.loop-i.i c.loop-i-test.false p.loop-i.invariant.1
+    falls_nowhere c.args.offsets.now c.loop-i.before c.loop-i.i c.loop-i-test.false c.loop-i.invariant.1

@@ -9,18 +9,13 @@ use Rattle.cursor.proofs.Plan.{Stepping, stepping_next, step-below, step-on, ste
 use Rattle.cursor.proofs.plans.step_columns.Goals as goal
 use Rattle.cursor.proofs.plans.step_columns.Goals.{At-loop-to, Start}
 
--- the cursor that the arguments are
-abbrev g : Start → AckCursor
-g s = ack_cursor s.args.committed s.args.starts.now s.args.ends.now s.args.runs
-
 -- the offset so far
-walking : (p : At-loop-to) → Stepping (g p.before.before) p.requires p.args.at p.args.offset p.loop-to.to p.loop-to.looks
+walking : (p : At-loop-to) → Stepping (ack_cursor p.args.committed p.args.starts.now p.args.ends.now p.args.runs) p.requires p.args.at p.args.offset p.loop-to.to p.loop-to.looks
 walking p = p.loop-to.invariant p.requires
 
 pub returns-then-offset-committed : goal.returns-then-offset-committed
 returns-then-offset-committed c =
-    let s = c.before in
-    step-below (g (goal.at.returns-then-offset-committed c).Start) s.requires s.args.at s.args.offset c.if-offset-committed.true _ refl refl refl
+    step-below (ack_cursor c.args.committed c.args.starts.now c.args.ends.now c.args.runs) c.requires c.args.at c.args.offset c.if-offset-committed.true _ refl refl refl
 
 pub loop-to-init : goal.loop-to-init
 loop-to-init c = λ w. record { within = λ h. h; few = omega arith; compared_is = omega arith; stepped-is = refl }
@@ -32,39 +27,29 @@ pub offset_bounds-ends-to : goal.offset_bounds-ends-to
 offset_bounds-ends-to c = omega (arith, c.requires.sound.few)
 
 pub bounds-ends-to : goal.bounds-ends-to
-bounds-ends-to c = let s = c.before.before.before.before in omega (arith, s.requires.sound.few, s.requires.ends)
+bounds-ends-to c = omega (arith, c.requires.sound.few, c.requires.ends)
 
 pub offset_bounds-starts-to : goal.offset_bounds-starts-to
 offset_bounds-starts-to c = omega (arith, c.requires.sound.few)
 
 pub bounds-starts-to : goal.bounds-starts-to
-bounds-starts-to c = let s = c.before.before.before.before.before.before in omega (arith, s.requires.sound.few, s.requires.starts)
+bounds-starts-to c = omega (arith, c.requires.sound.few, c.requires.starts)
 
 pub returns-then-starts-to : goal.returns-then-starts-to
 returns-then-starts-to c =
-    let t = c.before.before in
-    let p = t.before.before.before in
-    let s = p.before.before in
-    step-on (g (goal.at.returns-then-starts-to c).Start) s.requires s.args.at s.args.offset p.loop-to.to p.loop-to.looks (walking (goal.at.returns-then-starts-to c).At-loop-to) p.if-offset-committed.false _ refl (omega arith) t.if-offset-ends.true refl (rw (le-leb _ s.args.offset c.if-starts-to.true))
+    step-on (ack_cursor c.args.committed c.args.starts.now c.args.ends.now c.args.runs) c.requires c.args.at c.args.offset c.loop-to.to c.loop-to.looks (walking (goal.at.returns-then-starts-to c).At-loop-to) c.if-offset-committed.false _ refl (omega arith) c.if-offset-ends.true refl (rw (le-leb _ c.args.offset c.if-starts-to.true))
 
 pub returns-else-starts-to : goal.returns-else-starts-to
 returns-else-starts-to c =
-    let t = c.before.before in
-    let p = t.before.before.before in
-    let s = p.before.before in
-    step-on (g (goal.at.returns-else-starts-to c).Start) s.requires s.args.at s.args.offset p.loop-to.to p.loop-to.looks (walking (goal.at.returns-else-starts-to c).At-loop-to) p.if-offset-committed.false _ refl (omega arith) t.if-offset-ends.true refl (rw (lt-leb _ s.args.offset c.if-starts-to.false))
+    step-on (ack_cursor c.args.committed c.args.starts.now c.args.ends.now c.args.runs) c.requires c.args.at c.args.offset c.loop-to.to c.loop-to.looks (walking (goal.at.returns-else-starts-to c).At-loop-to) c.if-offset-committed.false _ refl (omega arith) c.if-offset-ends.true refl (rw (lt-leb _ c.args.offset c.if-starts-to.false))
 
 pub overflow_add-to : goal.overflow_add-to
 overflow_add-to c = omega (arith, c.requires.sound.few)
 
 pub loop-to-preserved : goal.loop-to-preserved
 loop-to-preserved c =
-    let p = c.before.before.before in
-    let s = p.before.before in
-    λ w. stepping_next (g (goal.at.loop-to-preserved c).Start) w s.args.at s.args.offset p.loop-to.to p.loop-to.looks (p.loop-to.invariant w) (omega arith) c.if-offset-ends.false
+    λ w. stepping_next (ack_cursor c.args.committed c.args.starts.now c.args.ends.now c.args.runs) w c.args.at c.args.offset c.loop-to.to c.loop-to.looks (c.loop-to.invariant w) (omega arith) c.if-offset-ends.false
 
 pub returns : goal.returns
 returns c =
-    let p = c.before in
-    let s = p.before.before in
-    step-over (g (goal.at.returns c).Start) s.requires s.args.at s.args.offset p.loop-to.to p.loop-to.looks (walking (goal.at.returns c).At-loop-to) p.if-offset-committed.false _ refl c.loop-to-test.false refl refl
+    step-over (ack_cursor c.args.committed c.args.starts.now c.args.ends.now c.args.runs) c.requires c.args.at c.args.offset c.loop-to.to c.loop-to.looks (walking (goal.at.returns c).At-loop-to) c.if-offset-committed.false _ refl c.loop-to-test.false refl refl

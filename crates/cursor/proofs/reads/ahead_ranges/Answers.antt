@@ -16,28 +16,23 @@ ahead_runs-runs-requires c = c.requires
 
 pub returns-then-out-runs : goal.returns-then-out-runs
 returns-then-out-runs c =
-    let k = c.before in
-    let s = k.before.before.before in
-    ranges-short (view s.args.cursor.now).ahead s.args.out.now (omega (arith, k.ahead_runs-runs.ensures, c.if-out-runs.true))
+    ranges-short (view c.args.cursor.now).ahead c.args.out.now (omega (arith, c.ahead_runs-runs.ensures, c.if-out-runs.true))
 
 pub loop-i-init : goal.loop-i-init
 loop-i-init c = (omega arith, filling _ _ _ (omega arith))
 
--- in a turn: where it began, how many ranges there are, and that there is room
-abbrev start : In-loop-i → Start
-start c = c.before.before.before.before.before.before
-
+-- in a turn: how many ranges there are, and that there is room
 few : (c : In-loop-i) → c.ahead_runs-runs.result ≤ 128
-few c = omega (arith, c.ahead_runs-runs.ensures, (start c).requires.cursor.valid.few)
+few c = omega (arith, c.ahead_runs-runs.ensures, c.requires.cursor.valid.few)
 
-listed : (c : In-loop-i) → c.loop-i.i < length (view (start c).args.cursor.now).ahead
+listed : (c : In-loop-i) → c.loop-i.i < length (view c.args.cursor.now).ahead
 listed c = omega (arith, c.ahead_runs-runs.ensures)
 
 room : (c : In-loop-i) → 2 * c.loop-i.i + 1 < length c.loop-i.out
 room c = let l = c.loop-i in omega (arith, l.invariant.1.room, l.invariant.1.full)
 
 pub range_at-range-requires : goal.range_at-range-requires
-range_at-range-requires c = ((start c).requires, listed c)
+range_at-range-requires c = (c.requires, listed (goal.at.range_at-range-requires c).In-loop-i)
 
 pub overflow_mul-out : goal.overflow_mul-out
 overflow_mul-out c = omega (arith, few (goal.at.overflow_mul-out c).In-loop-i)
@@ -65,16 +60,13 @@ overflow_add-i c = omega (arith, few (goal.at.overflow_add-i c).In-loop-i)
 
 pub loop-i-preserved : goal.loop-i-preserved
 loop-i-preserved c =
-    let t = c.before in
-    let s = start (goal.at.loop-i-preserved c).In-loop-i in
-    let l = t.loop-i in
-    let n = t.ahead_runs-runs.ensures in
-    (omega arith, rw n (two-more (view s.args.cursor.now).ahead s.args.out.now l.out l.i c.range_at-range.result (listed (goal.at.loop-i-preserved c).In-loop-i) c.range_at-range.ensures (rw n at l.invariant.1)))
+    let l = c.loop-i in
+    let n = c.ahead_runs-runs.ensures in
+    (omega arith, rw n (two-more (view c.args.cursor.now).ahead c.args.out.now l.out l.i c.range_at-range.result (listed (goal.at.loop-i-preserved c).In-loop-i) c.range_at-range.ensures (rw n at l.invariant.1)))
 
 pub overflow_mul-result : goal.overflow_mul-result
 overflow_mul-result c =
-    let k = c.before.before.before in
-    omega (arith, k.ahead_runs-runs.ensures, k.requires.cursor.valid.few)
+    omega (arith, c.ahead_runs-runs.ensures, c.requires.cursor.valid.few)
 
 pub shape_of-out : goal.shape_of-out
 shape_of-out c = c.loop-i.invariant.1.full
@@ -82,7 +74,5 @@ shape_of-out c = c.loop-i.invariant.1.full
 pub returns : goal.returns
 returns c =
     let l = c.loop-i in
-    let k = c.before.before.before in
-    let s = k.before.before.before in
-    let e : l.i ≡ k.ahead_runs-runs.result = omega (arith, l.invariant.0) in
-    ranges-put (view s.args.cursor.now).ahead s.args.out.now k.ahead_runs-runs.result l.out k.ahead_runs-runs.ensures c.if-out-runs.false (rw e at l.invariant.1)
+    let e : l.i ≡ c.ahead_runs-runs.result = omega (arith, l.invariant.0) in
+    ranges-put (view c.args.cursor.now).ahead c.args.out.now c.ahead_runs-runs.result l.out c.ahead_runs-runs.ensures c.if-out-runs.false (rw e at l.invariant.1)

@@ -7,4 +7,4 @@ use Rattle.cursor.proofs.Words.{whole}
 use Rattle.cursor.proofs.reads.ahead_runs.Goals as goal
 
 pub returns : goal.returns
-returns c = let s = c.before in sym (runs-is (cursor_in s.args.cursor.now) (whole s.requires))
+returns c = sym (runs-is (cursor_in c.args.cursor.now) (whole c.requires))

@@ -9,7 +9,4 @@ use Rattle.cursor.proofs.reads.nearest_open.Goals as goal
 
 pub returns : goal.returns
 returns c =
-    let e = c.before in
-    let p = e.before in
-    let s = p.before.before in
-    ap offset (c.larger.ensures ∙ found_nearest (cursor_in s.args.cursor.now) (whole s.requires) s.args.from.0 p.place_of-at.result e.end_Before.result p.place_of-at.ensures.0 e.end_Before.ensures)
+    ap offset (c.larger.ensures ∙ found_nearest (cursor_in c.args.cursor.now) (whole c.requires) c.args.from.0 c.place_of-at.result c.end_before.result c.place_of-at.ensures.0 c.end_before.ensures)

@@ -12,6 +12,4 @@ open_columns-requires c = parts_whole c.requires
 
 pub returns : goal.returns
 returns c =
-    let k = c.before.before in
-    let s = k.before.before.before.before.before.before.before.before in
-    k.open_columns.ensures ∙ ap (λ (g : AckCursor). open_numbers (view g) s.args.a s.args.b s.args.out.now) (parts_are s.args.cursor.now)
+    c.open_columns.ensures ∙ ap (λ (g : AckCursor). open_numbers (view g) c.args.a c.args.b c.args.out.now) (parts_are c.args.cursor.now)

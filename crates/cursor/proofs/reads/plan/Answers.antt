@@ -12,6 +12,4 @@ plan_columns-requires c = parts_whole c.requires
 
 pub returns : goal.returns
 returns c =
-    let k = c.before.before in
-    let s = k.before.before.before.before.before.before.before.before.before in
-    k.plan_columns.ensures ∙ ap (λ (g : AckCursor). plan (view g) s.args.offsets.now s.args.out.now) (parts_are s.args.cursor.now)
+    c.plan_columns.ensures ∙ ap (λ (g : AckCursor). plan (view g) c.args.offsets.now c.args.out.now) (parts_are c.args.cursor.now)

@@ -20,9 +20,8 @@ low s = omega (arith, used s, s.requires.0.cursor.few)
 
 pub returns : goal.returns
 returns c =
-    let s = c.before.before in
-    let w = s.args.cursor.now in
+    let w = c.args.cursor.now in
     let g = cursor_in w in
-    let i = s.args.at in
-    sym (range-is g.runs g.starts g.ends (long-starts g (whole s.requires.0)) (long-ends g (whole s.requires.0)) i (used (goal.at.returns c).Start)
+    let i = c.args.at in
+    sym (range-is g.runs g.starts g.ends (long-starts g (whole c.requires.0)) (long-ends g (whole c.requires.0)) i (used (goal.at.returns c).Start)
     ∙ simp (column-at STARTS RANGES w i (low (goal.at.returns c).Start), column-at ENDS RANGES w i (low (goal.at.returns c).Start)))

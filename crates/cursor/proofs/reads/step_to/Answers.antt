@@ -12,5 +12,4 @@ step_columns-requires c = parts_whole c.requires
 
 pub returns : goal.returns
 returns c =
-    let s = c.before.before.before.before.before.before in
-    subst (λ (g : AckCursor). StepIs (view g) s.args.at s.args.offset c.step_columns.result) (parts_are s.args.cursor.now) c.step_columns.ensures
+    subst (λ (g : AckCursor). StepIs (view g) c.args.at c.args.offset c.step_columns.result) (parts_are c.args.cursor.now) c.step_columns.ensures

@@ -10,6 +10,4 @@ use Rattle.cursor.proofs.snapshots.encode_snapshot.Goals as goal
 
 pub returns : goal.returns
 returns c =
-    let k = c.before.before in
-    let s = k.before.before.before.before.before.before.before.before in
-    k.encode_columns.ensures ∙ ap (λ (g : AckCursor). write s.args.at (encode_cursor (view g)) s.args.out.now) (parts_are s.args.cursor.now)
+    c.encode_columns.ensures ∙ ap (λ (g : AckCursor). write c.args.at (encode_cursor (view g)) c.args.out.now) (parts_are c.args.cursor.now)

@@ -6,5 +6,4 @@ use Rattle.cursor.proofs.snapshots.resume.Goals as goal
 
 pub returns : goal.returns
 returns c =
-    let s = c in
-    becomes-empty s.args.cursor.now s.requires s.args.committed.0 (omega arith)
+    becomes-empty c.args.cursor.now c.requires c.args.committed.0 (omega arith)

@@ -7,6 +7,4 @@ use Rattle.cursor.proofs.snapshots.snapshot_len.Goals as goal
 
 pub returns : goal.returns
 returns c =
-    let r = c.before in
-    let s = r.before.before in
-    omega (arith, c.snapshot_len.ensures, r.ahead_runs-runs.ensures, cursor-length (view s.args.cursor.now))
+    omega (arith, c.snapshot_len.ensures, c.ahead_runs-runs.ensures, cursor-length (view c.args.cursor.now))

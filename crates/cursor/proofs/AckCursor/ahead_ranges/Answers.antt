@@ -1,0 +1,33 @@
+-- `AckCursor::ahead_ranges` meets its contract. The loop's invariant: the first i ranges are written, the places behind the list are as
+-- they were. Assumes nothing.
+use Rattle.std.proofs.Common.{◌≡◌, ℕ, ◌≤◌, length, arith}
+use mathlib.Core.Path.{ap, ◌∙◌}
+use Rattle.types.specs.Lists.{listed_of, counted}
+use Rattle.types.proofs.Listing.{Written, counted-fits, none_written, one_more, all-written}
+use Rattle.cursor.specs.Ranges.{range}
+use Rattle.cursor.specs.View.{view}
+use Rattle.cursor.proofs.AckCursor.ahead_ranges.Goals as goal
+use Rattle.cursor.proofs.AckCursor.ahead_ranges.Goals.{After-count_of-n}
+
+-- how many are written: all of them, or none where there is no room
+fits : (c : After-count_of-n) → (c.count_of-n.result ≤ length (view c.args.self).ahead) × (c.count_of-n.result ≤ length c.args.out.now)
+fits c = counted-fits (view c.args.self).ahead c.args.out.now c.count_of-n.result (c.count_of-n.ensures ∙ ap counted c.room_for-outcome.ensures)
+
+pub loop-i-init : goal.loop-i-init
+loop-i-init c = none_written (view c.args.self).ahead c.args.out.now c.count_of-n.result
+
+pub range_at-requires : goal.range_at-requires
+range_at-requires c = (c.requires, omega (arith, (fits (goal.at.range_at-requires c).After-count_of-n).0))
+
+pub bounds-out-i : goal.bounds-out-i
+bounds-out-i c = omega (arith, c.loop-i.invariant.long, (fits (goal.at.bounds-out-i c).After-count_of-n).1)
+
+pub loop-i-preserved : goal.loop-i-preserved
+loop-i-preserved c =
+    rw c.range_at.ensures
+    (one_more (view c.args.self).ahead c.args.out.now (range 0 0) c.count_of-n.result c.loop-i.i c.loop-i.out (omega arith) (fits (goal.at.loop-i-preserved c).After-count_of-n) c.loop-i.invariant)
+
+pub returns : goal.returns
+returns c =
+    let e : c.loop-i.i ≡ c.count_of-n.result = omega (arith, c.loop-i.invariant.within) in
+    all-written (view c.args.self).ahead c.args.out.now c.count_of-n.result c.loop-i.out (listed_of c.room_for-outcome.result) c.room_for-outcome.ensures c.count_of-n.ensures (rw e at c.loop-i.invariant)
