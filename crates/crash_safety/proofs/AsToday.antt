@@ -238,6 +238,7 @@ demand_3_again c n s items f e =
 -- ## what is pending
 harmless-whole : (n : ℕ) (a : List ℕ) (lo : ℕ) (v : _) (ws : List Write) → length a ≡ n → AllHarmless n lo v ws → Whole (disk a ws)
 unfolding AllHarmless
+harmless-whole n a lo v [] e h x m = elim m [ ]
 harmless-whole n a lo v (w ∷ ws) e h x first = rw e (h.0.inside, h.0.whole)
 harmless-whole n a lo v (w ∷ ws) e h x (later m) = harmless-whole n a lo v ws e h.1 x m
 
@@ -247,6 +248,7 @@ header-whole c n l s a ws f = rw f.header (go f.record_of f.inv)
     go : (w : Writing) → Inv c n l (world (writing w) a) → Whole (disk a (write (next_place w) true (sync_due w) (next_block w) ∷ []))
     go w inv x first =
         rw inv.journal.size (inside c n inv.saved a w inv.journal (is-ready inv.callable.0) inv.callable.1, next-whole w)
+    go w inv x (later m) = elim m [ ]
 
 nothing-pending : (a : List ℕ) → Whole (disk a [])
 nothing-pending a x m = elim m [ ]

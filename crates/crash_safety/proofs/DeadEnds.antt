@@ -318,9 +318,9 @@ module _ (c : Configuration) (n : ℕ) (l : Ledger) (cur : Cursor) where
         go (torn b) = split (is_torn b) (λ t. rw t tt) (λ t. rw t tt)
 
   shown : (p : Phase) (a : List ℕ) → Inv c n l (world p a) → Held cur p → Shown Stays a p
-  shown (idle s) a inv h = (λ w q t. asked-held s a inv.callable.valid h w q, λ w r k. began-held s a w h (checkpoints.begin s w) refl)
-  shown (writing w) a inv h = (λ r k. step-held w a inv h, λ b t r k. elsewhere-held w a inv h b t, λ x r k. cut-held w a inv h x)
-  shown off a inv h = tt
+  shown (idle s) a known h = (λ w q t. asked-held s a known.callable.valid h w q, λ w r k. began-held s a w h (checkpoints.begin s w) refl)
+  shown (writing w) a known h = (λ r k. step-held w a known h, λ b t r k. elsewhere-held w a known h b t, λ x r k. cut-held w a known h x)
+  shown off a known h = tt
 
   item-held : (w : World) (i : Item) → Inv c n l w → Held cur w.phase → Stays i (next c w i)
   item-held w i inv h =

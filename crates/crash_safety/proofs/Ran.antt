@@ -21,6 +21,7 @@ use Rattle.starts.specs.Restart as restarts
 use Rattle.starts.specs.Restart.{start_table, fresh, start}
 use Rattle.starts.specs.declared.StartAnswer.{StartAnswer}
 use Rattle.starts.specs.declared.StartAnswer.TheVariants as answers
+use Rattle.machine.specs.Answers.{call_of}
 use Rattle.machine.specs.Calls.{Call, step, restart, Event, restarted}
 use Rattle.machine.specs.Transitions.{Phase, idle, After, gives, restarted_as, transition}
 use Rattle.machine.specs.View.{phase_at, phase_of, SoundAt, Sound, StartedIs, after_of, CallKept, held, Held, planned_of, exported_of}
@@ -143,7 +144,7 @@ runs s rests = record { sees = refl; leaves = refl; configuration = refl; sound 
 runs {m} {last} {a} {end} s (calls {is = is} {es = es} q out r a' out' h rest) =
     let k = h s in
     linked m r.machine a a' _ is es last end _ (sym k.is)
-    (called-leaves m r.machine a _ a' out' r.answer k.kept) k.configuration (runs k.sound rest)
+    (called-leaves m r.machine a (call_of (length out) q) a' out' r.answer k.kept) k.configuration (runs k.sound rest)
 runs {m} {last} {a} {end} s (strays {is = is} {es = es} b out r b' out' other h rest) =
     let k = h s in
     let x : Option After = after_of step r.answer r.machine b' out' in

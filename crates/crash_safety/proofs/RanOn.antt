@@ -172,7 +172,7 @@ runs {m} {last} {d} {end} s (asks {is = is} {es = es} q out r a' out' state-call
     let y : Option After = after_of (call_of (length out) q) r.answer r.machine a' out' in
     rw (← seen_as d y es)
     (linked m r.machine d d _ is es last end (leads_as [] d y) (on-state c (phase_of m) d (call_of (length out) q) state-call free ∙ ap (leads_as [] d) (sym k.is))
-    (called-leaves m r.machine d _ (area d) a' out' r.answer k.kept) k.configuration (runs k.sound rest))
+    (called-leaves m r.machine d (call_of (length out) q) (area d) a' out' r.answer k.kept) k.configuration (runs k.sound rest))
 runs {m} {last} {d} {end} s (plans {is = is} {es = es} w os out r out' g f free h rest) =
     let c = configuration_of m.configuration in
     let y : Option After = planned_of r m os (length out) out' (area d) in

@@ -1,1 +1,3 @@
+pub mod Consumer
+pub mod Versions
 pub mod SettledExamples

@@ -7,6 +7,7 @@ use Rattle.delivery.specs.Examples as delivery
 use Rattle.attempt.specs.Examples as attempts
 use Rattle.lease.specs.Examples as leases
 use Rattle.examples.specs.Consumer as consumers
+use Rattle.examples.proofs.Consumer as called
 use Rattle.examples.specs.SettledExamples.{code_in, Eleven, Twelve, SettledExamples}
 
 code_11 : (rest : List ℕ) → Eleven rest
@@ -43,9 +44,9 @@ settled_examples =
       eleven = code_11;
       twelve = code_12;
       thirteen = record {
-        is = consumers.example_13;
-        started = ap (map code_in) (consumers.example_13).started;
-        always = λ c size w now p h. ap code_in ((consumers.example_13).always c size w now p h);
+        is = called.example_13;
+        started = ap (map code_in) (called.example_13).started;
+        always = λ c size w now p h. ap code_in ((called.example_13).always c size w now p h);
       };
       fourteen = record { is = consumers.example_14; answers = ap (map code_in) (consumers.example_14).answered };
     }

@@ -79,10 +79,6 @@ pub record Example13 : Type 0 where
   pub always : (c : Configuration) (size w now : ℕ) → Passed (worker_rows c.settings.rights w (bit_of claiming))
       → isOpen c.settings.hours now ≡ true → (claim (fresh c size) w 0 now).outcome ≡ refused CheckpointDue
 
-pub example_13 : Example13
-unfolding bad_area start claim
-example_13 = record { started = refl; always = λ c size w now p h. rw (p.0, p.1.0, h) }
-
 -- checkpoint; claims of 0 at 0, 10, 20 give Deliver 1, Deliver 2, refusal 26; checkpoint, restart, checkpoint; claim gives
 -- DeadLetter 3, generation 4098
 abbrev pub acts14 : List Act

@@ -1,10 +1,8 @@
 -- Two journals that differ in the versions of their groups, computed. Each has two groups, the first in one version and
 -- the second in the other: the premise of `version-free-restart` is met, and what a restart finds on the first.
 -- SPEC.md, "Attempt snapshot".
-use Rattle.std.specs.Prelude.{ℕ, zero, suc, ◌+◌, ◌-◌, ◌*◌, ◌≤◌, ◌<◌, ◌≡◌, refl, List, [], ◌∷◌, ◌++◌, length, take, drop, replicate}
-use Rattle.std.proofs.Common.{arith, sym, ap, ◌∙◌}
+use Rattle.std.specs.Prelude.{ℕ, ◌≡◌, refl, List, [], ◌∷◌, ◌++◌, length, replicate}
 use Rattle.std.proofs.Math.Bool.{xor}
-use Rattle.std.proofs.Math.Seq.{drop-append-add}
 use Rattle.types.specs.Limits.{MAX}
 use Rattle.types.specs.Keyed.{entry}
 use Rattle.types.specs.Refusal.{done}
@@ -14,91 +12,30 @@ use Rattle.cursor.specs.Cursor.{cursor}
 use Rattle.cursor.specs.Snapshot.{encode_cursor, decode_cursor}
 use Rattle.attempt.specs.Snapshot.{encode_attempts, decode_attempts}
 use Rattle.journal.specs.Area.{block_at}
-use Rattle.journal.specs.Blocks.{header_block, body_block, chunk_of}
+use Rattle.journal.specs.Blocks.{header_block, body_block}
 use Rattle.journal.specs.Sound.{is_kind, well_formed, sound_header, sound_body}
 use Rattle.journal.specs.Walks.{group_at, walk_over, walk_from, header_behind, payload}
 use Rattle.consumer.specs.State.{next_group_at, bad_area}
 use Rattle.starts.specs.Restart.{resumed, origin, from_walk, restart}
-use Rattle.starts.specs.Versions.{Source, attempts_in, payload_in, InBoth, SameButVersion, same, body, OtherVersions}
+use Rattle.starts.specs.Versions.{Source, attempts_in, payload_in}
 use Rattle.examples.specs.Consumer.{configuration}
 
 -- the groups: counts that fall, and counts of a settled offset and of MAX
-abbrev first : Source
+abbrev pub first : Source
 first = record { number = 1; place = 0; ceiling = 7; cursor = encode_cursor (cursor 5 []); counts = entry 9 1 ∷ entry 6 2 ∷ [] }
 
-abbrev second : Source
+abbrev pub second : Source
 second = record { number = 2; place = 2; ceiling = 4103; cursor = encode_cursor (cursor 6 []); counts = entry 3 2 ∷ entry 9 1 ∷ entry MAX 4 ∷ [] }
 
 -- a group of one body in a version, and a journal of 18 blocks with both
-abbrev group_in : ℕ → Source → List ℕ
+abbrev pub group_in : ℕ → Source → List ℕ
 group_in v g = header_block g.number g.ceiling (length g.cursor) (length (attempts_in v g)) ++ body_block g.number 1 (payload_in v g)
 
-abbrev groups : ℕ → ℕ → List ℕ
+abbrev pub groups : ℕ → ℕ → List ℕ
 groups v w = group_in v first ++ group_in w second
 
-abbrev journal : ℕ → ℕ → List ℕ
+abbrev pub journal : ℕ → ℕ → List ℕ
 journal v w = groups v w ++ replicate 7168 0
-
-one-body : (n : ℕ) → n ≡ 1 → (P : ℕ → Type 0) → P 0 → (j : ℕ) → j < n → P j
-one-body n e P p zero h = p
-one-body n e P p (suc j) h = absurd (omega (arith, e))
-
-abbrev Body : List ℕ → ℕ → Source → ℕ → Type 0
-Body a v g j = block_at a (g.place + suc j) ≡ body_block g.number (suc j) (chunk_of (suc j) (payload_in v g))
-
-unfoldable first-both : InBoth (journal 1 2) (journal 2 1)
-unfolding encode_cursor encode_attempts block_at header_block body_block bits unbits polynomial crc xor
-first-both =
-    record {
-      group = first;
-      measured = record { number_fits = omega arith; cursor-low = omega arith; cursor_high = omega arith; counts-fit = ((omega arith, omega arith), ((omega arith, omega arith), tt)); few = omega arith };
-      one = 1;
-      one_known = refl;
-      stands = record { header = refl; bodies = one-body _ refl (Body (journal 1 2) 1 first) refl };
-      other = 2;
-      other-known = refl;
-      stands_too = record { header = refl; bodies = one-body _ refl (Body (journal 2 1) 2 first) refl };
-    }
-
-unfoldable second-both : InBoth (journal 1 2) (journal 2 1)
-unfolding encode_cursor encode_attempts block_at header_block body_block bits unbits polynomial crc xor
-second-both =
-    record {
-      group = second;
-      measured = record {
-        number_fits = omega arith;
-        cursor-low = omega arith;
-        cursor_high = omega arith;
-        counts-fit = ((omega arith, omega arith), ((omega arith, omega arith), ((omega arith, omega arith), tt)));
-        few = omega arith;
-      };
-      one = 2;
-      one_known = refl;
-      stands = record { header = refl; bodies = one-body _ refl (Body (journal 1 2) 2 second) refl };
-      other = 1;
-      other-known = refl;
-      stands_too = record { header = refl; bodies = one-body _ refl (Body (journal 2 1) 1 second) refl };
-    }
-
--- zeros behind the groups
-zeros-behind : (a : List ℕ) (j : ℕ) → length a ≡ 2048 → 4 ≤ j → block_at (a ++ replicate 7168 0) j ≡ take 512 (drop (512 * j - 2048) (replicate 7168 0))
-unfolding block_at
-zeros-behind a j e h =
-    let at : 512 * j ≡ length a + (512 * j - 2048) = omega (arith, e) in
-    ap (take 512) (ap (λ k. drop k (a ++ replicate 7168 0)) at ∙ drop-append-add a (replicate 7168 0) (512 * j - 2048))
-
-each : (i : ℕ) → SameButVersion (journal 1 2) (journal 2 1) i
-unfolding first-both second-both encode_cursor encode_attempts block_at header_block body_block bits unbits polynomial crc xor
-each zero = same refl
-each (suc zero) = body first-both 0 (omega arith) refl
-each (suc (suc zero)) = same refl
-each (suc (suc (suc zero))) = body second-both 0 (omega arith) refl
-each (suc (suc (suc (suc j)))) =
-    same (zeros-behind (groups 2 1) (suc (suc (suc (suc j)))) refl (omega arith) ∙ sym (zeros-behind (groups 1 2) (suc (suc (suc (suc j)))) refl (omega arith)))
-
-pub version-free-met : OtherVersions (journal 1 2) (journal 2 1)
-unfolding encode_cursor encode_attempts header_block body_block bits unbits polynomial crc xor
-version-free-met = record { size = refl; blocks = each }
 
 pub found_in_either : restart configuration (journal 1 2) ≡ done (resumed configuration 9216 (cursor 6 []) (entry 9 1 ∷ entry MAX 4 ∷ []) 4103 (next_group_at 3 4))
 unfolding bad_area restart origin from_walk encode_cursor decode_cursor encode_attempts decode_attempts block_at header_block body_block is_kind well_formed sound_header sound_body group_at walk_over walk_from header_behind payload is_sealed bits unbits polynomial crc xor

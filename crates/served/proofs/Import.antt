@@ -118,7 +118,10 @@ module _ (s : Configuration) (size first : ℕ) (cursor attempts : List ℕ) (m 
           let so = serves k.2 p in
           let same = import-settings c size first cursor attempts x e in
           let fit : valid.Fits c.settings = rw (← same) (idle-fits made.phase made.writing x k.0 k.2) in
-          let answers : answers_to c (fresh_world x size) (recovery.begun v b.2) ≡ b ∷ ws = rw (k.1, k.0) at so.answers in
+          let configured : answers_to c (world (phase_of made) (replicate size 0)) (recovery.begun v b.2) ≡ b ∷ ws =
+          subst (λ (y : Configuration). answers_to (configuration_of y) (world (phase_of made) (replicate size 0)) (recovery.begun v b.2) ≡ b ∷ ws) k.1 so.answers in
+          let answers : answers_to c (fresh_world x size) (recovery.begun v b.2) ≡ b ∷ ws =
+          subst (λ (p : Phase). answers_to c (world p (replicate size 0)) (recovery.begun v b.2) ≡ b ∷ ws) k.0 configured in
           let leaves : ends c (fresh_world x size) (recovery.begun v b.2) ≡ world (phase_of m) a = rw (k.1, k.0) at so.leaves in
           let d = begun_so c x (replicate size 0) v b same (ap (head b) answers) zero-begun in
           let there : moved_in c size x v ≡ world (phase_of m) a = rw (← d.1) leaves in
@@ -164,18 +167,18 @@ module _ (s : Configuration) (size first : ℕ) (cursor attempts : List ℕ) (m 
             sound = h.sound;
           }
 
-moved_so : (s : Configuration) (size first : ℕ) (cursor attempts : List ℕ) (m : Machine) (a : List ℕ) → Moves size first cursor attempts s m a
+moved_so : (size first : ℕ) (cursor attempts : List ℕ) (s : Configuration) (m : Machine) (a : List ℕ) → Moves size first cursor attempts s m a
     → Moved s size first cursor attempts m a
-moved_so s size first cursor attempts m a (moves low cb ab before made n h zero_number v b ws p zero-begun) =
+moved_so size first cursor attempts s m a (moves low cb ab before made n h zero_number v b ws p zero-begun) =
     by-import s size first cursor attempts m a low cb ab before made n h zero_number v b ws p zero-begun
-moved_so s size first cursor attempts m a (opens other left before n how is-off h zero_number) =
-    by-restart s size first cursor attempts m a other left before n (moved_so other size first cursor attempts left a how) is-off (h is-off.sound []) zero_number
+moved_so size first cursor attempts s m a (opens other left before n how is-off h zero_number) =
+    by-restart s size first cursor attempts m a other left before n (moved_so size first cursor attempts other left a how) is-off (h is-off.sound []) zero_number
 
 -- ## demand 3
 pub import_served : ImportServed
 unfolding ImportServed different_offsets
 import_served s size first cursor attempts m a how is ns last end p =
-    let k = moved_so s size first cursor attempts m a how in
+    let k = moved_so size first cursor attempts s m a how in
     let c : state.Configuration = configuration_of s in
     let w : World = world (phase_of m) a in
     let page : Page = snapshots_page cursor attempts in
@@ -202,7 +205,7 @@ import_served s size first cursor attempts m a how is ns last end p =
 pub import_served_on : ImportServedOn
 unfolding ImportServedOn
 import_served_on s size first cursor attempts m a how is ns last end p =
-    let k = moved_so s size first cursor attempts m a how in
+    let k = moved_so size first cursor attempts s m a how in
     let c : state.Configuration = configuration_of s in
     let w : OnDisk = on_disk (phase_of m) (disk a []) in
     let page : Page = snapshots_page cursor attempts in
@@ -233,7 +236,7 @@ old-gone s size first cursor attempts m a k o g low = record { below = low; own 
 pub old-token_served : OldTokenServed
 unfolding OldTokenServed
 old-token_served s size first cursor attempts m a how is ns m₁ m₂ a₁ a₂ p₁ here at w o g q p token low p₂ =
-    let k = moved_so s size first cursor attempts m a how in
+    let k = moved_so size first cursor attempts s m a how in
     let c : state.Configuration = configuration_of s in
     let one = serves k.sound p₁ in
     let two = serves one.sound p₂ in
@@ -264,27 +267,27 @@ Freely d (fails ks ∷ is) = Unit {0}
 
 first-free : {m last : Machine} {d end : Disk} {is : List DiskItem} {ns : List Numbers} → ServedOn m d is ns last end → Freely d is
 first-free rests = tt
-first-free (asks w kind x y z delay out q n m' out' fit found free h rest) =
+first-free (asks w kind x y z delay out q n m' out' fit found free h more) =
     let f0 = both (u64 w) _ fit in
     let f1 = both (u64 x) _ f0.1 in
     let f2 = both (u64 y) _ f1.1 in
     let f3 = both (u64 z) _ f2.1 in
     let f4 = both (u64 delay) _ f3.1 in
     record { free = free; fit = rw f0.0 (ask-fits w x y z delay f0.0 f1.0 f2.0 f3.0 f4.0 kind _ q found) }
-first-free (asks_nothing w kind x y z delay out n m' out' found h rest) = first-free rest
-first-free (plans w os out n m' out' fit-w fit free h rest) = record { free = free; fit = rw fit-w fit }
-first-free (begins w n m' free h rest) = tt
-first-free (steps n m' a' ready h rest) = tt
-first-free (strays b n m' b' other free h rest) = tt
-first-free (makes_durable rest) = tt
-first-free (served.restarts n m' h rest) = tt
-first-free (loses_power ks m' is-off rest) = tt
-first-free (reopens m' n m'' is-off h zero_number rest) = tt
+first-free (asks_nothing w kind x y z delay out n m' out' found h more) = first-free more
+first-free (plans w os out n m' out' fit-w fit free h more) = record { free = free; fit = rw fit-w fit }
+first-free (begins w n m' free h more) = tt
+first-free (steps n m' a' ready h more) = tt
+first-free (strays b n m' b' other free h more) = tt
+first-free (makes_durable more) = tt
+first-free (served.restarts n m' h more) = tt
+first-free (loses_power ks m' is-off more) = tt
+first-free (reopens m' n m'' is-off h zero_number more) = tt
 
 pub old-token_served_on : OldTokenServedOn
 unfolding OldTokenServedOn answers_on next
 old-token_served_on s size first cursor attempts m a how is ns m₁ m₂ d₁ d₂ p₁ here at w o g q p token low p₂ =
-    let k = moved_so s size first cursor attempts m a how in
+    let k = moved_so size first cursor attempts s m a how in
     let c : state.Configuration = configuration_of s in
     let one = disks.serves k.sound p₁ in
     let two = disks.serves one.sound p₂ in

@@ -79,7 +79,7 @@ module _ (m m' : Machine) (a a' : List ℕ) (i : Item) (is : List Item) (ns : Li
   unfolding answers_to
   linked c s h =
       record {
-        answers = ap (answered_as i (next (configuration_of m.configuration) (world (phase_of m) a) i)) (rw (← s, ← c) h.answers);
+        answers = ap (answered_as i (next (configuration_of m.configuration) (world (phase_of m) a) i)) (rw (← s) (subst (λ (x : Configuration). answers_to (configuration_of x) (world (phase_of m') a') is ≡ ns) c h.answers));
         leaves = ends_more (configuration_of m.configuration) (world (phase_of m) a) i is ∙ rw (← s, ← c) h.leaves;
         configuration = h.configuration ∙ c;
         sound = h.sound;

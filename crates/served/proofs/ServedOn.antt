@@ -67,7 +67,7 @@ module _ (m m' : Machine) (d d' : Disk) (i : DiskItem) (is : List DiskItem) (ns 
   unfolding answers_on
   linked same s h =
       record {
-        answers = ap (λ l. answer_on c (phase_of m) d i ++ l) (rw (← s, ← same) h.answers);
+        answers = ap (λ l. answer_on c (phase_of m) d i ++ l) (rw (← s) (subst (λ (x : Configuration). answers_on (configuration_of x) (on_disk (phase_of m') d') is ≡ ns) same h.answers));
         leaves = ends_more c (on_disk (phase_of m) d) i is ∙ rw (← s, ← same) h.leaves;
         configuration = h.configuration ∙ same;
         sound = h.sound;

@@ -52,22 +52,22 @@ Fits (cut k ∷ is) = Unit {0}
 
 pub first_fits : {m last : Machine} {a end : List ℕ} {is : List Item} {ns : List Numbers} → Served m a is ns last end → Fits is
 first_fits rests = tt
-first_fits (asks w kind x y z d out q n m' out' fit found h rest) =
+first_fits (asks w kind x y z d out q n m' out' fit found h more) =
     let f0 = both (u64 w) _ fit in
     let f1 = both (u64 x) _ f0.1 in
     let f2 = both (u64 y) _ f1.1 in
     let f3 = both (u64 z) _ f2.1 in
     let f4 = both (u64 d) _ f3.1 in
     rw f0.0 (ask-fits w x y z d f0.0 f1.0 f2.0 f3.0 f4.0 kind _ q found)
-first_fits (asks_nothing w kind x y z d out n m' out' found h rest) = first_fits rest
-first_fits (plans w os out n m' out' fit-w fit h rest) = rw fit-w fit
-first_fits (served.exports w out n m' out' fit-w h rest) = rw fit-w refl
-first_fits (begins w n m' h rest) = tt
-first_fits (steps n m' a' h rest) = tt
-first_fits (strays b n m' b' other h rest) = tt
-first_fits (served.restarts n m' h rest) = tt
-first_fits (fails k t m' e is-off rest) = tt
-first_fits (reopens m' n m'' is-off h zero_number rest) = tt
+first_fits (asks_nothing w kind x y z d out n m' out' found h more) = first_fits more
+first_fits (plans w os out n m' out' fit-w fit h more) = rw fit-w fit
+first_fits (served.exports w out n m' out' fit-w h more) = rw fit-w refl
+first_fits (begins w n m' h more) = tt
+first_fits (steps n m' a' h more) = tt
+first_fits (strays b n m' b' other h more) = tt
+first_fits (served.restarts n m' h more) = tt
+first_fits (fails k t m' e is-off more) = tt
+first_fits (reopens m' n m'' is-off h zero_number more) = tt
 
 -- ## a call by itself
 -- what it makes, whose numbers its answer is
