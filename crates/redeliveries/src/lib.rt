@@ -2,6 +2,7 @@
 // small state of its own, lent to the functions that change it; the two with plain parameters serve whoever keeps the number
 // elsewhere.
 #![tactic(auto)]
+
 ghost use Rattle.std.specs.Prelude.{◌≡◌};
 ghost use Rattle.redeliveries.specs.Counter.{after_grant, after_flush, counter};
 

@@ -10,8 +10,8 @@ use mathlib.Core.Option.{some, none-ne-some, some-injective}
 use mathlib.Core.List.{List, [], ◌∷◌}
 use lib.Dec.{T}
 use seplogic.Ra.Ura.{Ura}
-use seplogic.Ra.TreeShare.{full_share}
-use mir.Syntax.{Ty, ty_int, ty_bool, ty_float, ty_ptr, ty_ref, ty_array, ty_unit, ty_struct, ty_enum, ty_named, Tys, tnil, tcons, Sym}
+use base.Fraction.{full_share}
+use mir.Syntax.{Ty, ty_int, ty_bool, ty_float, ty_ptr, ty_ref, ty_array, ty_unit, ty_struct, ty_enum, ty_named, Tys, tnil, tcons, Sym, ty_param, ty_const, ty_array_p}
 use mir.Val.{Val, vunit, vstruct, Vals, vnil, vcons}
 use mir.Facts.{and_yes}
 use base.Logic.{SProp, ent, sep, all, never, emp, id⊢, via, mono_l, mono_r, comm∗, snd∗, emp∗, never_e, mono∗}
@@ -140,7 +140,10 @@ field_tys (ty_array τ n) = tnil
 field_tys ty_unit = tnil
 field_tys (ty_struct ν τs) = τs
 field_tys (ty_enum ν τss) = tnil
-field_tys (ty_named ν) = tnil
+field_tys (ty_named ν τs) = tnil
+field_tys (ty_param i) = tnil
+field_tys (ty_const i) = tnil
+field_tys (ty_array_p τ i) = tnil
 
 -- ## what is owned of it
 module _ {M : Type 1} {𝓤 : Ura M} (𝓛 : Logic 𝓤) where

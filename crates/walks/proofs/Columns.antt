@@ -11,7 +11,7 @@ use mathlib.Core.List.{List, [], ◌∷◌, map}
 use lib.Dec.{T}
 use lib.ListN.{length}
 use seplogic.Ra.Ura.{Ura}
-use seplogic.Ra.TreeShare.{full_share}
+use base.Fraction.{full_share}
 use mir.Syntax.{Width, Lifetime, named, ty_int, ty_array}
 use mir.Val.{Val, vint, vptr, of_list, WT, WTs, all_n, has_ty}
 use mir.Facts.{and_yes}
@@ -28,7 +28,8 @@ use denote.Memory.{mem, cell_at, part_at, part_of}
 use denote.Plain.{UInt, uint_vals, uint_Tells, uint_Makes}
 use denote.Array.{Array, each, array_vals, Array-Tells, Array-Makes}
 use denote.Ref.{Bor, MutBor, ShrRef, MutRef}
-use denote.Lend.{lends_ref, ref_back, lends_shr}
+use denote.Copied.{uint_Copied, Array-Copied}
+use denote.Lend.{lends_ref, ref_back, lends_free}
 use denote.Steps.{only, owned}
 use denote.Struct.Steps.{spelt}
 
@@ -69,7 +70,12 @@ abbrev pub Names : List Column → Type 0
 Names [] = Unit {0}
 Names (c ∷ cs) = (ℕ × GName) × Names cs
 
-abbrev pub lent_as : Bool → Lifetime → Lft → (R : RattleType) → Bor R.Denot → List Val → Fml
+-- a reference that is shared has no name
+abbrev pub Ref : Bool → Type 0 → Type 0
+Ref true X = Bor X
+Ref false X = MutBor X
+
+abbrev pub lent_as : (s : Bool) → Lifetime → Lft → (R : RattleType) → Ref s R.Denot → List Val → Fml
 lent_as true ℓ κ R x vs = (ShrRef ℓ κ R).own_val x vs
 lent_as false ℓ κ R x vs = (MutRef ℓ κ R).own_val x vs
 
@@ -97,6 +103,11 @@ abbrev pub vals_of : List Column → List Val
 vals_of [] = []
 vals_of (c ∷ cs) = val c.width c.now ∷ vals_of cs
 
+-- a tuple that begins with a reference for each column
+abbrev pub Refs : List Column → Type 0 → Type 0
+Refs [] Y = Y
+Refs (c ∷ cs) Y = Ref c.shared (List ℕ) × Refs cs Y
+
 -- a tuple that begins with an X for each column
 abbrev pub For : Type 0 → List Column → Type 0 → Type 0
 For X [] Y = Y
@@ -111,10 +122,14 @@ wholes Y [] y = y
 wholes Y (c ∷ cs) y = (full_share, wholes Y cs y)
 
 module _ (b : ℕ) where
-  abbrev ref : Column → GName → MutBor (List ℕ)
-  ref c δ = record { ref_ptr = (b, c.place); ghost_name = δ; now = c.now }
+  abbrev ref_at : (s : Bool) → ℕ → GName → List ℕ → Ref s (List ℕ)
+  ref_at true o δ xs = record { ref_ptr = (b, o); now = xs }
+  ref_at false o δ xs = record { ref_ptr = (b, o); ghost_name = δ; now = xs }
 
-  abbrev pub refs : (Y : Type 0) (cs : List Column) → Names cs → Y → For (Bor (List ℕ)) cs Y
+  abbrev ref : (c : Column) → GName → Ref c.shared (List ℕ)
+  ref c δ = ref_at c.shared c.place δ c.now
+
+  abbrev pub refs : (Y : Type 0) (cs : List Column) → Names cs → Y → Refs cs Y
   refs Y [] ns y = y
   refs Y (c ∷ cs) ns y = (ref c ns.0.1, refs Y cs ns.1 y)
 
@@ -176,7 +191,7 @@ module _ {M : Type 1} {𝓤 : Ura M} (𝓛 : Logic 𝓤) (b : ℕ) where
         use1 𝓛 (given (T (has_ty (ty_array (ty_int w) n) (val w xs)) × WT (val w xs)) (‵ (fat full_share (ty_array (ty_int w) n) b o (val w xs)))) (𝓛.laws.at_wt full_share (ty_array (ty_int w) n) b o (val w xs)) $ learn ! (λ t.
         use1 𝓛 (‵ (cell_at full_share R.mir (vals w xs) b o)) (𝓛.laws.at_raw full_share (ty_array (ty_int w) n) b o (val w xs)) $
         owned ! R (Is R) (Array-Makes 𝓛 (UInt w) (uint_Makes 𝓛 w) n) xs (vals w xs) (column-is w n xs t) $ move ! (1 ∷ 0 ∷ []) $ fjoin ! $
-        fpack ! (List Val) (λ vs. fsep (cell_at full_share R.mir vs b o) (R.own xs vs)) (vals w xs) $ done !)
+        fpack ! (List Val) (λ vs. fsep (cell_at full_share R.mir vs b o) (R.own_val xs vs)) (vals w xs) $ done !)
 
     column-out : (xs : List ℕ) → ⟦ part_at R full_share xs b o ⟧ ⊢ H.at full_share (ty_array (ty_int w) n) b o (val w xs)
     unfolding part_of
@@ -187,8 +202,12 @@ module _ {M : Type 1} {𝓤 : Ura M} (𝓛 : Logic 𝓤) (b : ℕ) where
 
     -- it is lent for κ, and back once κ is over
     lend_one : (s : Bool) (ℓ : Lifetime) (κ : Lft) (xs : List ℕ)
-        → ⟦ part_at R full_share xs b o ⟧ ⊢ H.⇛ (ex 𝓤 (λ (δ : GName). ⟦ lent_as s ℓ κ R (record { ptr = (b, o); name = δ; now = xs }) (vptr b o ∷ []) ⟧ ∗ ⟦ lender b s κ R xs o δ ⟧))
-    lend_one true ℓ κ xs = lends_shr 𝓛 R ℓ κ full_share xs b o
+        → ⟦ part_at R full_share xs b o ⟧ ⊢ H.⇛ (ex 𝓤 (λ (δ : GName). ⟦ lent_as s ℓ κ R (ref_at b s o δ xs) (vptr b o ∷ []) ⟧ ∗ ⟦ lender b s κ R xs o δ ⟧))
+    lend_one true ℓ κ xs =
+        qed 𝓛 (‵ (part_at R full_share xs b o) ∷ []) ∵ updating ! $
+        use1 𝓛 (later (‵ (lent_as true ℓ κ R (ref_at b true o 0 xs) (vptr b o ∷ [])) ⊛ ‵ (lender b true κ R xs o 0)))
+        (lends_free 𝓛 R ℓ κ full_share xs b o ((Array-Copied 𝓛 (UInt w) (uint_Copied 𝓛 w) tt n).lends full_share xs b o)) $ await ! tt $ split ! $
+        at_once ! $ show ! (λ (δ : GName). ⟦ lent_as true ℓ κ R (ref_at b true o δ xs) (vptr b o ∷ []) ⟧ ∗ ⟦ lender b true κ R xs o δ ⟧) 0 $ done !
     lend_one false ℓ κ xs = lends_ref 𝓛 R ℓ κ xs b o
 
     back_one : (s : Bool) (κ : Lft) (δ : GName) (xs : List ℕ) (z : Ending s)

@@ -14,7 +14,7 @@ use mathlib.Core.List.{List, [], ◌∷◌}
 use lib.Dec.{T}
 use lib.ListN.{get_or}
 use seplogic.Ra.Ura.{Ura}
-use seplogic.Ra.TreeShare.{full_share}
+use base.Fraction.{full_share}
 use mir.Syntax.{Ty, place, Opd as Operand, copy, opd_unit, rv_opd, seq, assign, return, Local, Fn}
 use mir.Val.{Val, vunit, WT, has_ty}
 use mir.Facts.{and_yes}

@@ -11,9 +11,9 @@ use mathlib.Core.Option.{some}
 use mathlib.Core.List.{List, [], ◌∷◌}
 use lib.Dec.{T}
 use seplogic.Ra.Ura.{Ura}
-use seplogic.Ra.TreeShare.{full_share}
+use base.Fraction.{full_share}
 use mir.Syntax.{Sym, Ty, ty_struct, Tys, Step as PStep, deref, field, place, copy, Rv as RValue, rv_opd, addr_of, Body, seq, assign}
-use mir.Val.{Val, vunit, vbool, vint, vfloat, vptr, vstruct, Vals, vnil, vcons, WT, WTs, has_ty}
+use mir.Val.{Val, vunit, vbool, vint, vfloat, vptr, vstruct, Vals, vnil, vcons, WT, WTs, has_ty, vcode}
 use mir.Fields.{get_v, set_v}
 use mir.Facts.{and_yes}
 use base.Fml.{Share, fat}
@@ -49,6 +49,7 @@ fields_in (vbool b) = vnil
 fields_in (vint w n) = vnil
 fields_in (vfloat f x) = vnil
 fields_in (vptr b o) = vnil
+fields_in (vcode t) = vnil
 fields_in (vstruct vs) = vs
 
 abbrev pub is_struct : Val → Bool
@@ -57,6 +58,7 @@ is_struct (vbool b) = false
 is_struct (vint w n) = false
 is_struct (vfloat f x) = false
 is_struct (vptr b o) = false
+is_struct (vcode t) = false
 is_struct (vstruct vs) = true
 
 pub is-struct : (v : Val) → T (is_struct v) → vstruct (fields_in v) ≡ v
@@ -65,6 +67,7 @@ is-struct (vbool b) t = absurd t
 is-struct (vint w n) t = absurd t
 is-struct (vfloat f x) t = absurd t
 is-struct (vptr b o) t = absurd t
+is-struct (vcode u) t = absurd t
 is-struct (vstruct vs) t = refl
 
 abbrev pub get_in : {τ : Ty} → Path τ → Val → Val

@@ -11,7 +11,7 @@ use mathlib.Core.List.{List, [], ◌∷◌}
 use lib.Dec.{T}
 use seplogic.Ra.Ura.{Ura}
 use mir.Syntax.{Width, Ty}
-use mir.Val.{Val, vunit, vbool, vint, vfloat, vptr, vstruct, WT, Fits}
+use mir.Val.{Val, vunit, vbool, vint, vfloat, vptr, vstruct, WT, Fits, vcode}
 use mir.Facts.{and_yes}
 use base.Logic.{SProp, ent, sep, emp, id⊢, via, comm∗, snd∗, mono∗, mono_r, emp∗}
 use base.Fml.{Fml, ftrue, fsep}
@@ -33,6 +33,7 @@ number_of (vbool b) = 0
 number_of (vint w n) = n
 number_of (vfloat f x) = 0
 number_of (vptr b o) = 0
+number_of (vcode t) = 0
 number_of (vstruct vs) = 0
 
 abbrev pub numbers_at : {τ : Ty} (v : Val) (ps : List (Path τ)) (X : Type 0) → X → Numbered ps X
@@ -46,6 +47,7 @@ own_of (vbool b) = ftrue
 own_of (vint w n) = (UInt w).own_val n (vint w n ∷ [])
 own_of (vfloat f x) = ftrue
 own_of (vptr b o) = ftrue
+own_of (vcode t) = ftrue
 own_of (vstruct vs) = ftrue
 
 abbrev pub all_open : {τ : Ty} → List (Path τ) → Val → Bool
@@ -105,7 +107,7 @@ module _ {M : Type 1} {𝓤 : Ura M} (𝓛 : Logic 𝓤) where
   number {w} {n} fit = record { says = (UInt w).own_val n (vint w n ∷ []); had = uint_Makes 𝓛 w n (vint w n ∷ []) (refl, fit.fits) }
 
   abbrev pub struct : (R : RattleType) → Makes 𝓛 R (Is R) → (h : R.Denot) (v : Val) → Is R h (v ∷ []) → Free
-  struct R makes h v is = record { says = R.own h (v ∷ []); had = makes h (v ∷ []) is }
+  struct R makes h v is = record { says = R.own_val h (v ∷ []); had = makes h (v ∷ []) is }
 
   module _ where
     pub had-of : (v : Val) → WT v → ent 𝓤 (emp 𝓤) (sem 𝓛 (own_of v))
@@ -114,6 +116,7 @@ module _ {M : Type 1} {𝓤 : Ura M} (𝓛 : Logic 𝓤) where
     had-of (vint w n) t = uint_Makes 𝓛 w n (vint w n ∷ []) (refl, t.fits)
     had-of (vfloat f x) t = id⊢ 𝓤 (emp 𝓤)
     had-of (vptr b o) t = id⊢ 𝓤 (emp 𝓤)
+    had-of (vcode u) t = id⊢ 𝓤 (emp 𝓤)
     had-of (vstruct vs) t = id⊢ 𝓤 (emp 𝓤)
 
     abbrev pub figures : {τ : Ty} (v : Val) → WT v → (ps : List (Path τ)) → T (all_open ps v) → List Free → List Free

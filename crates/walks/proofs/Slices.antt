@@ -5,7 +5,7 @@ use mathlib.Core.Bool.{Bool, ◌&&◌}
 use mathlib.Core.List.{List, [], ◌∷◌}
 use lib.Dec.{T}
 use seplogic.Ra.Ura.{Ura}
-use seplogic.Ra.TreeShare.{full_share}
+use base.Fraction.{full_share}
 use mir.Syntax.{Ty, Lifetime, Mutability, ty_ref, ty_int, w64, deref, field, place, copy, addr_of, aggregate, Body, seq, assign}
 use mir.Val.{Val, vint, vptr, has_ty, Fits}
 use mir.Facts.{and_yes}

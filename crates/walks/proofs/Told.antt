@@ -11,7 +11,7 @@ use mathlib.Core.List.{List, [], ◌∷◌, map}
 use lib.Dec.{T}
 use lib.ListN.{length-map}
 use seplogic.Ra.Ura.{Ura}
-use seplogic.Ra.TreeShare.{full_share}
+use base.Fraction.{full_share}
 use mir.Syntax.{Width, Ty, ty_int, ty_bool, ty_array, Tys, tnil, tcons}
 use mir.Val.{Val, vint, vbool, vstruct, Vals, vnil, vcons, of_list, WT, WTs, has_ty, has_tys}
 use mir.Facts.{and_yes}

@@ -1,4 +1,4 @@
--- `list_offsets` meets its contract: the walk of a listing (`Listing`), by what `offsets_fit` and `offset_at` answer.
+-- `list_offsets` meets its contract: the loop of a listing (`Listing`), by what `offsets_fit` and `offset_at` answer.
 -- Assumes nothing.
 use native.Mathlib.Omega.{arith}
 use Rattle.std.proofs.lemmas.List.{length-map}

@@ -1,4 +1,4 @@
--- `list_pairs` meets its contract: the walk of a listing (`Listing`), by what `counts_fit` and `pair_at` answer.
+-- `list_pairs` meets its contract: the loop of a listing (`Listing`), by what `counts_fit` and `pair_at` answer.
 -- Assumes nothing.
 use native.Mathlib.Omega.{arith}
 use Rattle.std.proofs.lemmas.List.{length-map}
