@@ -2,6 +2,7 @@
 // and a length, a list of ranges or pairs as a column for each field. Nothing is required of a caller but that its slices
 // are there, and that one that is written to overlaps no other.
 #![tactic(auto)]
+
 ghost use Rattle.std.specs.Prelude.{◌≡◌};
 ghost use Rattle.types.specs.Keyed.{entries};
 ghost use Rattle.types.specs.Zipped.{zipped};
