@@ -1,4 +1,2 @@
-pub mod CursorParts
 pub mod InPlace
-pub mod LentColumn
 pub mod Snapshots

@@ -6,6 +6,5 @@ use Rattle.exports.proofs.ninotskev_encode_attempts_v2.Goals as goal
 
 pub returns : goal.returns
 returns c =
-    let w = c.before.before.before in
-    let a = w.args in
-    pairs-written 2 (entries a.offsets.now a.attempts.now) a.at a.out.now w.encode_columns_v2.result _ _ w.encode_columns_v2.ensures c.of_encode.ensures
+    let a = c.args in
+    pairs-written 2 (entries a.offsets.now a.attempts.now) a.at a.out.now c.encode_columns_v2.result _ _ c.encode_columns_v2.ensures c.of_encode.ensures
