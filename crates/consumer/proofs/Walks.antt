@@ -224,8 +224,10 @@ number-at ps i d = get_or-map (λ (p : Offset). p.0) ps i d
 
 true_of : (b : Bool) → T b → b ≡ true
 true_of true h = refl
+true_of false h = elim h [ ]
 
 false_of : (b : Bool) → T (not b) → b ≡ false
+false_of true h = elim h [ ]
 false_of false h = refl
 
 pub byte-written : (z r : PlanWalk) (out : List ℕ) → T z.answering → bytes_in z r out ≡ set out z.place r.byte
