@@ -27,7 +27,7 @@ abbrev given : Start → Consumer → Consumer
 given s =
     let a = s.args in
     encoding (ack_cursor a.committed a.starts.now a.ends.now a.runs)
-    (listing_all a.len a.carried-len a.offsets.now a.slots.now a.deliveries.now a.carried-offsets.now a.carried-counts.now)
+    (listing_all a.len a.carried_len a.offsets.now a.slots.now a.deliveries.now a.carried_offsets.now a.carried_counts.now)
 
 abbrev lent : Start → Snapshots
 lent s = snapshots s.args.cursor.now s.args.attempts.now
@@ -77,14 +77,10 @@ snapshot_len-attempt_len-requires c = few (goal.at.snapshot_len-attempt_len-requ
 
 pub returns-then-cursor-cursor_len : goal.returns-then-cursor-cursor_len
 returns-then-cursor-cursor_len c x l w =
-    let n = c.before in
-    let s = n.before.before.before.before.before in
     cursor-short (view (given (goal.at.returns-then-cursor-cursor_len c).Start x)) w (lent (goal.at.returns-then-cursor-cursor_len c).Start) (omega (arith, c.if-cursor-cursor_len.true, first (goal.at.returns-then-cursor-cursor_len c).After-snapshot_len-attempt_len x))
 
 pub returns-then-attempts-attempt_len : goal.returns-then-attempts-attempt_len
 returns-then-attempts-attempt_len c x l w =
-    let n = c.before.before in
-    let s = n.before.before.before.before.before in
     attempts-short (view (given (goal.at.returns-then-attempts-attempt_len c).Start x)) w (lent (goal.at.returns-then-attempts-attempt_len c).Start) (omega (arith, c.if-cursor-cursor_len.false, first (goal.at.returns-then-attempts-attempt_len c).After-snapshot_len-attempt_len x)) (omega (arith, c.if-attempts-attempt_len.true, second (goal.at.returns-then-attempts-attempt_len c).After-snapshot_len-attempt_len x l))
 
 pub encode_in_place-requires : goal.encode_in_place-requires
@@ -95,22 +91,15 @@ encode_counts-requires c = omega (arith, few (goal.at.encode_counts-requires c).
 
 pub overflow_cast-result : goal.overflow_cast-result
 overflow_cast-result c =
-    let n = c.before.before.before.before.before.before.before.before.before.before in
-    omega (arith, n.snapshot_len-cursor_len.ensures, n.requires.cursor.sound.few)
+    omega (arith, c.snapshot_len-cursor_len.ensures, c.requires.cursor.sound.few)
 
 pub overflow_cast-result-2 : goal.overflow_cast-result-2
 overflow_cast-result-2 c =
-    let n = c.before.before.before.before.before.before.before.before.before.before in
-    omega (arith, n.snapshot_len-attempt_len.ensures, few (goal.at.overflow_cast-result-2 c).After-all_counts_in_place-counts)
+    omega (arith, c.snapshot_len-attempt_len.ensures, few (goal.at.overflow_cast-result-2 c).After-all_counts_in_place-counts)
 
 pub returns : goal.returns
 returns c x l w =
-    let b = c.before.before in
-    let a = b.before.before.before.before in
-    let e = a.before.before in
-    let n = e.before.before in
-    let s = n.before.before.before.before.before in
     let t = view (given (goal.at.returns c).Start x) in
-    let counts = ap (λ l. encode_into l 0 s.args.attempts.now) (listed (goal.at.returns c).After-all_counts_in_place-counts x l).is in
-    both-written t w (lent (goal.at.returns c).Start) (omega (arith, e.if-cursor-cursor_len.false, first (goal.at.returns c).After-snapshot_len-attempt_len x)) l.sound.valid (omega (arith, e.if-attempts-attempt_len.false, second (goal.at.returns c).After-snapshot_len-attempt_len x l)) _ _ (first (goal.at.returns c).After-snapshot_len-attempt_len x) (second (goal.at.returns c).After-snapshot_len-attempt_len x l) _ _
-    a.encode_in_place.ensures (b.encode_counts.ensures ∙ counts)
+    let counts = ap (λ l. encode_into l 0 c.args.attempts.now) (listed (goal.at.returns c).After-all_counts_in_place-counts x l).is in
+    both-written t w (lent (goal.at.returns c).Start) (omega (arith, c.if-cursor-cursor_len.false, first (goal.at.returns c).After-snapshot_len-attempt_len x)) l.sound.valid (omega (arith, c.if-attempts-attempt_len.false, second (goal.at.returns c).After-snapshot_len-attempt_len x l)) _ _ (first (goal.at.returns c).After-snapshot_len-attempt_len x) (second (goal.at.returns c).After-snapshot_len-attempt_len x l) _ _
+    c.encode_in_place.ensures (c.encode_counts.ensures ∙ counts)
