@@ -20,7 +20,7 @@ use Rattle.consumer.proofs.in_place.claim_in_place.Goals.{After-claim_test-test,
 
 abbrev made : Start → Consumer → Consumer
 made s =
-    claiming s.args.rights.now s.args.hours s.args.ceiling s.args.max_deliver_lem s.args.threshold (ack_cursor s.args.committed s.args.starts.now s.args.ends.now s.args.runs)
+    claiming s.args.rights.now s.args.hours s.args.ceiling s.args.max_deliver s.args.threshold (ack_cursor s.args.committed s.args.starts.now s.args.ends.now s.args.runs)
     (gathered s.args.config s.args.len s.args.carried_len s.args.next_generation s.args.redeliveries s.args.offsets.now s.args.slots.now s.args.generations.now s.args.attempt_starts.now s.args.deadlines.now s.args.deliveries.now s.args.workers.now s.args.carried_offsets.now s.args.carried_counts.now)
 
 abbrev start : After-claim_test-test → Start
@@ -37,11 +37,11 @@ tested k = k.before
 
 -- a worker that may claim is one of the eight
 pub overflow_cast-worker : goal.overflow_cast-worker
-overflow_cast-worker c = omega (arith, c.claim-test.ensures.0.known (ap test_of c.in-Open.is))
+overflow_cast-worker c = omega (arith, c.claim_test-test.ensures.0.known (ap test_of c.in-Open.is))
 
 pub claim_at-claimed-requires : goal.claim_at-claimed-requires
 claim_at-claimed-requires c =
-    (c.requires.1, subst (OpenAt c.args.offset (take c.args.len c.args.offsets.now)) c.in-Open.is c.claim-test.ensures.1)
+    (c.requires.1, subst (OpenAt c.args.offset (take c.args.len c.args.offsets.now)) c.in-Open.is c.claim_test-test.ensures.1)
 
 fits : (s : Start) → s.args.offset ≤ MAX
 fits s = omega arith

@@ -15,7 +15,7 @@ abbrev given : Start → Consumer → Consumer
 given s =
     let a = s.args in
     exporting a.rights.now (ack_cursor a.committed a.starts.now a.ends.now a.runs)
-    (listing_all a.len a.carried-len a.offsets.now a.slots.now a.deliveries.now a.carried-offsets.now a.carried-counts.now)
+    (listing_all a.len a.carried_len a.offsets.now a.slots.now a.deliveries.now a.carried_offsets.now a.carried_counts.now)
 
 abbrev lent : Start → Snapshots
 lent s = snapshots s.args.cursor.now s.args.attempts.now

@@ -1,10 +1,9 @@
 -- `offset_test` meets its contract: each test of the table in its order. Assumes nothing.
 -- a consumer with the parts that the arguments are, and its state
 use native.Mathlib.Omega.{arith}
-use mathlib.Core.Path.{◌≡◌, sym, ◌∙◌}
-use mathlib.Core.Bool.{true, false}
+use mathlib.Core.Path.{◌≡◌, sym, ap, ◌∙◌}
+use mathlib.Core.Bool.{true, false, not}
 use borrow.Author.Rules.{rules}
-use borrow.Author.Tests.{not-true, not-false}
 use Rattle.cursor.specs.Cursor.{settled}
 use Rattle.cursor.specs.View.{ack_cursor}
 use Rattle.hours.specs.Hours.{isOpen}
@@ -29,7 +28,7 @@ abbrev shown : Start → Consumer → State
 shown s c = view (made s c)
 
 abbrev third : Else-not-is_claimable_at → Else-not-is_open
-third d = d.before.before.before
+third d = d.before.before.before.before
 
 abbrev second : Else-not-is_open → Else-is_acked_in_place
 second d = d.before.before
@@ -61,13 +60,13 @@ pub returns-then-not-is_open : goal.returns-then-not-is_open
 returns-then-not-is_open c =
     (
       λ x w.
-          is-closed (shown (goal.at.returns-then-not-is_open c).Start x) c.args.offset c.args.now c.if-offset-eq-MAX.left (unsettled (goal.at.returns-then-not-is_open c).Else-is_acked_in_place x)
-          (sym c.is_open.ensures ∙ not-true _ c.if-not-is_open.true) c.next_opening.result c.next_opening.ensures,
+          is-closed (shown (goal.at.returns-then-not-is_open c).Start x) c.args.offset c.args.now c.if-offset-eq-MAX.false (unsettled (goal.at.returns-then-not-is_open c).Else-is_acked_in_place x)
+          (sym c.is_open.ensures ∙ c.if-not-is_open.true) c.next_opening.result c.next_opening.ensures,
       tt,
     )
 
 in-hours : (d : Else-not-is_open) (x : Consumer) → isOpen (shown (entry d) x).settings.hours (entry d).args.now ≡ true
-in-hours d x = sym d.is_open.ensures ∙ not-false _ d.if-not-is_open.false
+in-hours d x = sym d.is_open.ensures ∙ d.if-not-is_open.false
 
 pub is_claimable_at-requires : goal.is_claimable_at-requires
 is_claimable_at-requires c = placed-within c.args.offset c.args.len c.args.offsets.now c.find-place.result c.requires.1 c.find-place.ensures
@@ -77,7 +76,7 @@ returns-then-not-is_claimable_at c =
     (
       λ x w.
           is-running (shown (goal.at.returns-then-not-is_claimable_at c).Start x) c.args.offset c.args.now c.if-offset-eq-MAX.false (unsettled (second (goal.at.returns-then-not-is_claimable_at c).Else-not-is_open) x) (in-hours (goal.at.returns-then-not-is_claimable_at c).Else-not-is_open x)
-          (blocked c.is_claimable_at.result _ (c.is_claimable_at.ensures c.args.offset (made (goal.at.returns-then-not-is_claimable_at c).Start x).table (table-whole w) c.find-place.ensures) c.if-not-is_claimable_at.true),
+          (blocked c.is_claimable_at.result _ (c.is_claimable_at.ensures c.args.offset (made (goal.at.returns-then-not-is_claimable_at c).Start x).table (table-whole w) c.find-place.ensures) (ap not c.if-not-is_claimable_at.true)),
       tt,
     )
 
@@ -85,7 +84,7 @@ not-running : (d : Else-not-is_claimable_at) (x : Consumer) → Whole (made (sta
     → running (lease_of (shown (start d) x).table (start d).args.offset) (start d).args.now ≡ false
 not-running d x w =
     unblocked d.is_claimable_at.result _
-    (d.is_claimable_at.ensures (start d).args.offset (made (start d) x).table (table-whole w) d.find-place.ensures) d.if-not-is_claimable_at.false
+    (d.is_claimable_at.ensures (start d).args.offset (made (start d) x).table (table-whole w) d.find-place.ensures) (ap not d.if-not-is_claimable_at.false)
 
 pub returns-then-next_generation-eq-MAX : goal.returns-then-next_generation-eq-MAX
 returns-then-next_generation-eq-MAX c =
