@@ -8,12 +8,16 @@ use Rattle.consumer.proofs.Arrays.{cursor-whole}
 use Rattle.consumer.proofs.Walks.{turns-checking, step-few, turns-answering}
 use Rattle.consumer.proofs.Consumer.plan_turn.Goals as goal
 
+-- a test of its opposite
+opposite : (b c : Bool) → not b ≡ c → b ≡ not c
+opposite b c e = sym (not-not b) ∙ ap not e
+
 pub checked-requires : goal.checked-requires
-checked-requires c = (c.if-not-walk.true, c.requires.1.left)
+checked-requires c = (opposite _ true c.if-not-walk.true, c.requires.1.left)
 
 pub returns-then-not-walk : goal.returns-then-not-walk
 returns-then-not-walk c =
-    turns-checking (view c.args.self) c.args.walk c.args.offset.0 c.checked.result (c.if-not-walk.true) c.checked.ensures
+    turns-checking (view c.args.self) c.args.walk c.args.offset.0 c.checked.result (opposite _ true c.if-not-walk.true) c.checked.ensures
 
 pub step_to-step-requires : goal.step_to-step-requires
 step_to-step-requires c =
@@ -25,4 +29,4 @@ overflow_add-looks c =
 
 pub returns : goal.returns
 returns c =
-    turns-answering (view c.args.self) c.requires.0.cursor.valid c.args.walk c.args.offset.0 (c.if-not-walk.false) c.requires.1.left c.step_to-step.result c.step_to-step.ensures
+    turns-answering (view c.args.self) c.requires.0.cursor.valid c.args.walk c.args.offset.0 ((opposite _ false c.if-not-walk.false)) c.requires.1.left c.step_to-step.result c.step_to-step.ensures

@@ -33,14 +33,14 @@ abbrev lent : Start → Snapshots
 lent s = snapshots s.args.cursor.now s.args.attempts.now
 
 -- the counts
-listed : (k : After-all_counts_in_place-counts) (x : Consumer) → let s = k.before in
+listed : (k : After-all_counts_in_place-counts) (x : Consumer) → let s = k.before.before.before.before in
     Whole (given s x) → ListsCounts k.all_counts_in_place-counts.result (all_attempt_counts (view (given s x)).table)
 listed k x l = k.all_counts_in_place-counts.ensures x.table (record { full = l.full; sound = l.sound.table })
 
 full : (k : After-all_counts_in_place-counts) → (length k.all_counts_in_place-counts.result.offsets ≡ 192) × (length k.all_counts_in_place-counts.result.attempts ≡ 192)
 full k = (search rules, search rules)
 
-counted : (k : After-all_counts_in_place-counts) (x : Consumer) → let s = k.before in
+counted : (k : After-all_counts_in_place-counts) (x : Consumer) → let s = k.before.before.before.before in
     Whole (given s x) → k.all_counts_in_place-counts.result.len ≡ length (all_attempt_counts (view (given s x)).table)
 counted k x l =
     let r = k.all_counts_in_place-counts.result in
@@ -49,21 +49,21 @@ counted k x l =
 
 few : (k : After-all_counts_in_place-counts) → k.all_counts_in_place-counts.result.len ≤ 128
 few k =
-    let s = k.before in
+    let s = k.before.before.before.before in
     let x = s.requires.consumer in
     omega (arith, counted k x s.requires.whole, counts-few (view (given s x)) s.requires.whole.sound.valid)
 
 -- the lengths of the two snapshots
-first : (n : After-snapshot_len-attempt_len) (x : Consumer) → let s = n.before.before.before in
+first : (n : After-snapshot_len-attempt_len) (x : Consumer) → let s = n.before.before.before.before.before.before in
     n.snapshot_len-cursor_len.result ≡ length (exported (view (given s x))).cursor
 first n x =
-    let s = n.before.before.before in
+    let s = n.before.before.before.before.before.before in
     omega (arith, n.snapshot_len-cursor_len.ensures, cursor-length (view (given s x)).cursor, runs-is (given s x).cursor s.requires.cursor)
 
-second : (n : After-snapshot_len-attempt_len) (x : Consumer) → let s = n.before.before.before in
+second : (n : After-snapshot_len-attempt_len) (x : Consumer) → let s = n.before.before.before.before.before.before in
     Whole (given s x) → n.snapshot_len-attempt_len.result ≡ length (exported (view (given s x))).attempts
 second n x l =
-    let s = n.before.before.before in
+    let s = n.before.before.before.before.before.before in
     omega (arith, n.snapshot_len-attempt_len.ensures, attempts-length 1 (all_attempt_counts (view (given s x)).table), counted n.before.before x l)
 
 pub all_counts_in_place-counts-requires : goal.all_counts_in_place-counts-requires
