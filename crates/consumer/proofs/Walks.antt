@@ -5,7 +5,6 @@ use mathlib.Core.Path.{◌≡◌, refl, sym, ap, subst, ◌∙◌}
 use mathlib.Core.Bool.{Bool, true, false, not, true≢false}
 use mathlib.Core.List.{List, [], ◌∷◌}
 use mathlib.Core.Option.{none}
-use lib.Dec.{T}
 use lib.ListN.{length, drop, get_or, set, length-drop, length-map, get_or-map}
 use Rattle.types.specs.Lists.{numbers_of}
 use Rattle.types.specs.declared.Offset.{Offset}

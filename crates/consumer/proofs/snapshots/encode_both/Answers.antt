@@ -61,10 +61,10 @@ first n x =
     omega (arith, n.snapshot_len-cursor_len.ensures, cursor-length (view (given s x)).cursor, runs-is (given s x).cursor s.requires.cursor)
 
 second : (n : After-snapshot_len-attempt_len) (x : Consumer) → let s = n.before.before.before.before.before.before in
-    Whole (given s x) → n.snapshot_len-attempt_len.result ≡ length (exported (view (given s x))).attempts
-second n x l =
+    n.all_counts_in_place-counts.result.len ≡ length (all_attempt_counts (view (given s x)).table) → n.snapshot_len-attempt_len.result ≡ length (exported (view (given s x))).attempts
+second n x e =
     let s = n.before.before.before.before.before.before in
-    omega (arith, n.snapshot_len-attempt_len.ensures, attempts-length 1 (all_attempt_counts (view (given s x)).table), counted n.before.before x l)
+    omega (arith, n.snapshot_len-attempt_len.ensures, attempts-length 1 (all_attempt_counts (view (given s x)).table), e)
 
 pub all_counts_in_place-counts-requires : goal.all_counts_in_place-counts-requires
 all_counts_in_place-counts-requires c = c.requires.whole.sound.table.len
@@ -81,7 +81,7 @@ returns-then-cursor-cursor_len c x l w =
 
 pub returns-then-attempts-attempt_len : goal.returns-then-attempts-attempt_len
 returns-then-attempts-attempt_len c x l w =
-    attempts-short (view (given (goal.at.returns-then-attempts-attempt_len c).Start x)) w (lent (goal.at.returns-then-attempts-attempt_len c).Start) (omega (arith, c.if-cursor-cursor_len.false, first (goal.at.returns-then-attempts-attempt_len c).After-snapshot_len-attempt_len x)) (omega (arith, c.if-attempts-attempt_len.true, second (goal.at.returns-then-attempts-attempt_len c).After-snapshot_len-attempt_len x l))
+    attempts-short (view (given (goal.at.returns-then-attempts-attempt_len c).Start x)) w (lent (goal.at.returns-then-attempts-attempt_len c).Start) (omega (arith, c.if-cursor-cursor_len.false, first (goal.at.returns-then-attempts-attempt_len c).After-snapshot_len-attempt_len x)) (omega (arith, c.if-attempts-attempt_len.true, second (goal.at.returns-then-attempts-attempt_len c).After-snapshot_len-attempt_len x (counted (goal.at.returns-then-attempts-attempt_len c).After-all_counts_in_place-counts x l)))
 
 pub encode_in_place-requires : goal.encode_in_place-requires
 encode_in_place-requires c = c.requires.cursor
@@ -101,5 +101,5 @@ pub returns : goal.returns
 returns c x l w =
     let t = view (given (goal.at.returns c).Start x) in
     let counts = ap (λ l. encode_into l 0 c.args.attempts.now) (listed (goal.at.returns c).After-all_counts_in_place-counts x l).is in
-    both-written t w (lent (goal.at.returns c).Start) (omega (arith, c.if-cursor-cursor_len.false, first (goal.at.returns c).After-snapshot_len-attempt_len x)) l.sound.valid (omega (arith, c.if-attempts-attempt_len.false, second (goal.at.returns c).After-snapshot_len-attempt_len x l)) _ _ (first (goal.at.returns c).After-snapshot_len-attempt_len x) (second (goal.at.returns c).After-snapshot_len-attempt_len x l) _ _
+    both-written t w (lent (goal.at.returns c).Start) (omega (arith, c.if-cursor-cursor_len.false, first (goal.at.returns c).After-snapshot_len-attempt_len x)) l.sound.valid (omega (arith, c.if-attempts-attempt_len.false, second (goal.at.returns c).After-snapshot_len-attempt_len x (counted (goal.at.returns c).After-all_counts_in_place-counts x l))) _ _ (first (goal.at.returns c).After-snapshot_len-attempt_len x) (second (goal.at.returns c).After-snapshot_len-attempt_len x (counted (goal.at.returns c).After-all_counts_in_place-counts x l)) _ _
     c.encode_in_place.ensures (c.encode_counts.ensures ∙ counts)
