@@ -5,7 +5,6 @@ use mathlib.Core.Path.{◌≡◌, refl, sym, ap, subst, ◌∙◌}
 use mathlib.Core.Bool.{Bool, true, false, not, true≢false}
 use mathlib.Core.List.{List, [], ◌∷◌}
 use mathlib.Core.Option.{none}
-use lib.Dec.{T}
 use lib.ListN.{length, drop, get_or, set, length-drop, length-map, get_or-map}
 use Rattle.types.specs.Lists.{numbers_of}
 use Rattle.types.specs.declared.Offset.{Offset}
@@ -222,14 +221,8 @@ numbers-long ps = length-map ps (λ (p : Offset). p.0)
 pub number-at : (ps : List Offset) (i : ℕ) (d : Offset) → get_or (numbers_of ps) i d.0 ≡ (get_or ps i d).0
 number-at ps i d = get_or-map (λ (p : Offset). p.0) ps i d
 
-true_of : (b : Bool) → T b → b ≡ true
-true_of true h = refl
+pub byte-written : (z r : PlanWalk) (out : List ℕ) → z.answering ≡ true → bytes_in z r out ≡ set out z.place r.byte
+byte-written z r out h = rw h
 
-false_of : (b : Bool) → T (not b) → b ≡ false
-false_of false h = refl
-
-pub byte-written : (z r : PlanWalk) (out : List ℕ) → T z.answering → bytes_in z r out ≡ set out z.place r.byte
-byte-written z r out h = rw (true_of z.answering h)
-
-pub no-byte-written : (z r : PlanWalk) (out : List ℕ) → T (not z.answering) → bytes_in z r out ≡ out
-no-byte-written z r out h = rw (false_of z.answering h)
+pub no-byte-written : (z r : PlanWalk) (out : List ℕ) → z.answering ≡ false → bytes_in z r out ≡ out
+no-byte-written z r out h = rw h

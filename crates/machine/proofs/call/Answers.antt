@@ -6,26 +6,16 @@ use Rattle.machine.proofs.call.Goals as goal
 
 pub returns-in-Ask : goal.returns-in-Ask
 returns-in-Ask c =
-    let k = c.before.before in
-    let g = k.before.before.before in
-    let s = g.before.before.before.before in
-    called_as (length s.args.out.now) g.in-Ask.is (k.on_state.ensures s.args.area.now)
+    called_as (length c.args.out.now) c.in-Ask.is (c.on_state.ensures c.args.area.now)
 
 pub returns-in-Begin : goal.returns-in-Begin
 returns-in-Begin c =
-    let g = c.before.before in
-    let s = g.before.before.before.before in
-    called_as (length s.args.out.now) g.in-Begin.is (c.begin.ensures s.args.area.now s.args.out.now)
+    called_as (length c.args.out.now) c.in-Begin.is (c.begin.ensures c.args.area.now c.args.out.now)
 
 pub returns-in-Step : goal.returns-in-Step
 returns-in-Step c =
-    let k = c.before.before in
-    let g = k.before.before in
-    let s = g.before.before.before.before in
-    called_as (length s.args.out.now) g.in-Step.is (k.step.ensures s.args.out.now)
+    called_as (length c.args.out.now) c.in-Step.is (c.step.ensures c.args.out.now)
 
 pub returns-in-Restart : goal.returns-in-Restart
 returns-in-Restart c =
-    let g = c.before.before in
-    let s = g.before.before.before.before in
-    called_as (length s.args.out.now) g.in-Restart.is (c.restart.ensures s.args.out.now)
+    called_as (length c.args.out.now) c.in-Restart.is (c.restart.ensures c.args.out.now)

@@ -12,8 +12,7 @@ use Rattle.sectors.proofs.is_begun.Goals as goal
 
 pub slice_bounds-is_head-end : goal.slice_bounds-is_head-end
 slice_bounds-is_head-end c =
-    let s = c.before.before in
-    sym (length-take-le 512 s.args.area.now (omega (arith, s.requires)))
+    sym (length-take-le 512 c.args.area.now (omega (arith, c.requires)))
 
 pub returns-then-is_head : goal.returns-then-is_head
 returns-then-is_head c = rw (front-block c.args.area.now, sym c.is_head.ensures ∙ c.if-is_head.true)
@@ -21,6 +20,5 @@ returns-then-is_head c = rw (front-block c.args.area.now, sym c.is_head.ensures 
 pub returns : goal.returns
 returns c =
     let a = c.args.area.now in
-    let first = c.before.before in
-    rw (front-block a, sym first.is_head.ensures ∙ first.if-is_head.false)
+    rw (front-block a, sym c.is_head.ensures ∙ c.if-is_head.false)
     (c.is_head-2.ensures ∙ ap (is_kind 1) (part-is a (length a / 1024)))

@@ -5,7 +5,7 @@ use borrow.Author.Rules.{rules}
 use Rattle.sectors.proofs.is_blank.Goals as goal
 
 pub returns-then-not-all_zero : goal.returns-then-not-all_zero
-returns-then-not-all_zero c = rw (sym c.all_zero.ensures ∙ not-true _ c.if-not-all_zero.true)
+returns-then-not-all_zero c = rw (sym c.all_zero.ensures ∙ c.if-not-all_zero.true)
 
 pub returns : goal.returns
-returns c = rw (sym c.all_zero.ensures ∙ not-false _ c.if-not-all_zero.false) c.all_zero-2.ensures
+returns c = rw (sym c.all_zero.ensures ∙ c.if-not-all_zero.false) c.all_zero-2.ensures

@@ -11,12 +11,10 @@ use Rattle.sectors.proofs.put_front.Goals as goal
 
 pub slice_bounds-write_bytes-end : goal.slice_bounds-write_bytes-end
 slice_bounds-write_bytes-end c =
-    let s = c.before.before.before.before in
-    sym (length-take-le 512 s.args.sector.now s.requires.1)
+    sym (length-take-le 512 c.args.sector.now c.requires.1)
 
 pub returns : goal.returns
 returns c =
-    let s = c.before.before.before.before.before.before.before in
-    let whole : length (take 512 s.args.sector.now) ≡ 512 = length-take-le 512 s.args.sector.now s.requires.1 in
-    wrote (512 * s.args.at) (take 512 s.args.sector.now) s.args.area.now c.write_bytes.ensures (omega (arith, s.requires.0))
-    ∙ block-over s.args.area.now (take 512 s.args.sector.now) s.args.at whole
+    let whole : length (take 512 c.args.sector.now) ≡ 512 = length-take-le 512 c.args.sector.now c.requires.1 in
+    wrote (512 * c.args.at) (take 512 c.args.sector.now) c.args.area.now c.write_bytes.ensures (omega (arith, c.requires.0))
+    ∙ block-over c.args.area.now (take 512 c.args.sector.now) c.args.at whole

@@ -9,6 +9,5 @@ use Rattle.sectors.proofs.put_unread.Goals as goal
 
 pub returns : goal.returns
 returns c =
-    let s = c.before.before.before.before.before.before in
-    wrote (512 * s.args.at) unread s.args.area.now c.write_bytes.ensures s.requires
-    ∙ block-over s.args.area.now unread s.args.at refl
+    wrote (512 * c.args.at) unread c.args.area.now c.write_bytes.ensures c.requires
+    ∙ block-over c.args.area.now unread c.args.at refl

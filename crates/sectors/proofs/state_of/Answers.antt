@@ -12,27 +12,19 @@ returns-then-number-eq1 c = marked-unfinished _ _ (sym c.mark_of-number.ensures 
 
 pub returns-then-is_blank : goal.returns-then-is_blank
 returns-then-is_blank c =
-    let second = c.before.before in
-    let first = second.before in
-    let number = first.mark_of-number.ensures in
-    free _ _ (λ e. first.if-number-eq2.false (number ∙ e)) (λ e. second.if-number-eq1.false (number ∙ e)) (sym c.is_blank.ensures ∙ c.if-is_blank.true)
+    let number = c.mark_of-number.ensures in
+    free _ _ (λ e. c.if-number-eq2.false (number ∙ e)) (λ e. c.if-number-eq1.false (number ∙ e)) (sym c.is_blank.ensures ∙ c.if-is_blank.true)
 
 pub returns-then-is_begun : goal.returns-then-is_begun
 returns-then-is_begun c =
-    let third = c.before.before in
-    let second = third.before.before in
-    let first = second.before in
-    let number = first.mark_of-number.ensures in
-    begun _ _ (λ e. first.if-number-eq2.false (number ∙ e)) (λ e. second.if-number-eq1.false (number ∙ e))
-    (sym third.is_blank.ensures ∙ third.if-is_blank.false)
+    let number = c.mark_of-number.ensures in
+    begun _ _ (λ e. c.if-number-eq2.false (number ∙ e)) (λ e. c.if-number-eq1.false (number ∙ e))
+    (sym c.is_blank.ensures ∙ c.if-is_blank.false)
     (sym c.is_begun.ensures ∙ c.if-is_begun.true)
 
 pub returns : goal.returns
 returns c =
-    let third = c.before.before in
-    let second = third.before.before in
-    let first = second.before in
-    let number = first.mark_of-number.ensures in
-    not_begun _ _ (λ e. first.if-number-eq2.false (number ∙ e)) (λ e. second.if-number-eq1.false (number ∙ e))
-    (sym third.is_blank.ensures ∙ third.if-is_blank.false)
+    let number = c.mark_of-number.ensures in
+    not_begun _ _ (λ e. c.if-number-eq2.false (number ∙ e)) (λ e. c.if-number-eq1.false (number ∙ e))
+    (sym c.is_blank.ensures ∙ c.if-is_blank.false)
     (sym c.is_begun.ensures ∙ c.if-is_begun.false)

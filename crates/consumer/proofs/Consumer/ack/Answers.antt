@@ -10,16 +10,13 @@ use Rattle.consumer.proofs.Consumer.ack.Goals as goal
 use Rattle.consumer.proofs.Consumer.ack.Goals.{Start}
 
 whole : (s : Start) → Whole s.args.self
-whole s = record { full = table-full s.args.self.table _ s.well-formed.0.1.1.1.0; sound = s.requires }
+whole s = record { full = table-full s.args.self.table _ s.well_formed.0.1.1.1.0; sound = s.requires }
 
 pub settle_in_place-done-requires : goal.settle_in_place-done-requires
 settle_in_place-done-requires c =
-    let s = c.before.before.before.before.before.before.before.before.before.before.before.before.before.before.before.before.before in
-    (cursor-whole s.args.self.cursor _ s.well-formed.0.1.1.0 s.requires.cursor, s.requires.table.len)
+    (cursor-whole c.args.self.cursor _ c.well_formed.0.1.1.0 c.requires.cursor, c.requires.table.len)
 
 pub returns : goal.returns
 returns c =
-    let k = c.before in
-    let s = k.before.before.before.before.before.before.before.before.before.before.before.before.before.before.before.before.before.before in
-    let x = s.args.self in
-    subst (λ (y : Consumer). Answers (settle_of k.settle_in_place-done.result.answer) x y (ack (view x) s.args.worker s.args.token.offset.0 s.args.token.generation.0)) (sym c.with_both.ensures) (k.settle_in_place-done.ensures x (whole (goal.at.returns c).Start))
+    let x = c.args.self in
+    subst (λ (y : Consumer). Answers (settle_of c.settle_in_place-done.result.answer) x y (ack (view x) c.args.worker c.args.token.offset.0 c.args.token.generation.0)) (sym c.with_both.ensures) (c.settle_in_place-done.ensures x (whole (goal.at.returns c).Start))

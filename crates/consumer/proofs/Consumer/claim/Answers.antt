@@ -11,16 +11,13 @@ use Rattle.consumer.proofs.Consumer.claim.Goals as goal
 use Rattle.consumer.proofs.Consumer.claim.Goals.{Start}
 
 whole : (s : Start) → Whole s.args.self
-whole s = record { full = table-full s.args.self.table _ s.well-formed.0.1.1.1.0; sound = s.requires }
+whole s = record { full = table-full s.args.self.table _ s.well_formed.0.1.1.1.0; sound = s.requires }
 
 pub claim_in_place-done-requires : goal.claim_in_place-done-requires
 claim_in_place-done-requires c =
-    let s = c.before.before.before.before.before.before.before.before.before.before.before.before.before.before.before.before.before.before.before.before.before.before.before.before.before.before in
-    (cursor-whole s.args.self.cursor _ s.well-formed.0.1.1.0 s.requires.cursor, table-whole (whole (goal.at.claim_in_place-done-requires c).Start))
+    (cursor-whole c.args.self.cursor _ c.well_formed.0.1.1.0 c.requires.cursor, table-whole (whole (goal.at.claim_in_place-done-requires c).Start))
 
 pub returns : goal.returns
 returns c =
-    let k = c.before in
-    let s = k.before.before.before.before.before.before.before.before.before.before.before.before.before.before.before.before.before.before.before.before.before.before.before.before.before.before.before in
-    let x = s.args.self in
-    subst (λ (y : Consumer). Answers (claim_of k.claim_in_place-done.result.answer) x y (claim (view x) s.args.worker s.args.offset.0 s.args.now)) (sym c.with_table.ensures) (k.claim_in_place-done.ensures x (whole (goal.at.returns c).Start))
+    let x = c.args.self in
+    subst (λ (y : Consumer). Answers (claim_of c.claim_in_place-done.result.answer) x y (claim (view x) c.args.worker c.args.offset.0 c.args.now)) (sym c.with_table.ensures) (c.claim_in_place-done.ensures x (whole (goal.at.returns c).Start))

@@ -10,16 +10,13 @@ use Rattle.consumer.proofs.Consumer.commit.Goals as goal
 use Rattle.consumer.proofs.Consumer.commit.Goals.{Start}
 
 whole : (s : Start) → Whole s.args.self
-whole s = record { full = table-full s.args.self.table _ s.well-formed.0.1.1.1.0; sound = s.requires }
+whole s = record { full = table-full s.args.self.table _ s.well_formed.0.1.1.1.0; sound = s.requires }
 
 pub commit_in_place-left-requires : goal.commit_in_place-left-requires
 commit_in_place-left-requires c =
-    let s = c.before.before.before.before.before.before.before.before.before.before.before.before.before.before.before in
-    (cursor-whole s.args.self.cursor _ s.well-formed.0.1.1.0 s.requires.cursor, s.requires.table.len, s.requires.table.carried-len)
+    (cursor-whole c.args.self.cursor _ c.well_formed.0.1.1.0 c.requires.cursor, c.requires.table.len, c.requires.table.carried-len)
 
 pub returns : goal.returns
 returns c =
-    let k = c.before in
-    let s = k.before.before.before.before.before.before.before.before.before.before.before.before.before.before.before.before in
-    let x = s.args.self in
-    subst (λ (y : Consumer). Commits (commit_of k.commit_in_place-left.result.answer) x y (commit (view x) s.args.worker s.args.bound.0)) (sym c.with_both.ensures) (k.commit_in_place-left.ensures x (whole (goal.at.returns c).Start))
+    let x = c.args.self in
+    subst (λ (y : Consumer). Commits (commit_of c.commit_in_place-left.result.answer) x y (commit (view x) c.args.worker c.args.bound.0)) (sym c.with_both.ensures) (c.commit_in_place-left.ensures x (whole (goal.at.returns c).Start))

@@ -11,16 +11,13 @@ use Rattle.consumer.proofs.Consumer.nack.Goals as goal
 use Rattle.consumer.proofs.Consumer.nack.Goals.{Start}
 
 whole : (s : Start) → Whole s.args.self
-whole s = record { full = table-full s.args.self.table _ s.well-formed.0.1.1.1.0; sound = s.requires }
+whole s = record { full = table-full s.args.self.table _ s.well_formed.0.1.1.1.0; sound = s.requires }
 
 pub nack_in_place-done-requires : goal.nack_in_place-done-requires
 nack_in_place-done-requires c =
-    let s = c.before.before.before.before.before.before.before.before.before.before.before.before.before.before.before.before.before.before.before in
-    (record { full = backoffs-full s.args.self.settings _ s.well-formed.0.1.1.1.1.1.1.1.0; few = s.requires.settings.delivery.few }, s.requires.table.len)
+    (record { full = backoffs-full c.args.self.settings _ c.well_formed.0.1.1.1.1.1.1.1.0; few = c.requires.settings.delivery.few }, c.requires.table.len)
 
 pub returns : goal.returns
 returns c =
-    let k = c.before.before in
-    let s = k.before.before.before.before.before.before.before.before.before.before.before.before.before.before.before.before.before.before.before.before in
-    let x = s.args.self in
-    subst (λ (y : Consumer). Answers (nack_of k.nack_in_place-done.result.answer) x y (nack (view x) s.args.worker s.args.token.offset.0 s.args.token.generation.0 s.args.now (delay_of s.args.delay))) (sym c.with_table.ensures) (k.nack_in_place-done.ensures x (whole (goal.at.returns c).Start))
+    let x = c.args.self in
+    subst (λ (y : Consumer). Answers (nack_of c.nack_in_place-done.result.answer) x y (nack (view x) c.args.worker c.args.token.offset.0 c.args.token.generation.0 c.args.now (delay_of c.args.delay))) (sym c.with_table.ensures) (c.nack_in_place-done.ensures x (whole (goal.at.returns c).Start))

@@ -5,11 +5,8 @@ use Rattle.consumer.proofs.Consumer.plan_numbers.Goals as goal
 
 pub plan_in_place-requires : goal.plan_in_place-requires
 plan_in_place-requires c =
-    let s = c.before.before.before.before.before.before.before in
-    cursor-whole s.args.self.cursor _ s.well-formed.0.1.1.0 s.requires.cursor
+    cursor-whole c.args.self.cursor _ c.well_formed.0.1.1.0 c.requires.cursor
 
 pub returns : goal.returns
 returns c =
-    let k = c.before.before in
-    let s = k.before.before.before.before.before.before.before.before in
-    k.plan_in_place.ensures s.args.self
+    c.plan_in_place.ensures c.args.self

@@ -10,11 +10,9 @@ use Rattle.consumer.proofs.Consumer.progress.Goals as goal
 use Rattle.consumer.proofs.Consumer.progress.Goals.{Start}
 
 whole : (s : Start) → Whole s.args.self
-whole s = record { full = table-full s.args.self.table _ s.well-formed.0.1.1.1.0; sound = s.requires }
+whole s = record { full = table-full s.args.self.table _ s.well_formed.0.1.1.1.0; sound = s.requires }
 
 pub returns : goal.returns
 returns c =
-    let k = c.before in
-    let s = k.before.before.before.before.before.before.before.before.before.before.before.before.before.before.before.before.before.before.before in
-    let x = s.args.self in
-    subst (λ (y : Consumer). Answers (progress_of k.progress_in_place-answer.result) x y (progress (view x) s.args.worker s.args.token.offset.0 s.args.token.generation.0 s.args.now)) (sym c.with_table.ensures) (k.progress_in_place-answer.ensures x (whole (goal.at.returns c).Start))
+    let x = c.args.self in
+    subst (λ (y : Consumer). Answers (progress_of c.progress_in_place-answer.result) x y (progress (view x) c.args.worker c.args.token.offset.0 c.args.token.generation.0 c.args.now)) (sym c.with_table.ensures) (c.progress_in_place-answer.ensures x (whole (goal.at.returns c).Start))

@@ -17,7 +17,7 @@ pub returns-in-NotPermitted : goal.returns-in-NotPermitted
 returns-in-NotPermitted c = rw (sym (sym (ap permission_of c.in-NotPermitted.is) ∙ c.permission_of-permission.ensures))
 
 -- the worker may look
-open-to : (d : In-Granted) → let s = d.before.before.before.before.before in first (call_rows (view s.args.self) s.args.worker looking) ≡ none
+open-to : (d : In-Granted) → first (call_rows (view d.args.self) d.args.worker looking) ≡ none
 open-to d = sym (sym (ap permission_of d.in-Granted.is) ∙ d.permission_of-permission.ensures)
 
 pub returns-in-Filled : goal.returns-in-Filled

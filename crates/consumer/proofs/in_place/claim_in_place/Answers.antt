@@ -20,43 +20,34 @@ use Rattle.consumer.proofs.in_place.claim_in_place.Goals.{After-claim_test-test,
 
 abbrev made : Start → Consumer → Consumer
 made s =
-    claiming s.args.rights.now s.args.hours s.args.ceiling s.args.max_deliver_lem s.args.threshold (ack_cursor s.args.committed s.args.starts.now s.args.ends.now s.args.runs)
+    claiming s.args.rights.now s.args.hours s.args.ceiling s.args.max_deliver s.args.threshold (ack_cursor s.args.committed s.args.starts.now s.args.ends.now s.args.runs)
     (gathered s.args.config s.args.len s.args.carried_len s.args.next_generation s.args.redeliveries s.args.offsets.now s.args.slots.now s.args.generations.now s.args.attempt_starts.now s.args.deadlines.now s.args.deliveries.now s.args.workers.now s.args.carried_offsets.now s.args.carried_counts.now)
 
 abbrev start : After-claim_test-test → Start
-start k = k.before.before.before.before.before.before
+start k = k.before
 
 pub returns-in-Refused : goal.returns-in-Refused
 returns-in-Refused c x w =
-    let o = c.before in
-    let k = o.before.before in
-    let s = start (goal.at.returns-in-Refused c).After-claim_test-test in
-    claim-refused (made (goal.at.returns-in-Refused c).Start x) w.sound s.args.worker s.args.offset s.args.now o.in-Refused.answer
-    (sym (ap test_of o.in-Refused.is) ∙ k.claim_test-test.ensures.0.is (made (goal.at.returns-in-Refused c).Start x) w)
+    claim-refused (made (goal.at.returns-in-Refused c).Start x) w.sound c.args.worker c.args.offset c.args.now c.in-Refused.answer
+    (sym (ap test_of c.in-Refused.is) ∙ c.claim_test-test.ensures.0.is (made (goal.at.returns-in-Refused c).Start x) w)
 
 -- the test that an open claim passed
 abbrev tested : In-Open → After-claim_test-test
-tested k = k.before.before.before
+tested k = k.before
 
 -- a worker that may claim is one of the eight
 pub overflow_cast-worker : goal.overflow_cast-worker
-overflow_cast-worker c = omega (arith, (tested c).claim-test.ensures.0.known (ap test_of c.in-Open.is))
+overflow_cast-worker c = omega (arith, c.claim_test-test.ensures.0.known (ap test_of c.in-Open.is))
 
 pub claim_at-claimed-requires : goal.claim_at-claimed-requires
 claim_at-claimed-requires c =
-    let k = c.before.before.before.before.before.before.before.before.before in
-    let s = start (tested (goal.at.claim_at-claimed-requires c).In-Open) in
-    (s.requires.1, subst (OpenAt s.args.offset (take s.args.len s.args.offsets.now)) k.in-Open.is (tested (goal.at.claim_at-claimed-requires c).In-Open).claim-test.ensures.1)
+    (c.requires.1, subst (OpenAt c.args.offset (take c.args.len c.args.offsets.now)) c.in-Open.is c.claim_test-test.ensures.1)
 
 fits : (s : Start) → s.args.offset ≤ MAX
 fits s = omega arith
 
 pub returns : goal.returns
 returns c x w =
-    let g = c.before in
-    let e = g.before.before.before.before.before.before.before.before.before.before in
-    let k = tested (goal.at.returns c).In-Open in
-    let s = start (goal.at.returns c).After-claim_test-test in
-    claim-granted (made (goal.at.returns c).Start x) w.sound s.args.worker s.args.offset s.args.now (fits (goal.at.returns c).Start)
-    (open_passed (claim_table (view (made (goal.at.returns c).Start x)) s.args.worker s.args.offset s.args.now) (sym (ap test_of e.in-Open.is) ∙ k.claim_test-test.ensures.0.is (made (goal.at.returns c).Start x) w))
-    (answers.claim_of g.claim_at-claimed.result.outcome) _ g.claim_at-claimed.ensures c.handed_out.result c.handed_out.ensures
+    claim-granted (made (goal.at.returns c).Start x) w.sound c.args.worker c.args.offset c.args.now (fits (goal.at.returns c).Start)
+    (open_passed (claim_table (view (made (goal.at.returns c).Start x)) c.args.worker c.args.offset c.args.now) (sym (ap test_of c.in-Open.is) ∙ c.claim_test-test.ensures.0.is (made (goal.at.returns c).Start x) w))
+    (answers.claim_of c.claim_at-claimed.result.outcome) _ c.claim_at-claimed.ensures c.handed_out.result c.handed_out.ensures

@@ -25,21 +25,14 @@ made s =
 
 pub returns-in-Answered : goal.returns-in-Answered
 returns-in-Answered c x w =
-    let o = c.before in
-    let k = o.before.before in
-    let s = k.before in
-    commit-answered (made (goal.at.returns-in-Answered c).Start x) w.sound (commit (view (made (goal.at.returns-in-Answered c).Start x)) s.args.worker s.args.bound) (commit_of o.in-Answered.answer)
-    (sym (ap (λ (y : CommitTest). decided y (view (made (goal.at.returns-in-Answered c).Start x)) s.args.bound) o.in-Answered.is) ∙ k.commit_test-test.ensures (made (goal.at.returns-in-Answered c).Start x) w)
+    commit-answered (made (goal.at.returns-in-Answered c).Start x) w.sound (commit (view (made (goal.at.returns-in-Answered c).Start x)) c.args.worker c.args.bound) (commit_of c.in-Answered.answer)
+    (sym (ap (λ (y : CommitTest). decided y (view (made (goal.at.returns-in-Answered c).Start x)) c.args.bound) c.in-Answered.is) ∙ c.commit_test-test.ensures (made (goal.at.returns-in-Answered c).Start x) w)
 
 fits : (s : Start) → s.args.bound ≤ MAX
 fits s = omega arith
 
 pub returns : goal.returns
 returns c x w =
-    let m = c.before.before.before.before.before in
-    let e = m.before.before.before in
-    let k = e.before.before in
-    let s = k.before in
-    commit-done (made (goal.at.returns c).Start x) w.sound (commit (view (made (goal.at.returns c).Start x)) s.args.worker s.args.bound) s.args.bound
-    (sym (ap (λ (y : CommitTest). decided y (view (made (goal.at.returns c).Start x)) s.args.bound) e.in_default.is) ∙ k.commit_test-test.ensures (made (goal.at.returns c).Start x) w) (fits (goal.at.returns c).Start)
-    (done m.commit_in_place-moved.result.advanced) _ m.commit_in_place-moved.ensures _ (c.release_below_in_place-released.ensures (made (goal.at.returns c).Start x).table (table-whole w))
+    commit-done (made (goal.at.returns c).Start x) w.sound (commit (view (made (goal.at.returns c).Start x)) c.args.worker c.args.bound) c.args.bound
+    (sym (ap (λ (y : CommitTest). decided y (view (made (goal.at.returns c).Start x)) c.args.bound) c.in_default.is) ∙ c.commit_test-test.ensures (made (goal.at.returns c).Start x) w) (fits (goal.at.returns c).Start)
+    (done c.commit_in_place-moved.result.advanced) _ c.commit_in_place-moved.ensures _ (c.release_below_in_place-released.ensures (made (goal.at.returns c).Start x).table (table-whole w))

@@ -25,28 +25,18 @@ answers e = ap (λ (n : ℕ). done (n ∷ [])) e
 
 pub returns-in-Some : goal.returns-in-Some
 returns-in-Some c x w _ =
-    let k = c.before in
-    let l = k.before.before in
-    let s = l.before in
     answers
-    (sym (lease-counted (view (made (goal.at.returns-in-Some c).Start x)) w.sound.valid s.args.offset k.in-Some.count
-    (found-count _ (l.count_in_place-leased.ensures (made (goal.at.returns-in-Some c).Start x).table (table-whole w)) k.in-Some.is)))
+    (sym (lease-counted (view (made (goal.at.returns-in-Some c).Start x)) w.sound.valid c.args.offset c.in-Some.count
+    (found-count _ (c.count_in_place-leased.ensures (made (goal.at.returns-in-Some c).Start x).table (table-whole w)) c.in-Some.is)))
 
 pub returns-in_default-carried : goal.returns-in_default-carried
 returns-in_default-carried c x w _ =
-    let n = c.before.before in
-    let t = n.before in
-    let l = t.before.before in
-    let s = l.before in
     answers
-    (no-count (view (made (goal.at.returns-in_default-carried c).Start x)) w.sound.valid s.args.offset (found.no-count _ (l.count_in_place-leased.ensures (made (goal.at.returns-in_default-carried c).Start x).table (table-whole w)) t.in_default.is)
-    (found.no-count _ (n.carried_in_place-carried.ensures (made (goal.at.returns-in_default-carried c).Start x).table (table-whole w)) c.in_default-carried.is))
+    (no-count (view (made (goal.at.returns-in_default-carried c).Start x)) w.sound.valid c.args.offset (found.no-count _ (c.count_in_place-leased.ensures (made (goal.at.returns-in_default-carried c).Start x).table (table-whole w)) c.in_default.is)
+    (found.no-count _ (c.carried_in_place-carried.ensures (made (goal.at.returns-in_default-carried c).Start x).table (table-whole w)) c.in_default-carried.is))
 
 pub returns : goal.returns
 returns c x w _ =
-    let k = c.before in
-    let n = k.before.before in
-    let s = n.before.before.before.before in
     answers
-    (sym (carried-count (view (made (goal.at.returns c).Start x)) w.sound.valid s.args.offset k.in-Some-carried.count
-    (found-count _ (n.carried_in_place-carried.ensures (made (goal.at.returns c).Start x).table (table-whole w)) k.in-Some-carried.is)))
+    (sym (carried-count (view (made (goal.at.returns c).Start x)) w.sound.valid c.args.offset c.in-Some-carried.count
+    (found-count _ (c.carried_in_place-carried.ensures (made (goal.at.returns c).Start x).table (table-whole w)) c.in-Some-carried.is)))

@@ -28,7 +28,7 @@ made s =
     s.args.slots.now s.args.generations.now s.args.deadlines.now s.args.deliveries.now s.args.workers.now
 
 abbrev start : In-Held → Start
-start k = k.before.before.before.before.before
+start k = k.before.before
 
 -- the token's rows are passed, and this is the count of its lease
 owned : (k : In-Held) (x : Consumer) → let s = start k in Whole (made s x)
@@ -48,45 +48,30 @@ used k = let s = start k in owned-used s.args.offset s.args.generation s.args.le
 
 pub returns-in-Refused : goal.returns-in-Refused
 returns-in-Refused c x w =
-    let o = c.before.before in
-    let k = o.before.before in
-    let s = k.before.before in
-    let r = token_refusal_of o.in-Refused.refusal in
-    subst (λ (y : Result ℕ). Answers y (made (goal.at.returns-in-Refused c).Start x) (made (goal.at.returns-in-Refused c).Start x) (nack (view (made (goal.at.returns-in-Refused c).Start x)) s.args.worker s.args.offset s.args.generation s.args.now (delay_of s.args.delay)))
+    let r = token_refusal_of c.in-Refused.refusal in
+    subst (λ (y : Result ℕ). Answers y (made (goal.at.returns-in-Refused c).Start x) (made (goal.at.returns-in-Refused c).Start x) (nack (view (made (goal.at.returns-in-Refused c).Start x)) c.args.worker c.args.offset c.args.generation c.args.now (delay_of c.args.delay)))
     (sym c.not_nacked.ensures)
-    (nack-refused (made (goal.at.returns-in-Refused c).Start x) w.sound s.args.worker s.args.offset s.args.generation s.args.now (delay_of s.args.delay) r
-    (first-refused (token_rows (view (made (goal.at.returns-in-Refused c).Start x)) s.args.worker rights.nacking s.args.offset s.args.generation) (attempt_of (view (made (goal.at.returns-in-Refused c).Start x)) s.args.offset) r
-    (sym (ap token_of o.in-Refused.is) ∙ k.token_test-test.ensures.0 (made (goal.at.returns-in-Refused c).Start x) w rights.nacking refl)))
+    (nack-refused (made (goal.at.returns-in-Refused c).Start x) w.sound c.args.worker c.args.offset c.args.generation c.args.now (delay_of c.args.delay) r
+    (first-refused (token_rows (view (made (goal.at.returns-in-Refused c).Start x)) c.args.worker rights.nacking c.args.offset c.args.generation) (attempt_of (view (made (goal.at.returns-in-Refused c).Start x)) c.args.offset) r
+    (sym (ap token_of c.in-Refused.is) ∙ c.token_test-test.ensures.0 (made (goal.at.returns-in-Refused c).Start x) w rights.nacking refl)))
 
 pub returns-then-next_generation-eq-MAX : goal.returns-then-next_generation-eq-MAX
 returns-then-next_generation-eq-MAX c x w =
-    let k = c.before in
-    let s = start (goal.at.returns-then-next_generation-eq-MAX c).In-Held in
-    nack_exhausted (made (goal.at.returns-then-next_generation-eq-MAX c).Start x) w.sound s.args.worker s.args.offset s.args.generation s.args.now (delay_of s.args.delay)
+    nack_exhausted (made (goal.at.returns-then-next_generation-eq-MAX c).Start x) w.sound c.args.worker c.args.offset c.args.generation c.args.now (delay_of c.args.delay)
     (owned (goal.at.returns-then-next_generation-eq-MAX c).In-Held x w).0 c.if-next_generation-eq-MAX.true
 
 pub returns-then-ceiling-next_generation : goal.returns-then-ceiling-next_generation
 returns-then-ceiling-next_generation c x w =
-    let e = c.before in
-    let k = e.before in
-    let s = start (goal.at.returns-then-ceiling-next_generation c).In-Held in
-    nack-due (made (goal.at.returns-then-ceiling-next_generation c).Start x) w.sound s.args.worker s.args.offset s.args.generation s.args.now (delay_of s.args.delay)
-    (owned (goal.at.returns-then-ceiling-next_generation c).In-Held x w).0 e.if-next_generation-eq-MAX.false c.if-ceiling-next_generation.true
+    nack-due (made (goal.at.returns-then-ceiling-next_generation c).Start x) w.sound c.args.worker c.args.offset c.args.generation c.args.now (delay_of c.args.delay)
+    (owned (goal.at.returns-then-ceiling-next_generation c).In-Held x w).0 c.if-next_generation-eq-MAX.false c.if-ceiling-next_generation.true
 
 pub nack_at-nacked-requires : goal.nack_at-nacked-requires
-nack_at-nacked-requires c = let k = c.before.before.before.before.before.before.before in omega (arith, used (goal.at.nack_at-nacked-requires c).In-Held, (start (goal.at.nack_at-nacked-requires c).In-Held).requires.1)
+nack_at-nacked-requires c = omega (arith, used (goal.at.nack_at-nacked-requires c).In-Held, c.requires.1)
 
 pub returns : goal.returns
 returns c x w =
-    let n = c.before in
-    let m = n.before.before.before in
-    let d = m.before in
-    let f = d.before.before in
-    let e = f.before in
-    let k = e.before in
-    let s = start (goal.at.returns c).In-Held in
-    nack_requeued (made (goal.at.returns c).Start x) w.sound s.args.worker s.args.offset s.args.generation s.args.now k.in-Held.held.deliveries (delay_of s.args.delay)
-    (nack-passed (made (goal.at.returns c).Start x) w.sound s.args.worker s.args.offset s.args.generation s.args.now (delay_of s.args.delay) (owned (goal.at.returns c).In-Held x w).0 e.if-next_generation-eq-MAX.false f.if-ceiling-next_generation.false)
+    nack_requeued (made (goal.at.returns c).Start x) w.sound c.args.worker c.args.offset c.args.generation c.args.now c.in-Held.held.deliveries (delay_of c.args.delay)
+    (nack-passed (made (goal.at.returns c).Start x) w.sound c.args.worker c.args.offset c.args.generation c.args.now (delay_of c.args.delay) (owned (goal.at.returns c).In-Held x w).0 c.if-next_generation-eq-MAX.false c.if-ceiling-next_generation.false)
     (owned (goal.at.returns c).In-Held x w).1
-    d.nack_delay_in_place-capped_nanos.result d.nack_delay_in_place-capped_nanos.ensures m.delay_in_hours-delay_nanos.result m.delay_in_hours-delay_nanos.ensures (answers.nack_of n.nack_at-nacked.result.outcome) _
-    (n.nack_at-nacked.ensures (made (goal.at.returns c).Start x).table (table-whole w) s.args.offset s.args.generation (own (goal.at.returns c).In-Held)) (nack_of c.requeued.result) c.requeued.ensures
+    c.nack_delay_in_place-capped_nanos.result c.nack_delay_in_place-capped_nanos.ensures c.delay_in_hours-delay_nanos.result c.delay_in_hours-delay_nanos.ensures (answers.nack_of c.nack_at-nacked.result.outcome) _
+    (c.nack_at-nacked.ensures (made (goal.at.returns c).Start x).table (table-whole w) c.args.offset c.args.generation (own (goal.at.returns c).In-Held)) (nack_of c.requeued.result) c.requeued.ensures

@@ -26,7 +26,7 @@ made s =
     s.args.deliveries.now s.args.workers.now
 
 abbrev start : In-Held → Start
-start k = k.before.before.before.before
+start k = k.before.before
 
 -- where its lease stands
 own : (k : In-Held) → let s = start k in OwnedAt s.args.offset s.args.generation (take s.args.len s.args.offsets.now) s.args.slots.now s.args.generations.now k.in-Held.held.at
@@ -37,25 +37,19 @@ used k = let s = start k in owned-used s.args.offset s.args.generation s.args.le
 
 pub returns-in-Refused : goal.returns-in-Refused
 returns-in-Refused c x w =
-    let o = c.before.before in
-    let k = o.before.before in
-    let s = k.before in
-    let r = token_refusal_of o.in-Refused.refusal in
-    subst (λ (y : Result ℕ). Answers y (made (goal.at.returns-in-Refused c).Start x) (made (goal.at.returns-in-Refused c).Start x) (progress (view (made (goal.at.returns-in-Refused c).Start x)) s.args.worker s.args.offset s.args.generation s.args.now)) (sym c.not_extended.ensures)
-    (progress-refused (made (goal.at.returns-in-Refused c).Start x) w.sound s.args.worker s.args.offset s.args.generation s.args.now r
-    (first-refused (token_rows (view (made (goal.at.returns-in-Refused c).Start x)) s.args.worker rights.extending s.args.offset s.args.generation) (attempt_of (view (made (goal.at.returns-in-Refused c).Start x)) s.args.offset) r
-    (sym (ap token_of o.in-Refused.is) ∙ k.token_test-test.ensures.0 (made (goal.at.returns-in-Refused c).Start x) w rights.extending refl)))
+    let r = token_refusal_of c.in-Refused.refusal in
+    subst (λ (y : Result ℕ). Answers y (made (goal.at.returns-in-Refused c).Start x) (made (goal.at.returns-in-Refused c).Start x) (progress (view (made (goal.at.returns-in-Refused c).Start x)) c.args.worker c.args.offset c.args.generation c.args.now)) (sym c.not_extended.ensures)
+    (progress-refused (made (goal.at.returns-in-Refused c).Start x) w.sound c.args.worker c.args.offset c.args.generation c.args.now r
+    (first-refused (token_rows (view (made (goal.at.returns-in-Refused c).Start x)) c.args.worker rights.extending c.args.offset c.args.generation) (attempt_of (view (made (goal.at.returns-in-Refused c).Start x)) c.args.offset) r
+    (sym (ap token_of c.in-Refused.is) ∙ c.token_test-test.ensures.0 (made (goal.at.returns-in-Refused c).Start x) w rights.extending refl)))
 
 pub extend_at-outcome-requires : goal.extend_at-outcome-requires
-extend_at-outcome-requires c = let k = c.before in omega (arith, used (goal.at.extend_at-outcome-requires c).In-Held, (start (goal.at.extend_at-outcome-requires c).In-Held).requires)
+extend_at-outcome-requires c = omega (arith, used (goal.at.extend_at-outcome-requires c).In-Held, c.requires)
 
 pub returns : goal.returns
 returns c x w =
-    let t = c.before in
-    let k = t.before.before in
-    let s = start (goal.at.returns c).In-Held in
-    progress-is (made (goal.at.returns c).Start x) w.sound s.args.worker s.args.offset s.args.generation s.args.now
-    (test-passed (token_rows (view (made (goal.at.returns c).Start x)) s.args.worker rights.extending s.args.offset s.args.generation) _ (attempt_of (view (made (goal.at.returns c).Start x)) s.args.offset)
-    (sym (ap token_of k.in-Held.is) ∙ k.token_test-test.ensures.0 (made (goal.at.returns c).Start x) w rights.extending refl)).0
-    (extend_of t.extend_at-outcome.result) _
-    (t.extend_at-outcome.ensures (made (goal.at.returns c).Start x).table (table-whole w) s.args.offset s.args.generation (own (goal.at.returns c).In-Held)) (progress_of c.extended.result) c.extended.ensures
+    progress-is (made (goal.at.returns c).Start x) w.sound c.args.worker c.args.offset c.args.generation c.args.now
+    (test-passed (token_rows (view (made (goal.at.returns c).Start x)) c.args.worker rights.extending c.args.offset c.args.generation) _ (attempt_of (view (made (goal.at.returns c).Start x)) c.args.offset)
+    (sym (ap token_of c.in-Held.is) ∙ c.token_test-test.ensures.0 (made (goal.at.returns c).Start x) w rights.extending refl)).0
+    (extend_of c.extend_at-outcome.result) _
+    (c.extend_at-outcome.ensures (made (goal.at.returns c).Start x).table (table-whole w) c.args.offset c.args.generation (own (goal.at.returns c).In-Held)) (progress_of c.extended.result) c.extended.ensures

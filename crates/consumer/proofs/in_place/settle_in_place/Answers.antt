@@ -28,7 +28,7 @@ made s =
     s.args.slots.now s.args.generations.now s.args.deliveries.now s.args.workers.now
 
 abbrev start : In-Held → Start
-start k = k.before.before.before.before.before.before
+start k = k.before.before
 
 -- where its lease stands
 own : (k : In-Held) → let s = start k in OwnedAt s.args.offset s.args.generation (take s.args.len s.args.offsets.now) s.args.slots.now s.args.generations.now k.in-Held.held.at
@@ -39,14 +39,11 @@ used k = let s = start k in owned-used s.args.offset s.args.generation s.args.le
 
 pub returns-in-Refused : goal.returns-in-Refused
 returns-in-Refused c x w =
-    let o = c.before.before in
-    let k = o.before.before in
-    let s = k.before.before.before in
-    let r = token_refusal_of o.in-Refused.refusal in
-    subst (λ (y : Result (Unit {0})). Answers y (made (goal.at.returns-in-Refused c).Start x) (made (goal.at.returns-in-Refused c).Start x) (ack (view (made (goal.at.returns-in-Refused c).Start x)) s.args.worker s.args.offset s.args.generation)) (sym c.not_settled.ensures)
-    (ack-refused (made (goal.at.returns-in-Refused c).Start x) w.sound s.args.worker s.args.offset s.args.generation r
-    (first-refused (token_rows (view (made (goal.at.returns-in-Refused c).Start x)) s.args.worker rights.settling s.args.offset s.args.generation) (attempt_of (view (made (goal.at.returns-in-Refused c).Start x)) s.args.offset) r
-    (sym (ap token_of o.in-Refused.is) ∙ k.token_test-test.ensures.0 (made (goal.at.returns-in-Refused c).Start x) w rights.settling refl)))
+    let r = token_refusal_of c.in-Refused.refusal in
+    subst (λ (y : Result (Unit {0})). Answers y (made (goal.at.returns-in-Refused c).Start x) (made (goal.at.returns-in-Refused c).Start x) (ack (view (made (goal.at.returns-in-Refused c).Start x)) c.args.worker c.args.offset c.args.generation)) (sym c.not_settled.ensures)
+    (ack-refused (made (goal.at.returns-in-Refused c).Start x) w.sound c.args.worker c.args.offset c.args.generation r
+    (first-refused (token_rows (view (made (goal.at.returns-in-Refused c).Start x)) c.args.worker rights.settling c.args.offset c.args.generation) (attempt_of (view (made (goal.at.returns-in-Refused c).Start x)) c.args.offset) r
+    (sym (ap token_of c.in-Refused.is) ∙ c.token_test-test.ensures.0 (made (goal.at.returns-in-Refused c).Start x) w rights.settling refl)))
 
 -- the token's rows are passed
 owned : (k : In-Held) (x : Consumer) → let s = start k in Whole (made s x)
@@ -58,23 +55,14 @@ owned k x w =
 
 pub returns-then-is_shed : goal.returns-then-is_shed
 returns-then-is_shed c x w =
-    let q = c.before in
-    let a = q.before in
-    let k = a.before.before.before in
-    let s = start (goal.at.returns-then-is_shed c).In-Held in
-    ack-shed (made (goal.at.returns-then-is_shed c).Start x) w.sound s.args.worker s.args.offset s.args.generation (owned (goal.at.returns-then-is_shed c).In-Held x w)
-    (cursor.ack_of a.ack_in_place-noted.result.outcome) _ a.ack_in_place-noted.ensures (sym q.is_shed.ensures ∙ c.if-is_shed.true)
+    ack-shed (made (goal.at.returns-then-is_shed c).Start x) w.sound c.args.worker c.args.offset c.args.generation (owned (goal.at.returns-then-is_shed c).In-Held x w)
+    (cursor.ack_of c.ack_in_place-noted.result.outcome) _ c.ack_in_place-noted.ensures (sym c.is_shed.ensures ∙ c.if-is_shed.true)
 
 pub ack_at-left-requires : goal.ack_at-left-requires
-ack_at-left-requires c = let k = c.before.before.before.before.before.before.before in (used (goal.at.ack_at-left-requires c).In-Held, (start (goal.at.ack_at-left-requires c).In-Held).requires.1)
+ack_at-left-requires c = (used (goal.at.ack_at-left-requires c).In-Held, c.requires.1)
 
 pub returns : goal.returns
 returns c x w =
-    let f = c.before.before.before in
-    let q = f.before in
-    let a = q.before in
-    let k = a.before.before.before in
-    let s = start (goal.at.returns c).In-Held in
-    ack-settled (made (goal.at.returns c).Start x) w.sound s.args.worker s.args.offset s.args.generation (owned (goal.at.returns c).In-Held x w)
-    (cursor.ack_of a.ack_in_place-noted.result.outcome) _ a.ack_in_place-noted.ensures (sym q.is_shed.ensures ∙ f.if-is_shed.false)
-    (done tt) _ (c.ack_at-left.ensures (made (goal.at.returns c).Start x).table (table-whole w) s.args.offset s.args.generation (own (goal.at.returns c).In-Held))
+    ack-settled (made (goal.at.returns c).Start x) w.sound c.args.worker c.args.offset c.args.generation (owned (goal.at.returns c).In-Held x w)
+    (cursor.ack_of c.ack_in_place-noted.result.outcome) _ c.ack_in_place-noted.ensures (sym c.is_shed.ensures ∙ c.if-is_shed.false)
+    (done tt) _ (c.ack_at-left.ensures (made (goal.at.returns c).Start x).table (table-whole w) c.args.offset c.args.generation (own (goal.at.returns c).In-Held))

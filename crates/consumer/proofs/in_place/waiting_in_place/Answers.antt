@@ -8,7 +8,4 @@ use Rattle.consumer.proofs.in_place.waiting_in_place.Goals as goal
 
 pub returns : goal.returns
 returns c x w =
-    let l = c.before.before in
-    let k = l.before.before in
-    let s = k.before.before in
-    l.list_numbers.ensures ∙ ap (λ (y : List ℕ). listed y s.args.out.now) (k.waiting_list-list.ensures x w)
+    c.list_numbers.ensures ∙ ap (λ (y : List ℕ). listed y c.args.out.now) (c.waiting_list-list.ensures x w)

@@ -15,21 +15,13 @@ asked s x = view (planning s.args.rights.now (ack_cursor s.args.committed s.args
 
 pub returns-in-UnknownWorker : goal.returns-in-UnknownWorker
 returns-in-UnknownWorker c x =
-    let k = c.before.before in
-    let s = k.before.before.before in
-    plan-unknown (asked (goal.at.returns-in-UnknownWorker c).Start x) s.args.worker s.args.offsets.now s.args.out.now k.permission_of-permission.result k.permission_of-permission.ensures c.in-UnknownWorker.is
+    plan-unknown (asked (goal.at.returns-in-UnknownWorker c).Start x) c.args.worker c.args.offsets.now c.args.out.now c.permission_of-permission.result c.permission_of-permission.ensures c.in-UnknownWorker.is
 
 pub returns-in-NotPermitted : goal.returns-in-NotPermitted
 returns-in-NotPermitted c x =
-    let k = c.before.before in
-    let s = k.before.before.before in
-    plan_not_permitted (asked (goal.at.returns-in-NotPermitted c).Start x) s.args.worker s.args.offsets.now s.args.out.now k.permission_of-permission.result k.permission_of-permission.ensures c.in-NotPermitted.is
+    plan_not_permitted (asked (goal.at.returns-in-NotPermitted c).Start x) c.args.worker c.args.offsets.now c.args.out.now c.permission_of-permission.result c.permission_of-permission.ensures c.in-NotPermitted.is
 
 pub returns-in-Granted : goal.returns-in-Granted
 returns-in-Granted c x =
-    let b = c.before.before.before in
-    let t = b.before.before in
-    let k = t.before.before in
-    let s = k.before.before.before in
-    plan-permitted (asked (goal.at.returns-in-Granted c).Start x) s.args.worker s.args.offsets.now s.args.out.now k.permission_of-permission.result k.permission_of-permission.ensures t.in-Granted.is c.answer_of.result _
-    (plan-replied (asked (goal.at.returns-in-Granted c).Start x) s.args.worker s.args.offsets.now s.args.out.now _ _ c.answer_of.result (c.answer_of.ensures _) b.plan_in_place-planned.ensures)
+    plan-permitted (asked (goal.at.returns-in-Granted c).Start x) c.args.worker c.args.offsets.now c.args.out.now c.permission_of-permission.result c.permission_of-permission.ensures c.in-Granted.is c.answer_of.result _
+    (plan-replied (asked (goal.at.returns-in-Granted c).Start x) c.args.worker c.args.offsets.now c.args.out.now _ _ c.answer_of.result (c.answer_of.ensures _) c.plan_in_place-planned.ensures)

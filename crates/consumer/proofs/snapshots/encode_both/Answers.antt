@@ -27,20 +27,20 @@ abbrev given : Start → Consumer → Consumer
 given s =
     let a = s.args in
     encoding (ack_cursor a.committed a.starts.now a.ends.now a.runs)
-    (listing_all a.len a.carried-len a.offsets.now a.slots.now a.deliveries.now a.carried-offsets.now a.carried-counts.now)
+    (listing_all a.len a.carried_len a.offsets.now a.slots.now a.deliveries.now a.carried_offsets.now a.carried_counts.now)
 
 abbrev lent : Start → Snapshots
 lent s = snapshots s.args.cursor.now s.args.attempts.now
 
 -- the counts
-listed : (k : After-all_counts_in_place-counts) (x : Consumer) → let s = k.before.before.before in
+listed : (k : After-all_counts_in_place-counts) (x : Consumer) → let s = k.before.before.before.before in
     Whole (given s x) → ListsCounts k.all_counts_in_place-counts.result (all_attempt_counts (view (given s x)).table)
 listed k x l = k.all_counts_in_place-counts.ensures x.table (record { full = l.full; sound = l.sound.table })
 
 full : (k : After-all_counts_in_place-counts) → (length k.all_counts_in_place-counts.result.offsets ≡ 192) × (length k.all_counts_in_place-counts.result.attempts ≡ 192)
 full k = (search rules, search rules)
 
-counted : (k : After-all_counts_in_place-counts) (x : Consumer) → let s = k.before.before.before in
+counted : (k : After-all_counts_in_place-counts) (x : Consumer) → let s = k.before.before.before.before in
     Whole (given s x) → k.all_counts_in_place-counts.result.len ≡ length (all_attempt_counts (view (given s x)).table)
 counted k x l =
     let r = k.all_counts_in_place-counts.result in
@@ -49,22 +49,22 @@ counted k x l =
 
 few : (k : After-all_counts_in_place-counts) → k.all_counts_in_place-counts.result.len ≤ 128
 few k =
-    let s = k.before.before.before in
+    let s = k.before.before.before.before in
     let x = s.requires.consumer in
     omega (arith, counted k x s.requires.whole, counts-few (view (given s x)) s.requires.whole.sound.valid)
 
 -- the lengths of the two snapshots
-first : (n : After-snapshot_len-attempt_len) (x : Consumer) → let s = n.before.before.before.before.before in
-    n.snapshot_len-cursor_len.result ≡ length (exported (view (given s x))).cursor-1
+first : (n : After-snapshot_len-attempt_len) (x : Consumer) → let s = n.before.before.before.before.before.before in
+    n.snapshot_len-cursor_len.result ≡ length (exported (view (given s x))).cursor
 first n x =
-    let s = n.before.before.before.before.before in
-    omega (arith, n.snapshot_len-cursor_len.ensures, cursor-length (view (given s x)).cursor-1, runs-is (given s x).cursor s.requires.cursor)
+    let s = n.before.before.before.before.before.before in
+    omega (arith, n.snapshot_len-cursor_len.ensures, cursor-length (view (given s x)).cursor, runs-is (given s x).cursor s.requires.cursor)
 
-second : (n : After-snapshot_len-attempt_len) (x : Consumer) → let s = n.before.before.before.before.before in
-    Whole (given s x) → n.snapshot_len-attempt_len.result ≡ length (exported (view (given s x))).attempts-1
-second n x l =
-    let s = n.before.before.before.before.before in
-    omega (arith, n.snapshot_len-attempt_len.ensures, attempts-length 1 (all_attempt_counts (view (given s x)).table), counted n.before.before x l)
+second : (n : After-snapshot_len-attempt_len) (x : Consumer) → let s = n.before.before.before.before.before.before in
+    n.all_counts_in_place-counts.result.len ≡ length (all_attempt_counts (view (given s x)).table) → n.snapshot_len-attempt_len.result ≡ length (exported (view (given s x))).attempts
+second n x e =
+    let s = n.before.before.before.before.before.before in
+    omega (arith, n.snapshot_len-attempt_len.ensures, attempts-length 1 (all_attempt_counts (view (given s x)).table), e)
 
 pub all_counts_in_place-counts-requires : goal.all_counts_in_place-counts-requires
 all_counts_in_place-counts-requires c = c.requires.whole.sound.table.len
@@ -77,15 +77,11 @@ snapshot_len-attempt_len-requires c = few (goal.at.snapshot_len-attempt_len-requ
 
 pub returns-then-cursor-cursor_len : goal.returns-then-cursor-cursor_len
 returns-then-cursor-cursor_len c x l w =
-    let n = c.before in
-    let s = n.before.before.before.before.before in
     cursor-short (view (given (goal.at.returns-then-cursor-cursor_len c).Start x)) w (lent (goal.at.returns-then-cursor-cursor_len c).Start) (omega (arith, c.if-cursor-cursor_len.true, first (goal.at.returns-then-cursor-cursor_len c).After-snapshot_len-attempt_len x))
 
 pub returns-then-attempts-attempt_len : goal.returns-then-attempts-attempt_len
 returns-then-attempts-attempt_len c x l w =
-    let n = c.before.before in
-    let s = n.before.before.before.before.before in
-    attempts-short (view (given (goal.at.returns-then-attempts-attempt_len c).Start x)) w (lent (goal.at.returns-then-attempts-attempt_len c).Start) (omega (arith, c.if-cursor-cursor_len.false, first (goal.at.returns-then-attempts-attempt_len c).After-snapshot_len-attempt_len x)) (omega (arith, c.if-attempts-attempt_len.true, second (goal.at.returns-then-attempts-attempt_len c).After-snapshot_len-attempt_len x l))
+    attempts-short (view (given (goal.at.returns-then-attempts-attempt_len c).Start x)) w (lent (goal.at.returns-then-attempts-attempt_len c).Start) (omega (arith, c.if-cursor-cursor_len.false, first (goal.at.returns-then-attempts-attempt_len c).After-snapshot_len-attempt_len x)) (omega (arith, c.if-attempts-attempt_len.true, second (goal.at.returns-then-attempts-attempt_len c).After-snapshot_len-attempt_len x (counted (goal.at.returns-then-attempts-attempt_len c).After-all_counts_in_place-counts x l)))
 
 pub encode_in_place-requires : goal.encode_in_place-requires
 encode_in_place-requires c = c.requires.cursor
@@ -95,22 +91,15 @@ encode_counts-requires c = omega (arith, few (goal.at.encode_counts-requires c).
 
 pub overflow_cast-result : goal.overflow_cast-result
 overflow_cast-result c =
-    let n = c.before.before.before.before.before.before.before.before.before.before in
-    omega (arith, n.snapshot_len-cursor_len.ensures, n.requires.cursor.sound.few)
+    omega (arith, c.snapshot_len-cursor_len.ensures, c.requires.cursor.sound.few)
 
 pub overflow_cast-result-2 : goal.overflow_cast-result-2
 overflow_cast-result-2 c =
-    let n = c.before.before.before.before.before.before.before.before.before.before in
-    omega (arith, n.snapshot_len-attempt_len.ensures, few (goal.at.overflow_cast-result-2 c).After-all_counts_in_place-counts)
+    omega (arith, c.snapshot_len-attempt_len.ensures, few (goal.at.overflow_cast-result-2 c).After-all_counts_in_place-counts)
 
 pub returns : goal.returns
 returns c x l w =
-    let b = c.before.before in
-    let a = b.before.before.before.before in
-    let e = a.before.before in
-    let n = e.before.before in
-    let s = n.before.before.before.before.before in
     let t = view (given (goal.at.returns c).Start x) in
-    let counts = ap (λ l. encode_into l 0 s.args.attempts.now) (listed (goal.at.returns c).After-all_counts_in_place-counts x l).is in
-    both-written t w (lent (goal.at.returns c).Start) (omega (arith, e.if-cursor-cursor_len.false, first (goal.at.returns c).After-snapshot_len-attempt_len x)) l.sound.valid (omega (arith, e.if-attempts-attempt_len.false, second (goal.at.returns c).After-snapshot_len-attempt_len x l)) _ _ (first (goal.at.returns c).After-snapshot_len-attempt_len x) (second (goal.at.returns c).After-snapshot_len-attempt_len x l) _ _
-    a.encode_in_place.ensures (b.encode_counts.ensures ∙ counts)
+    let counts = ap (λ l. encode_into l 0 c.args.attempts.now) (listed (goal.at.returns c).After-all_counts_in_place-counts x l).is in
+    both-written t w (lent (goal.at.returns c).Start) (omega (arith, c.if-cursor-cursor_len.false, first (goal.at.returns c).After-snapshot_len-attempt_len x)) l.sound.valid (omega (arith, c.if-attempts-attempt_len.false, second (goal.at.returns c).After-snapshot_len-attempt_len x (counted (goal.at.returns c).After-all_counts_in_place-counts x l))) _ _ (first (goal.at.returns c).After-snapshot_len-attempt_len x) (second (goal.at.returns c).After-snapshot_len-attempt_len x (counted (goal.at.returns c).After-all_counts_in_place-counts x l)) _ _
+    c.encode_in_place.ensures (c.encode_counts.ensures ∙ counts)

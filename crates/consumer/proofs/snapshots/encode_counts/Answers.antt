@@ -11,16 +11,16 @@ full : (s : Start) → (length s.args.counts.offsets ≡ 192) × (length s.args.
 full s = (search rules, search rules)
 
 pub slice_bounds-offsets-end : goal.slice_bounds-offsets-end
-slice_bounds-offsets-end c = let s = c.before.before.before in omega (arith, s.requires, (full (goal.at.slice_bounds-offsets-end c).Start).0)
+slice_bounds-offsets-end c = omega (arith, c.requires, (full (goal.at.slice_bounds-offsets-end c).Start).0)
 
 pub slice_bounds-encode_columns-end : goal.slice_bounds-encode_columns-end
-slice_bounds-encode_columns-end c = let s = c.before.before.before.before in sym (length-take-le _ s.args.counts.offsets (omega (arith, s.requires, (full (goal.at.slice_bounds-encode_columns-end c).Start).0)))
+slice_bounds-encode_columns-end c = sym (length-take-le _ c.args.counts.offsets (omega (arith, c.requires, (full (goal.at.slice_bounds-encode_columns-end c).Start).0)))
 
 pub slice_bounds-attempts-end : goal.slice_bounds-attempts-end
-slice_bounds-attempts-end c = let s = c.before.before.before.before in omega (arith, s.requires, (full (goal.at.slice_bounds-attempts-end c).Start).1)
+slice_bounds-attempts-end c = omega (arith, c.requires, (full (goal.at.slice_bounds-attempts-end c).Start).1)
 
 pub slice_bounds-encode_columns-end-2 : goal.slice_bounds-encode_columns-end-2
-slice_bounds-encode_columns-end-2 c = let s = c.before.before.before.before.before in sym (length-take-le _ s.args.counts.attempts (omega (arith, s.requires, (full (goal.at.slice_bounds-encode_columns-end-2 c).Start).1)))
+slice_bounds-encode_columns-end-2 c = sym (length-take-le _ c.args.counts.attempts (omega (arith, c.requires, (full (goal.at.slice_bounds-encode_columns-end-2 c).Start).1)))
 
 pub returns : goal.returns
 returns c = c.encode_columns.ensures

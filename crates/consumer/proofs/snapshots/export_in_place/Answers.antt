@@ -15,33 +15,24 @@ abbrev given : Start → Consumer → Consumer
 given s =
     let a = s.args in
     exporting a.rights.now (ack_cursor a.committed a.starts.now a.ends.now a.runs)
-    (listing_all a.len a.carried-len a.offsets.now a.slots.now a.deliveries.now a.carried-offsets.now a.carried-counts.now)
+    (listing_all a.len a.carried_len a.offsets.now a.slots.now a.deliveries.now a.carried_offsets.now a.carried_counts.now)
 
 abbrev lent : Start → Snapshots
 lent s = snapshots s.args.cursor.now s.args.attempts.now
 
 pub encode_both-requires : goal.encode_both-requires
 encode_both-requires c =
-    let s = c.before.before.before.before.before.before.before in
-    record { consumer = permitting s.args.rights.now s.requires.consumer; cursor = s.requires.cursor; whole = s.requires.whole }
+    record { consumer = permitting c.args.rights.now c.requires.consumer; cursor = c.requires.cursor; whole = c.requires.whole }
 
 pub returns-in-UnknownWorker : goal.returns-in-UnknownWorker
 returns-in-UnknownWorker c x l =
-    let k = c.before.before in
-    let s = k.before.before.before in
-    export-unknown (view (given (goal.at.returns-in-UnknownWorker c).Start x)) s.args.worker (lent (goal.at.returns-in-UnknownWorker c).Start) k.permission_of-permission.result k.permission_of-permission.ensures c.in-UnknownWorker.is
+    export-unknown (view (given (goal.at.returns-in-UnknownWorker c).Start x)) c.args.worker (lent (goal.at.returns-in-UnknownWorker c).Start) c.permission_of-permission.result c.permission_of-permission.ensures c.in-UnknownWorker.is
 
 pub returns-in-NotPermitted : goal.returns-in-NotPermitted
 returns-in-NotPermitted c x l =
-    let k = c.before.before in
-    let s = k.before.before.before in
-    export_not_permitted (view (given (goal.at.returns-in-NotPermitted c).Start x)) s.args.worker (lent (goal.at.returns-in-NotPermitted c).Start) k.permission_of-permission.result k.permission_of-permission.ensures c.in-NotPermitted.is
+    export_not_permitted (view (given (goal.at.returns-in-NotPermitted c).Start x)) c.args.worker (lent (goal.at.returns-in-NotPermitted c).Start) c.permission_of-permission.result c.permission_of-permission.ensures c.in-NotPermitted.is
 
 pub returns-in-Granted : goal.returns-in-Granted
 returns-in-Granted c x l =
-    let b = c.before.before.before.before in
-    let d = b.before.before.before in
-    let k = d.before.before in
-    let s = k.before.before.before in
-    export-permitted (view (given (goal.at.returns-in-Granted c).Start x)) s.args.worker (lent (goal.at.returns-in-Granted c).Start) k.permission_of-permission.result k.permission_of-permission.ensures d.in-Granted.is b.encode_both.result _
-    (b.encode_both.ensures (permitting s.args.rights.now x) l s.args.worker)
+    export-permitted (view (given (goal.at.returns-in-Granted c).Start x)) c.args.worker (lent (goal.at.returns-in-Granted c).Start) c.permission_of-permission.result c.permission_of-permission.ensures c.in-Granted.is c.encode_both.result _
+    (c.encode_both.ensures (permitting c.args.rights.now x) l c.args.worker)

@@ -24,43 +24,40 @@ made s =
 
 pub returns-in-UnknownWorker : goal.returns-in-UnknownWorker
 returns-in-UnknownWorker c =
-    let k = c.before.before in
-    let s = k.before in (
+    (
       record {
         known = λ e. absurd (none-ne-some _ (sym e));
         is = λ x w.
-            claim_unpermitted (view (made (goal.at.returns-in-UnknownWorker c).Start x)) s.args.worker s.args.offset s.args.now UnknownWorker
-            (sym (ap permission_of c.in-UnknownWorker.is) ∙ k.permission_of-permission.ensures);
+            claim_unpermitted (view (made (goal.at.returns-in-UnknownWorker c).Start x)) c.args.worker c.args.offset c.args.now UnknownWorker
+            (sym (ap permission_of c.in-UnknownWorker.is) ∙ c.permission_of-permission.ensures);
       },
       tt,
     )
 
 pub returns-in-NotPermitted : goal.returns-in-NotPermitted
 returns-in-NotPermitted c =
-    let k = c.before.before in
-    let s = k.before in (
+    (
       record {
         known = λ e. absurd (none-ne-some _ (sym e));
         is = λ x w.
-            claim_unpermitted (view (made (goal.at.returns-in-NotPermitted c).Start x)) s.args.worker s.args.offset s.args.now NotPermitted
-            (sym (ap permission_of c.in-NotPermitted.is) ∙ k.permission_of-permission.ensures);
+            claim_unpermitted (view (made (goal.at.returns-in-NotPermitted c).Start x)) c.args.worker c.args.offset c.args.now NotPermitted
+            (sym (ap permission_of c.in-NotPermitted.is) ∙ c.permission_of-permission.ensures);
       },
       tt,
     )
 
 -- the worker may claim
-open-to : (d : In-Granted) → let s = d.before.before.before in none ≡ first (worker_rows s.args.rights.now s.args.worker 1)
+open-to : (d : In-Granted) → none ≡ first (worker_rows d.args.rights.now d.args.worker 1)
 open-to d = sym (ap permission_of d.in-Granted.is) ∙ d.permission_of-permission.ensures
 
 pub returns-in-Granted : goal.returns-in-Granted
 returns-in-Granted c =
-    let d = c.before in
-    let s = d.before.before.before in (
+    (
       record {
-        known = λ e. is_known s.args.rights.now s.args.worker 1 (open-to (goal.at.returns-in-Granted c).In-Granted);
+        known = λ e. is_known c.args.rights.now c.args.worker 1 (open-to (goal.at.returns-in-Granted c).In-Granted);
         is = λ x w.
-            c.offset_test.ensures.0 (permitting s.args.rights.now x) w
-            ∙ ap as_result (claim-permitted (view (made (goal.at.returns-in-Granted c).Start x)) s.args.worker s.args.offset s.args.now (open-to (goal.at.returns-in-Granted c).In-Granted));
+            c.offset_test.ensures.0 (permitting c.args.rights.now x) w
+            ∙ ap as_result (claim-permitted (view (made (goal.at.returns-in-Granted c).Start x)) c.args.worker c.args.offset c.args.now (open-to (goal.at.returns-in-Granted c).In-Granted));
       },
       c.offset_test.ensures.1,
     )

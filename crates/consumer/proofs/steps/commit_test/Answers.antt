@@ -17,31 +17,23 @@ abbrev made : Start → Consumer → Consumer
 made s = deciding s.args.rights.now s.args.committed
 
 -- the worker may commit
-open-to : (d : In-Granted) → let s = d.before.before.before in none ≡ first (worker_rows s.args.rights.now s.args.worker 16)
+open-to : (d : In-Granted) → none ≡ first (worker_rows d.args.rights.now d.args.worker 16)
 open-to d = sym (ap permission_of d.in-Granted.is) ∙ d.permission_of-permission.ensures
 
 pub returns-then-bound-committed : goal.returns-then-bound-committed
 returns-then-bound-committed c x w =
-    let d = c.before in
-    let s = d.before.before.before in
-    is_unchanged (view (made (goal.at.returns-then-bound-committed c).Start x)) s.args.worker s.args.bound (open-to (goal.at.returns-then-bound-committed c).In-Granted) c.if-bound-committed.true
+    is_unchanged (view (made (goal.at.returns-then-bound-committed c).Start x)) c.args.worker c.args.bound (open-to (goal.at.returns-then-bound-committed c).In-Granted) c.if-bound-committed.true
 
 pub returns-in-UnknownWorker : goal.returns-in-UnknownWorker
 returns-in-UnknownWorker c x w =
-    let k = c.before.before in
-    let s = k.before in
-    is_unpermitted (view (made (goal.at.returns-in-UnknownWorker c).Start x)) s.args.worker s.args.bound UnknownWorker
-    (sym (ap permission_of c.in-UnknownWorker.is) ∙ k.permission_of-permission.ensures)
+    is_unpermitted (view (made (goal.at.returns-in-UnknownWorker c).Start x)) c.args.worker c.args.bound UnknownWorker
+    (sym (ap permission_of c.in-UnknownWorker.is) ∙ c.permission_of-permission.ensures)
 
 pub returns-in-NotPermitted : goal.returns-in-NotPermitted
 returns-in-NotPermitted c x w =
-    let k = c.before.before in
-    let s = k.before in
-    is_unpermitted (view (made (goal.at.returns-in-NotPermitted c).Start x)) s.args.worker s.args.bound NotPermitted
-    (sym (ap permission_of c.in-NotPermitted.is) ∙ k.permission_of-permission.ensures)
+    is_unpermitted (view (made (goal.at.returns-in-NotPermitted c).Start x)) c.args.worker c.args.bound NotPermitted
+    (sym (ap permission_of c.in-NotPermitted.is) ∙ c.permission_of-permission.ensures)
 
 pub returns-else-bound-committed : goal.returns-else-bound-committed
 returns-else-bound-committed c x w =
-    let d = c.before in
-    let s = d.before.before.before in
-    is_open (view (made (goal.at.returns-else-bound-committed c).Start x)) s.args.worker s.args.bound (open-to (goal.at.returns-else-bound-committed c).In-Granted) c.if-bound-committed.false
+    is_open (view (made (goal.at.returns-else-bound-committed c).Start x)) c.args.worker c.args.bound (open-to (goal.at.returns-else-bound-committed c).In-Granted) c.if-bound-committed.false

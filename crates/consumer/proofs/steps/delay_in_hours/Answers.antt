@@ -13,16 +13,14 @@ use Rattle.consumer.proofs.steps.delay_in_hours.Goals.{After-next_opening}
 -- the delay has ended by then
 not-before : (c : After-next_opening) → c.args.now ≤ c.next_opening.result
 not-before c =
-    let k = c.before in
-    let moved = next-after (view k.args.hours) k.saturating_add.result (omega (arith, k.saturating_add.ensures)) in
-    omega (arith, k.saturating_add.ensures, c.next_opening.ensures)
+    let moved = next-after (view c.args.hours) c.saturating_add.result (omega (arith, c.saturating_add.ensures)) in
+    omega (arith, c.saturating_add.ensures, c.next_opening.ensures)
 
 pub overflow_sub-result : goal.overflow_sub-result
 overflow_sub-result c = not-before c
 
 pub returns : goal.returns
 returns c =
-    let k = c.before in
-    let a = k.args in
+    let a = c.args in
     let whole : sat64 a.now (c.next_opening.result - a.now) ≡ c.next_opening.result = omega (arith, not-before c) in
-    whole ∙ c.next_opening.ensures ∙ ap (next_opening (view a.hours)) k.saturating_add.ensures
+    whole ∙ c.next_opening.ensures ∙ ap (next_opening (view a.hours)) c.saturating_add.ensures

@@ -10,16 +10,10 @@ use Rattle.consumer.proofs.steps.handed_out.Goals as goal
 
 pub returns-in-Deliver : goal.returns-in-Deliver
 returns-in-Deliver c =
-    let d = c.before.before in
-    let o = d.before.before in
-    let s = o.before.before in
-    handed s.args.max_deliver_lem o.in-Granted.token o.outcome-1.given.0.1.0 (sym (ap dispositionOf c.in-Deliver.is) ∙ d.disposition_of-disposition.ensures)
-    ∙ ap (λ (x : Claim). handed_out s.args.max_deliver_lem (claim_of x)) (sym o.in-Granted.is)
+    handed c.args.max_deliver c.in-Granted.token c.in-Granted.deliveries (sym (ap dispositionOf c.in-Deliver.is) ∙ c.disposition_of-disposition.ensures)
+    ∙ ap (λ (x : Claim). handed_out c.args.max_deliver (claim_of x)) (sym c.in-Granted.is)
 
 pub returns-in-DeadLetter : goal.returns-in-DeadLetter
 returns-in-DeadLetter c =
-    let d = c.before.before in
-    let o = d.before.before in
-    let s = o.before.before in
-    handed s.args.max_deliver_lem o.in-Granted.token o.outcome-1.given.0.1.0 (sym (ap dispositionOf c.in-DeadLetter.is) ∙ d.disposition_of-disposition.ensures)
-    ∙ ap (λ (x : Claim). handed_out s.args.max_deliver_lem (claim_of x)) (sym o.in-Granted.is)
+    handed c.args.max_deliver c.in-Granted.token c.in-Granted.deliveries (sym (ap dispositionOf c.in-DeadLetter.is) ∙ c.disposition_of-disposition.ensures)
+    ∙ ap (λ (x : Claim). handed_out c.args.max_deliver (claim_of x)) (sym c.in-Granted.is)

@@ -22,11 +22,10 @@ table s = sized s.args.len s.args.carried_len s.args.carried_offsets.now s.args.
 
 pub returns-in_default : goal.returns-in_default
 returns-in_default c t w p =
-    let s = c.before.before in
-    full-leased (view (table (goal.at.returns-in_default c).Start t)) s.args.offset _ (lease-at (table (goal.at.returns-in_default c).Start t) w.full w.sound s.args.offset p c.in_default.is)
+    full-leased (view (table (goal.at.returns-in_default c).Start t)) c.args.offset _ (lease-at (table (goal.at.returns-in_default c).Start t) w.full w.sound c.args.offset p c.in_default.is)
 
 abbrev start : In-Missing → Start
-start c = c.before.before
+start c = c.before
 
 -- the offset has no lease
 lacked : (c : In-Missing) (t : LeaseTable) → let u = table (start c) t in Whole u → Placed (start c).args.offset (take u.len u.offsets) (start c).args.place
@@ -35,36 +34,23 @@ lacked c t w p = (free (table (start c) t) w.full w.sound p c.in-Missing.is).is
 
 pub returns-then-len-ge-LEASES : goal.returns-then-len-ge-LEASES
 returns-then-len-ge-LEASES c t w p =
-    let k = c.before in
-    let s = start (goal.at.returns-then-len-ge-LEASES c).In-Missing in
-    full-leases (view (table (goal.at.returns-then-len-ge-LEASES c).Start t)) s.args.offset (lacked (goal.at.returns-then-len-ge-LEASES c).In-Missing t w p) (omega (arith, in_flight_lem (table (goal.at.returns-then-len-ge-LEASES c).Start t) w.full w.sound, c.if-len-ge-LEASES.true))
+    full-leases (view (table (goal.at.returns-then-len-ge-LEASES c).Start t)) c.args.offset (lacked (goal.at.returns-then-len-ge-LEASES c).In-Missing t w p) (omega (arith, in_flight_lem (table (goal.at.returns-then-len-ge-LEASES c).Start t) w.full w.sound, c.if-len-ge-LEASES.true))
 
 few : (c : Else-len-ge-LEASES) (t : LeaseTable) → Whole (table (start c.before) t) → length (view (table (start c.before) t)).leases < 64
 few c t w = omega (arith, in_flight_lem (table (start c.before) t) w.full w.sound, c.if-len-ge-LEASES.false)
 
 pub returns-then-len-carried_len-lt-CARRIED : goal.returns-then-len-carried_len-lt-CARRIED
 returns-then-len-carried_len-lt-CARRIED c t w p =
-    let e = c.before in
-    let k = e.before in
-    let s = start (goal.at.returns-then-len-carried_len-lt-CARRIED c).In-Missing in
-    full-room (view (table (goal.at.returns-then-len-carried_len-lt-CARRIED c).Start t)) s.args.offset (lacked (goal.at.returns-then-len-carried_len-lt-CARRIED c).In-Missing t w p) (few (goal.at.returns-then-len-carried_len-lt-CARRIED c).Else-len-ge-LEASES t w)
+    full-room (view (table (goal.at.returns-then-len-carried_len-lt-CARRIED c).Start t)) c.args.offset (lacked (goal.at.returns-then-len-carried_len-lt-CARRIED c).In-Missing t w p) (few (goal.at.returns-then-len-carried_len-lt-CARRIED c).Else-len-ge-LEASES t w)
     (omega (arith, in_flight_lem (table (goal.at.returns-then-len-carried_len-lt-CARRIED c).Start t) w.full w.sound, carried-length (table (goal.at.returns-then-len-carried_len-lt-CARRIED c).Start t) w.full w.sound, c.if-len-carried_len-lt-CARRIED.true))
 
 pub returns-in-Some : goal.returns-in-Some
 returns-in-Some c t w p =
-    let n = c.before.before in
-    let e = n.before.before in
-    let k = e.before in
-    let s = start (goal.at.returns-in-Some c).In-Missing in
-    full-counted (view (table (goal.at.returns-in-Some c).Start t)) s.args.offset (lacked (goal.at.returns-in-Some c).In-Missing t w p) (few (goal.at.returns-in-Some c).Else-len-ge-LEASES t w) _
-    (found-count _ (n.carried_in_place-carried.ensures (table (goal.at.returns-in-Some c).Start t) w) c.in-Some.is)
+    full-counted (view (table (goal.at.returns-in-Some c).Start t)) c.args.offset (lacked (goal.at.returns-in-Some c).In-Missing t w p) (few (goal.at.returns-in-Some c).Else-len-ge-LEASES t w) _
+    (found-count _ (c.carried_in_place-carried.ensures (table (goal.at.returns-in-Some c).Start t) w) c.in-Some.is)
 
 pub returns-in-None : goal.returns-in-None
 returns-in-None c t w p =
-    let n = c.before.before in
-    let e = n.before.before in
-    let k = e.before in
-    let s = start (goal.at.returns-in-None c).In-Missing in
-    full-counts (view (table (goal.at.returns-in-None c).Start t)) s.args.offset (lacked (goal.at.returns-in-None c).In-Missing t w p) (few (goal.at.returns-in-None c).Else-len-ge-LEASES t w)
-    (omega (arith, in_flight_lem (table (goal.at.returns-in-None c).Start t) w.full w.sound, carried-length (table (goal.at.returns-in-None c).Start t) w.full w.sound, n.if-len-carried_len-lt-CARRIED.false))
-    (no-count _ (n.carried_in_place-carried.ensures (table (goal.at.returns-in-None c).Start t) w) c.in-None.is)
+    full-counts (view (table (goal.at.returns-in-None c).Start t)) c.args.offset (lacked (goal.at.returns-in-None c).In-Missing t w p) (few (goal.at.returns-in-None c).Else-len-ge-LEASES t w)
+    (omega (arith, in_flight_lem (table (goal.at.returns-in-None c).Start t) w.full w.sound, carried-length (table (goal.at.returns-in-None c).Start t) w.full w.sound, c.if-len-carried_len-lt-CARRIED.false))
+    (no-count _ (c.carried_in_place-carried.ensures (table (goal.at.returns-in-None c).Start t) w) c.in-None.is)

@@ -27,12 +27,11 @@ rows : (s : Start) (x : Consumer) (op : Operation) → bit_of op ≡ s.args.bit 
 rows s x op e q = rw e q
 
 abbrev start : After-hold_in_place-hold → Start
-start h = h.before.before.before.before
+start h = h.before.before.before
 
 permits : (h : After-hold_in_place-hold) (x : Consumer) (op : Operation) → bit_of op ≡ (start h).args.bit → none ≡ first (call_rows (view (made (start h) x)) (start h).args.worker op)
 permits h x op e =
-    let d = h.before in
-    rows (start h) x op e (sym (ap permission_of d.in-Granted.is) ∙ d.permission_of-permission.ensures)
+    rows (start h) x op e (sym (ap permission_of h.in-Granted.is) ∙ h.permission_of-permission.ensures)
 
 holds : (h : After-hold_in_place-hold) (x : Consumer) → Whole (made (start h) x)
     → hold_in h.hold_in_place-hold.result ≡ hold (view (made (start h) x)).table (start h).args.offset (start h).args.generation
@@ -40,52 +39,45 @@ holds h x w = h.hold_in_place-hold.ensures.0 (made (start h) x).table (table-who
 
 pub returns-in_default : goal.returns-in_default
 returns-in_default c =
-    let h = c.before.before in
-    let s = start (goal.at.returns-in_default c).After-hold_in_place-hold in (
+    (
       λ x w op e.
-          is-fenced (view (made (goal.at.returns-in_default c).Start x)) s.args.worker op s.args.offset s.args.generation (permits (goal.at.returns-in_default c).After-hold_in_place-hold x op e)
+          is-fenced (view (made (goal.at.returns-in_default c).Start x)) c.args.worker op c.args.offset c.args.generation (permits (goal.at.returns-in_default c).After-hold_in_place-hold x op e)
           (sym (ap hold_in c.in_default.is) ∙ holds (goal.at.returns-in_default c).After-hold_in_place-hold x w),
       tt,
     )
 
 pub returns-then-holder-worker : goal.returns-then-holder-worker
 returns-then-holder-worker c =
-    let k = c.before.before in
-    let h = k.before.before in
-    let s = start (goal.at.returns-then-holder-worker c).After-hold_in_place-hold in (
+    (
       λ x w op e.
-          is-foreign (view (made (goal.at.returns-then-holder-worker c).Start x)) s.args.worker op s.args.offset s.args.generation (permits (goal.at.returns-then-holder-worker c).After-hold_in_place-hold x op e) _ _
-          (sym (ap hold_in k.in-Held.is) ∙ holds (goal.at.returns-then-holder-worker c).After-hold_in_place-hold x w) c.if-holder-worker.true,
+          is-foreign (view (made (goal.at.returns-then-holder-worker c).Start x)) c.args.worker op c.args.offset c.args.generation (permits (goal.at.returns-then-holder-worker c).After-hold_in_place-hold x op e) _ _
+          (sym (ap hold_in c.in-Held.is) ∙ holds (goal.at.returns-then-holder-worker c).After-hold_in_place-hold x w) c.if-holder-worker.true,
       tt,
     )
 
 pub returns-in-UnknownWorker : goal.returns-in-UnknownWorker
 returns-in-UnknownWorker c =
-    let k = c.before.before in
-    let s = k.before in (
+    (
       λ x w op e.
-          is_unpermitted (view (made (goal.at.returns-in-UnknownWorker c).Start x)) s.args.worker op s.args.offset s.args.generation UnknownWorker
-          (rows (goal.at.returns-in-UnknownWorker c).Start x op e (sym (ap permission_of c.in-UnknownWorker.is) ∙ k.permission_of-permission.ensures)),
+          is_unpermitted (view (made (goal.at.returns-in-UnknownWorker c).Start x)) c.args.worker op c.args.offset c.args.generation UnknownWorker
+          (rows (goal.at.returns-in-UnknownWorker c).Start x op e (sym (ap permission_of c.in-UnknownWorker.is) ∙ c.permission_of-permission.ensures)),
       tt,
     )
 
 pub returns-in-NotPermitted : goal.returns-in-NotPermitted
 returns-in-NotPermitted c =
-    let k = c.before.before in
-    let s = k.before in (
+    (
       λ x w op e.
-          is_unpermitted (view (made (goal.at.returns-in-NotPermitted c).Start x)) s.args.worker op s.args.offset s.args.generation NotPermitted
-          (rows (goal.at.returns-in-NotPermitted c).Start x op e (sym (ap permission_of c.in-NotPermitted.is) ∙ k.permission_of-permission.ensures)),
+          is_unpermitted (view (made (goal.at.returns-in-NotPermitted c).Start x)) c.args.worker op c.args.offset c.args.generation NotPermitted
+          (rows (goal.at.returns-in-NotPermitted c).Start x op e (sym (ap permission_of c.in-NotPermitted.is) ∙ c.permission_of-permission.ensures)),
       tt,
     )
 
 pub returns-else-holder-worker : goal.returns-else-holder-worker
 returns-else-holder-worker c =
-    let k = c.before.before in
-    let h = k.before.before in
-    let s = start (goal.at.returns-else-holder-worker c).After-hold_in_place-hold in (
+    (
       λ x w op e.
-          is_held (view (made (goal.at.returns-else-holder-worker c).Start x)) s.args.worker op s.args.offset s.args.generation (permits (goal.at.returns-else-holder-worker c).After-hold_in_place-hold x op e) _ _
-          (sym (ap hold_in k.in-Held.is) ∙ holds (goal.at.returns-else-holder-worker c).After-hold_in_place-hold x w) c.if-holder-worker.false,
-      subst (HeldAt s.args.offset s.args.generation (take s.args.len s.args.offsets.now) s.args.slots.now s.args.generations.now) k.in-Held.is h.hold_in_place-hold.ensures.1,
+          is_held (view (made (goal.at.returns-else-holder-worker c).Start x)) c.args.worker op c.args.offset c.args.generation (permits (goal.at.returns-else-holder-worker c).After-hold_in_place-hold x op e) _ _
+          (sym (ap hold_in c.in-Held.is) ∙ holds (goal.at.returns-else-holder-worker c).After-hold_in_place-hold x w) c.if-holder-worker.false,
+      subst (HeldAt c.args.offset c.args.generation (take c.args.len c.args.offsets.now) c.args.slots.now c.args.generations.now) c.in-Held.is c.hold_in_place-hold.ensures.1,
     )

@@ -7,24 +7,14 @@ use Rattle.consumer.proofs.views.in_full.Goals as goal
 
 pub returns-in-Some : goal.returns-in-Some
 returns-in-Some c t w =
-    let k = c.before.before in
-    let d = k.before.before in
-    let s = d.before in
-    is-leased s.args.lease _ s.args.now k.in-Some.is d.standing_of-standing.result _ d.standing_of-standing.ensures
+    is-leased c.args.lease _ c.args.now c.in-Some.is c.standing_of-standing.result _ c.standing_of-standing.ensures
 
 pub returns-in-Some-carried : goal.returns-in-Some-carried
 returns-in-Some-carried c t w =
-    let k = c.before in
-    let n = k.before.before in
-    let d = n.before in
-    let s = d.before.before.before in
-    is_unleased s.args.lease s.args.now d.in_default.is (some k.in-Some-carried.attempts)
-    (found-count _ (n.carried_in_place-carried.ensures t w) k.in-Some-carried.is)
+    is_unleased c.args.lease c.args.now c.in_default.is (some c.in-Some-carried.attempts)
+    (found-count _ (c.carried_in_place-carried.ensures t w) c.in-Some-carried.is)
 
 pub returns-in-None : goal.returns-in-None
 returns-in-None c t w =
-    let n = c.before.before in
-    let d = n.before in
-    let s = d.before.before.before in
-    is_unleased s.args.lease s.args.now d.in_default.is none
-    (no-count _ (n.carried_in_place-carried.ensures t w) c.in-None.is)
+    is_unleased c.args.lease c.args.now c.in_default.is none
+    (no-count _ (c.carried_in_place-carried.ensures t w) c.in-None.is)

@@ -5,12 +5,8 @@ use Rattle.consumer.proofs.views.standing_of.Goals as goal
 
 pub returns-then-now-lease : goal.returns-then-now-lease
 returns-then-now-lease c =
-    let k = c.before.before.before in
-    let s = k.before.before in
-    before-deadline s.args.lease _ s.args.now k.in-Some.is c.if-now-lease.true
+    before-deadline c.args.lease _ c.args.now c.in-Some.is c.if-now-lease.true
 
 pub returns : goal.returns
 returns c =
-    let k = c.before.before.before in
-    let s = k.before.before in
-    from-deadline s.args.lease _ s.args.now k.in-Some.is c.if-now-lease.false
+    from-deadline c.args.lease _ c.args.now c.in-Some.is c.if-now-lease.false

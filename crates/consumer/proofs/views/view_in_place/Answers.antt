@@ -41,25 +41,15 @@ found l x w = l.lease_in_place-lease.ensures (made (start l) x).table (table-who
 
 pub returns-then-is_acked_in_place : goal.returns-then-is_acked_in_place
 returns-then-is_acked_in_place c x w =
-    let k = c.before in
-    let s = k.before in
-    is-settled (shown (goal.at.returns-then-is_acked_in_place c).Start x) s.args.worker s.args.offset s.args.now (sym k.is_acked_in_place.ensures ∙ c.if-is_acked_in_place.true)
+    is-settled (shown (goal.at.returns-then-is_acked_in_place c).Start x) c.args.worker c.args.offset c.args.now (sym c.is_acked_in_place.ensures ∙ c.if-is_acked_in_place.true)
 
 pub returns-then-is_supervisor : goal.returns-then-is_supervisor
 returns-then-is_supervisor c x w =
-    let d = c.before in
-    let m = d.before in
-    let l = m.before in
-    let s = start (goal.at.returns-then-is_supervisor c).After-lease_in_place-lease in
     c.in_full.ensures (made (goal.at.returns-then-is_supervisor c).Start x).table (table-whole w)
-    ∙ ap (λ (y : Option Lease). in_full y (lookup s.args.offset (shown (goal.at.returns-then-is_supervisor c).Start x).table.carried) s.args.now) (found (goal.at.returns-then-is_supervisor c).After-lease_in_place-lease x w)
-    ∙ is-full (shown (goal.at.returns-then-is_supervisor c).Start x) s.args.worker s.args.offset s.args.now (unsettled (goal.at.returns-then-is_supervisor c).After-lease_in_place-lease x) (sym m.is_supervisor.ensures ∙ d.if-is_supervisor.true)
+    ∙ ap (λ (y : Option Lease). in_full y (lookup c.args.offset (shown (goal.at.returns-then-is_supervisor c).Start x).table.carried) c.args.now) (found (goal.at.returns-then-is_supervisor c).After-lease_in_place-lease x w)
+    ∙ is-full (shown (goal.at.returns-then-is_supervisor c).Start x) c.args.worker c.args.offset c.args.now (unsettled (goal.at.returns-then-is_supervisor c).After-lease_in_place-lease x) (sym c.is_supervisor.ensures ∙ c.if-is_supervisor.true)
 
 pub returns : goal.returns
 returns c x w =
-    let d = c.before in
-    let m = d.before in
-    let l = m.before in
-    let s = start (goal.at.returns c).After-lease_in_place-lease in
-    ap bare (c.standing_of.ensures ∙ ap (λ (y : Option Lease). unsettled_as y s.args.now) (found (goal.at.returns c).After-lease_in_place-lease x w))
-    ∙ is_plain (shown (goal.at.returns c).Start x) s.args.worker s.args.offset s.args.now (unsettled (goal.at.returns c).After-lease_in_place-lease x) (sym m.is_supervisor.ensures ∙ d.if-is_supervisor.false)
+    ap bare (c.standing_of.ensures ∙ ap (λ (y : Option Lease). unsettled_as y c.args.now) (found (goal.at.returns c).After-lease_in_place-lease x w))
+    ∙ is_plain (shown (goal.at.returns c).Start x) c.args.worker c.args.offset c.args.now (unsettled (goal.at.returns c).After-lease_in_place-lease x) (sym c.is_supervisor.ensures ∙ c.if-is_supervisor.false)

@@ -17,25 +17,19 @@ here c = omega arith
 
 -- what the type of the worker's number says
 fit : (c : Start) → u64 c.args.worker ≡ true
-fit c = number_fits c.args.worker c.well-formed.1.0.1
+fit c = number_fits c.args.worker c.well_formed.1.0.1
 
 pub returns-then-self-ne0 : goal.returns-then-self-ne0
 returns-then-self-ne0 c =
-    let s = c.before.before in
-    λ a out. not_begun s.args.self s.requires a out s.args.worker (fit (goal.at.returns-then-self-ne0 c).Start) (elsewhere c)
+    λ a out. not_begun c.args.self c.requires a out c.args.worker (fit (goal.at.returns-then-self-ne0 c).Start) (elsewhere c)
 
 pub begin-begun-requires : goal.begin-begun-requires
-begin-begun-requires c = let s = c.before.before in sound-idle s.args.self s.requires (here (goal.at.begin-begun-requires c).Else-self-ne0)
+begin-begun-requires c = sound-idle c.args.self c.requires (here (goal.at.begin-begun-requires c).Else-self-ne0)
 
 pub returns-in_default : goal.returns-in_default
 returns-in_default c =
-    let b = c.before in
-    let s = b.before.before.before in
-    λ a out. begin-refused s.args.self (here (goal.at.returns-in_default c).Else-self-ne0) a out s.requires s.args.worker (fit (goal.at.returns-in_default c).Start) b.begin-begun.result b.begin-begun.ensures.begun c.in-Begun.keys2
+    λ a out. begin-refused c.args.self (here (goal.at.returns-in_default c).Else-self-ne0) a out c.requires c.args.worker (fit (goal.at.returns-in_default c).Start) c.begin-begun.result c.begin-begun.ensures.begun c.in-Begun.keys2
 
 pub returns : goal.returns
 returns c =
-    let t = c.before.before in
-    let b = t.before.before in
-    let s = b.before.before.before in
-    λ a out. begin-done s.args.self (here (goal.at.returns c).Else-self-ne0) a out s.requires s.args.worker (fit (goal.at.returns c).Start) b.begin-begun.result b.begin-begun.ensures.begun _ t.in-Begun.is
+    λ a out. begin-done c.args.self (here (goal.at.returns c).Else-self-ne0) a out c.requires c.args.worker (fit (goal.at.returns c).Start) c.begin-begun.result c.begin-begun.ensures.begun _ c.in-Begun.is

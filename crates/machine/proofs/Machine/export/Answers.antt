@@ -19,18 +19,12 @@ lent s = snapshots s.args.cursor.now s.args.attempts.now
 
 pub returns-then-self-ne0 : goal.returns-then-self-ne0
 returns-then-self-ne0 c =
-    let s = c.before.before.before.before in
-    not_exported s.args.self s.args.worker (lent (goal.at.returns-then-self-ne0 c).Start) (elsewhere c)
+    not_exported c.args.self c.args.worker (lent (goal.at.returns-then-self-ne0 c).Start) (elsewhere c)
 
 pub export-answer-requires : goal.export-answer-requires
 export-answer-requires c =
-    let e = c.before.before.before in
-    let s = e.before.before.before.before in
-    sound-idle s.args.self s.requires (here (goal.at.export-answer-requires c).Else-self-ne0)
+    sound-idle c.args.self c.requires (here (goal.at.export-answer-requires c).Else-self-ne0)
 
 pub returns : goal.returns
 returns c =
-    let k = c.before.before.before.before in
-    let e = k.before.before.before.before in
-    let s = e.before.before.before.before in
-    exported_as s.args.self s.args.worker (lent (goal.at.returns c).Start) (here (goal.at.returns c).Else-self-ne0) k.export-answer.result _ k.export-answer.ensures
+    exported_as c.args.self c.args.worker (lent (goal.at.returns c).Start) (here (goal.at.returns c).Else-self-ne0) c.export-answer.result _ c.export-answer.ensures

@@ -5,5 +5,4 @@ use Rattle.machine.proofs.Machine.off.Goals as goal
 
 pub returns : goal.returns
 returns c =
-    let k = c.before.before in
-    rests-off k.args.configuration k.start-started.result c.resting.result k.start-started.ensures c.resting.ensures
+    rests-off c.args.configuration c.start-started.result c.resting.result c.start-started.ensures c.resting.ensures

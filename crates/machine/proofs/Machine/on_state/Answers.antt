@@ -19,26 +19,20 @@ here c = omega arith
 
 -- what the types of the call say
 worker-fits : (c : Start) → u64 c.args.worker ≡ true
-worker-fits c = number_fits c.args.worker c.well-formed.1.0.1
+worker-fits c = number_fits c.args.worker c.well_formed.1.0.1
 
 fit : (c : Start) → fits (ask_of (length c.args.out.now) c.args.request) ≡ true
-fit c = ask-fits (length c.args.out.now) c.args.request _ c.well-formed.1.1.0
+fit c = ask-fits (length c.args.out.now) c.args.request _ c.well_formed.1.1.0
 
 pub returns-then-self-ne0 : goal.returns-then-self-ne0
 returns-then-self-ne0 c =
-    let s = c.before.before.before in
-    λ a. not_asked s.args.self s.requires a s.args.out.now _ _ (worker-fits (goal.at.returns-then-self-ne0 c).Start) (fit (goal.at.returns-then-self-ne0 c).Start) (elsewhere c)
+    λ a. not_asked c.args.self c.requires a c.args.out.now _ _ (worker-fits (goal.at.returns-then-self-ne0 c).Start) (fit (goal.at.returns-then-self-ne0 c).Start) (elsewhere c)
 
 pub ask-asked-requires : goal.ask-asked-requires
 ask-asked-requires c =
-    let e = c.before in
-    let s = e.before.before.before in
-    sound-idle s.args.self s.requires (here (goal.at.ask-asked-requires c).Else-self-ne0)
+    sound-idle c.args.self c.requires (here (goal.at.ask-asked-requires c).Else-self-ne0)
 
 pub returns : goal.returns
 returns c =
-    let k = c.before.before.before.before.before in
-    let e = k.before.before in
-    let s = e.before.before.before in
     λ a.
-    asked-called s.args.self (here (goal.at.returns c).Else-self-ne0) a s.args.out.now _ _ (worker-fits (goal.at.returns c).Start) (fit (goal.at.returns c).Start) k.ask-asked.result k.ask-asked.new.1.1.1.0 k.ask-asked.ensures
+    asked-called c.args.self (here (goal.at.returns c).Else-self-ne0) a c.args.out.now _ _ (worker-fits (goal.at.returns c).Start) (fit (goal.at.returns c).Start) c.ask-asked.result c.ask-asked.new.1.1.1.0 c.ask-asked.ensures

@@ -15,18 +15,12 @@ here c = omega arith
 
 pub returns-then-self-ne0 : goal.returns-then-self-ne0
 returns-then-self-ne0 c =
-    let s = c.before.before.before.before in
-    not_planned s.args.self s.args.worker s.args.offsets.now s.args.out.now (elsewhere c)
+    not_planned c.args.self c.args.worker c.args.offsets.now c.args.out.now (elsewhere c)
 
 pub plan_numbers-answer-requires : goal.plan_numbers-answer-requires
 plan_numbers-answer-requires c =
-    let e = c.before.before in
-    let s = e.before.before.before.before in
-    sound-idle s.args.self s.requires (here (goal.at.plan_numbers-answer-requires c).Else-self-ne0)
+    sound-idle c.args.self c.requires (here (goal.at.plan_numbers-answer-requires c).Else-self-ne0)
 
 pub returns : goal.returns
 returns c =
-    let k = c.before.before in
-    let e = k.before.before.before in
-    let s = e.before.before.before.before in
-    planned s.args.self s.args.worker s.args.offsets.now s.args.out.now (here (goal.at.returns c).Else-self-ne0) k.plan_numbers-answer.result _ k.plan_numbers-answer.ensures
+    planned c.args.self c.args.worker c.args.offsets.now c.args.out.now (here (goal.at.returns c).Else-self-ne0) c.plan_numbers-answer.result _ c.plan_numbers-answer.ensures

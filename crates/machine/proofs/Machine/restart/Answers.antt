@@ -5,15 +5,10 @@ use Rattle.machine.proofs.Machine.restart.Goals as goal
 
 pub returns-in_default : goal.returns-in_default
 returns-in_default c =
-    let k = c.before.before in
-    let s = k.before.before.before in
-    λ out. restart-refused s.args.self s.requires s.args.area.now out _ k.restart-started.result k.restart-started.ensures c.in-Started.keys2
+    λ out. restart-refused c.args.self c.requires c.args.area.now out _ c.restart-started.result c.restart-started.ensures c.in-Started.keys2
 
 pub returns : goal.returns
 returns c =
-    let t = c.before in
-    let k = t.before.before.before in
-    let s = k.before.before.before in
     λ out.
-    restart-done s.args.self s.requires s.args.area.now out _ k.restart-started.result k.restart-started.ensures t.in-Started.is
+    restart-done c.args.self c.requires c.args.area.now out _ c.restart-started.result c.restart-started.ensures c.in-Started.is
     c.resting.result c.resting.ensures

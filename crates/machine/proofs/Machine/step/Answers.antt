@@ -14,18 +14,12 @@ here c = omega arith
 
 pub returns-then-self-ne1 : goal.returns-then-self-ne1
 returns-then-self-ne1 c =
-    let s = c.before.before.before in
-    λ out. not_stepped s.args.self s.requires s.args.area.now out (elsewhere c)
+    λ out. not_stepped c.args.self c.requires c.args.area.now out (elsewhere c)
 
 pub step-stepped-requires : goal.step-stepped-requires
 step-stepped-requires c =
-    let e = c.before in
-    let s = e.before.before.before in
-    sound-writing s.args.self s.requires (here (goal.at.step-stepped-requires c).Else-self-ne1)
+    sound-writing c.args.self c.requires (here (goal.at.step-stepped-requires c).Else-self-ne1)
 
 pub returns : goal.returns
 returns c =
-    let t = c.before.before.before.before.before in
-    let e = t.before.before in
-    let s = e.before.before.before in
-    λ out. step-called s.args.self (here (goal.at.returns c).Else-self-ne1) s.args.area.now t.step-stepped.new.1.0 t.step-stepped.result t.step-stepped.ensures out _ c.phase_after.ensures
+    λ out. step-called c.args.self (here (goal.at.returns c).Else-self-ne1) c.args.area.now c.step-stepped.new.1.0 c.step-stepped.result c.step-stepped.ensures out _ c.phase_after.ensures

@@ -6,21 +6,18 @@ use Rattle.machine.proofs.asks.ask.Goals as goal
 use Rattle.machine.proofs.asks.ask.Goals.{Start}
 
 whole : (s : Start) → Whole s.args.consumer
-whole s = record { full = table-full s.args.consumer.table _ s.well-formed.0.1.1.1.0; sound = s.requires }
+whole s = record { full = table-full s.args.consumer.table _ s.well_formed.0.1.1.1.0; sound = s.requires }
 
 pub ask_in_place-done-requires : goal.ask_in_place-done-requires
 ask_in_place-done-requires c =
-    let s = c.before.before.before.before.before.before.before.before.before.before.before.before.before.before.before.before.before.before.before.before.before.before.before.before.before.before.before.before.before.before.before.before.before.before.before.before.before in
-    let x = s.args.consumer in
+    let x = c.args.consumer in
     record {
-      cursor = cursor-whole x.cursor _ s.well-formed.0.1.1.0 s.requires.cursor;
-      table = record { full = (whole (goal.at.ask_in_place-done-requires c).Start).full; sound = s.requires.table };
-      schedule = record { full = backoffs-full x.settings _ s.well-formed.0.1.1.1.1.1.1.1.0; few = s.requires.settings.delivery.few };
-      blocks = s.requires.valid.within;
+      cursor = cursor-whole x.cursor _ c.well_formed.0.1.1.0 c.requires.cursor;
+      table = record { full = (whole (goal.at.ask_in_place-done-requires c).Start).full; sound = c.requires.table };
+      schedule = record { full = backoffs-full x.settings _ c.well_formed.0.1.1.1.1.1.1.1.0; few = c.requires.settings.delivery.few };
+      blocks = c.requires.valid.within;
     }
 
 pub returns : goal.returns
 returns c =
-    let k = c.before.before.before in
-    let s = k.before.before.before.before.before.before.before.before.before.before.before.before.before.before.before.before.before.before.before.before.before.before.before.before.before.before.before.before.before.before.before.before.before.before.before.before.before.before in
-    k.ask_in_place-done.ensures s.args.consumer (whole (goal.at.returns c).Start)
+    c.ask_in_place-done.ensures c.args.consumer (whole (goal.at.returns c).Start)

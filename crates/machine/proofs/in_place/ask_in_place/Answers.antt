@@ -6,43 +6,28 @@ use Rattle.machine.proofs.in_place.ask_in_place.Goals as goal
 
 pub returns-in-Claim : goal.returns-in-Claim
 returns-in-Claim c x w =
-    let g = c.before.before.before.before.before.before.before.before.before.before.before.before.before in
-    let s = g.before.before.before in
-    asked_as (length s.args.out.now) g.in-Claim.is (c.ask_claim.ensures (lent w) s.args.out.now w)
+    asked_as (length c.args.out.now) c.in-Claim.is (c.ask_claim.ensures (lent w) c.args.out.now w)
 
 pub returns-in-Ack : goal.returns-in-Ack
 returns-in-Ack c x w =
-    let g = c.before.before.before.before.before.before.before.before.before in
-    let s = g.before.before.before in
-    asked_as (length s.args.out.now) g.in-Ack.is (c.ask_ack.ensures (lent w) s.args.out.now w)
+    asked_as (length c.args.out.now) c.in-Ack.is (c.ask_ack.ensures (lent w) c.args.out.now w)
 
 pub returns-in-Term : goal.returns-in-Term
 returns-in-Term c x w =
-    let g = c.before.before.before.before.before.before.before.before.before in
-    let s = g.before.before.before in
-    asked_as (length s.args.out.now) g.in-Term.is (c.ask_term.ensures (lent w) s.args.out.now w)
+    asked_as (length c.args.out.now) c.in-Term.is (c.ask_term.ensures (lent w) c.args.out.now w)
 
 pub returns-in-Nack : goal.returns-in-Nack
 returns-in-Nack c x w =
-    let g = c.before.before.before.before.before.before.before.before in
-    let s = g.before.before.before in
-    asked_as (length s.args.out.now) g.in-Nack.is (c.ask_nack.ensures (lent w) s.args.out.now w)
+    asked_as (length c.args.out.now) c.in-Nack.is (c.ask_nack.ensures (lent w) c.args.out.now w)
 
 pub returns-in-Progress : goal.returns-in-Progress
 returns-in-Progress c x w =
-    let g = c.before.before.before.before.before.before.before.before.before in
-    let s = g.before.before.before in
-    asked_as (length s.args.out.now) g.in-Progress.is (c.ask_progress.ensures (lent w) s.args.out.now w)
+    asked_as (length c.args.out.now) c.in-Progress.is (c.ask_progress.ensures (lent w) c.args.out.now w)
 
 pub returns-in-Commit : goal.returns-in-Commit
 returns-in-Commit c x w =
-    let g = c.before.before.before.before.before.before.before.before in
-    let s = g.before.before.before in
-    asked_as (length s.args.out.now) g.in-Commit.is (c.ask_commit.ensures (lent w) s.args.out.now w)
+    asked_as (length c.args.out.now) c.in-Commit.is (c.ask_commit.ensures (lent w) c.args.out.now w)
 
 pub returns-in-Look : goal.returns-in-Look
 returns-in-Look c x w =
-    let k = c.before.before in
-    let g = k.before.before.before.before.before.before.before.before.before.before.before.before.before.before in
-    let s = g.before.before.before in
-    asked_as (length s.args.out.now) g.in-Look.is (looked-asked w.sound (k.look.ensures (lent w) w))
+    asked_as (length c.args.out.now) c.in-Look.is (looked-asked w.sound (c.look.ensures (lent w) w))

@@ -18,73 +18,48 @@ use Rattle.machine.proofs.in_place.reply.Goals as goal
 
 pub returns-in-Waiting : goal.returns-in-Waiting
 returns-in-Waiting c x w =
-    let k = c.before.before in
-    let g = k.before.before.before in
-    let s = g.before.before.before in
-    waiting-replied (lent w) s.args.worker _ s.args.out.now k.waiting_in_place.new.1.1.1.1.1.1.1.0 k.waiting_in_place.result
-    (ap (question_of (length s.args.out.now)) g.in-Waiting.is) (k.waiting_in_place.ensures (lent w) w)
+    waiting-replied (lent w) c.args.worker _ c.args.out.now c.waiting_in_place.new.1.1.1.1.1.1.1.0 c.waiting_in_place.result
+    (ap (question_of (length c.args.out.now)) c.in-Waiting.is) (c.waiting_in_place.ensures (lent w) w)
 
 pub returns-in-Committed : goal.returns-in-Committed
 returns-in-Committed c x w =
-    let g = c in
-    let s = g.before.before.before in
-    replied (lent w) s.args.worker s.args.out.now _ (ap (question_of (length s.args.out.now)) g.in-Committed.is) refl refl refl
+    replied (lent w) c.args.worker c.args.out.now _ (ap (question_of (length c.args.out.now)) c.in-Committed.is) refl refl refl
 
 pub returns-in-IsSettled : goal.returns-in-IsSettled
 returns-in-IsSettled c x w =
-    let g = c.before.before in
-    let s = g.before.before.before in
-    replied (lent w) s.args.worker s.args.out.now _ (ap (question_of (length s.args.out.now)) g.in-IsSettled.is) refl (ap (λ (b : Bool). done (bit b ∷ [])) c.is_acked_in_place.ensures) refl
+    replied (lent w) c.args.worker c.args.out.now _ (ap (question_of (length c.args.out.now)) c.in-IsSettled.is) refl (ap (λ (b : Bool). done (bit b ∷ [])) c.is_acked_in_place.ensures) refl
 
 pub returns-in-LeaseOf : goal.returns-in-LeaseOf
 returns-in-LeaseOf c x w =
-    let k = c.before in
-    let g = k.before.before in
-    let s = g.before.before.before in
-    replied (lent w) s.args.worker s.args.out.now _ (ap (question_of (length s.args.out.now)) g.in-LeaseOf.is) refl
-    (ap done (c.told_of.ensures ∙ ap lease_values (k.lease_in_place-lease.ensures (lent w).table (table-whole w)))) refl
+    replied (lent w) c.args.worker c.args.out.now _ (ap (question_of (length c.args.out.now)) c.in-LeaseOf.is) refl
+    (ap done (c.told_of.ensures ∙ ap lease_values (c.lease_in_place-lease.ensures (lent w).table (table-whole w)))) refl
 
 pub returns-in-CountOf : goal.returns-in-CountOf
 returns-in-CountOf c x w =
-    let g = c.before.before in
-    let s = g.before.before.before in
-    replied (lent w) s.args.worker s.args.out.now _ (ap (question_of (length s.args.out.now)) g.in-CountOf.is) refl (c.count_in_place.ensures (lent w) w s.args.worker) refl
+    replied (lent w) c.args.worker c.args.out.now _ (ap (question_of (length c.args.out.now)) c.in-CountOf.is) refl (c.count_in_place.ensures (lent w) w c.args.worker) refl
 
 pub returns-in-InFlight : goal.returns-in-InFlight
 returns-in-InFlight c x w =
-    let g = c in
-    let s = g.before.before.before in
-    replied (lent w) s.args.worker s.args.out.now _ (ap (question_of (length s.args.out.now)) g.in-InFlight.is) refl (ap (λ (n : ℕ). done (n ∷ [])) (sym (in_flight_lem (lent w).table w.full w.sound.table))) refl
+    replied (lent w) c.args.worker c.args.out.now _ (ap (question_of (length c.args.out.now)) c.in-InFlight.is) refl (ap (λ (n : ℕ). done (n ∷ [])) (sym (in_flight_lem (lent w).table w.full w.sound.table))) refl
 
 pub returns-in-IsDue : goal.returns-in-IsDue
 returns-in-IsDue c x w =
-    let g = c.before in
-    let s = g.before.before.before in
-    replied (lent w) s.args.worker s.args.out.now _ (ap (question_of (length s.args.out.now)) g.in-IsDue.is) refl (ap (λ (d : Due). done (bit d.ceiling ∷ bit d.threshold ∷ [])) c.due.ensures) refl
+    replied (lent w) c.args.worker c.args.out.now _ (ap (question_of (length c.args.out.now)) c.in-IsDue.is) refl (ap (λ (d : Due). done (bit d.ceiling ∷ bit d.threshold ∷ [])) c.due.ensures) refl
 
 pub returns-in-BlocksLeft : goal.returns-in-BlocksLeft
 returns-in-BlocksLeft c x w =
-    let g = c.before in
-    let s = g.before.before.before in
-    replied (lent w) s.args.worker s.args.out.now _ (ap (question_of (length s.args.out.now)) g.in-BlocksLeft.is) refl (ap (λ (n : ℕ). done (n ∷ [])) c.blocks_left.ensures) refl
+    replied (lent w) c.args.worker c.args.out.now _ (ap (question_of (length c.args.out.now)) c.in-BlocksLeft.is) refl (ap (λ (n : ℕ). done (n ∷ [])) c.blocks_left.ensures) refl
 
 pub returns-in-ViewOf : goal.returns-in-ViewOf
 returns-in-ViewOf c x w =
-    let g = c.before.before in
-    let s = g.before.before.before in
-    replied (lent w) s.args.worker s.args.out.now _ (ap (question_of (length s.args.out.now)) g.in-ViewOf.is) refl
+    replied (lent w) c.args.worker c.args.out.now _ (ap (question_of (length c.args.out.now)) c.in-ViewOf.is) refl
     (ap (λ (v : View). done (view_values v)) (c.view_in_place.ensures (lent w) w)) refl
 
 pub returns-in-OpenBetween : goal.returns-in-OpenBetween
 returns-in-OpenBetween c x w =
-    let k = c.before.before in
-    let g = k.before.before.before in
-    let s = g.before.before.before in
-    open_replied (lent w) s.args.worker _ _ s.args.out.now _ k.open_between_in_place.result
-    (ap (question_of (length s.args.out.now)) g.in-OpenBetween.is) k.open_between_in_place.ensures
+    open_replied (lent w) c.args.worker _ _ c.args.out.now _ c.open_between_in_place.result
+    (ap (question_of (length c.args.out.now)) c.in-OpenBetween.is) c.open_between_in_place.ensures
 
 pub returns-in-NearestOpen : goal.returns-in-NearestOpen
 returns-in-NearestOpen c x w =
-    let g = c.before.before in
-    let s = g.before.before.before in
-    replied (lent w) s.args.worker s.args.out.now _ (ap (question_of (length s.args.out.now)) g.in-NearestOpen.is) refl (ap (λ (n : ℕ). done (n ∷ [])) c.nearest_in_place-nearest.ensures) refl
+    replied (lent w) c.args.worker c.args.out.now _ (ap (question_of (length c.args.out.now)) c.in-NearestOpen.is) refl (ap (λ (n : ℕ). done (n ∷ [])) c.nearest_in_place-nearest.ensures) refl
