@@ -7,8 +7,6 @@ use mathlib.Core.Bool.{Bool, true, false}
 use mathlib.Core.List.{List, [], ◌∷◌}
 use mathlib.Core.Option.{none, some, none-ne-some}
 use lib.ListN.{length}
-use types.Run.{OneOf, miss}
-use denote.Enum.Declared.{tag_of}
 use Rattle.types.specs.Limits.{LEASES, MAX}
 use Rattle.types.specs.Refusal.{Refusal, Result, refused, done}
 use Rattle.types.specs.Table.{first, Passed, checked}
@@ -43,7 +41,6 @@ use Rattle.starts.specs.Parts.{fresh_by, Columns, state_by, ReadIs, going_on, Re
 use Rattle.starts.specs.declared.StartAnswer.{StartAnswer}
 use Rattle.starts.specs.declared.StartAnswer.TheVariants as answers
 use Rattle.starts.specs.declared.in_place.RestartedAt.{RestartedAt}
-use Rattle.starts.specs.contracts.StartAnswer.{the_type}
 use Rattle.starts.proofs.Halves.{limit-within}
 use Rattle.starts.proofs.Valid.{restart-valid, import-valid}
 use Rattle.starts.proofs.Parts.{kept_same, fresh-read, read_as}
@@ -119,18 +116,15 @@ module _ (a : List ℕ) where
 
 -- ## The tests before
 -- every answer but `Started` is a refusal
-abbrev variants : List ℕ
-variants = 1 ∷ 2 ∷ 3 ∷ 4 ∷ 5 ∷ 6 ∷ 7 ∷ 8 ∷ 9 ∷ []
-
 abbrev pub Other : StartAnswer → Type 0
-Other d = OneOf variants (tag_of the_type d)
+Other d = d ≡ answers.Started → ⊥
 
 pub record Faulty (d : StartAnswer) : Type 0 where
   pub refusal : Refusal
   pub is : start_fault d ≡ some refusal
 
 pub other_faulty : (d : StartAnswer) → Other d → Faulty d
-other_faulty answers.Started o = absurd (miss variants 0 tt o)
+other_faulty answers.Started o = absurd (o refl)
 other_faulty answers.UnlimitedDeliverNotAllowed o = record { refusal = _; is = refl }
 other_faulty answers.TooManySteps o = record { refusal = _; is = refl }
 other_faulty answers.ZeroThreshold o = record { refusal = _; is = refl }

@@ -19,8 +19,7 @@ returns-in_default c = ap (as_numbers c.args.out.now) (sym c.in_default.is)
 
 pub returns : goal.returns
 returns c =
-    let d = c.before.before.before.before.before in
-    let out = d.args.out.now in
-    same_numbers (sym (first-length d.in-Filled.n out)) c.place.ensures
+    let out = c.args.out.now in
+    same_numbers (sym (first-length c.in-Filled.n out)) c.place.ensures
     c.place-2.ensures c.place-3.ensures c.place-4.ensures c.place-5.ensures
-    ∙ ap (as_numbers out) (sym d.in-Filled.is)
+    ∙ ap (as_numbers out) (sym c.in-Filled.is)

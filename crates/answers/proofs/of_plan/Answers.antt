@@ -18,10 +18,9 @@ as_numbers out a = numbers_of (answered values (plan_of a out))
 
 pub returns-in-Answered : goal.returns-in-Answered
 returns-in-Answered c =
-    let t = c.before.before.before.before in
-    let out = t.args.out.now in
+    let out = c.args.out.now in
     same_numbers (add-one (length out)) refl c.byte_at.ensures c.byte_at-in-Answered.ensures c.byte_at-in-Answered-2.ensures c.byte_at-in-Answered-3.ensures
-    ∙ ap (as_numbers out) (sym t.in-Answered.is)
+    ∙ ap (as_numbers out) (sym c.in-Answered.is)
 
 pub returns-in-UnequalLengths : goal.returns-in-UnequalLengths
 returns-in-UnequalLengths c = ap (as_numbers c.args.out.now) (sym c.in-UnequalLengths.is)

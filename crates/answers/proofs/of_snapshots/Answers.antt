@@ -22,22 +22,18 @@ module _ (cursor attempts : List ℕ) (n k n' k' : ℕ) (front : n' ≡ min n (l
 
 pub slice_bounds-front-end : goal.slice_bounds-front-end
 slice_bounds-front-end c =
-    let k = c.before.before in
-    sym (length-take-le _ k.args.cursor.now (omega (arith, k.shorter-n.ensures)))
+    sym (length-take-le _ c.args.cursor.now (omega (arith, c.shorter-n.ensures)))
 
 pub slice_bounds-behind-end : goal.slice_bounds-behind-end
 slice_bounds-behind-end c =
-    let k = c.before.before in
-    sym (length-take-le _ k.args.attempts.now (omega (arith, k.shorter-k.ensures)))
+    sym (length-take-le _ c.args.attempts.now (omega (arith, c.shorter-k.ensures)))
 
 pub returns : goal.returns
 returns c =
-    let b = c.before.before in
-    let k = b.before.before.before in
-    let a = k.args in
-    let n = k.shorter-n.ensures in
-    let m = k.shorter-k.ensures in
-    same_numbers (count a.cursor.now a.attempts.now a.cursor-len a.attempt_len_lem _ _ n m) refl refl
-    (same_byte a.cursor.now a.attempts.now a.cursor-len a.attempt_len_lem _ _ n m 0 _ b.byte_in.ensures)
-    (same_byte a.cursor.now a.attempts.now a.cursor-len a.attempt_len_lem _ _ n m 1 _ c.byte_in-2.ensures)
-    (same_byte a.cursor.now a.attempts.now a.cursor-len a.attempt_len_lem _ _ n m 2 _ c.byte_in-3.ensures)
+    let a = c.args in
+    let n = c.shorter-n.ensures in
+    let m = c.shorter-k.ensures in
+    same_numbers (count a.cursor.now a.attempts.now a.cursor_len a.attempt_len _ _ n m) refl refl
+    (same_byte a.cursor.now a.attempts.now a.cursor_len a.attempt_len _ _ n m 0 _ c.byte_in.ensures)
+    (same_byte a.cursor.now a.attempts.now a.cursor_len a.attempt_len _ _ n m 1 _ c.byte_in-2.ensures)
+    (same_byte a.cursor.now a.attempts.now a.cursor_len a.attempt_len _ _ n m 2 _ c.byte_in-3.ensures)

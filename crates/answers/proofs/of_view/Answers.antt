@@ -14,12 +14,11 @@ abbrev as_numbers : View → Numbers
 as_numbers v = numbers_of (code 0 (view_values (view_in v)))
 
 pub returns-in-Plain : goal.returns-in-Plain
-returns-in-Plain c = same_numbers refl c.number_of_lem.ensures refl refl refl refl ∙ ap as_numbers (sym c.in-Plain.is)
+returns-in-Plain c = same_numbers refl c.number_of.ensures refl refl refl refl ∙ ap as_numbers (sym c.in-Plain.is)
 
 pub returns-in-Unleased : goal.returns-in-Unleased
 returns-in-Unleased c = ap as_numbers (sym c.in-Unleased.is)
 
 pub returns-in-Leased : goal.returns-in-Leased
 returns-in-Leased c =
-    let n = c.before.before in
-    same_numbers refl n.number_of-in-Leased.ensures refl refl refl refl ∙ ap as_numbers (sym n.in-Leased.is)
+    same_numbers refl c.number_of-in-Leased.ensures refl refl refl refl ∙ ap as_numbers (sym c.in-Leased.is)

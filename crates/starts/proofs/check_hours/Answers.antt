@@ -8,28 +8,16 @@ use Rattle.starts.proofs.check_hours.Goals as goal
 
 pub returns-then-bad_area : goal.returns-then-bad_area
 returns-then-bad_area c =
-    let k = c.before in
-    let e = k.before in
-    let t = e.before.before in
-    let s = t.before in
-    area-refused (view s.args.hours) s.args.area_len (sym (ap test_of e.in-Accepted.is) ∙ t.test-test.ensures) (sym k.bad_area.ensures ∙ c.if-bad_area.true)
+    area-refused (view c.args.hours) c.args.area_len (sym (ap test_of c.in-Accepted.is) ∙ c.test-test.ensures) (sym c.bad_area.ensures ∙ c.if-bad_area.true)
 
 pub returns-in-BadHours : goal.returns-in-BadHours
 returns-in-BadHours c =
-    let t = c.before.before in
-    let s = t.before in
-    hours-refused (view s.args.hours) s.args.area_len BadHours (sym (ap test_of c.in-BadHours.is) ∙ t.test-test.ensures)
+    hours-refused (view c.args.hours) c.args.area_len BadHours (sym (ap test_of c.in-BadHours.is) ∙ c.test-test.ensures)
 
 pub returns-in-NeverOpen : goal.returns-in-NeverOpen
 returns-in-NeverOpen c =
-    let t = c.before.before in
-    let s = t.before in
-    hours-refused (view s.args.hours) s.args.area_len NeverOpen (sym (ap test_of c.in-NeverOpen.is) ∙ t.test-test.ensures)
+    hours-refused (view c.args.hours) c.args.area_len NeverOpen (sym (ap test_of c.in-NeverOpen.is) ∙ c.test-test.ensures)
 
 pub returns-else-bad_area : goal.returns-else-bad_area
 returns-else-bad_area c =
-    let k = c.before in
-    let e = k.before in
-    let t = e.before.before in
-    let s = t.before in
-    accepted (view s.args.hours) s.args.area_len (sym (ap test_of e.in-Accepted.is) ∙ t.test-test.ensures) (sym k.bad_area.ensures ∙ c.if-bad_area.false)
+    accepted (view c.args.hours) c.args.area_len (sym (ap test_of c.in-Accepted.is) ∙ c.test-test.ensures) (sym c.bad_area.ensures ∙ c.if-bad_area.false)

@@ -11,7 +11,7 @@ pub returns : goal.returns
 returns c =
     let a = c.args in
     record {
-      is = ap₂ (λ (k : Cursor) (t : Table). state_of k t 0 (next_group_at 1 0) a.area-len (settings_of a.configuration.settings)) c.new.ensures.is c.starting_at.ensures.is;
+      is = ap₂ (λ (k : Cursor) (t : Table). state_of k t 0 (next_group_at 1 0) a.area_len (settings_of a.configuration.settings)) c.new.ensures.is c.starting_at.ensures.is;
       cursor = c.new.ensures.sound;
       table = c.starting_at.ensures.sound;
       settings = refl;

@@ -3,4 +3,4 @@ use borrow.Author.Rules.{rules}
 use Rattle.starts.proofs.restart.Goals as goal
 
 pub returns : goal.returns
-returns c = c.Started-with.ensures _ _ c.restart_in_place-done.ensures
+returns c = c.started_with.ensures _ _ c.restart_in_place-done.ensures

@@ -12,10 +12,10 @@ use Rattle.starts.proofs.resumed.Goals as goal
 -- the consumer with a table in its place
 abbrev with-table : Configuration → ℕ → RestartedAt → Columns → LeaseTable → Consumer
 with-table s size r p t =
-    record { cursor = cursor_by r p; table = t; ceiling = record { 0 = r.ceiling }; next = record { number = r.number; block = r.block }; area_len = size; settings = s.settings-1 }
+    record { cursor = cursor_by r p; table = t; ceiling = record { 0 = r.ceiling }; next = record { number = r.number; block = r.block }; area_len = size; settings = s.settings }
 
 pub returns : goal.returns
 returns c =
     let a = c.args in
     let made = c.resumed_table-table.ensures in
-    (ap (with-table a.configuration a.area-len a.numbers (columns a.starts a.ends a.carried-offsets a.carried-counts)) made.0, made.1)
+    (ap (with-table a.configuration a.area_len a.numbers (columns a.starts a.ends a.carried_offsets a.carried_counts)) made.0, made.1)

@@ -23,6 +23,5 @@ above x y =
 
 pub returns : goal.returns
 returns c =
-    let e = c.before.before in
-    let a = e.args in
-    rw (not-false a.second.opens e.if-not-second.false, not-false a.first.opens e.if-not-first.false) (above a.first.number a.second.number)
+    let a = c.args in
+    rw (not-false a.second.opens c.if-not-second.false, not-false a.first.opens c.if-not-first.false) (above a.first.number a.second.number)

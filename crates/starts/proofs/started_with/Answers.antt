@@ -5,12 +5,10 @@ use Rattle.starts.proofs.started_with.Goals as goal
 
 pub returns-in_default : goal.returns-in_default
 returns-in_default c =
-    let s = c.before.before in
     λ right before h.
-    refused-value right s.args.configuration s.args.area_len s.args.numbers before _ h c.in-Started.keys2 c.fresh.result c.fresh.ensures
+    refused-value right c.args.configuration c.args.area_len c.args.numbers before _ h c.in_default.not-Started c.fresh.result c.fresh.ensures
 
 pub returns : goal.returns
 returns c =
-    let s = c.before.before.before in
     λ right before h.
-    resumed-value right s.args.configuration s.args.area_len s.args.numbers before _ h c.in-Started.is c.resumed.result c.resumed.ensures.0 c.resumed.ensures.1
+    resumed-value right c.args.configuration c.args.area_len c.args.numbers before _ h c.in-Started.is c.resumed.result c.resumed.ensures.0 c.resumed.ensures.1

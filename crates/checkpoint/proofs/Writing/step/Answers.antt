@@ -3,10 +3,8 @@ use borrow.Author.Rules.{rules}
 use Rattle.checkpoint.proofs.Writing.step.Goals as goal
 
 pub step_in_place-after-requires : goal.step_in_place-after-requires
-step_in_place-after-requires c = let s = c.before.before.before.before in record { writing = s.args.self; sound = s.requires }
+step_in_place-after-requires c = record { writing = c.args.self; sound = c.requires }
 
 pub returns : goal.returns
 returns c =
-    let p = c.before.before.before.before.before.before in
-    let s = p.before.before.before.before.before in
-    p.step_in_place-after.ensures s.args.self s.requires
+    c.step_in_place-after.ensures c.args.self c.requires

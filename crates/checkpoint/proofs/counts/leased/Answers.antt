@@ -15,8 +15,7 @@ used s = omega (arith, s.requires.0, s.requires.1.all)
 
 pub returns : goal.returns
 returns c =
-    let s = c.before.before.before in
-    let a = s.args in
+    let a = c.args in
     let f = c.slot_at-slot in
-    let slot : f.result ≡ get_or a.slots.now a.i 0 = f.ensures.0 ∙ mod-eq_of_lt (slot_below s.requires.1.each a.i (used (goal.at.returns c).Start)) in
+    let slot : f.result ≡ get_or a.slots.now a.i 0 = f.ensures.0 ∙ mod-eq_of_lt (slot_below c.requires.1.each a.i (used (goal.at.returns c).Start)) in
     rw (slot, through-at 0 a.slots.now a.deliveries.now a.i (used (goal.at.returns c).Start))

@@ -6,20 +6,16 @@ use Rattle.checkpoint.proofs.counts.next_count.Goals as goal
 
 pub returns-then-len-i : goal.returns-then-len-i
 returns-then-len-i c =
-    let s = c.before.before in
-    rw c.carried.ensures (next-carried-alone s.requires.0 s.args.i s.args.j (omega arith) (omega (arith, s.requires.3)))
+    rw c.carried.ensures (next-carried-alone c.requires.0 c.args.i c.args.j (omega arith) (omega (arith, c.requires.3)))
 
 pub returns-then-carried_len-j : goal.returns-then-carried_len-j
 returns-then-carried_len-j c =
-    let s = c.before.before.before in
-    rw c.leased.ensures (next-leased-alone s.requires.0 s.args.i s.args.j (omega arith) (omega arith))
+    rw c.leased.ensures (next-leased-alone c.requires.0 c.args.i c.args.j (omega arith) (omega arith))
 
 pub returns-then-offsets-i : goal.returns-then-offsets-i
 returns-then-offsets-i c =
-    let s = c.before.before.before.before.before.before in
-    rw c.leased-then-offsets-i.ensures (next-leased s.requires.0 s.args.i s.args.j (omega arith) (omega arith) c.if-offsets-i.true)
+    rw c.leased-then-offsets-i.ensures (next-leased c.requires.0 c.args.i c.args.j (omega arith) (omega arith) c.if-offsets-i.true)
 
 pub returns : goal.returns
 returns c =
-    let s = c.before.before.before.before.before.before in
-    rw c.carried-2.ensures (next-carried s.requires.0 s.args.i s.args.j (omega arith) (omega arith) c.if-offsets-i.false)
+    rw c.carried-2.ensures (next-carried c.requires.0 c.args.i c.args.j (omega arith) (omega arith) c.if-offsets-i.false)

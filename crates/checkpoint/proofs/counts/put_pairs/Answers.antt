@@ -20,7 +20,7 @@ pub loop-i-init : goal.loop-i-init
 loop-i-init c = (omega arith, omega arith, refl, refl)
 
 pub overflow_add-i : goal.overflow_add-i
-overflow_add-i c = let s = c.before.before in omega (arith, c.loop-i.invariant.0, c.loop-i.invariant.1, s.requires.0.few, s.requires.0.carried-few)
+overflow_add-i c = omega (arith, c.loop-i.invariant.0, c.loop-i.invariant.1, c.requires.0.few, c.requires.0.carried-few)
 
 pub next_count-next-requires : goal.next_count-next-requires
 next_count-next-requires c =
@@ -39,7 +39,7 @@ count_room c =
     omega (arith, c.next_count-next.ensures.right, counts-left c.requires.0 l.i l.j, l.invariant.1)
 
 pub overflow_add-i-in-loop-i : goal.overflow_add-i-in-loop-i
-overflow_add-i-in-loop-i c = let s = c.before.before.before.before.before in let l = c.loop-i in omega (arith, l.invariant.0, l.invariant.1, s.requires.0.few, s.requires.0.carried-few)
+overflow_add-i-in-loop-i c = let l = c.loop-i in omega (arith, l.invariant.0, l.invariant.1, c.requires.0.few, c.requires.0.carried-few)
 
 pub put_v2-requires : goal.put_v2-requires
 put_v2-requires c =
@@ -47,27 +47,25 @@ put_v2-requires c =
     (c.loop-i-test.true, omega (arith, l.invariant.2, c.requires.1))
 
 pub overflow_add-i-in-loop-i-2 : goal.overflow_add-i-in-loop-i-2
-overflow_add-i-in-loop-i-2 c = let n = c.before.before.before.before.before in omega (arith, lease-room (goal.at.overflow_add-i-in-loop-i-2 c).After-next_count-next, n.requires.0.few)
+overflow_add-i-in-loop-i-2 c = omega (arith, lease-room (goal.at.overflow_add-i-in-loop-i-2 c).After-next_count-next, c.requires.0.few)
 
 pub overflow_add-j : goal.overflow_add-j
-overflow_add-j c = let n = c.before.before.before.before.before.before in omega (arith, count_room (goal.at.overflow_add-j c).After-next_count-next, n.requires.0.carried-few)
+overflow_add-j c = omega (arith, count_room (goal.at.overflow_add-j c).After-next_count-next, c.requires.0.carried-few)
 
 pub loop-i-smaller : goal.loop-i-smaller
-loop-i-smaller c = let n = c.before.before.before.before.before.before in omega (arith, n.next_count-next.ensures.one, n.loop-i-test.true)
+loop-i-smaller c = omega (arith, c.next_count-next.ensures.one, c.loop-i-test.true)
 
 pub loop-i-preserved : goal.loop-i-preserved
 loop-i-preserved c =
-    let p = c.before.before.before.before in
-    let n = c.before.before.before.before.before.before in
-    let l = n.loop-i in
-    let a = n.args in
-    let r = n.next_count-next.result in
-    let is = n.next_count-next.ensures in
+    let l = c.loop-i in
+    let a = c.args in
+    let r = c.next_count-next.result in
+    let is = c.next_count-next.ensures in
     let ours = counted a.len a.offsets.now (through 0 a.slots.now a.deliveries.now) in
-    let theirs = counted a.carried-len a.carried-offsets.now a.carried-counts.now in
+    let theirs = counted a.carried_len a.carried_offsets.now a.carried_counts.now in
     let next : l.i + r.left + (l.j + r.right) ≡ l.i + l.j + 1 = omega (arith, is.one) in
-    let more = putting-more (a.len + a.carried-len) a.at (l.i + l.j) r.offset r.attempt _ _ l.out _ is.is p.put_v2.ensures in
-    (lease-room (goal.at.loop-i-preserved c).After-next_count-next, count_room (goal.at.loop-i-preserved c).After-next_count-next, p.put_v2.auto.0 ∙ l.invariant.2, rw (next, ← drop-drop r.left l.i ours, ← drop-drop r.right l.j theirs) (more ∙ l.invariant.3))
+    let more = putting-more (a.len + a.carried_len) a.at (l.i + l.j) r.offset r.attempt _ _ l.out _ is.is c.put_v2.ensures in
+    (lease-room (goal.at.loop-i-preserved c).After-next_count-next, count_room (goal.at.loop-i-preserved c).After-next_count-next, c.put_v2.auto.out ∙ l.invariant.2, rw (next, ← drop-drop r.left l.i ours, ← drop-drop r.right l.j theirs) (more ∙ l.invariant.3))
 
 pub shape_of-out : goal.shape_of-out
 shape_of-out c = c.loop-i.invariant.2
@@ -75,10 +73,9 @@ shape_of-out c = c.loop-i.invariant.2
 pub returns : goal.returns
 returns c =
     let l = c.loop-i in
-    let s = c.before.before.before in
-    let a = s.args in
+    let a = c.args in
     let ours = counted a.len a.offsets.now (through 0 a.slots.now a.deliveries.now) in
-    let theirs = counted a.carried-len a.carried-offsets.now a.carried-counts.now in
-    let none = none_left s.requires.0 l.i l.j (omega (arith, l.invariant.0, l.invariant.1, c.loop-i-test.false)) (omega (arith, l.invariant.0, l.invariant.1, c.loop-i-test.false)) in
-    let written : putting (a.len + a.carried-len) a.at (l.i + l.j) (merge (drop l.i ours) (drop l.j theirs)) l.out ≡ l.out = rw none in
-    sym written ∙ l.invariant.3 ∙ putting-all (a.len + a.carried-len) a.at (merge ours theirs) a.out.now (listed-length s.requires.0) s.requires.1
+    let theirs = counted a.carried_len a.carried_offsets.now a.carried_counts.now in
+    let none = none_left c.requires.0 l.i l.j (omega (arith, l.invariant.0, l.invariant.1, c.loop-i-test.false)) (omega (arith, l.invariant.0, l.invariant.1, c.loop-i-test.false)) in
+    let written : putting (a.len + a.carried_len) a.at (l.i + l.j) (merge (drop l.i ours) (drop l.j theirs)) l.out ≡ l.out = rw none in
+    sym written ∙ l.invariant.3 ∙ putting-all (a.len + a.carried_len) a.at (merge ours theirs) a.out.now (listed-length c.requires.0) c.requires.1

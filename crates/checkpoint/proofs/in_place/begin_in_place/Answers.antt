@@ -1,5 +1,4 @@
 -- `begin_in_place` meets its contract: the worker's rows, then what a begin does that is permitted. Assumes nothing.
--- a consumer with the parts that were handed in
 use mathlib.Core.Path.{sym, ap, ◌∙◌}
 use borrow.Author.Rules.{rules}
 use Rattle.types.proofs.Table.{first_none}
@@ -13,40 +12,25 @@ use Rattle.consumer.specs.declared.Consumer.{Consumer}
 use Rattle.checkpoint.specs.Parts.{beginning}
 use Rattle.checkpoint.proofs.Encoding.{begin-unknown, begin_not_permitted}
 use Rattle.checkpoint.proofs.in_place.begin_in_place.Goals as goal
-use Rattle.checkpoint.proofs.in_place.begin_in_place.Goals.{Start}
-
-abbrev given : Start → Consumer → Consumer
-given s =
-    let a = s.args in
-    beginning a.rights.now (ack_cursor a.committed a.starts.now a.ends.now a.runs)
-    (listing_all a.len a.carried-len a.offsets.now a.slots.now a.deliveries.now a.carried-offsets.now a.carried-counts.now)
-    a.number
-    a.block
-    a.area-len
 
 pub begin_permitted-requires : goal.begin_permitted-requires
 begin_permitted-requires c =
-    let s = c.before.before.before.before in
-    record { consumer = permitting s.args.rights.now s.requires.consumer; lent = s.requires.lent; payload = s.requires.payload }
+    record { consumer = permitting c.args.rights.now c.requires.consumer; lent = c.requires.lent; payload = c.requires.payload }
 
 pub returns-in-UnknownWorker : goal.returns-in-UnknownWorker
 returns-in-UnknownWorker c x l =
-    let k = c.before.before in
-    let s = k.before in
-    begin-unknown (given (goal.at.returns-in-UnknownWorker c).Start x) s.args.worker s.args.written s.args.cursor_len s.args.attempt_len_lem s.args.payload.now
-    (sym (ap permission_of c.in-UnknownWorker.is) ∙ k.permission_of-permission.ensures)
+    let g = beginning c.args.rights.now (ack_cursor c.args.committed c.args.starts.now c.args.ends.now c.args.runs) (listing_all c.args.len c.args.carried_len c.args.offsets.now c.args.slots.now c.args.deliveries.now c.args.carried_offsets.now c.args.carried_counts.now) c.args.number c.args.block c.args.area_len in
+    begin-unknown (g x) c.args.worker c.args.written c.args.cursor_len c.args.attempt_len c.args.payload.now
+    (sym (ap permission_of c.in-UnknownWorker.is) ∙ c.permission_of-permission.ensures)
 
 pub returns-in-NotPermitted : goal.returns-in-NotPermitted
 returns-in-NotPermitted c x l =
-    let k = c.before.before in
-    let s = k.before in
-    begin_not_permitted (given (goal.at.returns-in-NotPermitted c).Start x) s.args.worker s.args.written s.args.cursor_len s.args.attempt_len_lem s.args.payload.now
-    (sym (ap permission_of c.in-NotPermitted.is) ∙ k.permission_of-permission.ensures)
+    let g = beginning c.args.rights.now (ack_cursor c.args.committed c.args.starts.now c.args.ends.now c.args.runs) (listing_all c.args.len c.args.carried_len c.args.offsets.now c.args.slots.now c.args.deliveries.now c.args.carried_offsets.now c.args.carried_counts.now) c.args.number c.args.block c.args.area_len in
+    begin_not_permitted (g x) c.args.worker c.args.written c.args.cursor_len c.args.attempt_len c.args.payload.now
+    (sym (ap permission_of c.in-NotPermitted.is) ∙ c.permission_of-permission.ensures)
 
 pub returns-in-Granted : goal.returns-in-Granted
 returns-in-Granted c x l =
-    let d = c.before.before in
-    let k = d.before.before in
-    let s = k.before in
-    c.begin_permitted.ensures (permitting s.args.rights.now x) l s.args.worker
-    (first_none (call_rows (view (given (goal.at.returns-in-Granted c).Start x)) s.args.worker checkpointing) (sym (sym (ap permission_of d.in-Granted.is) ∙ k.permission_of-permission.ensures)))
+    let g = beginning c.args.rights.now (ack_cursor c.args.committed c.args.starts.now c.args.ends.now c.args.runs) (listing_all c.args.len c.args.carried_len c.args.offsets.now c.args.slots.now c.args.deliveries.now c.args.carried_offsets.now c.args.carried_counts.now) c.args.number c.args.block c.args.area_len in
+    c.begin_permitted.ensures (permitting c.args.rights.now x) l c.args.worker
+    (first_none (call_rows (view (g x)) c.args.worker checkpointing) (sym (sym (ap permission_of c.in-Granted.is) ∙ c.permission_of-permission.ensures)))

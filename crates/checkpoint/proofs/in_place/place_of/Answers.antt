@@ -5,10 +5,7 @@ use Rattle.checkpoint.proofs.in_place.place_of.Goals as goal
 
 pub returns-then-half_end-block : goal.returns-then-half_end-block
 returns-then-half_end-block c =
-    let o = c.before in
-    let i = o.before in
-    let e = i.before in
-    place-moves _ _ _ _ e.half_end.ensures i.if-half_end-block.true _ _ o.other_half.ensures c.half_blocks.ensures
+    place-moves _ _ _ _ c.half_end.ensures c.if-half_end-block.true _ _ c.other_half.ensures c.half_blocks.ensures
 
 pub returns : goal.returns
 returns c = place-stays _ _ _ _ c.half_end.ensures c.if-half_end-block.false

@@ -7,10 +7,8 @@ use Rattle.checkpoint.proofs.in_place.put_block.Goals as goal
 
 pub slice_bounds-write_block-end : goal.slice_bounds-write_block-end
 slice_bounds-write_block-end c =
-    let s = c.before.before.before.before in
-    sym (length-take-le s.args.total s.args.payload.now s.requires.0)
+    sym (length-take-le c.args.total c.args.payload.now c.requires.0)
 
 pub returns : goal.returns
 returns c =
-    let s = c.before.before.before.before.before.before.before in
-    block_written s.args.area.now _ _ s.args.at _ s.requires.1 c.write_block.ensures
+    block_written c.args.area.now _ _ c.args.at _ c.requires.1 c.write_block.ensures

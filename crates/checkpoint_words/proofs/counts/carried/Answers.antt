@@ -9,11 +9,10 @@ use borrow.Author.Rules.{rules}
 use Rattle.checkpoint_words.proofs.counts.carried.Goals as goal
 
 pub overflow_cast-result : goal.overflow_cast-result
-overflow_cast-result c = let s = c.before.before in omega (arith, carried_narrow s.requires.0 s.args.j s.requires.1)
+overflow_cast-result c = omega (arith, carried_narrow c.requires.0 c.args.j c.requires.1)
 
 pub returns : goal.returns
 returns c =
-    let s = c.before.before in
-    let w = s.args.table.now in
-    let low : s.args.j < CARRIED = omega (arith, s.requires.1, s.requires.0.table.carried-len) in
-    rw (column-at CARRIED-OFFSETS CARRIED w s.args.j low, column-at CARRIED-COUNTS CARRIED w s.args.j low)
+    let w = c.args.table.now in
+    let low : c.args.j < CARRIED = omega (arith, c.requires.1, c.requires.0.table.carried-len) in
+    rw (column-at CARRIED-OFFSETS CARRIED w c.args.j low, column-at CARRIED-COUNTS CARRIED w c.args.j low)

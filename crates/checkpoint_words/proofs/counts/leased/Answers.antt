@@ -15,20 +15,18 @@ use Rattle.checkpoint_words.proofs.counts.leased.Goals as goal
 
 pub overflow_cast-result : goal.overflow_cast-result
 overflow_cast-result c =
-    let s = c.before.before.before in
-    let w = s.args.table.now in
-    let slot = word (SLOTS + s.args.i) w % LEASES in
-    omega (arith, column-at DELIVERIES LEASES w slot (omega arith), s.requires.0.fits.counts slot)
+    let w = c.args.table.now in
+    let slot = word (SLOTS + c.args.i) w % LEASES in
+    omega (arith, column-at DELIVERIES LEASES w slot (omega arith), c.requires.0.fits.counts slot)
 
 pub returns : goal.returns
 returns c =
-    let s = c.before.before.before in
-    let w = s.args.table.now in
+    let w = c.args.table.now in
     let t = table_in w in
-    let i = s.args.i in
+    let i = c.args.i in
     let slot = word (SLOTS + i) w % LEASES in
     let count : get_or (counts_of t) i 0 ≡ word (DELIVERIES + slot) w =
-    count_at t (whole s.requires.0).full s.requires.0.table i s.requires.1
-    ∙ ap (λ (n : ℕ). get_or t.deliveries (n % LEASES) 0) (column-at SLOTS LEASES w i s.requires.1)
+    count_at t (whole c.requires.0).full c.requires.0.table i c.requires.1
+    ∙ ap (λ (n : ℕ). get_or t.deliveries (n % LEASES) 0) (column-at SLOTS LEASES w i c.requires.1)
     ∙ column-at DELIVERIES LEASES w slot (omega arith) in
-    rw (column-at OFFSETS LEASES w i s.requires.1, count)
+    rw (column-at OFFSETS LEASES w i c.requires.1, count)

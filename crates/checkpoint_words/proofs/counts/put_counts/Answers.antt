@@ -12,9 +12,8 @@ use Rattle.checkpoint_words.proofs.counts.put_counts.Goals as goal
 
 pub returns : goal.returns
 returns c =
-    let s = c.before.before.before.before.before.before.before.before.before.before.before.before.before.before.before.before in
-    let a = s.args in
+    let a = c.args in
     let t = table_in a.table.now in
     pairs-encoded (merge (leased_in t) (carried_of t)) (t.len + t.carried_len) a.at a.out.now
-    c.open_v2.new.1.0 c.put_pairs.new.1.0 _ (listed-length (listed_in s.requires.0 s.requires.1)) s.requires.2 s.requires.3
+    c.open_v2.new.out c.put_pairs.new.out _ (listed-length (listed_in c.requires.0 c.requires.1)) c.requires.2 c.requires.3
     c.open_v2.ensures c.put_pairs.ensures c.seal_v2.ensures

@@ -22,35 +22,32 @@ pub bounds-table-1 : goal.bounds-table-1
 bounds-table-1 c = omega (arith, c.requires.0.long)
 
 pub overflow_add-count : goal.overflow_add-count
-overflow_add-count c = let s = c.before.before.before.before in omega (arith, s.requires.0.table.len, s.requires.0.table.carried-len)
+overflow_add-count c = omega (arith, c.requires.0.table.len, c.requires.0.table.carried-len)
 
 pub loop-i-init : goal.loop-i-init
 loop-i-init c = (refl, omega arith, omega arith, refl, refl)
 
 pub overflow_add-i : goal.overflow_add-i
-overflow_add-i c = let s = c.before.before.before.before.before in omega (arith, c.loop-i.invariant.1, c.loop-i.invariant.2, s.requires.0.table.len, s.requires.0.table.carried-len)
+overflow_add-i c = omega (arith, c.loop-i.invariant.1, c.loop-i.invariant.2, c.requires.0.table.len, c.requires.0.table.carried-len)
 
 pub next_count-next-requires : goal.next_count-next-requires
 next_count-next-requires c =
-    let s = c.before.before.before.before.before.before in
     let l = c.loop-i in
-    (s.requires.0, s.requires.1, l.invariant.1, l.invariant.2, c.loop-i-test.true)
+    (c.requires.0, c.requires.1, l.invariant.1, l.invariant.2, c.loop-i-test.true)
 
 -- of each list there is as much left
 lease-room : (c : After-next_count-next) → c.loop-i.i + c.next_count-next.result.left ≤ (table_in c.args.table.now).len
 lease-room c =
-    let s = c.before.before.before.before.before.before.before in
     let l = c.loop-i in
-    omega (arith, c.next_count-next.ensures.left, leases-left (listed_in s.requires.0 s.requires.1) l.i l.j, l.invariant.1)
+    omega (arith, c.next_count-next.ensures.left, leases-left (listed_in c.requires.0 c.requires.1) l.i l.j, l.invariant.1)
 
 count_room : (c : After-next_count-next) → c.loop-i.j + c.next_count-next.result.right ≤ (table_in c.args.table.now).carried_len
 count_room c =
-    let s = c.before.before.before.before.before.before.before in
     let l = c.loop-i in
-    omega (arith, c.next_count-next.ensures.right, counts-left (listed_in s.requires.0 s.requires.1) l.i l.j, l.invariant.2)
+    omega (arith, c.next_count-next.ensures.right, counts-left (listed_in c.requires.0 c.requires.1) l.i l.j, l.invariant.2)
 
 pub overflow_add-i-in-loop-i : goal.overflow_add-i-in-loop-i
-overflow_add-i-in-loop-i c = let s = c.before.before.before.before.before.before.before.before in let l = c.loop-i in omega (arith, l.invariant.1, l.invariant.2, s.requires.0.table.len, s.requires.0.table.carried-len)
+overflow_add-i-in-loop-i c = let l = c.loop-i in omega (arith, l.invariant.1, l.invariant.2, c.requires.0.table.len, c.requires.0.table.carried-len)
 
 pub put_v2-requires : goal.put_v2-requires
 put_v2-requires c =
@@ -58,29 +55,27 @@ put_v2-requires c =
     (c.loop-i-test.true, omega (arith, l.invariant.3, c.requires.2))
 
 pub overflow_add-i-in-loop-i-2 : goal.overflow_add-i-in-loop-i-2
-overflow_add-i-in-loop-i-2 c = let n = c.before.before.before.before.before in let s = n.before.before.before.before.before.before.before in omega (arith, lease-room (goal.at.overflow_add-i-in-loop-i-2 c).After-next_count-next, s.requires.0.table.len, s.requires.0.table.carried-len)
+overflow_add-i-in-loop-i-2 c = omega (arith, lease-room (goal.at.overflow_add-i-in-loop-i-2 c).After-next_count-next, c.requires.0.table.len, c.requires.0.table.carried-len)
 
 pub overflow_add-j : goal.overflow_add-j
-overflow_add-j c = let n = c.before.before.before.before.before.before in let s = n.before.before.before.before.before.before.before in omega (arith, count_room (goal.at.overflow_add-j c).After-next_count-next, s.requires.0.table.len, s.requires.0.table.carried-len)
+overflow_add-j c = omega (arith, count_room (goal.at.overflow_add-j c).After-next_count-next, c.requires.0.table.len, c.requires.0.table.carried-len)
 
 pub loop-i-smaller : goal.loop-i-smaller
-loop-i-smaller c = let n = c.before.before.before.before.before.before in omega (arith, n.next_count-next.ensures.one, n.loop-i-test.true)
+loop-i-smaller c = omega (arith, c.next_count-next.ensures.one, c.loop-i-test.true)
 
 pub loop-i-preserved : goal.loop-i-preserved
 loop-i-preserved c =
-    let p = c.before.before.before.before in
-    let n = c.before.before.before.before.before.before in
-    let l = n.loop-i in
-    let a = n.args in
+    let l = c.loop-i in
+    let a = c.args in
     let t = table_in a.table.now in
-    let r = n.next_count-next.result in
-    let is = n.next_count-next.ensures in
+    let r = c.next_count-next.result in
+    let is = c.next_count-next.ensures in
     let next : l.i + r.left + (l.j + r.right) ≡ l.i + l.j + 1 = omega (arith, is.one) in
-    let more = putting-more (t.len + t.carried_len) a.at (l.i + l.j) r.offset r.attempt _ _ l.out _ is.is p.put_v2.ensures in (
+    let more = putting-more (t.len + t.carried_len) a.at (l.i + l.j) r.offset r.attempt _ _ l.out _ is.is c.put_v2.ensures in (
       l.invariant.0,
       lease-room (goal.at.loop-i-preserved c).After-next_count-next,
       count_room (goal.at.loop-i-preserved c).After-next_count-next,
-      p.put_v2.auto.0 ∙ l.invariant.3,
+      c.put_v2.auto.out ∙ l.invariant.3,
       rw (next, ← drop-drop r.left l.i (leased_in t), ← drop-drop r.right l.j (carried_of t)) (more ∙ l.invariant.4),
     )
 
@@ -90,10 +85,9 @@ shape_of-out c = c.loop-i.invariant.3
 pub returns : goal.returns
 returns c =
     let l = c.loop-i in
-    let s = c.before.before.before.before.before.before in
-    let a = s.args in
+    let a = c.args in
     let t = table_in a.table.now in
-    let p = listed_in s.requires.0 s.requires.1 in
+    let p = listed_in c.requires.0 c.requires.1 in
     let none = none_left p l.i l.j (omega (arith, l.invariant.1, l.invariant.2, c.loop-i-test.false)) (omega (arith, l.invariant.1, l.invariant.2, c.loop-i-test.false)) in
     let written : putting (t.len + t.carried_len) a.at (l.i + l.j) (merge (drop l.i (leased_in t)) (drop l.j (carried_of t))) l.out ≡ l.out = rw none in
-    sym written ∙ l.invariant.4 ∙ putting-all (t.len + t.carried_len) a.at (merge (leased_in t) (carried_of t)) a.out.now (listed-length p) s.requires.2
+    sym written ∙ l.invariant.4 ∙ putting-all (t.len + t.carried_len) a.at (merge (leased_in t) (carried_of t)) a.out.now (listed-length p) c.requires.2

@@ -10,22 +10,19 @@ use borrow.Author.Rules.{rules}
 use Rattle.checkpoint_words.proofs.in_words.begin.Goals as goal
 
 pub begin_permitted-requires : goal.begin_permitted-requires
-begin_permitted-requires c = let s = c.before.before.before.before.before.before.before.before in (s.requires.0, s.requires.1)
+begin_permitted-requires c = (c.requires.0, c.requires.1)
 
 pub returns-in-UnknownWorker : goal.returns-in-UnknownWorker
 returns-in-UnknownWorker c =
-    let s = c.before.before.before.before.before.before in
-    unknown_words s.requires.0 s.args.worker s.args.payload.now
-    (sym (ap permission_of c.in-UnknownWorker.is) ∙ c.permission_of-permission.ensures ∙ rows-within s.requires.0 s.args.worker)
+    unknown_words c.requires.0 c.args.worker c.args.payload.now
+    (sym (ap permission_of c.in-UnknownWorker.is) ∙ c.permission_of-permission.ensures ∙ rows-within c.requires.0 c.args.worker)
 
 pub returns-in-NotPermitted : goal.returns-in-NotPermitted
 returns-in-NotPermitted c =
-    let s = c.before.before.before.before.before.before in
-    not_permitted_words s.requires.0 s.args.worker s.args.payload.now
-    (sym (ap permission_of c.in-NotPermitted.is) ∙ c.permission_of-permission.ensures ∙ rows-within s.requires.0 s.args.worker)
+    not_permitted_words c.requires.0 c.args.worker c.args.payload.now
+    (sym (ap permission_of c.in-NotPermitted.is) ∙ c.permission_of-permission.ensures ∙ rows-within c.requires.0 c.args.worker)
 
 pub returns-in-Granted : goal.returns-in-Granted
 returns-in-Granted c =
-    let s = c.before.before.before.before.before.before.before.before.before.before.before in
-    let none = sym (ap permission_of c.in-Granted.is) ∙ c.permission_of-permission.ensures ∙ rows-within s.requires.0 s.args.worker in
-    c.begin_permitted.ensures s.args.worker (first_none (call_rows (view s.args.words.now) s.args.worker checkpointing) (sym none))
+    let none = sym (ap permission_of c.in-Granted.is) ∙ c.permission_of-permission.ensures ∙ rows-within c.requires.0 c.args.worker in
+    c.begin_permitted.ensures c.args.worker (first_none (call_rows (view c.args.words.now) c.args.worker checkpointing) (sym none))

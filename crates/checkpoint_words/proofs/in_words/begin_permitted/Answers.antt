@@ -4,10 +4,9 @@ use borrow.Author.Rules.{rules}
 use Rattle.checkpoint_words.proofs.in_words.begin_permitted.Goals as goal
 
 pub returns-then-words : goal.returns-then-words
-returns-then-words c = let s = c.before.before.before in λ worker may. full_words s.requires.0 worker s.args.payload.now may c.if-words.true
+returns-then-words c = λ worker may. full_words c.requires.0 worker c.args.payload.now may c.if-words.true
 
 pub returns : goal.returns
 returns c =
-    let s = c.before.before.before.before.before.before.before.before in
     λ worker may.
-    begun_words s.requires.0 worker s.args.payload.now _ _ _ _ may c.if-words.false c.encode_both-lengths.ensures c.writes_of-writes.ensures
+    begun_words c.requires.0 worker c.args.payload.now _ _ _ _ may c.if-words.false c.encode_both-lengths.ensures c.writes_of-writes.ensures

@@ -19,11 +19,9 @@ encode_snapshot-requires c = lent-cursor c.requires.0
 
 pub put_counts-requires : goal.put_counts-requires
 put_counts-requires c =
-    let s = c.before.before.before.before.before.before.before.before.before.before.before in
-    (lent-table s.requires.0, separate s.requires.0, few-lent s.requires.0, room s.requires.0 _ c.snapshot_len-cursor.ensures c.encode_snapshot.new.1.0 (c.encode_snapshot.auto.1.0 ∙ s.requires.1))
+    (lent-table c.requires.0, separate c.requires.0, few-lent c.requires.0, room c.requires.0 _ c.snapshot_len-cursor.ensures c.encode_snapshot.new.out (c.encode_snapshot.auto.out ∙ c.requires.1))
 
 pub returns : goal.returns
 returns c =
-    let s = c.before.before.before.before.before.before.before.before.before.before.before.before in
     let e = c.encode_snapshot in
-    encoded_words s.requires.0 s.args.payload.now e.new.1.0 c.put_counts.new.1.0 _ _ _ _ s.requires.1 c.snapshot_len-cursor.ensures c.snapshot_len-attempts.ensures e.ensures c.put_counts.ensures
+    encoded_words c.requires.0 c.args.payload.now e.new.out c.put_counts.new.out _ _ _ _ c.requires.1 c.snapshot_len-cursor.ensures c.snapshot_len-attempts.ensures e.ensures c.put_counts.ensures

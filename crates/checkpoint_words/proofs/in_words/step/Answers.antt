@@ -10,24 +10,20 @@ use Rattle.checkpoint_words.specs.InWords.{Steps}
 use Rattle.checkpoint_words.proofs.Steps.{steppable, counter_narrow, stepped_words, step-refused_words}
 use borrow.Author.Rules.{rules}
 use Rattle.checkpoint_words.proofs.in_words.step.Goals as goal
-use Rattle.checkpoint_words.proofs.in_words.step.Goals.{Else-area-words}
 
 pub returns-then-area-words : goal.returns-then-area-words
-returns-then-area-words c = let s = c.before.before.before.before in step-refused_words s.requires s.args.area.now (search rules)
+returns-then-area-words c = step-refused_words c.requires c.args.area.now (search rules)
 
 pub overflow_cast-words : goal.overflow_cast-words
-overflow_cast-words c = let s = c.before.before.before.before.before.before.before.before.before.before.before in omega (arith, counter_narrow s.requires)
+overflow_cast-words c = omega (arith, counter_narrow c.requires)
 
 pub step_in_place-after-requires : goal.step_in_place-after-requires
-step_in_place-after-requires c = let s = c.before.before.before.before.before.before.before.before.before.before.before.before.before.before in steppable s.requires
+step_in_place-after-requires c = steppable c.requires
 
 -- the area has the length that the consumer was started on
-area : (c : Else-area-words) → length c.args.area.now ≡ word AREA-LEN c.args.words.now
-area c = search rules
-
 pub returns : goal.returns
 returns c =
-    let s = c.before.before.before.before.before.before.before.before.before.before.before.before.before.before.before.before.before.before.before.before.before in
+    let area : length c.args.area.now ≡ word AREA-LEN c.args.words.now = search rules in
     let f = c.step_in_place-after in
-    subst (λ (x : List ℕ). Steps f.result.answer s.args.payload.now s.args.words.now s.args.area.now x f.new.1.1.1.1.1.1.1.1.1.1.0) (sym c.put.ensures)
-    (stepped_words s.requires s.args.area.now f.new.1.1.1.1.1.1.1.1.1.1.0 f.result (area (goal.at.returns c).Else-area-words) (omega arith) f.ensures)
+    subst (λ (x : List ℕ). Steps f.result.answer c.args.payload.now c.args.words.now c.args.area.now x f.new.area) (sym c.put.ensures)
+    (stepped_words c.requires c.args.area.now f.new.area f.result area (omega arith) f.ensures)

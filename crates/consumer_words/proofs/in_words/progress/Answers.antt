@@ -19,55 +19,20 @@ use Rattle.consumer_words.specs.InWords.{Answers, TokenAt}
 use Rattle.consumer_words.proofs.State.{table-part, leases-sound, lent-table, progress-refused_so, progress_so}
 use borrow.Author.Rules.{rules}
 use Rattle.consumer_words.proofs.in_words.progress.Goals as goal
-use Rattle.consumer_words.proofs.in_words.progress.Goals.{After-token_test-test, In-Held, Start}
-
-abbrev words : Start → List ℕ
-words s = s.args.words.now
-
-abbrev o : Start → ℕ
-o s = s.args.token.offset.0
-
-abbrev g : Start → ℕ
-g s = s.args.token.generation.0
-
-abbrev start : After-token_test-test → Start
-start k = k.before.before.before
-
-abbrev tested : In-Held → Start
-tested k = start k.before.before.before
-
--- where its lease stands, and that the token's rows are passed
-own : (k : In-Held) → let s = tested k in OwnedIn (o s) (g s) (leases_in (words s)) (Found k.in-Held.held.at)
-own k = let s = tested k in subst (TokenAt (o s) (g s) (words s)) k.in-Held.is k.token_test-test.ensures.at
-
-owned : (k : In-Held) → let s = tested k in Passed (token_rows (view (words s)) s.args.worker extending (o s) (g s))
-owned k =
-    let s = tested k in
-    (test-passed (token_rows (view (words s)) s.args.worker extending (o s) (g s)) _ (attempt_of (view (words s)) (o s))
-    (sym (ap token_of k.in-Held.is) ∙ k.token_test-test.ensures.is extending refl)).0
 
 pub returns-in-Refused : goal.returns-in-Refused
 returns-in-Refused c =
-    let t = c.before.before in
-    let k = t.before.before in
-    let s = start (goal.at.returns-in-Refused c).After-token_test-test in
-    let r = token_refusal_of t.in-Refused.refusal in
-    subst (λ (y : Result ℕ). Answers y (words (goal.at.returns-in-Refused c).Start) (words (goal.at.returns-in-Refused c).Start) (progress (view (words (goal.at.returns-in-Refused c).Start)) s.args.worker (o (goal.at.returns-in-Refused c).Start) (g (goal.at.returns-in-Refused c).Start) s.args.now)) (sym c.not_extended.ensures)
-    (progress-refused_so s.requires s.args.worker (o (goal.at.returns-in-Refused c).Start) (g (goal.at.returns-in-Refused c).Start) s.args.now r
-    (first-refused (token_rows (view (words (goal.at.returns-in-Refused c).Start)) s.args.worker extending (o (goal.at.returns-in-Refused c).Start) (g (goal.at.returns-in-Refused c).Start)) (attempt_of (view (words (goal.at.returns-in-Refused c).Start)) (o (goal.at.returns-in-Refused c).Start)) r
-    (sym (ap token_of t.in-Refused.is) ∙ k.token_test-test.ensures.is extending refl)))
+    let r = token_refusal_of c.in-Refused.refusal in
+    subst (λ (y : Result ℕ). Answers y c.args.words.now c.args.words.now (progress (view c.args.words.now) c.args.worker c.args.token.offset.0 c.args.token.generation.0 c.args.now)) (sym c.not_extended.ensures)
+    (progress-refused_so c.requires c.args.worker c.args.token.offset.0 c.args.token.generation.0 c.args.now r
+    (first-refused (token_rows (view c.args.words.now) c.args.worker extending c.args.token.offset.0 c.args.token.generation.0) (attempt_of (view c.args.words.now) c.args.token.offset.0) r
+    (sym (ap token_of c.in-Refused.is) ∙ c.token_test-test.ensures.is extending refl)))
 
 pub extend_at-outcome-requires : goal.extend_at-outcome-requires
 extend_at-outcome-requires c =
-    let k = c.before in
-    let s = tested (goal.at.extend_at-outcome-requires c).In-Held in
-    (lent-table s.requires, subst (λ (x : List ℕ). k.in-Held.held.at < (table_in x).len) (sym (table-part (words (goal.at.extend_at-outcome-requires c).Start))) (owned-low (leases-sound s.requires) (o (goal.at.extend_at-outcome-requires c).Start) (g (goal.at.extend_at-outcome-requires c).Start) (own (goal.at.extend_at-outcome-requires c).In-Held) refl))
+    (lent-table c.requires, subst (λ (x : List ℕ). c.in-Held.held.at < (table_in x).len) (sym (table-part c.args.words.now)) (owned-low (leases-sound c.requires) c.args.token.offset.0 c.args.token.generation.0 (subst (TokenAt c.args.token.offset.0 c.args.token.generation.0 c.args.words.now) c.in-Held.is c.token_test-test.ensures.at) refl))
 
 pub returns : goal.returns
 returns c =
-    let b = c.before.before in
-    let a = b.before in
-    let k = a.before.before in
-    let s = tested (goal.at.returns c).In-Held in
-    progress_so s.requires s.args.worker (o (goal.at.returns c).Start) (g (goal.at.returns c).Start) s.args.now (owned (goal.at.returns c).In-Held) (own (goal.at.returns c).In-Held) (extend_of a.extend_at-outcome.result) a.extend_at-outcome.new.0 b.words-1.given.0 a.extend_at-outcome.ensures
+    progress_so c.requires c.args.worker c.args.token.offset.0 c.args.token.generation.0 c.args.now ((test-passed (token_rows (view c.args.words.now) c.args.worker extending c.args.token.offset.0 c.args.token.generation.0) _ (attempt_of (view c.args.words.now) c.args.token.offset.0) (sym (ap token_of c.in-Held.is) ∙ c.token_test-test.ensures.is extending refl)).0) (subst (TokenAt c.args.token.offset.0 c.args.token.generation.0 c.args.words.now) c.in-Held.is c.token_test-test.ensures.at) (extend_of c.extend_at-outcome.result) c.extend_at-outcome.new.0 c.words-1.given.0 c.extend_at-outcome.ensures
     (progress_of c.extended.result) c.extended.ensures

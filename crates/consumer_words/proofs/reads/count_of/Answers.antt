@@ -14,38 +14,23 @@ use Rattle.consumer_words.specs.Layout.{view}
 use Rattle.consumer_words.proofs.State.{table_part, table-part, lent-table}
 use borrow.Author.Rules.{rules}
 use Rattle.consumer_words.proofs.reads.count_of.Goals as goal
-use Rattle.consumer_words.proofs.reads.count_of.Goals.{Start}
-
-abbrev o : Start → ℕ
-o s = s.args.offset.0
 
 -- the carried count, among the words that were lent
-carried : (s : Start) {x : Option ℕ} → lookup (o s) (lease.view (table_part s.args.words.now)).carried-1 ≡ x → lookup (o s) (view s.args.words.now).table.carried ≡ x
-carried s e = sym (ap (λ (t : List ℕ). lookup (o s) (lease.view t).carried) (table-part s.args.words.now)) ∙ e
+carried : (w : List ℕ) (o : ℕ) {x : Option ℕ} → lookup o (lease.view (table_part w)).carried ≡ x → lookup o (view w).table.carried ≡ x
+carried w o e = sym (ap (λ (t : List ℕ). lookup o (lease.view t).carried) (table-part w)) ∙ e
 
 pub returns-in-Some : goal.returns-in-Some
 returns-in-Some c =
-    let k = c.before in
-    let l = k.before.before in
-    let s = l.before.before in
-    sym (lease-count (view s.args.words.now) s.requires.state.valid (o (goal.at.returns-in-Some c).Start) k.in-Some.lease (sym l.lease_of-found.ensures ∙ ap lease_in k.in-Some.is))
+    sym (lease-count (view c.args.words.now) c.requires.state.valid c.args.offset.0 c.in-Some.lease (sym c.lease_of-found.ensures ∙ ap lease_in c.in-Some.is))
 
 pub carried_count-carried-requires : goal.carried_count-carried-requires
 carried_count-carried-requires c = lent-table c.requires
 
 pub returns-in_default-carried : goal.returns-in_default-carried
 returns-in_default-carried c =
-    let m = c.before.before in
-    let t = m.before.before in
-    let l = t.before.before in
-    let s = l.before.before in
-    no-count (view s.args.words.now) s.requires.state.valid (o (goal.at.returns-in_default-carried c).Start) (ap deliveries_of (sym l.lease_of-found.ensures ∙ ap lease_in t.in_default.is))
-    (carried (goal.at.returns-in_default-carried c).Start (found.no-count _ m.carried_count-carried.ensures c.in_default-carried.is))
+    no-count (view c.args.words.now) c.requires.state.valid c.args.offset.0 (ap deliveries_of (sym c.lease_of-found.ensures ∙ ap lease_in c.in_default.is))
+    ((carried c.args.words.now c.args.offset.0) (found.no-count _ c.carried_count-carried.ensures c.in_default-carried.is))
 
 pub returns : goal.returns
 returns c =
-    let k = c.before in
-    let m = k.before.before in
-    let l = m.before.before.before.before in
-    let s = l.before.before in
-    sym (carried-count (view s.args.words.now) s.requires.state.valid (o (goal.at.returns c).Start) k.in-Some-carried.count (carried (goal.at.returns c).Start (found.found-count _ m.carried_count-carried.ensures k.in-Some-carried.is)))
+    sym (carried-count (view c.args.words.now) c.requires.state.valid c.args.offset.0 c.in-Some-carried.count ((carried c.args.words.now c.args.offset.0) (found.found-count _ c.carried_count-carried.ensures c.in-Some-carried.is)))

@@ -12,4 +12,4 @@ pub in_flight-requires : goal.in_flight-requires
 in_flight-requires c = lent-table c.requires
 
 pub returns : goal.returns
-returns c = c.in_flight_lem.ensures ∙ ap (λ (x : List ℕ). in_flight (lease.view x)) (table-part c.args.words.now)
+returns c = c.in_flight.ensures ∙ ap (λ (x : List ℕ). in_flight (lease.view x)) (table-part c.args.words.now)

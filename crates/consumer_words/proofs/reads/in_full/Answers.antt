@@ -11,36 +11,22 @@ use Rattle.consumer_words.specs.Layout.{view}
 use Rattle.consumer_words.proofs.State.{table_part, table-part, lent-table}
 use borrow.Author.Rules.{rules}
 use Rattle.consumer_words.proofs.reads.in_full.Goals as goal
-use Rattle.consumer_words.proofs.reads.in_full.Goals.{Start}
-
-abbrev o : Start → ℕ
-o s = s.args.offset.0
 
 -- the carried count, among the words that were lent
-carried : (s : Start) {x : Option ℕ} → lookup (o s) (lease.view (table_part s.args.words.now)).carried-1 ≡ x → lookup (o s) (view s.args.words.now).table.carried ≡ x
-carried s e = sym (ap (λ (t : List ℕ). lookup (o s) (lease.view t).carried) (table-part s.args.words.now)) ∙ e
+carried : (w : List ℕ) (o : ℕ) {x : Option ℕ} → lookup o (lease.view (table_part w)).carried ≡ x → lookup o (view w).table.carried ≡ x
+carried w o e = sym (ap (λ (t : List ℕ). lookup o (lease.view t).carried) (table-part w)) ∙ e
 
 pub returns-in-Some : goal.returns-in-Some
 returns-in-Some c =
-    let k = c.before.before in
-    let d = k.before.before in
-    let s = d.before.before in
-    is-leased s.args.found _ s.args.now k.in-Some.is d.standing_of-standing.result _ d.standing_of-standing.ensures
+    is-leased c.args.found _ c.args.now c.in-Some.is c.standing_of-standing.result _ c.standing_of-standing.ensures
 
 pub carried_count-carried-requires : goal.carried_count-carried-requires
 carried_count-carried-requires c = lent-table c.requires
 
 pub returns-in-Some-carried : goal.returns-in-Some-carried
 returns-in-Some-carried c =
-    let k = c.before in
-    let n = k.before.before in
-    let d = n.before.before in
-    let s = d.before.before.before.before in
-    is_unleased s.args.found s.args.now d.in_default.is (some k.in-Some-carried.attempts) (carried (goal.at.returns-in-Some-carried c).Start (found-count _ n.carried_count-carried.ensures k.in-Some-carried.is))
+    is_unleased c.args.found c.args.now c.in_default.is (some c.in-Some-carried.attempts) ((carried c.args.words.now c.args.offset.0) (found-count _ c.carried_count-carried.ensures c.in-Some-carried.is))
 
 pub returns-in-None : goal.returns-in-None
 returns-in-None c =
-    let n = c.before.before in
-    let d = n.before.before in
-    let s = d.before.before.before.before in
-    is_unleased s.args.found s.args.now d.in_default.is none (carried (goal.at.returns-in-None c).Start (no-count _ n.carried_count-carried.ensures c.in-None.is))
+    is_unleased c.args.found c.args.now c.in_default.is none ((carried c.args.words.now c.args.offset.0) (no-count _ c.carried_count-carried.ensures c.in-None.is))

@@ -15,6 +15,4 @@ next_generation-next-requires c = lent-table c.requires
 
 pub returns : goal.returns
 returns c =
-    let n = c.before.before in
-    let s = n.before.before.before in
-    ap (leb (word CEILING s.args.words.now)) (n.next_generation-next.ensures ∙ ap (λ (x : List ℕ). (lease.view x).next_generation) (table-part s.args.words.now))
+    ap (leb (word CEILING c.args.words.now)) (c.next_generation-next.ensures ∙ ap (λ (x : List ℕ). (lease.view x).next_generation) (table-part c.args.words.now))

@@ -15,7 +15,5 @@ redeliveries_since_flush-count-requires c = lent-table c.requires
 
 pub returns : goal.returns
 returns c =
-    let n = c.before.before in
-    let s = n.before.before.before in
-    ap (leb (word THRESHOLD s.args.words.now))
-    (c.wide.ensures ∙ n.redeliveries_since_flush-count.ensures ∙ ap (λ (x : List ℕ). (lease.view x).redeliveries) (table-part s.args.words.now))
+    ap (leb (word THRESHOLD c.args.words.now))
+    (c.wide.ensures ∙ c.redeliveries_since_flush-count.ensures ∙ ap (λ (x : List ℕ). (lease.view x).redeliveries) (table-part c.args.words.now))

@@ -14,5 +14,4 @@ is_exhausted-requires c = lent-table c.requires
 
 pub returns : goal.returns
 returns c =
-    let s = c.before.before.before in
-    c.is_exhausted.ensures ∙ ap (λ (x : List ℕ). eqb (lease.view x).next_generation MAX) (table-part s.args.words.now)
+    c.is_exhausted.ensures ∙ ap (λ (x : List ℕ). eqb (lease.view x).next_generation MAX) (table-part c.args.words.now)

@@ -13,5 +13,4 @@ is_acked-requires c = lent-cursor c.requires
 
 pub returns : goal.returns
 returns c =
-    let s = c.before.before.before in
-    c.is_acked.ensures ∙ ap (λ (x : List ℕ). settled (cursor.view x) s.args.offset.0) (cursor-part s.args.words.now)
+    c.is_acked.ensures ∙ ap (λ (x : List ℕ). settled (cursor.view x) c.args.offset.0) (cursor-part c.args.words.now)

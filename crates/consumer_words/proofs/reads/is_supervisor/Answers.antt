@@ -10,18 +10,12 @@ use Rattle.consumer_words.proofs.reads.is_supervisor.Goals as goal
 
 pub returns-in-Granted : goal.returns-in-Granted
 returns-in-Granted c =
-    let k = c.before.before in
-    let s = k.before.before in
-    sym (supervises-by (column RIGHTS WORKERS s.args.words.now) s.args.worker (sym (ap permission_of c.in-Granted.is) ∙ k.permission_of-permission.ensures))
+    sym (supervises-by (column RIGHTS WORKERS c.args.words.now) c.args.worker (sym (ap permission_of c.in-Granted.is) ∙ c.permission_of-permission.ensures))
 
 pub returns-in-UnknownWorker : goal.returns-in-UnknownWorker
 returns-in-UnknownWorker c =
-    let k = c.before.before in
-    let s = k.before.before in
-    sym (supervises-by (column RIGHTS WORKERS s.args.words.now) s.args.worker (sym (ap permission_of c.in-UnknownWorker.is) ∙ k.permission_of-permission.ensures))
+    sym (supervises-by (column RIGHTS WORKERS c.args.words.now) c.args.worker (sym (ap permission_of c.in-UnknownWorker.is) ∙ c.permission_of-permission.ensures))
 
 pub returns-in-NotPermitted : goal.returns-in-NotPermitted
 returns-in-NotPermitted c =
-    let k = c.before.before in
-    let s = k.before.before in
-    sym (supervises-by (column RIGHTS WORKERS s.args.words.now) s.args.worker (sym (ap permission_of c.in-NotPermitted.is) ∙ k.permission_of-permission.ensures))
+    sym (supervises-by (column RIGHTS WORKERS c.args.words.now) c.args.worker (sym (ap permission_of c.in-NotPermitted.is) ∙ c.permission_of-permission.ensures))

@@ -13,5 +13,4 @@ lease_of-requires c = lent-table c.requires
 
 pub returns : goal.returns
 returns c =
-    let s = c.before.before.before in
-    c.lease_of.ensures ∙ ap (λ (x : List ℕ). lease_of (lease.view x) s.args.offset.0) (table-part s.args.words.now)
+    c.lease_of.ensures ∙ ap (λ (x : List ℕ). lease_of (lease.view x) c.args.offset.0) (table-part c.args.words.now)

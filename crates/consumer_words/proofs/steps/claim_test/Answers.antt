@@ -9,21 +9,15 @@ use Rattle.consumer_words.proofs.steps.claim_test.Goals as goal
 
 pub returns-in-UnknownWorker : goal.returns-in-UnknownWorker
 returns-in-UnknownWorker c =
-    let p = c.before.before in
-    let s = p.before.before in
-    record { is = claim_unpermitted (view s.args.words.now) s.args.worker s.args.offset.0 s.args.now UnknownWorker (sym (ap permission_of c.in-UnknownWorker.is) ∙ p.permission_of-permission.ensures); place = tt }
+    record { is = claim_unpermitted (view c.args.words.now) c.args.worker c.args.offset.0 c.args.now UnknownWorker (sym (ap permission_of c.in-UnknownWorker.is) ∙ c.permission_of-permission.ensures); place = tt }
 
 pub returns-in-NotPermitted : goal.returns-in-NotPermitted
 returns-in-NotPermitted c =
-    let p = c.before.before in
-    let s = p.before.before in
-    record { is = claim_unpermitted (view s.args.words.now) s.args.worker s.args.offset.0 s.args.now NotPermitted (sym (ap permission_of c.in-NotPermitted.is) ∙ p.permission_of-permission.ensures); place = tt }
+    record { is = claim_unpermitted (view c.args.words.now) c.args.worker c.args.offset.0 c.args.now NotPermitted (sym (ap permission_of c.in-NotPermitted.is) ∙ c.permission_of-permission.ensures); place = tt }
 
 pub returns-in-Granted : goal.returns-in-Granted
 returns-in-Granted c =
-    let p = c.before.before.before in
-    let s = p.before.before in
     record {
-      is = c.offset_test.ensures.is ∙ ap as_result (claim-permitted (view s.args.words.now) s.args.worker s.args.offset.0 s.args.now (sym (ap permission_of c.in-Granted.is) ∙ p.permission_of-permission.ensures));
+      is = c.offset_test.ensures.is ∙ ap as_result (claim-permitted (view c.args.words.now) c.args.worker c.args.offset.0 c.args.now (sym (ap permission_of c.in-Granted.is) ∙ c.permission_of-permission.ensures));
       place = c.offset_test.ensures.place;
     }

@@ -7,12 +7,8 @@ use Rattle.consumer_words.proofs.steps.handed_out.Goals as goal
 
 pub returns-in-Deliver : goal.returns-in-Deliver
 returns-in-Deliver c =
-    let d = c.before.before in
-    let s = d.before.before in
-    handed s.args.max_deliver_lem s.args.out.token s.args.out.deliveries (sym (ap dispositionOf c.in-Deliver.is) ∙ d.disposition_of-disposition.ensures)
+    handed c.args.max_deliver c.args.out.token c.args.out.deliveries (sym (ap dispositionOf c.in-Deliver.is) ∙ c.disposition_of-disposition.ensures)
 
 pub returns-in-DeadLetter : goal.returns-in-DeadLetter
 returns-in-DeadLetter c =
-    let d = c.before.before in
-    let s = d.before.before in
-    handed s.args.max_deliver_lem s.args.out.token s.args.out.deliveries (sym (ap dispositionOf c.in-DeadLetter.is) ∙ d.disposition_of-disposition.ensures)
+    handed c.args.max_deliver c.args.out.token c.args.out.deliveries (sym (ap dispositionOf c.in-DeadLetter.is) ∙ c.disposition_of-disposition.ensures)

@@ -20,81 +20,48 @@ use Rattle.consumer_words.specs.Layout.{RIGHTS, view}
 use Rattle.consumer_words.proofs.State.{table_part, table-part, lent-table}
 use borrow.Author.Rules.{rules}
 use Rattle.consumer_words.proofs.steps.token_test.Goals as goal
-use Rattle.consumer_words.proofs.steps.token_test.Goals.{After-hold_of-hold, Start}
-
-abbrev words : Start → List ℕ
-words s = s.args.words.now
-
-abbrev o : Start → ℕ
-o s = s.args.token.offset.0
-
-abbrev g : Start → ℕ
-g s = s.args.token.generation.0
 
 -- what the worker's rows say, by the bit of the operation
-rows : (s : Start) (op : Operation) → bit_of op ≡ s.args.bit → {r : Option Refusal} → r ≡ first (worker_rows (column RIGHTS WORKERS (words s)) s.args.worker s.args.bit)
-    → r ≡ first (call_rows (view (words s)) s.args.worker op)
-rows s op e q = rw e q
-
-abbrev start : After-hold_of-hold → Start
-start h = h.before.before.before.before.before.before
-
-permits : (h : After-hold_of-hold) (op : Operation) → bit_of op ≡ (start h).args.bit → none ≡ first (call_rows (view (words (start h))) (start h).args.worker op)
-permits h op e =
-    let d = h.before.before in
-    rows (start h) op e (sym (ap permission_of d.in-Granted.is) ∙ d.permission_of-permission.ensures)
-
-holds : (h : After-hold_of-hold) → let s = start h in hold_in h.hold_of-hold.result ≡ hold (view (words s)).table (o s) (g s)
-holds h = let s = start h in h.hold_of-hold.ensures.is ∙ ap (λ (t : List ℕ). hold (lease.view t) (o s) (g s)) (table-part (words s))
+rows : (w : List ℕ) (worker bit : ℕ) (op : Operation) → bit_of op ≡ bit → {r : Option Refusal} → r ≡ first (worker_rows (column RIGHTS WORKERS w) worker bit)
+    → r ≡ first (call_rows (view w) worker op)
+rows w worker bit op e q = rw e q
 
 pub hold_of-hold-requires : goal.hold_of-hold-requires
 hold_of-hold-requires c = lent-table c.requires
 
 pub returns-in_default : goal.returns-in_default
 returns-in_default c =
-    let h = c.before.before in
-    let s = start (goal.at.returns-in_default c).After-hold_of-hold in
     record {
-      is = λ op e. is-fenced (view (words (goal.at.returns-in_default c).Start)) s.args.worker op (o (goal.at.returns-in_default c).Start) (g (goal.at.returns-in_default c).Start) (permits (goal.at.returns-in_default c).After-hold_of-hold op e) (sym (ap hold_in c.in_default.is) ∙ holds (goal.at.returns-in_default c).After-hold_of-hold);
+      is = λ op e. is-fenced (view c.args.words.now) c.args.worker op c.args.token.offset.0 c.args.token.generation.0 (((λ (op : Operation) (e : bit_of op ≡ c.args.bit). rows c.args.words.now c.args.worker c.args.bit op e (sym (ap permission_of c.in-Granted.is) ∙ c.permission_of-permission.ensures))) op e) (sym (ap hold_in c.in_default.is) ∙ (c.hold_of-hold.ensures.is ∙ ap (λ (t : List ℕ). hold (lease.view t) c.args.token.offset.0 c.args.token.generation.0) (table-part c.args.words.now)));
       at = tt;
     }
 
 pub returns-then-holder-worker : goal.returns-then-holder-worker
 returns-then-holder-worker c =
-    let k = c.before.before in
-    let h = k.before.before in
-    let s = start (goal.at.returns-then-holder-worker c).After-hold_of-hold in
     record {
-      is = λ op e. is-foreign (view (words (goal.at.returns-then-holder-worker c).Start)) s.args.worker op (o (goal.at.returns-then-holder-worker c).Start) (g (goal.at.returns-then-holder-worker c).Start) (permits (goal.at.returns-then-holder-worker c).After-hold_of-hold op e) _ _ (sym (ap hold_in k.in-Held.is) ∙ holds (goal.at.returns-then-holder-worker c).After-hold_of-hold) c.if-holder-worker.true;
+      is = λ op e. is-foreign (view c.args.words.now) c.args.worker op c.args.token.offset.0 c.args.token.generation.0 (((λ (op : Operation) (e : bit_of op ≡ c.args.bit). rows c.args.words.now c.args.worker c.args.bit op e (sym (ap permission_of c.in-Granted.is) ∙ c.permission_of-permission.ensures))) op e) _ _ (sym (ap hold_in c.in-Held.is) ∙ (c.hold_of-hold.ensures.is ∙ ap (λ (t : List ℕ). hold (lease.view t) c.args.token.offset.0 c.args.token.generation.0) (table-part c.args.words.now))) c.if-holder-worker.true;
       at = tt;
     }
 
 pub returns-in-UnknownWorker : goal.returns-in-UnknownWorker
 returns-in-UnknownWorker c =
-    let k = c.before.before in
-    let s = k.before.before in
     record {
-      is = λ op e. is_unpermitted (view (words (goal.at.returns-in-UnknownWorker c).Start)) s.args.worker op (o (goal.at.returns-in-UnknownWorker c).Start) (g (goal.at.returns-in-UnknownWorker c).Start) UnknownWorker (rows (goal.at.returns-in-UnknownWorker c).Start op e (sym (ap permission_of c.in-UnknownWorker.is) ∙ k.permission_of-permission.ensures));
+      is = λ op e. is_unpermitted (view c.args.words.now) c.args.worker op c.args.token.offset.0 c.args.token.generation.0 UnknownWorker ((rows c.args.words.now c.args.worker c.args.bit) op e (sym (ap permission_of c.in-UnknownWorker.is) ∙ c.permission_of-permission.ensures));
       at = tt;
     }
 
 pub returns-in-NotPermitted : goal.returns-in-NotPermitted
 returns-in-NotPermitted c =
-    let k = c.before.before in
-    let s = k.before.before in
     record {
-      is = λ op e. is_unpermitted (view (words (goal.at.returns-in-NotPermitted c).Start)) s.args.worker op (o (goal.at.returns-in-NotPermitted c).Start) (g (goal.at.returns-in-NotPermitted c).Start) NotPermitted (rows (goal.at.returns-in-NotPermitted c).Start op e (sym (ap permission_of c.in-NotPermitted.is) ∙ k.permission_of-permission.ensures));
+      is = λ op e. is_unpermitted (view c.args.words.now) c.args.worker op c.args.token.offset.0 c.args.token.generation.0 NotPermitted ((rows c.args.words.now c.args.worker c.args.bit) op e (sym (ap permission_of c.in-NotPermitted.is) ∙ c.permission_of-permission.ensures));
       at = tt;
     }
 
 pub returns-else-holder-worker : goal.returns-else-holder-worker
 returns-else-holder-worker c =
-    let k = c.before.before in
-    let h = k.before.before in
-    let s = start (goal.at.returns-else-holder-worker c).After-hold_of-hold in
     record {
-      is = λ op e. is_held (view (words (goal.at.returns-else-holder-worker c).Start)) s.args.worker op (o (goal.at.returns-else-holder-worker c).Start) (g (goal.at.returns-else-holder-worker c).Start) (permits (goal.at.returns-else-holder-worker c).After-hold_of-hold op e) _ _ (sym (ap hold_in k.in-Held.is) ∙ holds (goal.at.returns-else-holder-worker c).After-hold_of-hold) c.if-holder-worker.false;
+      is = λ op e. is_held (view c.args.words.now) c.args.worker op c.args.token.offset.0 c.args.token.generation.0 (((λ (op : Operation) (e : bit_of op ≡ c.args.bit). rows c.args.words.now c.args.worker c.args.bit op e (sym (ap permission_of c.in-Granted.is) ∙ c.permission_of-permission.ensures))) op e) _ _ (sym (ap hold_in c.in-Held.is) ∙ (c.hold_of-hold.ensures.is ∙ ap (λ (t : List ℕ). hold (lease.view t) c.args.token.offset.0 c.args.token.generation.0) (table-part c.args.words.now))) c.if-holder-worker.false;
       at =
-          subst (λ (t : List ℕ). OwnedIn (o (goal.at.returns-else-holder-worker c).Start) (g (goal.at.returns-else-holder-worker c).Start) t (Found k.hold-1.given.0.1.1.0)) (table-part (words (goal.at.returns-else-holder-worker c).Start))
-          (subst (HeldIn (o (goal.at.returns-else-holder-worker c).Start) (g (goal.at.returns-else-holder-worker c).Start) (table_part (words (goal.at.returns-else-holder-worker c).Start))) k.in-Held.is h.hold_of-hold.ensures.at);
+          subst (λ (t : List ℕ). OwnedIn c.args.token.offset.0 c.args.token.generation.0 t (Found c.hold-1.given.0.1.1.0)) (table-part c.args.words.now)
+          (subst (HeldIn c.args.token.offset.0 c.args.token.generation.0 (table_part c.args.words.now)) c.in-Held.is c.hold_of-hold.ensures.at);
     }

@@ -7,5 +7,4 @@ use Rattle.starts.proofs.in_place.read_both.Goals as goal
 
 pub slice_bounds-read_snapshots-end : goal.slice_bounds-read_snapshots-end
 slice_bounds-read_snapshots-end c =
-    let s = c.before.before in
-    sym (length-take-le s.args.middle s.args.bytes.now (omega (arith, s.requires.0, s.requires.1)))
+    sym (length-take-le c.args.middle c.args.bytes.now (omega (arith, c.requires.0, c.requires.1)))

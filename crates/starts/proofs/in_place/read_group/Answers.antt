@@ -19,18 +19,12 @@ overflow_add-to c =
 
 pub read_both-requires : goal.read_both-requires
 read_both-requires c =
-    let p = c.before.before.before.before.before.before.before.before in
-    let h = p.before.before in
-    let s = h.before.before.before in
-    let fits = lent_length s.args.area.now s.args.at s.requires.0 h.read_header-header.result h.read_header-header.ensures _
-    p.read_payload.new.1.1.0 p.read_payload.result refl p.read_payload.ensures in
-    (omega arith, fits, s.requires.1)
+    let fits = lent_length c.args.area.now c.args.at c.requires.0 c.read_header-header.result c.read_header-header.ensures _
+    c.read_payload.new.out c.read_payload.result refl c.read_payload.ensures in
+    (omega arith, fits, c.requires.1)
 
 pub returns : goal.returns
 returns c =
-    let p = c.before.before.before.before.before.before.before.before.before in
-    let h = p.before.before in
-    let s = h.before.before.before in
-    group-read s.args.area.now s.args.at s.requires.0 h.read_header-header.result h.read_header-header.ensures _
-    p.read_payload.new.1.1.0 p.read_payload.result refl p.read_payload.ensures
-    s.args.next c.read_both.result _ _ (c.read_both.ensures (length s.args.area.now))
+    group-read c.args.area.now c.args.at c.requires.0 c.read_header-header.result c.read_header-header.ensures _
+    c.read_payload.new.out c.read_payload.result refl c.read_payload.ensures
+    c.args.next c.read_both.result _ _ (c.read_both.ensures (length c.args.area.now))

@@ -9,27 +9,23 @@ use Rattle.journal.proofs.Area.{part-is}
 use Rattle.starts.specs.Restart.{limit}
 use Rattle.starts.proofs.Halves.{limit-within}
 use Rattle.starts.proofs.in_place.unfit_at.Goals as goal
-use Rattle.starts.proofs.in_place.unfit_at.Goals.{Else-hi-block}
 
 pub returns-then-hi-block : goal.returns-then-hi-block
 returns-then-hi-block c =
-    let s = c.before.before in
-    rw (le-ltb s.args.block (limit s.args.area.now) (omega (arith, s.requires)))
+    rw (le-ltb c.args.block (limit c.args.area.now) (omega (arith, c.requires)))
 
 -- the block lies in the area
-fits : (c : Else-hi-block) → let a = c.args in 512 * a.block + 512 ≤ length a.area.now
-fits c = let s = c.before.before in omega (arith, s.requires, limit-within s.args.area.now)
-
 pub overflow_mul-from : goal.overflow_mul-from
-overflow_mul-from c = omega (arith, fits c)
+overflow_mul-from c = omega (arith, c.requires, limit-within c.args.area.now)
 
 pub overflow_add-to : goal.overflow_add-to
-overflow_add-to c = omega (arith, fits c)
+overflow_add-to c = omega (arith, c.requires, limit-within c.args.area.now)
+
+pub slice_bounds-is_sound_but_fit-end : goal.slice_bounds-is_sound_but_fit-end
+slice_bounds-is_sound_but_fit-end c = omega (arith, c.requires, limit-within c.args.area.now)
 
 pub returns : goal.returns
 returns c =
-    let e = c.before.before in
-    let s = e.before.before in
-    let a = s.args.area.now in
+    let a = c.args.area.now in
     c.is_sound_but_fit.ensures
-    ∙ rw (part-is a s.args.block, lt-ltb s.args.block (limit a) (omega (arith, s.requires)))
+    ∙ rw (part-is a c.args.block, lt-ltb c.args.block (limit a) (omega (arith, c.requires)))
