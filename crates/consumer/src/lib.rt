@@ -3,6 +3,7 @@
 // answer; a refusal gives back the very state that it was handed. Times are nanoseconds of any clock: it may stand still or run
 // backwards.
 #![tactic(auto)]
+
 use cursor::AckCursor;
 use delivery::DeliveryConfig;
 use hours::Hours;

@@ -1,6 +1,7 @@
 // The one way to call a consumer: every call of demand 3's lists is one `call` here, on the machine that the one before left. A call
 // that can't be made where it stands is answered NotNow and changes nothing.
 #![tactic(auto)]
+
 ghost use Rattle.std.specs.Prelude.{◌≡◌, List, ℕ, length};
 ghost use Rattle.types.specs.Refusal.{Result};
 ghost use Rattle.consumer.specs.State.{State};

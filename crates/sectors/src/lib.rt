@@ -1,5 +1,6 @@
 // A journal's file in sectors of 4,096 bytes: what sector 0 says of it, and where its blocks stand, one at the front of each sector.
 #![tactic(auto)]
+
 ghost use Rattle.std.specs.Prelude.{◌≡◌, false, ◌+◌, ◌*◌, ◌≤◌, length};
 ghost use Rattle.journal.specs.Area.{write_at};
 ghost use Rattle.sectors.specs.File.{wrong_blocks, wrong_journals, file_bytes, form_of, PlaceIs, front, unread};

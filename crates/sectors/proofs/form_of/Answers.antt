@@ -4,16 +4,12 @@ use mathlib.Core.Path.{◌≡◌, sym, ap, ◌∙◌}
 use mathlib.Core.Bool.{true, false}
 use mathlib.Core.List.{List}
 use borrow.Author.Rules.{rules}
-use borrow.Author.Tests.{not-true, not-false}
 use lib.ListN.{take}
 use lib.Seq.{length-take-le}
 use Rattle.raw.specs.Bytes.{unle, number_at}
 use Rattle.crc.specs.Seal.{is_sealed}
 use Rattle.sectors.specs.File.{SECTOR, magic, version_of, size_of, blocks_of, journals_of, wrong_blocks, wrong_journals, file_bytes}
 use Rattle.sectors.proofs.Forms.{
-use Rattle.sectors.proofs.form_of.Goals as goal
-use Rattle.sectors.proofs.form_of.Goals.{After-file_bytes-whole, Else-not-is_sealed, Else-read_u64-ne-MAGIC, Else-size-ne4096, Else-version-ne1, Else-wrong_blocks, Else-wrong_journals, Start}
-
   other-magic,
   other-version,
   other-size,
@@ -25,8 +21,8 @@ use Rattle.sectors.proofs.form_of.Goals.{After-file_bytes-whole, Else-not-is_sea
   same_bytes,
   same-sound,
 }
-use Rattle.sectors.proofs.form_of.Statement.{statement}
-use Rattle.sectors.proofs.form_of.Tie as tie
+use Rattle.sectors.proofs.form_of.Goals as goal
+use Rattle.sectors.proofs.form_of.Goals.{After-file_bytes-whole, Else-not-is_sealed, Else-read_u64-ne-MAGIC, Else-size-ne4096, Else-version-ne1, Else-wrong_blocks, Else-wrong_journals, Start}
 
 -- ---- what is known at a place
 abbrev sector : Start → List ℕ

@@ -23,41 +23,38 @@ made s =
     s.args.carried_counts.now)
 
 pub returns-in-UnknownWorker : goal.returns-in-UnknownWorker
-returns-in-UnknownWorker c =
-    (
-      record {
-        known = λ e. absurd (none-ne-some _ (sym e));
-        is = λ x w.
-            claim_unpermitted (view (made (goal.at.returns-in-UnknownWorker c).Start x)) c.args.worker c.args.offset c.args.now UnknownWorker
-            (sym (ap permission_of c.in-UnknownWorker.is) ∙ c.permission_of-permission.ensures);
-      },
-      tt,
-    )
+returns-in-UnknownWorker c = (
+  record {
+    known = λ e. absurd (none-ne-some _ (sym e));
+    is = λ x w.
+        claim_unpermitted (view (made (goal.at.returns-in-UnknownWorker c).Start x)) c.args.worker c.args.offset c.args.now UnknownWorker
+        (sym (ap permission_of c.in-UnknownWorker.is) ∙ c.permission_of-permission.ensures);
+  },
+  tt,
+)
 
 pub returns-in-NotPermitted : goal.returns-in-NotPermitted
-returns-in-NotPermitted c =
-    (
-      record {
-        known = λ e. absurd (none-ne-some _ (sym e));
-        is = λ x w.
-            claim_unpermitted (view (made (goal.at.returns-in-NotPermitted c).Start x)) c.args.worker c.args.offset c.args.now NotPermitted
-            (sym (ap permission_of c.in-NotPermitted.is) ∙ c.permission_of-permission.ensures);
-      },
-      tt,
-    )
+returns-in-NotPermitted c = (
+  record {
+    known = λ e. absurd (none-ne-some _ (sym e));
+    is = λ x w.
+        claim_unpermitted (view (made (goal.at.returns-in-NotPermitted c).Start x)) c.args.worker c.args.offset c.args.now NotPermitted
+        (sym (ap permission_of c.in-NotPermitted.is) ∙ c.permission_of-permission.ensures);
+  },
+  tt,
+)
 
 -- the worker may claim
 open-to : (d : In-Granted) → none ≡ first (worker_rows d.args.rights.now d.args.worker 1)
 open-to d = sym (ap permission_of d.in-Granted.is) ∙ d.permission_of-permission.ensures
 
 pub returns-in-Granted : goal.returns-in-Granted
-returns-in-Granted c =
-    (
-      record {
-        known = λ e. is_known c.args.rights.now c.args.worker 1 (open-to (goal.at.returns-in-Granted c).In-Granted);
-        is = λ x w.
-            c.offset_test.ensures.0 (permitting c.args.rights.now x) w
-            ∙ ap as_result (claim-permitted (view (made (goal.at.returns-in-Granted c).Start x)) c.args.worker c.args.offset c.args.now (open-to (goal.at.returns-in-Granted c).In-Granted));
-      },
-      c.offset_test.ensures.1,
-    )
+returns-in-Granted c = (
+  record {
+    known = λ e. is_known c.args.rights.now c.args.worker 1 (open-to (goal.at.returns-in-Granted c).In-Granted);
+    is = λ x w.
+        c.offset_test.ensures.0 (permitting c.args.rights.now x) w
+        ∙ ap as_result (claim-permitted (view (made (goal.at.returns-in-Granted c).Start x)) c.args.worker c.args.offset c.args.now (open-to (goal.at.returns-in-Granted c).In-Granted));
+  },
+  c.offset_test.ensures.1,
+)

@@ -38,46 +38,41 @@ holds : (h : After-hold_in_place-hold) (x : Consumer) → Whole (made (start h) 
 holds h x w = h.hold_in_place-hold.ensures.0 (made (start h) x).table (table-whole w)
 
 pub returns-in_default : goal.returns-in_default
-returns-in_default c =
-    (
-      λ x w op e.
-          is-fenced (view (made (goal.at.returns-in_default c).Start x)) c.args.worker op c.args.offset c.args.generation (permits (goal.at.returns-in_default c).After-hold_in_place-hold x op e)
-          (sym (ap hold_in c.in_default.is) ∙ holds (goal.at.returns-in_default c).After-hold_in_place-hold x w),
-      tt,
-    )
+returns-in_default c = (
+  λ x w op e.
+      is-fenced (view (made (goal.at.returns-in_default c).Start x)) c.args.worker op c.args.offset c.args.generation (permits (goal.at.returns-in_default c).After-hold_in_place-hold x op e)
+      (sym (ap hold_in c.in_default.is) ∙ holds (goal.at.returns-in_default c).After-hold_in_place-hold x w),
+  tt,
+)
 
 pub returns-then-holder-worker : goal.returns-then-holder-worker
-returns-then-holder-worker c =
-    (
-      λ x w op e.
-          is-foreign (view (made (goal.at.returns-then-holder-worker c).Start x)) c.args.worker op c.args.offset c.args.generation (permits (goal.at.returns-then-holder-worker c).After-hold_in_place-hold x op e) _ _
-          (sym (ap hold_in c.in-Held.is) ∙ holds (goal.at.returns-then-holder-worker c).After-hold_in_place-hold x w) c.if-holder-worker.true,
-      tt,
-    )
+returns-then-holder-worker c = (
+  λ x w op e.
+      is-foreign (view (made (goal.at.returns-then-holder-worker c).Start x)) c.args.worker op c.args.offset c.args.generation (permits (goal.at.returns-then-holder-worker c).After-hold_in_place-hold x op e) _ _
+      (sym (ap hold_in c.in-Held.is) ∙ holds (goal.at.returns-then-holder-worker c).After-hold_in_place-hold x w) c.if-holder-worker.true,
+  tt,
+)
 
 pub returns-in-UnknownWorker : goal.returns-in-UnknownWorker
-returns-in-UnknownWorker c =
-    (
-      λ x w op e.
-          is_unpermitted (view (made (goal.at.returns-in-UnknownWorker c).Start x)) c.args.worker op c.args.offset c.args.generation UnknownWorker
-          (rows (goal.at.returns-in-UnknownWorker c).Start x op e (sym (ap permission_of c.in-UnknownWorker.is) ∙ c.permission_of-permission.ensures)),
-      tt,
-    )
+returns-in-UnknownWorker c = (
+  λ x w op e.
+      is_unpermitted (view (made (goal.at.returns-in-UnknownWorker c).Start x)) c.args.worker op c.args.offset c.args.generation UnknownWorker
+      (rows (goal.at.returns-in-UnknownWorker c).Start x op e (sym (ap permission_of c.in-UnknownWorker.is) ∙ c.permission_of-permission.ensures)),
+  tt,
+)
 
 pub returns-in-NotPermitted : goal.returns-in-NotPermitted
-returns-in-NotPermitted c =
-    (
-      λ x w op e.
-          is_unpermitted (view (made (goal.at.returns-in-NotPermitted c).Start x)) c.args.worker op c.args.offset c.args.generation NotPermitted
-          (rows (goal.at.returns-in-NotPermitted c).Start x op e (sym (ap permission_of c.in-NotPermitted.is) ∙ c.permission_of-permission.ensures)),
-      tt,
-    )
+returns-in-NotPermitted c = (
+  λ x w op e.
+      is_unpermitted (view (made (goal.at.returns-in-NotPermitted c).Start x)) c.args.worker op c.args.offset c.args.generation NotPermitted
+      (rows (goal.at.returns-in-NotPermitted c).Start x op e (sym (ap permission_of c.in-NotPermitted.is) ∙ c.permission_of-permission.ensures)),
+  tt,
+)
 
 pub returns-else-holder-worker : goal.returns-else-holder-worker
-returns-else-holder-worker c =
-    (
-      λ x w op e.
-          is_held (view (made (goal.at.returns-else-holder-worker c).Start x)) c.args.worker op c.args.offset c.args.generation (permits (goal.at.returns-else-holder-worker c).After-hold_in_place-hold x op e) _ _
-          (sym (ap hold_in c.in-Held.is) ∙ holds (goal.at.returns-else-holder-worker c).After-hold_in_place-hold x w) c.if-holder-worker.false,
-      subst (HeldAt c.args.offset c.args.generation (take c.args.len c.args.offsets.now) c.args.slots.now c.args.generations.now) c.in-Held.is c.hold_in_place-hold.ensures.1,
-    )
+returns-else-holder-worker c = (
+  λ x w op e.
+      is_held (view (made (goal.at.returns-else-holder-worker c).Start x)) c.args.worker op c.args.offset c.args.generation (permits (goal.at.returns-else-holder-worker c).After-hold_in_place-hold x op e) _ _
+      (sym (ap hold_in c.in-Held.is) ∙ holds (goal.at.returns-else-holder-worker c).After-hold_in_place-hold x w) c.if-holder-worker.false,
+  subst (HeldAt c.args.offset c.args.generation (take c.args.len c.args.offsets.now) c.args.slots.now c.args.generations.now) c.in-Held.is c.hold_in_place-hold.ensures.1,
+)

@@ -62,14 +62,14 @@ loop-i-preserved c =
     let more = c.loop-i-test.true in
     let due = ap (λ (k : ℕ). get_or c.args.deadlines.now k 0) c.slot_at-slot.ensures.0 in
     elim c.if-deadline-now.branch [
-      then-deadline-now w ↦ rw (w.listed-is, w.by_deadline-is, w.n-is)
-        (waits-expired c.args.len c.args.carried_len c.args.now c.args.offsets.now c.args.slots.now c.args.deadlines.now c.args.carried_offsets.now
-        l.invariant c.requires.0 more w.position_after-at.result (subst (λ (d : ℕ). d ≤ c.args.now) due w.if-deadline-now.true)
-        (subst (λ (d : ℕ). Boundary (d + 1) (take l.n l.by_deadline) w.position_after-at.result) due w.position_after-at.ensures)
-        (w.insert_64.ensures ∙ ap (λ (d : ℕ). put_in l.n w.position_after-at.result d l.by_deadline) due) w.insert_128.ensures)
-    | else-deadline-now w ↦ rw (w.listed-is, w.by_deadline-is, w.n-is)
-        (waits-running c.args.len c.args.carried_len c.args.now c.args.offsets.now c.args.slots.now c.args.deadlines.now c.args.carried_offsets.now
-        l.invariant c.requires.0 more (subst (λ (d : ℕ). c.args.now < d) due w.if-deadline-now.false))
+      | then-deadline-now w ↦ rw (w.listed-is, w.by_deadline-is, w.n-is)
+          (waits-expired c.args.len c.args.carried_len c.args.now c.args.offsets.now c.args.slots.now c.args.deadlines.now c.args.carried_offsets.now
+          l.invariant c.requires.0 more w.position_after-at.result (subst (λ (d : ℕ). d ≤ c.args.now) due w.if-deadline-now.true)
+          (subst (λ (d : ℕ). Boundary (d + 1) (take l.n l.by_deadline) w.position_after-at.result) due w.position_after-at.ensures)
+          (w.insert_64.ensures ∙ ap (λ (d : ℕ). put_in l.n w.position_after-at.result d l.by_deadline) due) w.insert_128.ensures)
+      | else-deadline-now w ↦ rw (w.listed-is, w.by_deadline-is, w.n-is)
+          (waits-running c.args.len c.args.carried_len c.args.now c.args.offsets.now c.args.slots.now c.args.deadlines.now c.args.carried_offsets.now
+          l.invariant c.requires.0 more (subst (λ (d : ℕ). c.args.now < d) due w.if-deadline-now.false))
     ]
 
 pub overflow_add-result : goal.overflow_add-result

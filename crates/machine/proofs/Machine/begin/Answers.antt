@@ -28,7 +28,7 @@ begin-begun-requires c = sound-idle c.args.self c.requires (here (goal.at.begin-
 
 pub returns-in_default : goal.returns-in_default
 returns-in_default c =
-    λ a out. begin-refused c.args.self (here (goal.at.returns-in_default c).Else-self-ne0) a out c.requires c.args.worker (fit (goal.at.returns-in_default c).Start) c.begin-begun.result c.begin-begun.ensures.begun c.in-Begun.keys2
+    λ a out. begin-refused c.args.self (here (goal.at.returns-in_default c).Else-self-ne0) a out c.requires c.args.worker (fit (goal.at.returns-in_default c).Start) c.begin-begun.result c.begin-begun.ensures.begun c.in_default.not-Begun
 
 pub returns : goal.returns
 returns c =

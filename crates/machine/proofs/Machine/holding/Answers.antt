@@ -6,7 +6,7 @@ use Rattle.machine.proofs.Machine.holding.Goals as goal
 pub returns-in_default : goal.returns-in_default
 returns-in_default c =
     λ right size h.
-    made-refused right c.args.configuration size c.args.made h c.resting.result c.in-Started.keys2 c.resting.ensures
+    made-refused right c.args.configuration size c.args.made h c.resting.result c.in_default.not-Started c.resting.ensures
 
 pub returns : goal.returns
 returns c =

@@ -35,4 +35,4 @@ ask-asked-requires c =
 pub returns : goal.returns
 returns c =
     λ a.
-    asked-called c.args.self (here (goal.at.returns c).Else-self-ne0) a c.args.out.now _ _ (worker-fits (goal.at.returns c).Start) (fit (goal.at.returns c).Start) c.ask-asked.result c.ask-asked.new.1.1.1.0 c.ask-asked.ensures
+    asked-called c.args.self (here (goal.at.returns c).Else-self-ne0) a c.args.out.now _ _ (worker-fits (goal.at.returns c).Start) (fit (goal.at.returns c).Start) c.ask-asked.result c.ask-asked.new.out c.ask-asked.ensures

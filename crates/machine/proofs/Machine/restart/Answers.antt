@@ -5,7 +5,7 @@ use Rattle.machine.proofs.Machine.restart.Goals as goal
 
 pub returns-in_default : goal.returns-in_default
 returns-in_default c =
-    λ out. restart-refused c.args.self c.requires c.args.area.now out _ c.restart-started.result c.restart-started.ensures c.in-Started.keys2
+    λ out. restart-refused c.args.self c.requires c.args.area.now out _ c.restart-started.result c.restart-started.ensures c.in_default.not-Started
 
 pub returns : goal.returns
 returns c =

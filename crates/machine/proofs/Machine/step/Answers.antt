@@ -22,4 +22,4 @@ step-stepped-requires c =
 
 pub returns : goal.returns
 returns c =
-    λ out. step-called c.args.self (here (goal.at.returns c).Else-self-ne1) c.args.area.now c.step-stepped.new.1.0 c.step-stepped.result c.step-stepped.ensures out _ c.phase_after.ensures
+    λ out. step-called c.args.self (here (goal.at.returns c).Else-self-ne1) c.args.area.now c.step-stepped.new.area c.step-stepped.result c.step-stepped.ensures out _ c.phase_after.ensures

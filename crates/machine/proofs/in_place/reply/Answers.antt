@@ -18,7 +18,7 @@ use Rattle.machine.proofs.in_place.reply.Goals as goal
 
 pub returns-in-Waiting : goal.returns-in-Waiting
 returns-in-Waiting c x w =
-    waiting-replied (lent w) c.args.worker _ c.args.out.now c.waiting_in_place.new.1.1.1.1.1.1.1.0 c.waiting_in_place.result
+    waiting-replied (lent w) c.args.worker _ c.args.out.now c.waiting_in_place.new.out c.waiting_in_place.result
     (ap (question_of (length c.args.out.now)) c.in-Waiting.is) (c.waiting_in_place.ensures (lent w) w)
 
 pub returns-in-Committed : goal.returns-in-Committed
