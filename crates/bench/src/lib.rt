@@ -1,6 +1,7 @@
 // What the benchmarks run on this side: whole loops of calls, so that no call from another language is measured. Nothing
 // else uses them.
 #![tactic(auto)]
+
 ghost use Rattle.std.specs.Prelude.{◌≡◌, ◌+◌, ◌≤◌};
 ghost use Rattle.types.specs.Limits.{MAX};
 ghost use Rattle.types.specs.Zipped.{zipped};

@@ -1,5 +1,5 @@
--- The tables of the short check: what a `match` leaves when no arm was taken, and the sum of a byte's two nibbles. Assumes nothing.
-use Prim.Native.Nat.{ℕ, zero, suc, ◌+◌, ◌*◌, ◌/◌, ◌%◌, ◌<◌}
+-- The tables of the short check: the sum of a byte's two nibbles. Assumes nothing.
+use Prim.Native.Nat.{ℕ, ◌+◌, ◌*◌, ◌/◌, ◌%◌, ◌<◌}
 use native.Mathlib.Omega.{arith}
 use mathlib.Core.Path.{◌≡◌, refl, ap, ◌∙◌}
 use lib.Bits.{bit_xor}
@@ -7,15 +7,6 @@ use Rattle.crc.specs.Crc32c.{bits, feed_bits}
 use Rattle.crc.specs.Table.{nibble}
 use Rattle.crc.proofs.Register.{zeros}
 use Rattle.crc.proofs.Table.{by-nibble}
-
--- v is none of the numbers below n, as the last arm of a `match` has it
-abbrev NoneBelow : ℕ → ℕ → Type 0
-NoneBelow zero v = Unit {0}
-NoneBelow (suc n) v = NoneBelow n v × (v ≡ n → ⊥)
-
-pub none_left : (n v : ℕ) → v < n → NoneBelow n v → ⊥
-none_left zero v h none = omega arith
-none_left (suc n) v h none = none_left n v (omega (arith, none.1)) none.0
 
 none_yet : (y : ℕ) → bits 32 0 ≡ feed_bits zeros (bits 0 y)
 unfolding zeros bits

@@ -18,10 +18,8 @@ ack-acked-requires c = c.loop-left.invariant.1
 
 pub loop-left-preserved : goal.loop-left-preserved
 loop-left-preserved c =
-    let k = c.before in
-    let l = k.before.before in
-    let u = k.ack-acked.ensures in
-    (omega arith, u.sound, rw (left_by u.is) (sym (acks_down (view l.loop-left.cursor) l.args.base l.loop-left.left k.loop-left-test.true)) ∙ l.loop-left.invariant.2)
+    let u = c.ack-acked.ensures in
+    (omega arith, u.sound, rw (left_by u.is) (sym (acks_down (view c.loop-left.cursor) c.args.base c.loop-left.left c.loop-left-test.true)) ∙ c.loop-left.invariant.2)
 
 pub returns : goal.returns
 returns c =

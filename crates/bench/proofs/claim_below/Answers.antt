@@ -18,16 +18,13 @@ claim-claimed-requires c = c.loop-i.invariant.1
 
 pub loop-i-preserved : goal.loop-i-preserved
 loop-i-preserved c =
-    let k = c.before in
-    let l = k.before.before in
-    let n = l.args.n in
-    let u = k.claim-claimed.ensures in
-    (omega arith, u.sound, rw (left_by u.is) (sym (claims-next (view l.loop-i.table) l.loop-i.i n k.loop-i-test.true)) ∙ l.loop-i.invariant.2)
+    let n = c.args.n in
+    let u = c.claim-claimed.ensures in
+    (omega arith, u.sound, rw (left_by u.is) (sym (claims-next (view c.loop-i.table) c.loop-i.i n c.loop-i-test.true)) ∙ c.loop-i.invariant.2)
 
 pub returns : goal.returns
 returns c =
-    let l = c.before in
     record {
-      is = sym (claims-over (view l.loop-i.table) l.loop-i.i l.args.n c.loop-i-test.false) ∙ l.loop-i.invariant.2;
-      sound = l.loop-i.invariant.1;
+      is = sym (claims-over (view c.loop-i.table) c.loop-i.i c.args.n c.loop-i-test.false) ∙ c.loop-i.invariant.2;
+      sound = c.loop-i.invariant.1;
     }

@@ -19,13 +19,10 @@ ack-acked-requires c = c.loop-i.invariant.1
 
 pub loop-i-preserved : goal.loop-i-preserved
 loop-i-preserved c =
-    let k = c.before in
-    let l = k.before.before in
-    let n = l.args.n in
-    let u = k.ack-acked.ensures in
-    (omega arith, u.sound, rw (left_by u.is) (sym (acks-next (view l.loop-i.cursor) l.loop-i.i n k.loop-i-test.true)) ∙ l.loop-i.invariant.2)
+    let n = c.args.n in
+    let u = c.ack-acked.ensures in
+    (omega arith, u.sound, rw (left_by u.is) (sym (acks-next (view c.loop-i.cursor) c.loop-i.i n c.loop-i-test.true)) ∙ c.loop-i.invariant.2)
 
 pub returns : goal.returns
 returns c =
-    let l = c.before in
-    ap (λ (k : Cursor). k.committed) (sym (acks-over (view l.loop-i.cursor) l.loop-i.i l.args.n c.loop-i-test.false) ∙ l.loop-i.invariant.2)
+    ap (λ (k : Cursor). k.committed) (sym (acks-over (view c.loop-i.cursor) c.loop-i.i c.args.n c.loop-i-test.false) ∙ c.loop-i.invariant.2)

@@ -19,11 +19,9 @@ ack_batch-cursor-requires c = (c.loop-i.invariant.1, omega arith)
 
 pub loop-i-preserved : goal.loop-i-preserved
 loop-i-preserved c =
-    let l = c.before.before in
-    let n = l.args.n in
-    (omega arith, c.ack_batch-cursor.ensures.0, rw c.ack_batch-cursor.ensures.1 (sym (batches_next (view l.loop-i.cursor) l.loop-i.i n c.loop-i-test.true)) ∙ l.loop-i.invariant.2)
+    let n = c.args.n in
+    (omega arith, c.ack_batch-cursor.ensures.0, rw c.ack_batch-cursor.ensures.1 (sym (batches_next (view c.loop-i.cursor) c.loop-i.i n c.loop-i-test.true)) ∙ c.loop-i.invariant.2)
 
 pub returns : goal.returns
 returns c =
-    let l = c.before in
-    ap (λ (k : Cursor). k.committed) (sym (batches-over (view l.loop-i.cursor) l.loop-i.i l.args.n c.loop-i-test.false) ∙ l.loop-i.invariant.2)
+    ap (λ (k : Cursor). k.committed) (sym (batches-over (view c.loop-i.cursor) c.loop-i.i c.args.n c.loop-i-test.false) ∙ c.loop-i.invariant.2)

@@ -29,21 +29,16 @@ ack-acked-requires c = c.loop-i.invariant.2
 
 pub loop-i-preserved : goal.loop-i-preserved
 loop-i-preserved c =
-    let k = c.before in
-    let a = k.before.before in
-    let m = a.before in
-    let l = m.before.before in
-    let s = l.args in
-    let next = works-next s.window (group (view l.loop-i.table) (cursor.view l.loop-i.cursor)) l.loop-i.i s.n m.loop-i-test.true in
-    let turn : group (view a.ack-released.result.table) (cursor.view k.ack-acked.result.cursor) ≡ handled s.window (group (view l.loop-i.table) (cursor.view l.loop-i.cursor)) l.loop-i.i =
-    rw (left_by a.ack-released.ensures.is, left_by m.claim-claimed.ensures.is, left_by k.ack-acked.ensures.is) in
-    (omega arith, a.ack-released.ensures.sound, k.ack-acked.ensures.sound, rw turn (sym next) ∙ l.loop-i.invariant.3)
+    let s = c.args in
+    let next = works-next s.window (group (view c.loop-i.table) (cursor.view c.loop-i.cursor)) c.loop-i.i s.n c.loop-i-test.true in
+    let turn : group (view c.ack-released.result.table) (cursor.view c.ack-acked.result.cursor) ≡ handled s.window (group (view c.loop-i.table) (cursor.view c.loop-i.cursor)) c.loop-i.i =
+    rw (left_by c.ack-released.ensures.is, left_by c.claim-claimed.ensures.is, left_by c.ack-acked.ensures.is) in
+    (omega arith, c.ack-released.ensures.sound, c.ack-acked.ensures.sound, rw turn (sym next) ∙ c.loop-i.invariant.3)
 
 pub in_flight-requires : goal.in_flight-requires
 in_flight-requires c = c.loop-i.invariant.1
 
 pub returns : goal.returns
 returns c =
-    let l = c.before.before in
-    let s = l.args in
-    rw c.in_flight_lem.ensures (ap stand_of (sym (works-over s.window (group (view l.loop-i.table) (cursor.view l.loop-i.cursor)) l.loop-i.i s.n c.loop-i-test.false) ∙ l.loop-i.invariant.3))
+    let s = c.args in
+    rw c.in_flight.ensures (ap stand_of (sym (works-over s.window (group (view c.loop-i.table) (cursor.view c.loop-i.cursor)) c.loop-i.i s.n c.loop-i-test.false) ∙ c.loop-i.invariant.3))

@@ -19,13 +19,10 @@ encode_snapshot-requires c = c.resume_with_columns-resumed.ensures.sound
 
 pub loop-i-preserved : goal.loop-i-preserved
 loop-i-preserved c =
-    let k = c.before.before in
-    let l = k.before.before.before in
-    let r = l.before.before in
-    let n = r.args.n in (
+    let n = c.args.n in (
       omega arith,
-      k.encode_snapshot.auto.1.0 ∙ l.loop-i.invariant.1,
-      rw (left_by k.encode_snapshot.ensures) (sym (writes-next (view r.resume_with_columns-resumed.result.cursor) l.loop-i.out l.loop-i.i n k.loop-i-test.true)) ∙ l.loop-i.invariant.2,
+      c.encode_snapshot.auto.out ∙ c.loop-i.invariant.1,
+      rw (left_by c.encode_snapshot.ensures) (sym (writes-next (view c.resume_with_columns-resumed.result.cursor) c.loop-i.out c.loop-i.i n c.loop-i-test.true)) ∙ c.loop-i.invariant.2,
     )
 
 pub shape_of-out : goal.shape_of-out
@@ -33,8 +30,6 @@ shape_of-out c = c.loop-i.invariant.1
 
 pub returns : goal.returns
 returns c =
-    let l = c.before in
-    let r = l.before.before in
-    let a = r.args in
-    rw (← resumed-cursor _ _ r.resume_with_columns-resumed.result r.resume_with_columns-resumed.ensures)
-    (sym (writes-over (view r.resume_with_columns-resumed.result.cursor) l.loop-i.out l.loop-i.i a.n c.loop-i-test.false) ∙ l.loop-i.invariant.2)
+    let a = c.args in
+    rw (← resumed-cursor _ _ c.resume_with_columns-resumed.result c.resume_with_columns-resumed.ensures)
+    (sym (writes-over (view c.resume_with_columns-resumed.result.cursor) c.loop-i.out c.loop-i.i a.n c.loop-i-test.false) ∙ c.loop-i.invariant.2)
