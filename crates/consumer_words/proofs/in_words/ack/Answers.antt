@@ -32,14 +32,14 @@ ack_bounded-outcome-requires c = lent-cursor c.requires
 
 pub returns-then-is_shed : goal.returns-then-is_shed
 returns-then-is_shed c =
-    shed_so c.requires c.args.worker c.args.token.offset.0 c.args.token.generation.0 ((test-passed (token_rows (view c.args.words.now) c.args.worker settling c.args.token.offset.0 c.args.token.generation.0) _ (attempt_of (view c.args.words.now) c.args.token.offset.0) (sym (ap token_of c.in-Held.is) ∙ c.token_test-test.ensures.is settling refl)).0) (ack_of c.ack_bounded-outcome.result) c.ack_bounded-outcome.new.0 c.words-1.given.0 c.ack_bounded-outcome.ensures (sym c.is_shed.ensures ∙ c.if-is_shed.true)
+    shed_so c.requires c.args.worker c.args.token.offset.0 c.args.token.generation.0 ((test-passed (token_rows (view c.args.words.now) c.args.worker settling c.args.token.offset.0 c.args.token.generation.0) _ (attempt_of (view c.args.words.now) c.args.token.offset.0) (sym (ap token_of c.in-Held.is) ∙ c.token_test-test.ensures.is settling refl)).0) (ack_of c.ack_bounded-outcome.result) c.ack_bounded-outcome.new.cursor c.ack_bounded-outcome.auto.cursor c.ack_bounded-outcome.ensures (sym c.is_shed.ensures ∙ c.if-is_shed.true)
 
 pub ack_at-requires : goal.ack_at-requires
 ack_at-requires c =
-    let same = table_kept c.requires c.ack_bounded-outcome.new.0 c.words-1.given.0 in
-    (table-sound c.requires c.ack_bounded-outcome.new.0 c.words-1.given.0, subst (λ (x : List ℕ). c.in-Held.held.at < (table_in x).len) (sym same) (owned-low (leases-sound c.requires) c.args.token.offset.0 c.args.token.generation.0 (subst (TokenAt c.args.token.offset.0 c.args.token.generation.0 c.args.words.now) c.in-Held.is c.token_test-test.ensures.at) refl))
+    let same = table_kept c.requires c.ack_bounded-outcome.new.cursor c.ack_bounded-outcome.auto.cursor in
+    (table-sound c.requires c.ack_bounded-outcome.new.cursor c.ack_bounded-outcome.auto.cursor, subst (λ (x : List ℕ). c.in-Held.held.at < (table_in x).len) (sym same) (owned-low (leases-sound c.requires) c.args.token.offset.0 c.args.token.generation.0 (subst (TokenAt c.args.token.offset.0 c.args.token.generation.0 c.args.words.now) c.in-Held.is c.token_test-test.ensures.at) refl))
 
 pub returns : goal.returns
 returns c =
-    settled_so c.requires c.args.worker c.args.token.offset.0 c.args.token.generation.0 ((test-passed (token_rows (view c.args.words.now) c.args.worker settling c.args.token.offset.0 c.args.token.generation.0) _ (attempt_of (view c.args.words.now) c.args.token.offset.0) (sym (ap token_of c.in-Held.is) ∙ c.token_test-test.ensures.is settling refl)).0) (ack_of c.ack_bounded-outcome.result) c.ack_bounded-outcome.new.0 c.words-1.given.0 c.ack_bounded-outcome.ensures (sym c.is_shed.ensures ∙ c.if-is_shed.false)
-    (subst (TokenAt c.args.token.offset.0 c.args.token.generation.0 c.args.words.now) c.in-Held.is c.token_test-test.ensures.at) c.ack_at.new.0 c.words-2-1.given.0 c.ack_at.ensures
+    settled_so c.requires c.args.worker c.args.token.offset.0 c.args.token.generation.0 ((test-passed (token_rows (view c.args.words.now) c.args.worker settling c.args.token.offset.0 c.args.token.generation.0) _ (attempt_of (view c.args.words.now) c.args.token.offset.0) (sym (ap token_of c.in-Held.is) ∙ c.token_test-test.ensures.is settling refl)).0) (ack_of c.ack_bounded-outcome.result) c.ack_bounded-outcome.new.cursor c.ack_bounded-outcome.auto.cursor c.ack_bounded-outcome.ensures (sym c.is_shed.ensures ∙ c.if-is_shed.false)
+    (subst (TokenAt c.args.token.offset.0 c.args.token.generation.0 c.args.words.now) c.in-Held.is c.token_test-test.ensures.at) c.ack_at.new.table c.ack_at.auto.table c.ack_at.ensures

@@ -32,5 +32,5 @@ grant_at-out-requires c = (
 
 pub returns : goal.returns
 returns c =
-    granted_so c.requires c.args.worker c.args.offset.0 c.args.now (omega arith) (open_passed (claim_table (view c.args.words.now) c.args.worker c.args.offset.0 c.args.now) (sym (ap test_of c.in-Open.is) ∙ c.claim_test-test.ensures.is)) (grant_in c.grant_at-out.result) c.grant_at-out.new.0 c.words-1.given.0 c.grant_at-out.ensures
+    granted_so c.requires c.args.worker c.args.offset.0 c.args.now (omega arith) (open_passed (claim_table (view c.args.words.now) c.args.worker c.args.offset.0 c.args.now) (sym (ap test_of c.in-Open.is) ∙ c.claim_test-test.ensures.is)) (grant_in c.grant_at-out.result) c.grant_at-out.new.table c.grant_at-out.auto.table c.grant_at-out.ensures
     c.handed_out.result c.handed_out.ensures

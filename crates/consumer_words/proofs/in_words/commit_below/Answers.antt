@@ -12,13 +12,13 @@ commit_up_to-moved-requires c = lent-cursor c.requires
 
 pub returns-then-not-moved : goal.returns-then-not-moved
 returns-then-not-moved c worker may =
-    unchanged_so c.requires worker c.args.bound.0 may c.commit_up_to-moved.result c.commit_up_to-moved.new.0 c.words-1.given.0 c.commit_up_to-moved.ensures (not-true _ c.if-not-moved.true)
+    unchanged_so c.requires worker c.args.bound.0 may c.commit_up_to-moved.result c.commit_up_to-moved.new.cursor c.commit_up_to-moved.auto.cursor c.commit_up_to-moved.ensures c.if-not-moved.true
 
 pub release_below-requires : goal.release_below-requires
 release_below-requires c =
-    table-sound c.requires c.commit_up_to-moved.new.0 c.words-1.given.0
+    table-sound c.requires c.commit_up_to-moved.new.cursor c.commit_up_to-moved.auto.cursor
 
 pub returns : goal.returns
 returns c worker may =
-    committed_so c.requires worker c.args.bound.0 may c.commit_up_to-moved.result c.commit_up_to-moved.new.0 c.words-1.given.0 c.commit_up_to-moved.ensures (not-false _ c.if-not-moved.false) (omega arith)
-    c.release_below.new.0 c.words-2-1.given.0 c.release_below.ensures
+    committed_so c.requires worker c.args.bound.0 may c.commit_up_to-moved.result c.commit_up_to-moved.new.cursor c.commit_up_to-moved.auto.cursor c.commit_up_to-moved.ensures (search (rules, not-false)) (omega arith)
+    c.release_below.new.table c.release_below.auto.table c.release_below.ensures

@@ -50,4 +50,4 @@ requeue_at-deadline-requires c = (
 pub returns : goal.returns
 returns c =
     requeued_so c.requires c.args.worker c.args.token.offset.0 c.args.token.generation.0 c.args.now (delay_of c.args.delay) (test-passed (token_rows (view c.args.words.now) c.args.worker nacking c.args.token.offset.0 c.args.token.generation.0) c.in-Held.held.deliveries (attempt_of (view c.args.words.now) c.args.token.offset.0) (sym (ap token_of c.in-Held.is) ∙ c.token_test-test.ensures.is nacking refl)).0 (eqb-false _ MAX (sym c.is_exhausted.ensures ∙ c.if-is_exhausted.false)) (leb-false _ _ (sym c.is_at_ceiling.ensures ∙ c.if-is_at_ceiling.false)) (subst (TokenAt c.args.token.offset.0 c.args.token.generation.0 c.args.words.now) c.in-Held.is c.token_test-test.ensures.at)
-    c.nack_delay-wait.result (c.nack_delay-wait.ensures c.args.token.offset.0 (test-passed (token_rows (view c.args.words.now) c.args.worker nacking c.args.token.offset.0 c.args.token.generation.0) c.in-Held.held.deliveries (attempt_of (view c.args.words.now) c.args.token.offset.0) (sym (ap token_of c.in-Held.is) ∙ c.token_test-test.ensures.is nacking refl)).1) c.requeue_at-deadline.result c.requeue_at-deadline.new.0 c.words-1.given.0 c.requeue_at-deadline.ensures
+    c.nack_delay-wait.result (c.nack_delay-wait.ensures c.args.token.offset.0 (test-passed (token_rows (view c.args.words.now) c.args.worker nacking c.args.token.offset.0 c.args.token.generation.0) c.in-Held.held.deliveries (attempt_of (view c.args.words.now) c.args.token.offset.0) (sym (ap token_of c.in-Held.is) ∙ c.token_test-test.ensures.is nacking refl)).1) c.requeue_at-deadline.result c.requeue_at-deadline.new.table c.requeue_at-deadline.auto.table c.requeue_at-deadline.ensures

@@ -34,5 +34,5 @@ extend_at-outcome-requires c =
 
 pub returns : goal.returns
 returns c =
-    progress_so c.requires c.args.worker c.args.token.offset.0 c.args.token.generation.0 c.args.now ((test-passed (token_rows (view c.args.words.now) c.args.worker extending c.args.token.offset.0 c.args.token.generation.0) _ (attempt_of (view c.args.words.now) c.args.token.offset.0) (sym (ap token_of c.in-Held.is) ∙ c.token_test-test.ensures.is extending refl)).0) (subst (TokenAt c.args.token.offset.0 c.args.token.generation.0 c.args.words.now) c.in-Held.is c.token_test-test.ensures.at) (extend_of c.extend_at-outcome.result) c.extend_at-outcome.new.0 c.words-1.given.0 c.extend_at-outcome.ensures
+    progress_so c.requires c.args.worker c.args.token.offset.0 c.args.token.generation.0 c.args.now ((test-passed (token_rows (view c.args.words.now) c.args.worker extending c.args.token.offset.0 c.args.token.generation.0) _ (attempt_of (view c.args.words.now) c.args.token.offset.0) (sym (ap token_of c.in-Held.is) ∙ c.token_test-test.ensures.is extending refl)).0) (subst (TokenAt c.args.token.offset.0 c.args.token.generation.0 c.args.words.now) c.in-Held.is c.token_test-test.ensures.at) (extend_of c.extend_at-outcome.result) c.extend_at-outcome.new.table c.extend_at-outcome.auto.table c.extend_at-outcome.ensures
     (progress_of c.extended.result) c.extended.ensures

@@ -32,7 +32,7 @@ returns-then-is_settled c =
 pub returns-then-not-is_open : goal.returns-then-not-is_open
 returns-then-not-is_open c =
     record {
-      is = is-closed (view c.args.words.now) c.args.offset.0 c.args.now c.if-offset-eq-MAX.false (sym c.is_settled.ensures ∙ c.if-is_settled.false) (ap (λ (x : Hours). isOpen (hours.view x) c.args.now) (sym c.hours_of-hours.ensures) ∙ sym c.is_open.ensures ∙ not-true _ c.if-not-is_open.true)
+      is = is-closed (view c.args.words.now) c.args.offset.0 c.args.now c.if-offset-eq-MAX.false (sym c.is_settled.ensures ∙ c.if-is_settled.false) (ap (λ (x : Hours). isOpen (hours.view x) c.args.now) (sym c.hours_of-hours.ensures) ∙ sym c.is_open.ensures ∙ c.if-not-is_open.true)
           c.next_opening.result (c.next_opening.ensures ∙ ap (λ (x : Hours). next_opening (hours.view x) c.args.now) c.hours_of-hours.ensures);
       place = tt;
     }
@@ -47,26 +47,26 @@ is_running_at-requires c =
 
 pub returns-then-is_running_at : goal.returns-then-is_running_at
 returns-then-is_running_at c =
-    record { is = is-running (view c.args.words.now) c.args.offset.0 c.args.now c.if-offset-eq-MAX.false (sym c.is_settled.ensures ∙ c.if-is_settled.false) (ap (λ (x : Hours). isOpen (hours.view x) c.args.now) (sym c.hours_of-hours.ensures) ∙ sym c.is_open.ensures ∙ not-false _ c.if-not-is_open.false) (sym (c.is_running_at.ensures c.args.offset.0 c.find-place.ensures ∙ ap (λ (t : List ℕ). running (lease_of (lease.view t) c.args.offset.0) c.args.now) (table-part c.args.words.now)) ∙ c.if-is_running_at.true); place = tt }
+    record { is = is-running (view c.args.words.now) c.args.offset.0 c.args.now c.if-offset-eq-MAX.false (sym c.is_settled.ensures ∙ c.if-is_settled.false) (ap (λ (x : Hours). isOpen (hours.view x) c.args.now) (sym c.hours_of-hours.ensures) ∙ sym c.is_open.ensures ∙ c.if-not-is_open.false) (sym (c.is_running_at.ensures c.args.offset.0 c.find-place.ensures ∙ ap (λ (t : List ℕ). running (lease_of (lease.view t) c.args.offset.0) c.args.now) (table-part c.args.words.now)) ∙ c.if-is_running_at.true); place = tt }
 
 pub is_exhausted-requires : goal.is_exhausted-requires
 is_exhausted-requires c = lent-table c.requires
 
 pub returns-then-is_exhausted : goal.returns-then-is_exhausted
 returns-then-is_exhausted c =
-    record { is = is_exhausted (view c.args.words.now) c.args.offset.0 c.args.now c.if-offset-eq-MAX.false (sym c.is_settled.ensures ∙ c.if-is_settled.false) (ap (λ (x : Hours). isOpen (hours.view x) c.args.now) (sym c.hours_of-hours.ensures) ∙ sym c.is_open.ensures ∙ not-false _ c.if-not-is_open.false) (sym (c.is_running_at.ensures c.args.offset.0 c.find-place.ensures ∙ ap (λ (t : List ℕ). running (lease_of (lease.view t) c.args.offset.0) c.args.now) (table-part c.args.words.now)) ∙ c.if-is_running_at.false) (eqb-true _ MAX (sym (c.is_exhausted.ensures ∙ ap (λ (t : List ℕ). eqb (lease.view t).next_generation MAX) (table-part c.args.words.now)) ∙ c.if-is_exhausted.true)); place = tt }
+    record { is = is_exhausted (view c.args.words.now) c.args.offset.0 c.args.now c.if-offset-eq-MAX.false (sym c.is_settled.ensures ∙ c.if-is_settled.false) (ap (λ (x : Hours). isOpen (hours.view x) c.args.now) (sym c.hours_of-hours.ensures) ∙ sym c.is_open.ensures ∙ c.if-not-is_open.false) (sym (c.is_running_at.ensures c.args.offset.0 c.find-place.ensures ∙ ap (λ (t : List ℕ). running (lease_of (lease.view t) c.args.offset.0) c.args.now) (table-part c.args.words.now)) ∙ c.if-is_running_at.false) (eqb-true _ MAX (sym (c.is_exhausted.ensures ∙ ap (λ (t : List ℕ). eqb (lease.view t).next_generation MAX) (table-part c.args.words.now)) ∙ c.if-is_exhausted.true)); place = tt }
 
 pub returns-then-is_at_ceiling : goal.returns-then-is_at_ceiling
 returns-then-is_at_ceiling c =
     record {
-      is = is-at-ceiling (view c.args.words.now) c.args.offset.0 c.args.now c.if-offset-eq-MAX.false (sym c.is_settled.ensures ∙ c.if-is_settled.false) (ap (λ (x : Hours). isOpen (hours.view x) c.args.now) (sym c.hours_of-hours.ensures) ∙ sym c.is_open.ensures ∙ not-false _ c.if-not-is_open.false) (sym (c.is_running_at.ensures c.args.offset.0 c.find-place.ensures ∙ ap (λ (t : List ℕ). running (lease_of (lease.view t) c.args.offset.0) c.args.now) (table-part c.args.words.now)) ∙ c.if-is_running_at.false) (eqb-false _ MAX (sym (c.is_exhausted.ensures ∙ ap (λ (t : List ℕ). eqb (lease.view t).next_generation MAX) (table-part c.args.words.now)) ∙ c.if-is_exhausted.false)) (leb-true _ _ (sym c.is_at_ceiling.ensures ∙ c.if-is_at_ceiling.true));
+      is = is-at-ceiling (view c.args.words.now) c.args.offset.0 c.args.now c.if-offset-eq-MAX.false (sym c.is_settled.ensures ∙ c.if-is_settled.false) (ap (λ (x : Hours). isOpen (hours.view x) c.args.now) (sym c.hours_of-hours.ensures) ∙ sym c.is_open.ensures ∙ c.if-not-is_open.false) (sym (c.is_running_at.ensures c.args.offset.0 c.find-place.ensures ∙ ap (λ (t : List ℕ). running (lease_of (lease.view t) c.args.offset.0) c.args.now) (table-part c.args.words.now)) ∙ c.if-is_running_at.false) (eqb-false _ MAX (sym (c.is_exhausted.ensures ∙ ap (λ (t : List ℕ). eqb (lease.view t).next_generation MAX) (table-part c.args.words.now)) ∙ c.if-is_exhausted.false)) (leb-true _ _ (sym c.is_at_ceiling.ensures ∙ c.if-is_at_ceiling.true));
       place = tt;
     }
 
 pub returns-then-is_at_threshold : goal.returns-then-is_at_threshold
 returns-then-is_at_threshold c =
     record {
-      is = is-at-threshold (view c.args.words.now) c.args.offset.0 c.args.now c.if-offset-eq-MAX.false (sym c.is_settled.ensures ∙ c.if-is_settled.false) (ap (λ (x : Hours). isOpen (hours.view x) c.args.now) (sym c.hours_of-hours.ensures) ∙ sym c.is_open.ensures ∙ not-false _ c.if-not-is_open.false) (sym (c.is_running_at.ensures c.args.offset.0 c.find-place.ensures ∙ ap (λ (t : List ℕ). running (lease_of (lease.view t) c.args.offset.0) c.args.now) (table-part c.args.words.now)) ∙ c.if-is_running_at.false) (eqb-false _ MAX (sym (c.is_exhausted.ensures ∙ ap (λ (t : List ℕ). eqb (lease.view t).next_generation MAX) (table-part c.args.words.now)) ∙ c.if-is_exhausted.false)) (leb-false _ _ (sym c.is_at_ceiling.ensures ∙ c.if-is_at_ceiling.false)) (leb-true _ _ (sym c.is_at_threshold.ensures ∙ c.if-is_at_threshold.true));
+      is = is-at-threshold (view c.args.words.now) c.args.offset.0 c.args.now c.if-offset-eq-MAX.false (sym c.is_settled.ensures ∙ c.if-is_settled.false) (ap (λ (x : Hours). isOpen (hours.view x) c.args.now) (sym c.hours_of-hours.ensures) ∙ sym c.is_open.ensures ∙ c.if-not-is_open.false) (sym (c.is_running_at.ensures c.args.offset.0 c.find-place.ensures ∙ ap (λ (t : List ℕ). running (lease_of (lease.view t) c.args.offset.0) c.args.now) (table-part c.args.words.now)) ∙ c.if-is_running_at.false) (eqb-false _ MAX (sym (c.is_exhausted.ensures ∙ ap (λ (t : List ℕ). eqb (lease.view t).next_generation MAX) (table-part c.args.words.now)) ∙ c.if-is_exhausted.false)) (leb-false _ _ (sym c.is_at_ceiling.ensures ∙ c.if-is_at_ceiling.false)) (leb-true _ _ (sym c.is_at_threshold.ensures ∙ c.if-is_at_threshold.true));
       place = tt;
     }
 
@@ -77,13 +77,13 @@ is_full-requires c =
 pub returns-then-is_full : goal.returns-then-is_full
 returns-then-is_full c =
     record {
-      is = is-full (view c.args.words.now) c.args.offset.0 c.args.now c.if-offset-eq-MAX.false (sym c.is_settled.ensures ∙ c.if-is_settled.false) (ap (λ (x : Hours). isOpen (hours.view x) c.args.now) (sym c.hours_of-hours.ensures) ∙ sym c.is_open.ensures ∙ not-false _ c.if-not-is_open.false) (sym (c.is_running_at.ensures c.args.offset.0 c.find-place.ensures ∙ ap (λ (t : List ℕ). running (lease_of (lease.view t) c.args.offset.0) c.args.now) (table-part c.args.words.now)) ∙ c.if-is_running_at.false) (eqb-false _ MAX (sym (c.is_exhausted.ensures ∙ ap (λ (t : List ℕ). eqb (lease.view t).next_generation MAX) (table-part c.args.words.now)) ∙ c.if-is_exhausted.false)) (leb-false _ _ (sym c.is_at_ceiling.ensures ∙ c.if-is_at_ceiling.false)) (leb-false _ _ (sym c.is_at_threshold.ensures ∙ c.if-is_at_threshold.false)) (sym (c.is_full.ensures ∙ ap (λ (t : List ℕ). is_full (lease.view t) c.args.offset.0) (table-part c.args.words.now)) ∙ c.if-is_full.true);
+      is = is-full (view c.args.words.now) c.args.offset.0 c.args.now c.if-offset-eq-MAX.false (sym c.is_settled.ensures ∙ c.if-is_settled.false) (ap (λ (x : Hours). isOpen (hours.view x) c.args.now) (sym c.hours_of-hours.ensures) ∙ sym c.is_open.ensures ∙ c.if-not-is_open.false) (sym (c.is_running_at.ensures c.args.offset.0 c.find-place.ensures ∙ ap (λ (t : List ℕ). running (lease_of (lease.view t) c.args.offset.0) c.args.now) (table-part c.args.words.now)) ∙ c.if-is_running_at.false) (eqb-false _ MAX (sym (c.is_exhausted.ensures ∙ ap (λ (t : List ℕ). eqb (lease.view t).next_generation MAX) (table-part c.args.words.now)) ∙ c.if-is_exhausted.false)) (leb-false _ _ (sym c.is_at_ceiling.ensures ∙ c.if-is_at_ceiling.false)) (leb-false _ _ (sym c.is_at_threshold.ensures ∙ c.if-is_at_threshold.false)) (sym (c.is_full.ensures ∙ ap (λ (t : List ℕ). is_full (lease.view t) c.args.offset.0) (table-part c.args.words.now)) ∙ c.if-is_full.true);
       place = tt;
     }
 
 pub returns : goal.returns
 returns c =
     record {
-      is = is_open (view c.args.words.now) c.args.offset.0 c.args.now c.if-offset-eq-MAX.false (sym c.is_settled.ensures ∙ c.if-is_settled.false) (ap (λ (x : Hours). isOpen (hours.view x) c.args.now) (sym c.hours_of-hours.ensures) ∙ sym c.is_open.ensures ∙ not-false _ c.if-not-is_open.false) (sym (c.is_running_at.ensures c.args.offset.0 c.find-place.ensures ∙ ap (λ (t : List ℕ). running (lease_of (lease.view t) c.args.offset.0) c.args.now) (table-part c.args.words.now)) ∙ c.if-is_running_at.false) (eqb-false _ MAX (sym (c.is_exhausted.ensures ∙ ap (λ (t : List ℕ). eqb (lease.view t).next_generation MAX) (table-part c.args.words.now)) ∙ c.if-is_exhausted.false)) (leb-false _ _ (sym c.is_at_ceiling.ensures ∙ c.if-is_at_ceiling.false)) (leb-false _ _ (sym c.is_at_threshold.ensures ∙ c.if-is_at_threshold.false)) (sym (c.is_full.ensures ∙ ap (λ (t : List ℕ). is_full (lease.view t) c.args.offset.0) (table-part c.args.words.now)) ∙ c.if-is_full.false);
+      is = is_open (view c.args.words.now) c.args.offset.0 c.args.now c.if-offset-eq-MAX.false (sym c.is_settled.ensures ∙ c.if-is_settled.false) (ap (λ (x : Hours). isOpen (hours.view x) c.args.now) (sym c.hours_of-hours.ensures) ∙ sym c.is_open.ensures ∙ c.if-not-is_open.false) (sym (c.is_running_at.ensures c.args.offset.0 c.find-place.ensures ∙ ap (λ (t : List ℕ). running (lease_of (lease.view t) c.args.offset.0) c.args.now) (table-part c.args.words.now)) ∙ c.if-is_running_at.false) (eqb-false _ MAX (sym (c.is_exhausted.ensures ∙ ap (λ (t : List ℕ). eqb (lease.view t).next_generation MAX) (table-part c.args.words.now)) ∙ c.if-is_exhausted.false)) (leb-false _ _ (sym c.is_at_ceiling.ensures ∙ c.if-is_at_ceiling.false)) (leb-false _ _ (sym c.is_at_threshold.ensures ∙ c.if-is_at_threshold.false)) (sym (c.is_full.ensures ∙ ap (λ (t : List ℕ). is_full (lease.view t) c.args.offset.0) (table-part c.args.words.now)) ∙ c.if-is_full.false);
       place = subst (λ (t : List ℕ). PlacedIn c.args.offset.0 t c.find-place.result) (table-part c.args.words.now) c.find-place.ensures;
     }

@@ -62,6 +62,6 @@ returns-else-holder-worker c =
     record {
       is = λ op e. is_held (view c.args.words.now) c.args.worker op c.args.token.offset.0 c.args.token.generation.0 (((λ (op : Operation) (e : bit_of op ≡ c.args.bit). rows c.args.words.now c.args.worker c.args.bit op e (sym (ap permission_of c.in-Granted.is) ∙ c.permission_of-permission.ensures))) op e) _ _ (sym (ap hold_in c.in-Held.is) ∙ (c.hold_of-hold.ensures.is ∙ ap (λ (t : List ℕ). hold (lease.view t) c.args.token.offset.0 c.args.token.generation.0) (table-part c.args.words.now))) c.if-holder-worker.false;
       at =
-          subst (λ (t : List ℕ). OwnedIn c.args.token.offset.0 c.args.token.generation.0 t (Found c.hold-1.given.0.1.1.0)) (table-part c.args.words.now)
+          subst (λ (t : List ℕ). OwnedIn c.args.token.offset.0 c.args.token.generation.0 t (Found c.in-Held.at)) (table-part c.args.words.now)
           (subst (HeldIn c.args.token.offset.0 c.args.token.generation.0 (table_part c.args.words.now)) c.in-Held.is c.hold_of-hold.ensures.at);
     }
