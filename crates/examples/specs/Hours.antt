@@ -45,7 +45,7 @@ items =
     ∷ call (ask 0 (claim 0 (WEEK - 1))) ∷ call (ask 0 (claim 0 WEEK)) ∷ call (ask 0 (ack 0 2)) ∷ []
 
 pub answered : run configuration (fresh_world (fresh configuration 9216) 9216) items
-    ≡ begun (done 2) ∷ stepped (done (record { block = 1; last = false; sync = true })) ∷ stepped (done (record { block = 0; last = true; sync = true }))
+    ≡ begun (done 2) ∷ stepped (done (record { block = 1; last = false })) ∷ stepped (done (record { block = 0; last = true }))
     ∷ claimed 0 0 (done (hand_out 0 1)) ∷ claimed 0 HALF_HOUR (refused (Closed WEEK)) ∷ nacked 0 0 (HALF_HOUR - 25) (some WEEK) (done WEEK)
     ∷ claimed 0 (WEEK - 1) (refused (Closed WEEK)) ∷ claimed 0 WEEK (done (hand_out 2 2)) ∷ acked 0 2 (done tt) ∷ []
 unfolding run next transition consumer.claim consumer.ack consumer.nack ackBounded opening firstOpen open_half checkpoint.begin checkpoint.header_place checkpoint.zeroed_for checkpoint.step all_attempt_counts encode_cursor encode_attempts write_at body_block

@@ -41,7 +41,7 @@ items =
     ∷ call (ask 2 (commit 9)) ∷ call (ask 8 (look Committed)) ∷ call (ask 0 (ack 0 0)) ∷ []
 
 pub answered : run configuration (fresh_world (fresh configuration 9216) 9216) items
-    ≡ begun (done 2) ∷ stepped (done (record { block = 1; last = false; sync = true })) ∷ stepped (done (record { block = 0; last = true; sync = true }))
+    ≡ begun (done 2) ∷ stepped (done (record { block = 1; last = false })) ∷ stepped (done (record { block = 0; last = true }))
     ∷ claimed 0 0 (done (first 0 0)) ∷ acked 0 0 (refused ForeignToken) ∷ claimed 1 0 (done (first 1 1))
     ∷ committed 9 (refused NotPermitted) ∷ looked Committed (refused UnknownWorker) ∷ acked 0 0 (done tt) ∷ []
 unfolding run next transition consumer.claim consumer.ack consumer.commit ackBounded checkpoint.begin checkpoint.header_place checkpoint.zeroed_for checkpoint.step all_attempt_counts encode_cursor encode_attempts write_at body_block

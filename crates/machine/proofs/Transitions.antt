@@ -170,12 +170,12 @@ module _ (m : Machine) (e : m.phase ≡ 0) (a out : List ℕ) where
 
 -- ## on the record
 step-phase : (d : StepAnswer) (w : Writing) → phase_at (phaseAfter d) w ≡ left_as (left_of d w)
-step-phase (steps.Wrote block sync) w = refl
+step-phase (steps.Wrote block) w = refl
 step-phase (steps.Finished block) w = refl
 step-phase steps.BadArea w = refl
 
 step-sound : (d : StepAnswer) (w : Writing) → SoundLeft d w → SoundAt (phaseAfter d) w
-step-sound (steps.Wrote block sync) w s = s
+step-sound (steps.Wrote block) w s = s
 step-sound (steps.Finished block) w s = s
 step-sound steps.BadArea w s = s
 
@@ -193,7 +193,7 @@ module _ (m : Machine) (e : m.phase ≡ 1) (a a' : List ℕ) (r : Stepped) (h : 
   stepped-on n = record { configuration = m.configuration; phase = n; writing = r.writing }
 
   step_kept : (d : StepAnswer) → r.answer ≡ d → Kept (step_of d) (held m a) (held (stepped-on (phaseAfter d)) a')
-  step_kept (steps.Wrote block sync) p = tt
+  step_kept (steps.Wrote block) p = tt
   step_kept (steps.Finished block) p = tt
   step_kept steps.BadArea p =
       let k : r.writing ≡ m.writing = rw p at h.kept in

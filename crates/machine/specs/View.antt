@@ -200,6 +200,6 @@ pub record ExportedIs (m : Machine) (w : ℕ) (out : Snapshots) (r : ExportCall)
 -- ## parts
 -- the number of the phase that a step leaves
 abbrev pub phaseAfter : StepAnswer → ℕ
-phaseAfter (steps.Wrote block sync) = 1
+phaseAfter (steps.Wrote block) = 1
 phaseAfter (steps.Finished block) = 0
 phaseAfter steps.BadArea = 1

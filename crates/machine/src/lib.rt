@@ -47,7 +47,7 @@ pub fn phase_after(answer: StepAnswer) -> u64
     ensures { result ≡ phaseAfter answer }
 {
     match answer {
-        StepAnswer::Wrote { block: _, sync: _ } => 1,
+        StepAnswer::Wrote { block: _ } => 1,
         StepAnswer::Finished { block: _ } => 0,
         StepAnswer::BadArea => 1,
     }
