@@ -72,6 +72,14 @@ due-is w n count place there =
     let zeros-is : place.zeros ≡ zeros (view w.consumer) = rw (← count) there.zeros in
     rw (zeros-is, count, add-one w.written)
 
+pub zeros_small : (w : Writing) → SoundWriting w → (n : ℕ) → n ≡ bodies (view w.consumer) → (place : Place)
+    → PlaceIs w.consumer.area_len w.consumer.next.block n place → place.zeros ≤ 128
+zeros_small w s n count place there =
+    let room = state-room (view w.consumer) s.valid.state in
+    let most = (whole_says w.consumer.area_len (area-taken w.consumer.area_len s.valid.state.area)).most in
+    let z : place.zeros ≡ zeros (view w.consumer) = rw (← count) there.zeros in
+    omega (arith, z, room.zeroed, most)
+
 -- ## A block is written
 pub into-inside : (w : Writing) (a : List ℕ) (i : ℕ) → Into w a i → outside (length a) i ≡ false
 into-inside w a i h = rw (h.area, area-taken w.consumer.area_len h.sound.valid.state.area) (lt-leb (w.consumer.area_len / 512) i h.inside)
