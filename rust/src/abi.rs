@@ -8,7 +8,7 @@ use crate::ffi;
 /// The number of the interface between this crate and the proved `libninotskev_server.a`. It is raised with every change of a struct that crosses or of
 /// an exported call, here, in `crates/server/specs/Abi.antt` and in `crates/server/src/abi.rt`; `CHANGELOG.md` has it beside each
 /// version.
-pub const ABI: u64 = 3;
+pub const ABI: u64 = 2;
 
 /// That of the interface to `libninotskev_exports.a`, which has the snapshots. It is raised with every change of a call of that library, here, in
 /// `crates/exports/specs/Abi.antt` and in `crates/exports/src/abi.rt`.

@@ -193,6 +193,7 @@ extern "C" {
     );
     fn ninotskev_begin(machine: *mut State, numbers: *mut Numbers, worker: u64);
     fn ninotskev_step(machine: *mut State, numbers: *mut Numbers, area: *mut u8, area_len: usize);
+    fn ninotskev_sync_due(machine: *const State) -> u64;
     fn ninotskev_crc32c(bytes: *const u8, len: usize) -> u32;
     fn ninotskev_encode_cursor(
         committed: u64,
@@ -690,6 +691,8 @@ impl Machine {
     // Writes the next block into an area of that length.
     fn step_on(&mut self, area: &mut [u8]) -> Wrote {
         let mut numbers = Numbers::default();
+        // SAFETY: as for `ask`; this one only reads.
+        let due = unsafe { ninotskev_sync_due(self.0.get()) };
         // SAFETY: as for `ask`.
         unsafe { ninotskev_step(self.0.get(), &mut numbers, area.as_mut_ptr(), area.len()) };
         numbers
@@ -698,7 +701,7 @@ impl Machine {
         Wrote {
             block: usize::try_from(numbers.values[0]).expect("a block is below 128"),
             last: numbers.values[1] != 0,
-            sync: numbers.values[2] != 0,
+            sync: due != 0,
         }
     }
 }

@@ -43,7 +43,7 @@ abbrev pub bit_value : Bool → List ℕ
 bit_value b = bit b ∷ []
 
 abbrev pub wrote_values : BlockWritten → List ℕ
-wrote_values w = w.block ∷ bit w.last ∷ bit w.sync ∷ []
+wrote_values w = w.block ∷ bit w.last ∷ []
 
 abbrev pub values : List ℕ → List ℕ
 values l = l

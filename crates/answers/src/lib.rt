@@ -137,13 +137,13 @@ pub fn of_begin(answer: BeginAnswer) -> Numbers
     }
 }
 
-// A step: the block that it wrote, 1 if it was the last, and 1 if a sync is due after it.
+// A step: the block that it wrote, and 1 where it was the last.
 pub fn of_step(answer: StepAnswer) -> Numbers
     ensures { result ≡ numbers_of (answered wrote_values (step_of answer)) }
 {
     match answer {
-        StepAnswer::Wrote { block, sync } => Numbers(0, 3, block as u64, 0, bit_of(sync), 0, 0),
-        StepAnswer::Finished { block } => Numbers(0, 3, block as u64, 1, 1, 0, 0),
+        StepAnswer::Wrote { block } => Numbers(0, 2, block as u64, 0, 0, 0, 0),
+        StepAnswer::Finished { block } => Numbers(0, 2, block as u64, 1, 0, 0, 0),
         StepAnswer::BadArea => Numbers(4, 0, 0, 0, 0, 0, 0),
     }
 }

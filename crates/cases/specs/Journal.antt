@@ -249,25 +249,25 @@ pub step-on-another-area : (step (writing (written 0 0) 0) (replicate 10240 0)).
 unfolding step
 step-on-another-area = refl
 
--- a body behind the header's place on its own area: a sync is due after it
-pub step-on_its_own-area : (step (writing (fresh accepted 9216) 0) (replicate 9216 0)).outcome ≡ done (record { block = 1; last = false; sync = true })
+-- a body behind the header's place on its own area
+pub step-on_its_own-area : (step (writing (fresh accepted 9216) 0) (replicate 9216 0)).outcome ≡ done (record { block = 1; last = false })
 unfolding step header_place zeroed_for encode_cursor encode_attempts all_attempt_counts
 step-on_its_own-area = refl
 
--- to the other half: zeros on its nine blocks, then the body and the header, each with a sync due after it
-pub step_zeroes_first : (step (writing (written 8 0) 0) (replicate 9216 0)).outcome ≡ done (record { block = 9; last = false; sync = false })
+-- to the other half: zeros on its nine blocks, then the body, then the header
+pub step_zeroes_first : (step (writing (written 8 0) 0) (replicate 9216 0)).outcome ≡ done (record { block = 9; last = false })
 unfolding step header_place zeroed_for encode_cursor encode_attempts all_attempt_counts
 step_zeroes_first = refl
 
-pub step_zeroes_last : (step (writing (written 8 0) 8) (replicate 9216 0)).outcome ≡ done (record { block = 17; last = false; sync = false })
+pub step_zeroes_last : (step (writing (written 8 0) 8) (replicate 9216 0)).outcome ≡ done (record { block = 17; last = false })
 unfolding step header_place zeroed_for encode_cursor encode_attempts all_attempt_counts
 step_zeroes_last = refl
 
-pub step-behind_the_zeros : (step (writing (written 8 0) 9) (replicate 9216 0)).outcome ≡ done (record { block = 10; last = false; sync = true })
+pub step-behind_the_zeros : (step (writing (written 8 0) 9) (replicate 9216 0)).outcome ≡ done (record { block = 10; last = false })
 unfolding step header_place zeroed_for encode_cursor encode_attempts all_attempt_counts
 step-behind_the_zeros = refl
 
-pub step-of_the_header : (step (writing (written 8 0) 10) (replicate 9216 0)).outcome ≡ done (record { block = 9; last = true; sync = true })
+pub step-of_the_header : (step (writing (written 8 0) 10) (replicate 9216 0)).outcome ≡ done (record { block = 9; last = true })
 unfolding step header_place zeroed_for encode_cursor encode_attempts all_attempt_counts
 step-of_the_header = refl
 

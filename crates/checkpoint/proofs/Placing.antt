@@ -28,27 +28,22 @@ module _ (size block n end : ℕ) (ends : end ≡ half_end size block) where
       record { block = rw t; zeros = rw t }
 
 module _ (place : Place) (n written : ℕ) (h : Header) where
-  -- whether a sync is due is told in every case
-  module _ (sync : Bool) (due : sync ≡ leb (place.zeros + n) (written + 1)) where
-    is-due : sync ≡ leb (place.zeros + n) (suc written)
-    is-due = due ∙ rw add-one
+  pub next-zeros : written < place.zeros
+      → NextIs place n written h (record { at = place.block + written; block = block.Zeros; last = false })
+  next-zeros l =
+      let z = lt-ltb written place.zeros l in
+      record { last = sym (lt-leb (place.zeros + n) written (omega arith)); at = rw z; block = rw z }
 
-    pub next-zeros : written < place.zeros
-        → NextIs place n written h (record { at = place.block + written; block = block.Zeros; last = false; sync = sync })
-    next-zeros l =
-        let z = lt-ltb written place.zeros l in
-        record { last = sym (lt-leb (place.zeros + n) written (omega arith)); sync = is-due; at = rw z; block = rw z }
+  module _ (l : place.zeros ≤ written) where
+    pub next-header : place.zeros + n ≤ written
+        → NextIs place n written h (record { at = place.block; block = block.Header h; last = true })
+    next-header k =
+        let z = le-ltb written place.zeros l in
+        record { last = sym (le-leb (place.zeros + n) written k); at = rw z; block = rw z }
 
-    module _ (l : place.zeros ≤ written) where
-      pub next-header : place.zeros + n ≤ written
-          → NextIs place n written h (record { at = place.block; block = block.Header h; last = true; sync = sync })
-      next-header k =
-          let z = le-ltb written place.zeros l in
-          record { last = sym (le-leb (place.zeros + n) written k); sync = is-due; at = rw z; block = rw z }
-
-      pub next-body : written < place.zeros + n → (i : ℕ) → i ≡ written - place.zeros + 1
-          → NextIs place n written h (record { at = place.block + i; block = block.Body h.number i; last = false; sync = sync })
-      next-body k i e =
-          let z = le-ltb written place.zeros l in
-          let is : i ≡ suc (written - place.zeros) = e ∙ add-one (written - place.zeros) in
-          record { last = sym (lt-leb (place.zeros + n) written k); sync = is-due; at = rw (z, is); block = rw (z, is) }
+    pub next-body : written < place.zeros + n → (i : ℕ) → i ≡ written - place.zeros + 1
+        → NextIs place n written h (record { at = place.block + i; block = block.Body h.number i; last = false })
+    next-body k i e =
+        let z = le-ltb written place.zeros l in
+        let is : i ≡ suc (written - place.zeros) = e ∙ add-one (written - place.zeros) in
+        record { last = sym (lt-leb (place.zeros + n) written k); at = rw (z, is); block = rw (z, is) }

@@ -4,8 +4,9 @@ use Prim.Native.Nat.{ℕ, suc, ◌+◌, ◌/◌, ◌≤◌}
 use native.Mathlib.Omega.{arith}
 use native.Mathlib.Numerals.{add-one}
 use mathlib.Core.Path.{◌≡◌, refl, ap, ◌∙◌}
-use mathlib.Core.Bool.{Bool, true, false}
+use mathlib.Core.Bool.{true, false}
 use mathlib.Core.List.{List}
+use lib.Dec.{leb}
 use lib.ListN.{length, take, length-take}
 use borrow.Author.Tests.{eq-eqb, ne_eqb, le-leb, lt-leb, leb-true, leb-false}
 use Rattle.types.specs.Limits.{MAX32}
@@ -63,6 +64,22 @@ small w s =
       payload = omega (arith, simp length-take at (ap length s.encoded.payload), fits.total, s.encoded.cursor-len, s.encoded.attempt_len_lem);
     }
 
+-- ## Whether a sync is due
+-- as the code finds it, of the place that the group goes to
+pub due-is : (w : Writing) (n : ℕ) → n ≡ bodies (view w.consumer) → (place : Place)
+    → PlaceIs w.consumer.area_len w.consumer.next.block n place → leb (place.zeros + n) (w.written + 1) ≡ sync_due (view_writing w)
+due-is w n count place there =
+    let zeros-is : place.zeros ≡ zeros (view w.consumer) = rw (← count) there.zeros in
+    rw (zeros-is, count, add-one w.written)
+
+pub zeros_small : (w : Writing) → SoundWriting w → (n : ℕ) → n ≡ bodies (view w.consumer) → (place : Place)
+    → PlaceIs w.consumer.area_len w.consumer.next.block n place → place.zeros ≤ 128
+zeros_small w s n count place there =
+    let room = state-room (view w.consumer) s.valid.state in
+    let most = (whole_says w.consumer.area_len (area-taken w.consumer.area_len s.valid.state.area)).most in
+    let z : place.zeros ≡ zeros (view w.consumer) = rw (← count) there.zeros in
+    omega (arith, z, room.zeroed, most)
+
 -- ## A block is written
 pub into-inside : (w : Writing) (a : List ℕ) (i : ℕ) → Into w a i → outside (length a) i ≡ false
 into-inside w a i h = rw (h.area, area-taken w.consumer.area_len h.sound.valid.state.area) (lt-leb (w.consumer.area_len / 512) i h.inside)
@@ -113,9 +130,6 @@ module _ (p : Parts) (within : Writing) (s : SoundWriting (with_parts p within))
     pub write-last : x.last ≡ is_last now
     write-last = is.last ∙ rw (zeros-is, count)
 
-    pub write-sync : x.sync ≡ sync_due now
-    write-sync = is.sync ∙ rw (zeros-is, count)
-
     pub write-place : x.at ≡ next_place now
     write-place = is.at ∙ rw (zeros-is, block-is, write-last)
 
@@ -137,13 +151,13 @@ module _ (p : Parts) (within : Writing) (s : SoundWriting (with_parts p within))
     abbrev moved : Writing
     moved = with_parts (parts (p.written + 1) p.cursorLen p.attemptLen p.areaLen p.generation p.ceiling p.redeliveries p.number p.block p.payload) within
 
-    pub step-going : (i : ℕ) (sync : Bool) (b after : List ℕ) → is_last (view_writing w) ≡ false → i ≡ next_place (view_writing w)
-        → sync ≡ sync_due (view_writing w) → b ≡ next_block (view_writing w)
-        → after ≡ write_at a i b → SteppedIs w a (record { answer = Wrote i sync; writing = moved }) after
+    pub step-going : (i : ℕ) (b after : List ℕ) → is_last (view_writing w) ≡ false → i ≡ next_place (view_writing w)
+        → b ≡ next_block (view_writing w)
+        → after ≡ write_at a i b → SteppedIs w a (record { answer = Wrote i; writing = moved }) after
     unfolding step
-    step-going i sync b after t i-is s-is b-is e =
+    step-going i b after t i-is b-is e =
         record {
-          is = rw (eq-eqb (length a) p.areaLen area, e, i-is, s-is, b-is, t, add-one p.written);
+          is = rw (eq-eqb (length a) p.areaLen area, e, i-is, b-is, t, add-one p.written);
           sound =
               record {
                 consumer = s.consumer;
@@ -167,10 +181,6 @@ module _ (p : Parts) (within : Writing) (s : SoundWriting (with_parts p within))
       at-header : i ≡ group_block st
       at-header = i-is ∙ header-next (view_writing w) t
 
-      -- a sync is due after the header
-      due : sync_due (view_writing w) ≡ true
-      due = le-leb (zeros st + bodies st) (suc p.written) (omega (arith, leb-true (zeros st + bodies st) p.written t))
-
       flushed-is : view last.consumer ≡ flushed st
       flushed-is = rw (cleared, raised, add-one n, count, at-header)
 
@@ -189,7 +199,7 @@ module _ (p : Parts) (within : Writing) (s : SoundWriting (with_parts p within))
       unfolding step
       step-last b after b-is e =
           record {
-            is = rw (eq-eqb (length a) p.areaLen area, flushed-is, e, i-is, b-is, t, due);
+            is = rw (eq-eqb (length a) p.areaLen area, flushed-is, e, i-is, b-is, t);
             sound = flushed-sound;
             kept = tt;
           }

@@ -129,11 +129,10 @@ pub data Left : Type 0 where
 abbrev pub left_by : Writing → Left
 left_by w = cond (is_last w) (finished (flushed w.state)) (going (writing w.state (suc w.written)))
 
--- a step answers its block, whether it was the last one and whether a sync is due; it leaves the record or the state, and the lent area
+-- a step answers its block and whether it was the last one; it leaves the record or the state, and the lent area
 pub record BlockWritten : Type 0 where
   pub block : ℕ
   pub last : Bool
-  pub sync : Bool
 
 pub record Lent : Type 0 where
   pub left : Left
@@ -150,4 +149,4 @@ step_table w a = not (eqb (length a) w.state.size) ⇒ BadArea ∷ []
 unfoldable pub step : Writing → List ℕ → Answer BlockWritten Lent
 step w a =
     guarded (step_table w a) (lent (going w) a)
-    (answer (done (record { block = next_place w; last = is_last w; sync = sync_due w })) (lent (left_by w) (write_at a (next_place w) (next_block w))))
+    (answer (done (record { block = next_place w; last = is_last w })) (lent (left_by w) (write_at a (next_place w) (next_block w))))

@@ -149,7 +149,6 @@ pub record PlaceIs (size from n : ℕ) (r : Place) : Type 0 where
 -- the next block write of a group of n bodies that goes there, after so many: zeros, then bodies, then the header
 pub record NextIs (place : Place) (n written : ℕ) (h : Header) (r : NextWrite) : Type 0 where
   pub last : r.last ≡ leb (place.zeros + n) written
-  pub sync : r.sync ≡ leb (place.zeros + n) (suc written)
   pub at : r.at
       ≡ cond (ltb written place.zeros) (place.block + written) (cond r.last place.block (place.block + suc (written - place.zeros)))
   pub block : r.block ≡ cond (ltb written place.zeros) block.Zeros (cond r.last (block.Header h) (block.Body h.number (suc (written - place.zeros))))

@@ -4,18 +4,18 @@ use Rattle.std.specs.Prelude.{ℕ, zero, suc, ◌-◌, ◌≤◌, ◌≡◌, Boo
 use Rattle.types.specs.Refusal.{Result, refused, done}
 use Rattle.consumer.specs.State.{State}
 use Rattle.consumer.specs.Valid.{Valid}
-use Rattle.checkpoint.specs.Checkpoint.{writes, Writing, begin, Left, going, finished, BlockWritten, step}
+use Rattle.checkpoint.specs.Checkpoint.{writes, Writing, begin, Left, going, finished, sync_due, BlockWritten, step}
 
--- what an answer says of it
-abbrev pub is_due : Result BlockWritten → Bool
-is_due (refused r) = false
-is_due (done b) = b.sync
+-- what a record says of its next step, on an area; a step that is refused writes nothing
+abbrev pub is_due : Writing → Result BlockWritten → Bool
+is_due w (refused r) = false
+is_due w (done b) = sync_due w
 
 -- the same of up to n steps, each on what the one before left: the last one leaves no record to step
 unfoldable pub syncs_due : ℕ → Left → List ℕ → List Bool
 syncs_due zero l a = []
 syncs_due (suc n) (finished s) a = []
-syncs_due (suc n) (going w) a = is_due (step w a).outcome ∷ syncs_due n (step w a).state.left (step w a).state.area
+syncs_due (suc n) (going w) a = is_due w (step w a).outcome ∷ syncs_due n (step w a).state.left (step w a).state.area
 
 -- every record that a begin gives, on its own area
 unfoldable pub TwoSyncsDue : Type 0

@@ -55,18 +55,18 @@ pub record BegunIs (before : Consumer) (worker : ℕ) (r : Begun) : Type 0 where
 
 -- ## step
 abbrev pub step_of : StepAnswer → Result BlockWritten
-step_of (steps.Wrote block sync) = done (record { block = block; last = false; sync = sync })
-step_of (steps.Finished block) = done (record { block = block; last = true; sync = true })
+step_of (steps.Wrote block) = done (record { block = block; last = false })
+step_of (steps.Finished block) = done (record { block = block; last = true })
 step_of steps.BadArea = refused refusal.BadArea
 
 -- what is left: after the last write the consumer, else the record
 abbrev pub left_of : StepAnswer → Writing → Left
-left_of (steps.Wrote block sync) w = going (view_writing w)
+left_of (steps.Wrote block) w = going (view_writing w)
 left_of (steps.Finished block) w = finished (view w.consumer)
 left_of steps.BadArea w = going (view_writing w)
 
 abbrev pub SoundLeft : StepAnswer → Writing → Type 0
-SoundLeft (steps.Wrote block sync) w = SoundWriting w
+SoundLeft (steps.Wrote block) w = SoundWriting w
 SoundLeft (steps.Finished block) w = Sound w.consumer
 SoundLeft steps.BadArea w = SoundWriting w
 

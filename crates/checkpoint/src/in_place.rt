@@ -215,13 +215,12 @@ fn header_of(number: u64, ceiling: u64, cursor_len: usize, attempt_len: usize) -
     }
 }
 
-// A block write: where, what, whether it is the checkpoint's last, and whether a sync is due after it.
+// A block write: where, what, and whether it is the checkpoint's last.
 #[derive(Clone, Copy)]
 struct NextWrite {
     at: usize,
     block: Block,
     last: bool,
-    sync: bool,
 }
 
 // The next block write of a checkpoint: zeros over the half that the group goes to, if it is another one, then its bodies behind
@@ -230,13 +229,11 @@ fn next_write(place: Place, bodies: usize, written: usize, header: Header) -> Ne
     requires { (place.block ≤ 128) × (place.zeros ≤ 128) × (bodies ≤ 8) × (written ≤ 136) }
     ensures { NextIs place bodies written header result }
 {
-    let sync = place.zeros + bodies <= written + 1;
     if written < place.zeros {
         return NextWrite {
             at: place.block + written,
             block: Block::Zeros,
             last: false,
-            sync,
         };
     }
     if place.zeros + bodies <= written {
@@ -244,7 +241,6 @@ fn next_write(place: Place, bodies: usize, written: usize, header: Header) -> Ne
             at: place.block,
             block: Block::Header(header),
             last: true,
-            sync,
         };
     }
     let index = written - place.zeros + 1;
@@ -256,7 +252,6 @@ fn next_write(place: Place, bodies: usize, written: usize, header: Header) -> Ne
             index: index as u8,
         },
         last: false,
-        sync,
     }
 }
 
@@ -315,10 +310,7 @@ pub fn step_in_place(
         };
     }
     SteppedAt {
-        answer: StepAnswer::Wrote {
-            block: at,
-            sync: next.sync,
-        },
+        answer: StepAnswer::Wrote { block: at },
         written: written + 1,
         ceiling,
         redeliveries,

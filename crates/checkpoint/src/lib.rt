@@ -2,7 +2,9 @@
 // write, and the last one, the header's, gives the consumer back. While a record is out there is no consumer to call.
 #![tactic(auto)]
 ghost use Rattle.consumer.specs.View.{Sound};
-ghost use Rattle.checkpoint.specs.Writing.{SoundWriting, SteppedIs};
+ghost use Rattle.std.specs.Prelude.{◌≡◌};
+ghost use Rattle.checkpoint.specs.Checkpoint.{sync_due};
+ghost use Rattle.checkpoint.specs.Writing.{view_writing, SoundWriting, SteppedIs};
 ghost use Rattle.checkpoint.specs.Parts.{unbegun, BegunAs};
 
 pub mod counts;
@@ -31,11 +33,10 @@ pub enum BeginAnswer {
     NotPermitted,
 }
 
-// What a step answers: the block that it wrote, or refusal 4. A sync is due after the last block before the header, and after the
-// header, which is the last one.
+// What a step answers: the block that it wrote, the last one or not, or refusal 4.
 #[derive(Clone, Copy)]
 pub enum StepAnswer {
-    Wrote { block: usize, sync: bool },
+    Wrote { block: usize },
     Finished { block: usize },
     BadArea,
 }
@@ -126,5 +127,16 @@ impl Writing {
             answer: answer,
             writing: self,
         }
+    }
+
+    // Whether a sync is due after the next block write: after the last block before the header, and after the header, which is the
+    // last one.
+    pub fn sync_due(&self) -> bool
+        requires { SoundWriting self.now }
+        ensures { result ≡ sync_due (view_writing self.now) }
+    {
+        let bodies = in_place::bodies_of(self.cursor_len, self.attempt_len);
+        let place = in_place::place_of(self.consumer.area_len, self.consumer.next.block, bodies);
+        place.zeros + bodies <= self.written + 1
     }
 }

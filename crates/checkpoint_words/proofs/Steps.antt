@@ -61,7 +61,7 @@ counter_narrow {w} ok = subst (λ (n : ℕ). n ≤ MAX32) (counter_at w) ok.fits
 
 -- ## what comes back
 left_is : (r : StepAnswer) (w p : List ℕ) → left_of r (writing_in w p) ≡ left_in r w p
-left_is (steps.Wrote block sync) w p = refl
+left_is (steps.Wrote block) w p = refl
 left_is (steps.Finished block) w p = refl
 left_is steps.BadArea w p = refl
 
@@ -90,7 +90,7 @@ module _ {w p : List ℕ} (ok : SoundWriting w p) (a a' : List ℕ) (r : Stepped
       subst Fits (sym same) (record { counts = ok.fits.counts; workers = ok.fits.workers; redeliveries = h })
 
   sound-left : (s : StepAnswer) → r.redeliveries ≤ MAX32 → writing.SoundLeft s (writing_in after p) → SoundLeft s after p
-  sound-left (steps.Wrote block sync) h ok' = record { long = long; writing = ok'; fits = fits h }
+  sound-left (steps.Wrote block) h ok' = record { long = long; writing = ok'; fits = fits h }
   sound-left (steps.Finished block) h ok' = record { long = long; state = ok'; fits = fits h }
   sound-left steps.BadArea h ok' = record { long = long; writing = ok'; fits = fits h }
 
@@ -104,7 +104,7 @@ module _ {w p : List ℕ} (ok : SoundWriting w p) (a a' : List ℕ) (r : Stepped
   not_refused e = rw (eq-eqb (length a) (word AREA-LEN w) e)
 
   kept : (s : StepAnswer) → is_refused (step_of s) ≡ false → Kept (step_of s) w after
-  kept (steps.Wrote block sync) q = tt
+  kept (steps.Wrote block) q = tt
   kept (steps.Finished block) q = tt
   kept steps.BadArea q = absurd (true≢false q)
 

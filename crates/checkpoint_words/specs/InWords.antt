@@ -37,12 +37,12 @@ Permitted r w p w' p' = (worker : ℕ) → Passed (call_rows (view w) worker che
 -- ## step
 -- what is left: after the last write the consumer, else the record
 abbrev pub left_in : StepAnswer → (w p : List ℕ) → Left
-left_in (steps.Wrote block sync) w p = going (view_writing w p)
+left_in (steps.Wrote block) w p = going (view_writing w p)
 left_in (steps.Finished block) w p = finished (view w)
 left_in steps.BadArea w p = going (view_writing w p)
 
 abbrev pub SoundLeft : StepAnswer → (w p : List ℕ) → Type 0
-SoundLeft (steps.Wrote block sync) w p = SoundWriting w p
+SoundLeft (steps.Wrote block) w p = SoundWriting w p
 SoundLeft (steps.Finished block) w p = Sound w
 SoundLeft steps.BadArea w p = SoundWriting w p
 

@@ -1,9 +1,9 @@
 // A checkpoint on the words of its record, begin and steps.
 ghost use Rattle.std.specs.Prelude.{◌≡◌, length};
-ghost use Rattle.checkpoint.specs.Checkpoint.{cursor_bytes, attempt_bytes, writes};
+ghost use Rattle.checkpoint.specs.Checkpoint.{cursor_bytes, attempt_bytes, writes, sync_due};
 ghost use Rattle.checkpoint.specs.Writing.{Encoded};
 ghost use Rattle.consumer_words.specs.Layout.{view};
-ghost use Rattle.checkpoint_words.specs.Layout.{WORDS, PAYLOAD, Sound, SoundWriting};
+ghost use Rattle.checkpoint_words.specs.Layout.{WORDS, PAYLOAD, view_writing, Sound, SoundWriting};
 ghost use Rattle.checkpoint_words.specs.InWords.{Begins, Permitted, stored, Steps};
 
 use crate::counts::put_counts;
@@ -109,6 +109,16 @@ pub fn step(words: &mut [u64], payload: &[u8; 3606], area: &mut [u8]) -> StepAns
         after.block,
     );
     after.answer
+}
+
+// Whether a sync is due after the next block write: after the last block before the header, and after the header, which is the last one.
+pub fn sync_due(words: &[u64], payload: &[u8; 3606]) -> bool
+    requires { SoundWriting words.now payload.now }
+    ensures { result ≡ sync_due (view_writing words.now payload.now) }
+{
+    let bodies = bodies_of(words[CURSOR_LEN] as usize, words[ATTEMPT_LEN] as usize);
+    let place = place_of(words[AREA_LEN] as usize, words[NEXT_BLOCK] as usize, bodies);
+    place.zeros + bodies <= words[WRITTEN] as usize + 1
 }
 
 // Stores the numbers that steps change.

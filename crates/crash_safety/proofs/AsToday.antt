@@ -13,7 +13,7 @@ use Rattle.types.proofs.Cases.{split}
 use Rattle.journal.specs.Area.{block_at, write_at}
 use Rattle.consumer.specs.State.{Configuration, State}
 use Rattle.checkpoint.specs.Checkpoint as checkpoint
-use Rattle.checkpoint.specs.Checkpoint.{Writing, is_last, sync_due, next_place, next_block, left_by}
+use Rattle.checkpoint.specs.Checkpoint.{Writing, is_last, next_place, next_block, left_by}
 use Rattle.starts.specs.Restart.{start_table, origin}
 use Rattle.starts.specs.Restart as restarts
 use Rattle.machine.specs.Calls.{Ask, claim, ack, term, nack, progress, commit, look, ask, begin, step, restart, Event, stepped, failed}
@@ -129,7 +129,7 @@ module _ (c : Configuration) (n : ℕ) (l : Ledger) (w : Writing) (a : List ℕ)
 
   -- the block is pending
   abbrev pended : Disk
-  pended = disk a (write at (is_last w) (sync_due w) (next_block w) ∷ [])
+  pended = disk a (write at (is_last w) (next_block w) ∷ [])
 
   reads-back : block_at longer at ≡ next_block w
   reads-back = same_kept c n inv.saved a w inv.journal (is-ready inv.callable.0) inv.callable.1
@@ -143,8 +143,8 @@ module _ (c : Configuration) (n : ℕ) (l : Ledger) (w : Writing) (a : List ℕ)
   step-copied : (t : After) → next c (world (writing w) a) (call step) ≡ some t → Copied c (writing w) a (call step) t
   unfolding next transition checkpoint.step next_on written answers
   step-copied t e =
-      let is : gives (stepped (done (record { block = at; last = is_last w; sync = sync_due w }))) (left_as (left_by w)) longer ≡ some t = rw (same_length c n l a w inv) at e in
-      let same : record { event = stepped (done (record { block = at; last = is_last w; sync = sync_due w })); phase = left_as (left_by w); area = longer } ≡ t = cc in
+      let is : gives (stepped (done (record { block = at; last = is_last w }))) (left_as (left_by w)) longer ≡ some t = rw (same_length c n l a w inv) at e in
+      let same : record { event = stepped (done (record { block = at; last = is_last w })); phase = left_as (left_by w); area = longer } ≡ t = cc in
       rw (← same) (two c (writing w) a (call step) (does step) syncs _ (left_as (left_by w)) pended refl pends refl)
 
   cut-gives : (k : Cut) (e : Event) (a' : List ℕ) → next_on c (left_as (left_by w)) pended (fails (k ∷ [])) ≡ leads (e ∷ []) off (disk a' [])
@@ -245,7 +245,7 @@ harmless-whole n a lo v (w ∷ ws) e h x (later m) = harmless-whole n a lo v ws 
 header-whole : (c : Configuration) (n : ℕ) (l : Ledger) (s : State) (a : List ℕ) (ws : List Write) → Finishing c n l s a ws → Whole (disk a ws)
 header-whole c n l s a ws f = rw f.header (go f.record_of f.inv)
   where
-    go : (w : Writing) → Inv c n l (world (writing w) a) → Whole (disk a (write (next_place w) true (sync_due w) (next_block w) ∷ []))
+    go : (w : Writing) → Inv c n l (world (writing w) a) → Whole (disk a (write (next_place w) true (next_block w) ∷ []))
     go w inv x first =
         rw inv.journal.size (inside c n inv.saved a w inv.journal (is-ready inv.callable.0) inv.callable.1, next-whole w)
     go w inv x (later m) = elim m [ ]

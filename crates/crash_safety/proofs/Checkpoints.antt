@@ -17,7 +17,7 @@ use Rattle.consumer.specs.State.{Configuration, State}
 use Rattle.consumer.specs.Rights.{checkpointing}
 use Rattle.consumer.specs.Calls.{call_rows}
 use Rattle.checkpoint.specs.Checkpoint as checkpoints
-use Rattle.checkpoint.specs.Checkpoint.{bodies, zeros, writes, flushed, is_last, sync_due, next_place, next_block}
+use Rattle.checkpoint.specs.Checkpoint.{bodies, zeros, writes, flushed, is_last, next_place, next_block}
 use Rattle.machine.specs.Calls.{u64, begin, step, begun, stepped}
 use Rattle.machine.specs.Transitions.{idle, writing, After, left_as, transition}
 use Rattle.crash_safety.specs.Runs.{Item, call, World, world, next, after, run, ends}
@@ -90,7 +90,7 @@ module _ (c : Configuration) (n : ℕ) (v : Saved) (s : State) (now : Ready c n 
 
     -- the next step
     pub made : (last : Bool) → is_last (checkpoints.writing s k) ≡ last → next c (at k a) (call step) ≡ some (record {
-      event = stepped (done (record { block = next_place (checkpoints.writing s k); last = last; sync = sync_due (checkpoints.writing s k) }));
+      event = stepped (done (record { block = next_place (checkpoints.writing s k); last = last }));
       phase = left_as (cond last (checkpoints.finished (flushed s)) (checkpoints.going (checkpoints.writing s (suc k))));
       area = longer;
     })
@@ -115,7 +115,7 @@ module _ (c : Configuration) (n : ℕ) (v : Saved) (s : State) (now : Ready c n 
       is-last = le-leb (before s) k all
 
       pub last_step : next c (at k a) (call step) ≡ some (record {
-        event = stepped (done (record { block = next_place (checkpoints.writing s k); last = true; sync = sync_due (checkpoints.writing s k) }));
+        event = stepped (done (record { block = next_place (checkpoints.writing s k); last = true }));
         phase = idle (flushed s);
         area = longer;
       })

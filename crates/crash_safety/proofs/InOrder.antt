@@ -17,7 +17,7 @@ use Rattle.journal.specs.Area.{write_at}
 use Rattle.journal.proofs.Sound.{differ}
 use Rattle.consumer.specs.State.{Configuration, State}
 use Rattle.checkpoint.specs.Checkpoint as checkpoint
-use Rattle.checkpoint.specs.Checkpoint.{Writing, is_last, sync_due, next_place, next_block, flushed, going}
+use Rattle.checkpoint.specs.Checkpoint.{Writing, is_last, next_place, next_block, flushed, going}
 use Rattle.starts.specs.Restart.{start_table, origin}
 use Rattle.starts.specs.Restart as restarts
 use Rattle.machine.specs.Calls.{Call, Ask, claim, ack, term, nack, progress, commit, look, ask, begin, step, restart, u64, fits, Event, stepped, restarted, failed}
@@ -222,7 +222,7 @@ module _ (c : Configuration) (n : ℕ) (accepted : Passed (start_table c n)) whe
     longer = write_at w.journal (next_place r) (next_block r)
 
     steps-there : (last : Bool) → is_last r ≡ last → next c w (call step)
-        ≡ gives (stepped (done (record { block = next_place r; last = last; sync = sync_due r }))) (left_as (cond last (checkpoint.finished (flushed s)) (going (checkpoint.writing s (suc r.written))))) longer
+        ≡ gives (stepped (done (record { block = next_place r; last = last }))) (left_as (cond last (checkpoint.finished (flushed s)) (going (checkpoint.writing s (suc r.written))))) longer
     unfolding next transition checkpoint.step
     steps-there last t = rw (b.phase, ← t, same_length c n b.led w.journal r (inv_at (writing r) a w b))
 
@@ -242,7 +242,7 @@ module _ (c : Configuration) (n : ℕ) (accepted : Passed (start_table c n)) whe
 
     -- the header, once it is durable on the disk
     header_follows : (e : Event) (a' : List ℕ) (M : World → Type 0) → is_last r ≡ true → Journal c n a' (stored s)
-        → ((es : List Event) → effects_of (e ∷ es) ≡ told (effect_of (stepped (done (record { block = next_place r; last = true; sync = sync_due r })))) (effects_of es))
+        → ((es : List Event) → effects_of (e ∷ es) ≡ told (effect_of (stepped (done (record { block = next_place r; last = true })))) (effects_of es))
         → ((v : World) → Beside c n (idle (flushed s)) a' v → M v) → Follows c w (e ∷ []) 0 M
     unfolding uncut
     header_follows e a' M t j same m =
@@ -289,7 +289,7 @@ module _ (c : Configuration) (n : ℕ) (accepted : Passed (start_table c n)) whe
       let f = m.waits in
       let r = f.record_of in
       rw (f.header, f.state)
-      (header_follows r a w m.beside (stepped (done (record { block = next_place r; last = true; sync = sync_due r }))) (write_at a (next_place r) (next_block r)) _ f.last
+      (header_follows r a w m.beside (stepped (done (record { block = next_place r; last = true }))) (write_at a (next_place r) (next_block r)) _ f.last
       (header-journal c n f.inv.saved a r f.inv.journal (is-ready f.inv.callable.0) f.inv.callable.1 f.last)
       (λ es. refl) (λ v k. k))
 
@@ -318,7 +318,7 @@ module _ (c : Configuration) (n : ℕ) (accepted : Passed (start_table c n)) whe
   nothing_left a w m = stays c w _ (failed false ∷ []) (λ es. refl) m
 
   header-fates : (s : State) (a : List ℕ) (ws : List Write) (w : World) (m : Behind c n s a ws w) (ks : List Cut)
-      → FollowsFailure a (survivors (write (next_place m.waits.record_of) true (sync_due m.waits.record_of) (next_block m.waits.record_of) ∷ []) ks) w
+      → FollowsFailure a (survivors (write (next_place m.waits.record_of) true (next_block m.waits.record_of) ∷ []) ks) w
   unfolding survivors written has_header effects_of
   header-fates s a ws w m [] = nothing_left a w (anyone c n (writing m.waits.record_of) a w m.beside)
   header-fates s a ws w m (old ∷ ks) = nothing_left a w (anyone c n (writing m.waits.record_of) a w m.beside)

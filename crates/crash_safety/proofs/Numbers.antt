@@ -18,7 +18,7 @@ use Rattle.consumer.specs.State.{Configuration, State}
 use Rattle.consumer.specs.Rights.{permits}
 use Rattle.consumer.specs.Calls as consumer
 use Rattle.checkpoint.specs.Checkpoint as checkpoint
-use Rattle.checkpoint.specs.Checkpoint.{Writing, is_last, sync_due, next_place, next_block}
+use Rattle.checkpoint.specs.Checkpoint.{Writing, is_last, next_place, next_block}
 use Rattle.starts.specs.Restart.{start_table, fresh, start, restart}
 use Rattle.starts.proofs.Open.{start-says}
 use Rattle.starts.proofs.Zeros.{start-restart}
@@ -154,7 +154,7 @@ module _ (c : Configuration) (n : ℕ) (accepted : Passed (start_table c n)) whe
       unfolding checkpoint.step
       step-numbers =
           rw same_length
-          (written (λ last. stepped (done (record { block = next_place w; last = last; sync = sync_due w })))
+          (written (λ last. stepped (done (record { block = next_place w; last = last })))
           (λ last. left_as (cond last (checkpoint.finished (checkpoint.flushed w.state)) (checkpoint.going (checkpoint.writing w.state (suc w.written)))))
           tt tt refl refl (is_last w) refl)
 

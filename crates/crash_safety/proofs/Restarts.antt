@@ -66,7 +66,7 @@ write-made event header body false = body
 step-made : (r : Answer BlockWritten Lent) → made (stepped_as r) ≡ 0
 step-made r =
     answered-made stepped (λ f. refl)
-    (λ w. write-made (λ last. stepped (done (record { block = w.block; last = last; sync = w.sync }))) refl refl w.last) r.outcome
+    (λ w. write-made (λ last. stepped (done (record { block = w.block; last = last }))) refl refl w.last) r.outcome
 
 cut-made : (w : Writing) (a : List ℕ) (k : Cut) → made (cut_at w a k) ≡ 0
 cut-made w a old = refl

@@ -15,7 +15,7 @@ use Rattle.types.proofs.Cases.{split}
 use Rattle.lease.specs.Counts.{all_attempt_counts}
 use Rattle.journal.specs.Area.{write_at}
 use Rattle.consumer.specs.State.{Configuration, State}
-use Rattle.checkpoint.specs.Checkpoint.{flushed, Writing, is_last, sync_due, next_place, next_block, going, step}
+use Rattle.checkpoint.specs.Checkpoint.{flushed, Writing, is_last, next_place, next_block, going, step}
 use Rattle.checkpoint.specs.Checkpoint as checkpoint
 use Rattle.checkpoint.proofs.Open.{begin-says}
 use Rattle.checkpoint.proofs.Valid.{flushed-valid}
@@ -163,7 +163,7 @@ module _ (c : Configuration) (n : ℕ) (l : Ledger) (a : List ℕ) where
 
     -- by whether the block is the header
     made_kept : (last : Bool) → is_last w ≡ last
-        → Kept (gives (stepped (done (record { block = next_place w; last = last; sync = sync_due w })))
+        → Kept (gives (stepped (done (record { block = next_place w; last = last })))
         (left_as (cond last (checkpoint.finished (flushed s)) (going (checkpoint.writing s (suc w.written))))) longer)
     made_kept true t = record { says = (tt, tt, tt); keeps = finished t }
     made_kept false t = record { says = (tt, tt, tt); keeps = more-made t }

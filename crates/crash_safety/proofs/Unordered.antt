@@ -17,7 +17,7 @@ use Rattle.journal.specs.Area.{block_at, write_at}
 use Rattle.consumer.specs.State.{Configuration, State}
 use Rattle.consumer.specs.Valid.{Fits}
 use Rattle.checkpoint.specs.Checkpoint as checkpoint
-use Rattle.checkpoint.specs.Checkpoint.{Writing, flushed, is_last, sync_due, next_place, next_block, BlockWritten, Lent, going}
+use Rattle.checkpoint.specs.Checkpoint.{Writing, flushed, is_last, next_place, next_block, BlockWritten, Lent, going}
 use Rattle.starts.specs.Restart.{start_table, start, origin}
 use Rattle.starts.specs.Restart as restarts
 use Rattle.machine.specs.Calls.{Ask, claim, ack, term, nack, progress, commit, look, ask, begin, step, restart, u64, fits, Event, failed}
@@ -56,7 +56,7 @@ pub record Under (c : Configuration) (n : ℕ) (l : Ledger) (w : Writing) (a : L
 pub record Finishing (c : Configuration) (n : ℕ) (l : Ledger) (s : State) (a : List ℕ) (ws : List Write) : Type 0 where
   pub record_of : Writing
   pub state : s ≡ flushed record_of.state
-  pub header : ws ≡ write (next_place record_of) true (sync_due record_of) (next_block record_of) ∷ []
+  pub header : ws ≡ write (next_place record_of) true (next_block record_of) ∷ []
   pub last : is_last record_of ≡ true
   pub inv : Inv c n l (world (writing record_of) a)
 
@@ -130,7 +130,7 @@ module _ (c : Configuration) (n : ℕ) where
 
     -- the block that joins
     abbrev pub joining : List Write → Bool → Write
-    joining ws last = write (next_place w) last (sync_due w) (block_at (write_at (written a ws) (next_place w) (next_block w)) (next_place w))
+    joining ws last = write (next_place w) last (block_at (write_at (written a ws) (next_place w) (next_block w)) (next_place w))
 
     module _ (ws : List Write) (u : Under c n l w a ws) where
       abbrev there : List ℕ
@@ -175,7 +175,7 @@ module _ (c : Configuration) (n : ℕ) where
         record {
           record_of = w;
           state = refl;
-          header = ap (λ b. write (next_place w) true (sync_due w) b ∷ []) (reads-back [] u);
+          header = ap (λ b. write (next_place w) true b ∷ []) (reads-back [] u);
           last = t;
           inv = under-inv [] u;
         }
@@ -260,7 +260,7 @@ module _ (c : Configuration) (n : ℕ) where
 
   -- the header is left old, new or torn
   header-failed : (l : Ledger) (w : Writing) (a : List ℕ) (ks : List Cut) → is_last w ≡ true → Inv c n l (world (writing w) a)
-      → Failed l a (survivors (write (next_place w) true (sync_due w) (next_block w) ∷ []) ks)
+      → Failed l a (survivors (write (next_place w) true (next_block w) ∷ []) ks)
   unfolding survivors written has_header Along folded
   header-failed l w a [] t inv = none_left l (writing w) a inv
   header-failed l w a (old ∷ ks) t inv = none_left l (writing w) a inv

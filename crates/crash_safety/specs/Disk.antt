@@ -14,8 +14,8 @@ pub record Write : Type 0 where
   pub place : BlockWritten
   pub bytes : List ℕ
 
-abbrev pub write : ℕ → (last sync : Bool) → List ℕ → Write
-write i last sync b = record { place = record { block = i; last = last; sync = sync }; bytes = b }
+abbrev pub write : ℕ → Bool → List ℕ → Write
+write i last b = record { place = record { block = i; last = last }; bytes = b }
 
 pub record Disk : Type 0 where
   pub held : List ℕ
@@ -54,7 +54,7 @@ survivors [] ks = []
 survivors (w ∷ ws) [] = []
 survivors (w ∷ ws) (old ∷ ks) = survivors ws ks
 survivors (w ∷ ws) (new ∷ ks) = w ∷ survivors ws ks
-survivors (w ∷ ws) (torn b ∷ ks) = cond (is_torn b) (write w.place.block false false b ∷ survivors ws ks) (survivors ws ks)
+survivors (w ∷ ws) (torn b ∷ ks) = cond (is_torn b) (write w.place.block false b ∷ survivors ws ks) (survivors ws ks)
 
 abbrev pub failed_by : Disk → List Cut → Disk
 failed_by d ks = disk (written d.held (survivors d.pending ks)) []

@@ -1,4 +1,4 @@
--- The premise of `version-free-restart` is met: the two journals differ in the versions of their groups alone. Assumes nothing.
+-- The premise of `versions-free-restart` is met: the two journals differ in the versions of their groups alone. Assumes nothing.
 use Rattle.std.specs.Prelude.{ℕ, zero, suc, ◌+◌, ◌-◌, ◌*◌, ◌≤◌, ◌<◌, ◌≡◌, refl, List, [], ◌∷◌, ◌++◌, length, take, drop, replicate}
 use Rattle.std.proofs.Common.{arith, sym, ap, ◌∙◌}
 use Rattle.std.proofs.Math.Bool.{xor}
@@ -68,6 +68,6 @@ each (suc (suc (suc zero))) = body second-both 0 (omega arith) refl
 each (suc (suc (suc (suc j)))) =
     same (zeros-behind (groups 2 1) (suc (suc (suc (suc j)))) refl (omega arith) ∙ sym (zeros-behind (groups 1 2) (suc (suc (suc (suc j)))) refl (omega arith)))
 
-pub version-free-met : OtherVersions (journal 1 2) (journal 2 1)
+pub versions-free-met : OtherVersions (journal 1 2) (journal 2 1)
 unfolding encode_cursor encode_attempts header_block body_block bits unbits polynomial crc xor
-version-free-met = record { size = refl; blocks = each }
+versions-free-met = record { size = refl; blocks = each }

@@ -1,6 +1,6 @@
 -- Settled examples 13 and 14, and restarts on a foreign journal. Computed on the definitions that the contracts cite.
 -- SPEC.md, "Examples".
-use Rattle.std.specs.Prelude.{ℕ, zero, suc, ◌≡◌, refl, true, false, List, [], ◌∷◌, ◌++◌, length, replicate}
+use Rattle.std.specs.Prelude.{ℕ, zero, suc, ◌+◌, ◌≡◌, refl, true, false, List, [], ◌∷◌, ◌++◌, length, replicate}
 use Rattle.std.proofs.Math.Bool.{xor}
 use Rattle.std.proofs.Math.Option.{none}
 use Rattle.types.specs.Limits.{MAX}
@@ -16,7 +16,7 @@ use Rattle.delivery.specs.Policy.{policy, Destination, Deliver, DeadLetter}
 use Rattle.hours.specs.Hours.{isOpen}
 use Rattle.lease.specs.Counts.{all_attempt_counts}
 use Rattle.journal.specs.Area.{block_at, write_at}
-use Rattle.journal.specs.Blocks.{header_block, body_block}
+use Rattle.journal.specs.Blocks.{header_block, body_block, chunk_of}
 use Rattle.journal.specs.Sound.{is_kind, well_formed, sound_header, sound_body}
 use Rattle.journal.specs.Walks.{group_at, walk_over, walk_from, header_behind, payload}
 use Rattle.consumer.specs.State.{Configuration, State, next_group_at, bad_area}
@@ -24,6 +24,7 @@ use Rattle.consumer.specs.Rights.{claiming, bit_of, worker_rows}
 use Rattle.consumer.specs.Calls.{HandOut, claim}
 use Rattle.checkpoint.specs.Checkpoint.{header_place, zeroed_for, writes, begin, Left, going, finished, Lent, lent, step}
 use Rattle.starts.specs.Restart.{resumed, fresh, start, origin, from_walk, restart}
+use Rattle.starts.specs.Versions.{Source, attempts_in, payload_in}
 
 -- M 2, N 1, visibility 10, cap 25; worker 0 may do everything
 abbrev pub configuration : Configuration
@@ -110,6 +111,24 @@ pub foreign-counts_2 : restart configuration (foreign (encode_cursor (cursor 5 [
 unfolding bad_area restart origin from_walk encode_cursor decode_cursor encode_attempts decode_attempts block_at header_block body_block is_kind well_formed sound_header sound_body group_at walk_over walk_from header_behind payload is_sealed bits unbits polynomial crc xor
 foreign-counts_2 = refl
 
--- this journal in either version
+-- ## The two journals differ in the version alone: the premise of `version-free-restart` is met (proofs/Consumer.antt)
+abbrev pub source : Source
+source =
+    record {
+      number = 1;
+      place = 0;
+      ceiling = 7;
+      cursor = encode_cursor (cursor 5 []);
+      counts = entry 3 2 ∷ entry 6 0 ∷ entry 9 1 ∷ entry MAX 4 ∷ [];
+    }
+
+abbrev pub group_in : ℕ → List ℕ
+group_in version = two_blocks source.cursor (attempts_in version source)
+
 abbrev pub in_version : ℕ → List ℕ
-in_version version = foreign (encode_cursor (cursor 5 [])) (encode_attempts version (entry 3 2 ∷ entry 6 0 ∷ entry 9 1 ∷ entry MAX 4 ∷ []))
+in_version version = foreign source.cursor (attempts_in version source)
+
+-- their one body
+abbrev pub Body : ℕ → ℕ → Type 0
+Body version j =
+    block_at (in_version version) (source.place + suc j) ≡ body_block source.number (suc j) (chunk_of (suc j) (payload_in version source))

@@ -33,7 +33,7 @@ items = call (begin 0) ∷ call step ∷ call step ∷ call (ask 0 (claim 9 0)) 
 
 abbrev pub events : List Event
 events =
-    begun (done 2) ∷ stepped (done (record { block = 3; last = false; sync = true })) ∷ stepped (done (record { block = 2; last = true; sync = true }))
+    begun (done 2) ∷ stepped (done (record { block = 3; last = false })) ∷ stepped (done (record { block = 2; last = true }))
     ∷ claimed 9 0 (done (record { offset = 9; generation = 7; deliveries = 2; destination = Deliver })) ∷ []
 
 pub seen : run configuration (world (idle found) (in_version 2)) items ≡ events

@@ -59,8 +59,8 @@ items =
 -- M 2, N 1: it is delivered for the second time, which is the last
 abbrev events : List Event
 events =
-    claimed 9 0 (refused CheckpointDue) ∷ begun (done 2) ∷ stepped (done (record { block = 1; last = false; sync = true }))
-    ∷ stepped (done (record { block = 0; last = true; sync = true })) ∷ acked 9 0 (refused Fenced)
+    claimed 9 0 (refused CheckpointDue) ∷ begun (done 2) ∷ stepped (done (record { block = 1; last = false }))
+    ∷ stepped (done (record { block = 0; last = true })) ∷ acked 9 0 (refused Fenced)
     ∷ claimed 9 0 (done (record { offset = 9; generation = 100; deliveries = 2; destination = Deliver })) ∷ acked 9 0 (refused Fenced)
     ∷ acked 9 99 (refused Fenced) ∷ acked 9 100 (done tt) ∷ []
 

@@ -46,9 +46,9 @@ items =
     ∷ checkpointed (claims 1 20 ∷ claims 1 30 ∷ [])))
 
 -- ## what is seen
--- each checkpoint has two blocks, so that a sync is due after both
+-- each checkpoint has two blocks, and a sync comes after both
 abbrev wrote : ℕ → Bool → Event
-wrote i last = stepped (done (record { block = i; last = last; sync = true }))
+wrote i last = stepped (done (record { block = i; last = last }))
 
 abbrev hands : ℕ → ℕ → ℕ → ℕ → Event
 hands o now g n = claimed o now (done (record { offset = o; generation = g; deliveries = n; destination = Deliver }))

@@ -56,7 +56,7 @@ hands now g n = claimed 9 now (done (record { offset = 9; generation = g; delive
 
 pub seen : run_each (on_disk (idle (found configuration)) (disk (in_version 2) [])) (handed items)
     ≡ restarted (done (found other)) ∷ claimed 9 0 (refused NotPermitted)
-    ∷ begun (done 2) ∷ stepped (done (record { block = 3; last = false; sync = true })) ∷ stepped (done (record { block = 2; last = true; sync = true }))
+    ∷ begun (done 2) ∷ stepped (done (record { block = 3; last = false })) ∷ stepped (done (record { block = 2; last = true }))
     ∷ hands 0 7 2 ∷ hands 10 8 3 ∷ []
 unfolding run_each next_on written has_header answers transition consumer.claim checkpoint.begin checkpoint.header_place checkpoint.zeroed_for checkpoint.step bad_area restarts.restart origin from_walk all_attempt_counts encode_cursor decode_cursor encode_attempts decode_attempts block_at write_at header_block body_block is_kind well_formed sound_header sound_body group_at walk_over walk_from header_behind payload is_sealed bits unbits polynomial crc xor
 seen = refl

@@ -1,5 +1,5 @@
 -- Two journals that differ in the versions of their groups, computed. Each has two groups, the first in one version and
--- the second in the other: the premise of `version-free-restart` is met, and what a restart finds on the first.
+-- the second in the other: the premise of `versions-free-restart` is met, and what a restart finds on the first.
 -- SPEC.md, "Attempt snapshot".
 use Rattle.std.specs.Prelude.{ℕ, ◌≡◌, refl, List, [], ◌∷◌, ◌++◌, length, replicate}
 use Rattle.std.proofs.Math.Bool.{xor}

@@ -37,7 +37,7 @@ use Rattle.starts.proofs.Restarting.{Other, other_faulty}
 use Rattle.machine.specs.Calls.{Ask, Call, ask, begin, step, restart, u64, fits}
 use Rattle.machine.specs.Transitions.{writing, After, on_state, on_record, left_as, transition}
 use Rattle.machine.specs.Answers.{call_of, AskKept, begun_of}
-use Rattle.machine.specs.View.{AskedIs, MadeIs, MadeOff, phase_at, phase_of, SoundAt, Sound, held, CalledIs, Stands, Rests, phaseAfter}
+use Rattle.machine.specs.View.{AskedIs, MadeIs, StartMade, MadeOff, phase_at, phase_of, SoundAt, Sound, held, CalledIs, Stands, Rests, phaseAfter}
 use Rattle.machine.specs.declared.calls.Asked.{Asked}
 use Rattle.machine.specs.declared.calls.AskAnswer.{AskAnswer}
 use Rattle.machine.specs.declared.calls.AskAnswer.TheVariants as answers
@@ -45,6 +45,8 @@ use Rattle.machine.specs.declared.calls.CallAnswer.TheVariants as calls
 use Rattle.machine.specs.declared.calls.Call as code
 use Rattle.machine.specs.declared.Machine.{Machine}
 use Rattle.machine.specs.declared.Called.{Called}
+use Rattle.machine.specs.declared.Started as machine
+use Rattle.machine.specs.View as views
 
 -- ## what is kept
 module _ {S T : Type 0} (f : S → T) (x y : S) where
@@ -170,12 +172,12 @@ module _ (m : Machine) (e : m.phase ≡ 0) (a out : List ℕ) where
 
 -- ## on the record
 step-phase : (d : StepAnswer) (w : Writing) → phase_at (phaseAfter d) w ≡ left_as (left_of d w)
-step-phase (steps.Wrote block sync) w = refl
+step-phase (steps.Wrote block) w = refl
 step-phase (steps.Finished block) w = refl
 step-phase steps.BadArea w = refl
 
 step-sound : (d : StepAnswer) (w : Writing) → SoundLeft d w → SoundAt (phaseAfter d) w
-step-sound (steps.Wrote block sync) w s = s
+step-sound (steps.Wrote block) w s = s
 step-sound (steps.Finished block) w s = s
 step-sound steps.BadArea w s = s
 
@@ -193,7 +195,7 @@ module _ (m : Machine) (e : m.phase ≡ 1) (a a' : List ℕ) (r : Stepped) (h : 
   stepped-on n = record { configuration = m.configuration; phase = n; writing = r.writing }
 
   step_kept : (d : StepAnswer) → r.answer ≡ d → Kept (step_of d) (held m a) (held (stepped-on (phaseAfter d)) a')
-  step_kept (steps.Wrote block sync) p = tt
+  step_kept (steps.Wrote block) p = tt
   step_kept (steps.Finished block) p = tt
   step_kept steps.BadArea p =
       let k : r.writing ≡ m.writing = rw p at h.kept in
@@ -288,6 +290,10 @@ fresh-of_none s c (done t) e b =
     let area : List Row = bad_area 0 ⇒ refusal.BadArea ∷ [] in
     let last : Passed area = (passed-append (restarts.settings_table given.settings) area passed).1 in
     absurd (true≢false last.0)
+
+-- a start that was made is one
+pub start-is : (s : Configuration) (size : ℕ) (r : machine.Started) → StartMade s size r → views.StartedIs s size r
+start-is s size r h = record { is = h.is; phase = h.phase; configuration = h.configuration; sound = h.sound }
 
 pub rests-off : (s : Configuration) (r : Started) (m : Machine) → StartedIs s 0 (restarts.start (configuration_of s) 0) r → Rests s 2 r.consumer m → MadeOff s m
 rests-off s r m h i =

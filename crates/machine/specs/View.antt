@@ -100,8 +100,16 @@ pub record MadeIs (right : Result State) (s : Configuration) (size : ℕ) (r : S
   pub rests : Rests s (started_in right) r.machine.writing.consumer r.machine
   pub beside : Beside right s size r.machine.writing.consumer
 
-abbrev pub StartedIs : Configuration → (size : ℕ) → Started → Type 0
-StartedIs s size r = MadeIs (restarts.start (configuration_of s) size) s size r
+-- a start, and no more of it than an answer and who can be called
+pub record StartedIs (s : Configuration) (size : ℕ) (r : Started) : Type 0 where
+  pub is : start_of r.answer (view r.machine.writing.consumer) ≡ restarts.start (configuration_of s) size
+  pub phase : phase_of r.machine ≡ started_as (restarts.start (configuration_of s) size)
+  pub configuration : r.machine.configuration ≡ s
+  pub sound : Sound r.machine
+
+-- with the whole machine
+abbrev pub StartMade : Configuration → (size : ℕ) → Started → Type 0
+StartMade s size r = MadeIs (restarts.start (configuration_of s) size) s size r
 
 abbrev pub ImportedIs : Configuration → (size first : ℕ) (cursor attempts : List ℕ) → Started → Type 0
 ImportedIs s size first cursor attempts r = MadeIs (import (configuration_of s) size first cursor attempts) s size r
@@ -200,6 +208,6 @@ pub record ExportedIs (m : Machine) (w : ℕ) (out : Snapshots) (r : ExportCall)
 -- ## parts
 -- the number of the phase that a step leaves
 abbrev pub phaseAfter : StepAnswer → ℕ
-phaseAfter (steps.Wrote block sync) = 1
+phaseAfter (steps.Wrote block) = 1
 phaseAfter (steps.Finished block) = 0
 phaseAfter steps.BadArea = 1

@@ -8,7 +8,7 @@ ghost use Rattle.consumer.specs.State.{State};
 ghost use Rattle.starts.specs.Starting as starts;
 ghost use Rattle.machine.specs.Calls.{ask, begin, step, restart};
 ghost use Rattle.machine.specs.Answers.{ask_of, call_of};
-ghost use Rattle.machine.specs.View.{Sound, MadeIs, StartedIs, ImportedIs, MadeOff, CalledIs, Rests, phaseAfter};
+ghost use Rattle.machine.specs.View.{Sound, MadeIs, StartMade, ImportedIs, MadeOff, CalledIs, Rests, phaseAfter};
 
 use crate::calls::{Ask, Call, CallAnswer};
 use checkpoint::{BeginAnswer, StepAnswer, Writing};
@@ -48,7 +48,7 @@ pub fn phase_after(answer: StepAnswer) -> u64
     ensures { result ≡ phaseAfter answer }
 {
     match answer {
-        StepAnswer::Wrote { block: _, sync: _ } => 1,
+        StepAnswer::Wrote { block: _ } => 1,
         StepAnswer::Finished { block: _ } => 0,
         StepAnswer::BadArea => 1,
     }
@@ -93,7 +93,7 @@ impl Machine {
 
     // A fresh machine for a journal of so many zeroed bytes, or refusal 1 to 3, 33, 34 or 4 beside one that is off.
     pub fn start(configuration: Configuration, area_len: usize) -> Started
-        ensures { StartedIs configuration area_len result }
+        ensures { StartMade configuration area_len result }
     {
         let made = starts::start(configuration, area_len);
         Machine::holding(configuration, made)

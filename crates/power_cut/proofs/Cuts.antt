@@ -19,7 +19,7 @@ use Rattle.crc.specs.Seal.{is_sealed}
 use Rattle.journal.specs.Area.{write_at}
 use Rattle.journal.proofs.Area.{whole_says, inside-says, write-length}
 use Rattle.consumer.proofs.Area.{area-taken}
-use Rattle.checkpoint.specs.Checkpoint.{is_last, sync_due, next_place, next_block, left_by, BlockWritten, Lent, lent, step}
+use Rattle.checkpoint.specs.Checkpoint.{is_last, next_place, next_block, left_by, BlockWritten, Lent, lent, step}
 use Rattle.checkpoint.specs.Checkpoint as checkpoint
 use Rattle.checkpoint.specs.Writing.{view_writing, SoundWriting, step_of, SteppedIs}
 use Rattle.checkpoint.specs.declared.Writing.{Writing}
@@ -51,14 +51,14 @@ module _ (w : Writing) (a a' : List ℕ) (same : length a ≡ w.consumer.area_le
   v = view_writing w
 
   abbrev wrote : BlockWritten
-  wrote = record { block = next_place v; last = is_last v; sync = sync_due v }
+  wrote = record { block = next_place v; last = is_last v }
 
   step_is : step v a ≡ answer (done wrote) (lent (left_by v) (write_at a (next_place v) (next_block v)))
   unfolding step
   step_is = rw (eq-eqb (length a) w.consumer.area_len same)
 
   step-says : (d : StepAnswer) → step_of d ≡ done wrote → (place_of d ≡ next_place v) × (is_header d ≡ is_last v)
-  step-says (steps.Wrote block sync) e = (ap (λ (x : BlockWritten). x.block) (done_inj e), ap (λ (x : BlockWritten). x.last) (done_inj e))
+  step-says (steps.Wrote block) e = (ap (λ (x : BlockWritten). x.block) (done_inj e), ap (λ (x : BlockWritten). x.last) (done_inj e))
   step-says (steps.Finished block) e = (ap (λ (x : BlockWritten). x.block) (done_inj e), ap (λ (x : BlockWritten). x.last) (done_inj e))
   step-says steps.BadArea e = refused_not_done e
 

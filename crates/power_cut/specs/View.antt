@@ -51,11 +51,11 @@ pub record OffIs (before after : Machine) : Type 0 where
 
 -- the block that a step wrote, and whether it was the header's
 abbrev pub place_of : StepAnswer → ℕ
-place_of (steps.Wrote block sync) = block
+place_of (steps.Wrote block) = block
 place_of (steps.Finished block) = block
 place_of steps.BadArea = 0
 
 abbrev pub is_header : StepAnswer → Bool
-is_header (steps.Wrote block sync) = false
+is_header (steps.Wrote block) = false
 is_header (steps.Finished block) = true
 is_header steps.BadArea = false

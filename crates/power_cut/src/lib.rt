@@ -43,7 +43,7 @@ fn place_of(answer: StepAnswer) -> usize
     ensures { result ≡ place_of answer }
 {
     match answer {
-        StepAnswer::Wrote { block, sync: _ } => block,
+        StepAnswer::Wrote { block } => block,
         StepAnswer::Finished { block } => block,
         StepAnswer::BadArea => 0,
     }
@@ -54,7 +54,7 @@ fn is_header(answer: StepAnswer) -> bool
     ensures { result ≡ is_header answer }
 {
     match answer {
-        StepAnswer::Wrote { block: _, sync: _ } => false,
+        StepAnswer::Wrote { block: _ } => false,
         StepAnswer::Finished { block: _ } => true,
         StepAnswer::BadArea => false,
     }

@@ -287,6 +287,8 @@ demand_3_served s size m how is ns last end p =
     let holds = demand_3 c size f.state is fits f.is in
     let batch : Limited c → WithinBatch (limit_of c) (threshold_of c) (restarts_in is) (run c w is) = λ l. batch-bound c size f.state is l fits f.is in
     let same = told_same c is w in
+    let found : FindsCopy s empty_book (run c w is) end =
+    copy-found s size b.accepted empty_ledger w b.inv is (phase_of last) end (rw (f.configuration, f.phase) at done-so.leaves) in
     record {
       numbers = rw (← answers) (record {
         bound = λ l o. rw (same.hands (delivers o)) (holds.bound l o);
@@ -302,5 +304,10 @@ demand_3_served s size m how is ns last end p =
       batch = batch;
       sound = done-so.sound;
       configuration = done-so.configuration ∙ f.configuration;
-      found = copy-found s size b.accepted empty_ledger w b.inv is (phase_of last) end (rw (f.configuration, f.phase) at done-so.leaves);
+      found = found;
+      reopened = λ u k u' is-off made. (found u k u' is-off.sound is-off.configuration made).answered;
     }
+
+pub demand_3_opened : Demand3Opened
+unfolding Demand3Opened
+demand_3_opened s size m n m' is-off h accepted = demand_3_served s size m' (opens m n is-off h accepted)

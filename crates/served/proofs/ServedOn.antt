@@ -94,7 +94,7 @@ bit-read false = refl
 
 step-written : (d : Disk) (r : Result BlockWritten) (a : List ℕ) → written_by d (numbers_of (answered wrote_values r)) a ≡ with_block d r a
 step-written d (refused f) a = rw (ne_eqb (numbered f).number 0 (number_not_0 f))
-step-written d (done b) a = rw (bit-read b.last, bit-read b.sync)
+step-written d (done b) a = rw (bit-read b.last)
 
 step-stands : (c : state.Configuration) (m m' : Machine) (p : Phase) (d : Disk) (a' : List ℕ) (n : Numbers) → too_early p d ≡ false
     → n ≡ numbers_in (transition c p (area d) step) → world (phase_of m') a' ≡ left_by (world p (area d)) (transition c p (area d) step)

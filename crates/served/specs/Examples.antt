@@ -45,7 +45,7 @@ abbrev checkpointed : List Item
 checkpointed = call (begin 0) ∷ call step ∷ call step ∷ []
 
 abbrev wrote : ℕ → List Numbers
-wrote header = numbers 0 1 2 0 0 0 0 ∷ numbers 0 3 (header + 1) 0 1 0 0 ∷ numbers 0 3 header 1 1 0 0 ∷ []
+wrote header = numbers 0 1 2 0 0 0 0 ∷ numbers 0 2 (header + 1) 0 0 0 0 ∷ numbers 0 2 header 1 0 0 0 ∷ []
 
 -- worker 0's claim; the restart; worker 1's claim; the late ack, with the old token and with the new one; and that of worker 1
 abbrev since : List Item

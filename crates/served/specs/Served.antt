@@ -151,6 +151,9 @@ pub record HoldsServed (s : Configuration) (size : ℕ) (is : List Item) (ns : L
   pub sound : Sound last
   pub configuration : last.configuration ≡ s
   pub found : FindsCopy s empty_book (run (configuration_of s) (fresh_world fresh size) is) end
+  -- so no machine that is off is refused to go on from the journal
+  pub reopened : (m : Machine) (n : Numbers) (m' : Machine) → OffIs s m
+      → (Sound m → (out : List ℕ) → CallIs m 0 18 0 0 0 0 end out n m' end out) → n.0 ≡ 0
 
 -- the machine that a server begins with on a zeroed journal: by `ninotskev_start`, or by a restart of a machine that is off, which is a start
 -- too and doesn't count among the restarts; neither was refused
@@ -165,4 +168,12 @@ unfoldable pub Demand3Served : Type 0
 Demand3Served =
     (s : Configuration) (size : ℕ) (m : Machine) → Begins s size m
     → (is : List Item) (ns : List Numbers) (last : Machine) (end : List ℕ) → Served m (replicate size 0) is ns last end
+    → HoldsServed s size is ns last end
+
+-- and of every one whose first call on the zeroed journal is a restart, which is a start too and doesn't count among the restarts
+unfoldable pub Demand3Opened : Type 0
+Demand3Opened =
+    (s : Configuration) (size : ℕ) (m : Machine) (n : Numbers) (m' : Machine) → OffIs s m
+    → (Sound m → (out : List ℕ) → CallIs m 0 18 0 0 0 0 (replicate size 0) out n m' (replicate size 0) out) → n.0 ≡ 0
+    → (is : List Item) (ns : List Numbers) (last : Machine) (end : List ℕ) → Served m' (replicate size 0) is ns last end
     → HoldsServed s size is ns last end

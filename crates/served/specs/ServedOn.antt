@@ -27,10 +27,10 @@ use Rattle.crash_safety.specs.Unordered.{DiskItem, does, steps_on, syncs, fails,
 use Rattle.served.specs.Served.{FindsCopy, Begins}
 
 -- what a server does after a step, by its answer in numbers: where the first is 0, the block that the third names is written to the disk as it
--- is in the lent area; the fourth says whether it is the header, and the fifth whether a sync is due
+-- is in the lent area; the fourth says whether it is the header
 abbrev pub written_by : Disk → Numbers → List ℕ → Disk
 written_by d n a =
-    cond (eqb n.0 0) (disk d.held (d.pending ++ (write n.2 (eqb n.3 1) (eqb n.4 1) (block_at a n.2) ∷ []))) d
+    cond (eqb n.0 0) (disk d.held (d.pending ++ (write n.2 (eqb n.3 1) (block_at a n.2) ∷ []))) d
 
 -- from a machine and its disk to what a server leaves of both, over the items that it makes and the answers that it gets. Each call is lent
 -- what the process sees of the disk. What a contract requires stands in front of what it says

@@ -1,3 +1,4 @@
+pub mod Due
 pub mod Found
 pub mod InNumbers
 pub mod AsCalls

@@ -7,7 +7,7 @@ use Rattle.std.proofs.Math.Option.{Option, none, some}
 use Rattle.types.specs.Keyed.{Entry, entry, lookup}
 
 abbrev pub abi : ℕ
-abi = 3
+abi = 2
 
 -- ## bytes of each struct, field by field. A field of eight bytes begins at a multiple of eight, so that a bool or a number of four
 -- takes eight before one, or behind the last field

@@ -6,18 +6,19 @@ use Rattle.types.specs.Refusal.{Result, refused, done}
 use Rattle.types.specs.Refusal as refusal
 use Rattle.types.specs.Table.{Kept}
 use Rattle.consumer.specs.State.{State}
-use Rattle.consumer.specs.Questions.{Plan, bytes_after, export}
+use Rattle.consumer.specs.Questions.{bit, Plan, bytes_after, export}
 use Rattle.consumer.specs.Questions as questions
 use Rattle.consumer.specs.Export.{Snapshots, exported, snapshots_after}
 use Rattle.consumer.specs.View.{view, Unmoved}
 use Rattle.consumer.specs.View as consumer
 use Rattle.consumer.specs.declared.Consumer.{Consumer}
 use Rattle.consumer.specs.declared.Configuration.{Configuration}
+use Rattle.checkpoint.specs.Checkpoint.{sync_due}
 use Rattle.starts.specs.Restart as restarts
 use Rattle.starts.specs.Import.{import}
 use Rattle.starts.specs.Starting.{configuration_of}
 use Rattle.machine.specs.Calls.{Ask, Call, Event, claimed, acked, termed, nacked, progressed, committed, looked, begun, stepped, restarted, failed}
-use Rattle.machine.specs.Transitions.{Phase, idle, After, on_state, asked, transition}
+use Rattle.machine.specs.Transitions.{Phase, idle, writing, off, After, on_state, asked, transition}
 use Rattle.machine.specs.Answers.{out_after}
 use Rattle.machine.specs.View.{phase_of, Sound, OffIs, held, plan_after, plan_bytes_in, export_after, snapshots_in}
 use Rattle.machine.specs.declared.Machine.{Machine}
@@ -130,6 +131,12 @@ pub record CallIs (before : Machine) (w kind a b c d : ℕ) (area out : List ℕ
   pub sound : Sound after
   pub configuration : after.configuration ≡ before.configuration
   pub kept : KeptIn (call_after before w kind a b c d area out) (held before area) (held after area')
+
+-- ## whether a sync is due after the next step's write, 1 or 0: a record that is out says so
+abbrev pub due_next : Phase → ℕ
+due_next (idle s) = 0
+due_next (writing w) = bit (sync_due w)
+due_next off = 0
 
 -- ## a plan of worker w, which leaves who is asked as it was
 pub record AnswersPlan (before : Consumer) (w : ℕ) (os out : List ℕ) (n : Numbers) (after : Consumer) (out' : List ℕ) : Type 0 where

@@ -1,9 +1,9 @@
 // The calls on a machine, for Rust: the state behind `&mut`, calls and answers in numbers. Whoever calls keeps one machine and hands
 // the same one in each time, so that each call gets what the one before left.
-ghost use Rattle.std.specs.Prelude.{List, ℕ};
+ghost use Rattle.std.specs.Prelude.{List, ℕ, ◌≡◌};
 ghost use Rattle.consumer.specs.Export.{snapshots};
-ghost use Rattle.machine.specs.View.{Sound};
-ghost use Rattle.server.specs.Transitions.{AskIs, CallIs, PlanIs, ExportIs, SwitchedOff, StartIs, ImportIs};
+ghost use Rattle.machine.specs.View.{phase_of, Sound};
+ghost use Rattle.server.specs.Transitions.{AskIs, CallIs, due_next, PlanIs, ExportIs, SwitchedOff, StartIs, ImportIs};
 
 use crate::in_place::{
     ask_in_place, begin_in_place, export_in_place, plan_in_place, progress_in_place,
@@ -162,6 +162,20 @@ pub fn ninotskev_step(machine: &mut Machine, numbers: &mut Numbers, area: &mut [
     machine.writing.consumer.next.block = done.block;
     machine.writing.consumer.table.redeliveries_since_flush = done.redeliveries;
     *numbers = done.numbers;
+}
+
+// Whether a sync is due after the next step's write: 1 where a record is out and says so, else 0. It changes nothing.
+pub fn ninotskev_sync_due(machine: &Machine) -> u64
+    requires { Sound machine.now }
+    ensures { result ≡ due_next (phase_of machine.now) }
+{
+    if machine.phase != 1 {
+        return 0;
+    }
+    if machine.writing.sync_due() {
+        return 1;
+    }
+    0
 }
 
 // A call of a worker on the state of the machine in its place.

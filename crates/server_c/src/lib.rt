@@ -4,8 +4,8 @@
 
 ghost use Rattle.std.specs.Prelude.{List, ℕ, ◌≡◌};
 ghost use Rattle.consumer.specs.Export.{snapshots};
-ghost use Rattle.machine.specs.View.{Sound};
-ghost use Rattle.server.specs.Transitions.{AskIs, CallIs, PlanIs, ExportIs, SwitchedOff, StartIs, ImportIs};
+ghost use Rattle.machine.specs.View.{phase_of, Sound};
+ghost use Rattle.server.specs.Transitions.{AskIs, CallIs, due_next, PlanIs, ExportIs, SwitchedOff, StartIs, ImportIs};
 ghost use Rattle.server.specs.Abi.{abi, size_at};
 
 use answers::Numbers;
@@ -83,6 +83,15 @@ pub extern "C" fn ninotskev_step(machine: &mut Machine, numbers: &mut Numbers, a
     ensures { (out : List ℕ) → CallIs machine.old 0 17 0 0 0 0 area.old out numbers.new machine.new area.new out }
 {
     server::calls::ninotskev_step(machine, numbers, area);
+}
+
+// Whether a sync is due after the next step's write: 1 where a record is out and says so, else 0. It changes nothing.
+#[unsafe(no_mangle)]
+pub extern "C" fn ninotskev_sync_due(machine: &Machine) -> u64
+    requires { Sound machine.now }
+    ensures { result ≡ due_next (phase_of machine.now) }
+{
+    server::calls::ninotskev_sync_due(machine)
 }
 
 // A call of a worker on the state of the machine in its place.

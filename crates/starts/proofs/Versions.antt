@@ -3,7 +3,7 @@
 -- or is read alike in either version, whatever the counts are. Assumes nothing.
 use Prim.Native.Nat.{ℕ, zero, suc, ◌+◌, ◌*◌, ◌-◌, ◌^◌, ◌≤◌, ◌<◌}
 use native.Mathlib.Omega.{arith}
-use native.Mathlib.Decide.{ℕ_discrete}
+use native.Mathlib.Decide.{ℕ_discrete, dec_le}
 use mathlib.Core.Path.{◌≡◌, refl, sym, ap, ◌∙◌}
 use mathlib.Core.Bool.{Bool, true, false, ◌&&◌, true≢false, and-false}
 use mathlib.Core.List.{List}
@@ -16,7 +16,7 @@ use Rattle.types.specs.Refusal.{Result, refused, done}
 use Rattle.types.specs.Table.{checked}
 use Rattle.types.proofs.Cases.{split}
 use Rattle.cursor.specs.Snapshot.{decode_cursor}
-use Rattle.attempt.specs.Snapshot.{decode_attempts}
+use Rattle.attempt.specs.Snapshot.{known, decode_attempts}
 use Rattle.attempt.proofs.Snapshot.{attempts-length, version-same}
 use Rattle.journal.specs.Area.{block_at}
 use Rattle.journal.specs.Blocks.{bodies_for, used_in, chunk_of, header_block, body_block, group_of, body_count, payload_length, ceiling_of}
@@ -28,7 +28,7 @@ use Rattle.journal.proofs.Walks.{unsound_at, Group, says_nothing, says-bodies, s
 use Rattle.journal.proofs.Group.{Written, payload-written}
 use Rattle.consumer.specs.State.{Configuration, NextGroup, next_group_at, half_blocks}
 use Rattle.starts.specs.Restart.{start_table, from_snapshots, read_group, origin, limit, walk_of, unfit_at, last_group, from_walk, restart}
-use Rattle.starts.specs.Versions.{Source, Measured, attempts_in, payload_in, bodies_in, Stands, InBoth, SameButVersion, same, body, OtherVersions}
+use Rattle.starts.specs.Versions.{Source, Measured, attempts_in, payload_in, bodies_in, behind_in, Stands, OtherVersion, InBoth, SameButVersion, same, body, OtherVersions}
 
 -- ## One journal
 module _ (a : List ℕ) (v : ℕ) (g : Source) (m : Measured g) (s : Stands a v g) where
@@ -279,12 +279,37 @@ module _ (a a' : List ℕ) (o : OtherVersions a a') where
       go (some i) (at_once p q r) = absurd (none-ne-some i (sym p))
       go (some i) (behind h m p q r s t) = let at : h ≡ i = cc in last-read (limit a) m i end.block (rw at at t) c next
 
-  pub version-free-restart : (c : Configuration) → restart c a' ≡ restart c a
+  pub versions-free-restart : (c : Configuration) → restart c a' ≡ restart c a
   unfolding restart from_walk
-  version-free-restart c =
+  versions-free-restart c =
       ap (λ n. checked (start_table c n) (from_walk c a' (walk_of a'))) o.size
       ∙ ap (checked (start_table c (length a))) (ap (from_walk c a') same-walk ∙ go (walk_of a) refl)
     where
       go : (w : Result Stop) → walk_of a ≡ w → from_walk c a' w ≡ from_walk c a w
       go (refused r) e = refl
       go (done end) e = rw (same-unfit end.number end.block, same-behind end.block, same-last c end e (next_group_at end.number end.block))
+
+-- ## Two journals whose last group alone is in another version
+module _ (a a' : List ℕ) (v w : ℕ) (kv : known v ≡ true) (kw : known w ≡ true) (g : Source) (m : Measured g) (o : OtherVersion a a' v w g) where
+  last-in-both : InBoth a a'
+  last-in-both = record { group = g; measured = m; one = v; one_known = kv; stands = o.one; other = w; other-known = kw; stands_too = o.other }
+
+  -- its header is the same in either version
+  same-header : block_at a' g.place ≡ block_at a g.place
+  same-header = rw (o.one.header, o.other.header, attempts-length w g.counts, attempts-length v g.counts)
+
+  each-block : (i : ℕ) → SameButVersion a a' i
+  each-block i =
+      elim (ℕ_discrete i g.place) [
+        | yes q ↦ same (rw q same-header)
+        | no q ↦ elim (dec_le (suc i) g.place) [
+          | yes l ↦ same (o.before i (omega arith) (omega arith))
+          | no l ↦ elim (dec_le (behind_in v g) i) [
+            | yes h ↦ same (o.after i h)
+            | no h ↦ body last-in-both (i - suc g.place) (omega arith) (omega arith)
+          ]
+        ]
+      ]
+
+  pub version-free-restart : (c : Configuration) → restart c a' ≡ restart c a
+  version-free-restart = versions-free-restart a a' (record { size = o.size; blocks = each-block })

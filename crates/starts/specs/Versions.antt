@@ -1,12 +1,15 @@
--- Journals that differ in the versions in which the attempt counts of their groups are written, whichever groups these are: what a restart
--- finds doesn't depend on it.
+-- Journals that differ in the versions in which the attempt counts of their groups are written, of the last group alone or of whichever
+-- groups: what a restart finds doesn't depend on it.
 -- SPEC.md, "Attempt snapshot".
 use Rattle.std.specs.Prelude.{ℕ, suc, ◌+◌, ◌^◌, ◌≤◌, ◌<◌, ◌≡◌, true, List, ◌++◌, length}
+use Rattle.std.proofs.Math.Option.{some}
 use Rattle.types.specs.Limits.{PAIRS}
 use Rattle.types.specs.Keyed.{Entry}
 use Rattle.attempt.specs.Snapshot.{PairsFit, known, encode_attempts}
-use Rattle.journal.specs.Area.{block_at}
+use Rattle.journal.specs.Area.{block_at, Same}
 use Rattle.journal.specs.Blocks.{bodies_for, chunk_of, header_block, body_block}
+use Rattle.journal.specs.Walks.{stop}
+use Rattle.starts.specs.Restart.{walk_of}
 
 -- a group: its number, the block of its header, the ceiling, the cursor's snapshot, and the attempt counts, in any order
 pub record Source : Type 0 where
@@ -34,13 +37,27 @@ payload_in version g = g.cursor ++ attempts_in version g
 abbrev pub bodies_in : ℕ → Source → ℕ
 bodies_in version g = bodies_for (length (payload_in version g))
 
+-- and the block behind its bodies
+abbrev pub behind_in : ℕ → Source → ℕ
+behind_in version g = g.place + suc (bodies_for (length (payload_in version g)))
+
 -- the group stands in a journal as a checkpoint writes it, but in that version
 pub record Stands (a : List ℕ) (version : ℕ) (g : Source) : Type 0 where
   pub header : block_at a g.place ≡ header_block g.number g.ceiling (length g.cursor) (length (attempts_in version g))
   pub bodies : (j : ℕ) → j < bodies_in version g
       → block_at a (g.place + suc j) ≡ body_block g.number (suc j) (chunk_of (suc j) (payload_in version g))
 
--- it stands in two journals, in a version in each, 1 or 2
+-- it is the last group of a journal, in version v, and the other journal has it in version w and is the same in all else
+pub record OtherVersion (a a' : List ℕ) (v w : ℕ) (g : Source) : Type 0 where
+  pub size : length a' ≡ length a
+  pub last : walk_of a ≡ stop (some g.place) (suc g.number) (behind_in v g)
+  pub one : Stands a v g
+  pub other : Stands a' w g
+  pub before : Same a a' 0 g.place
+  pub after : (j : ℕ) → behind_in v g ≤ j → block_at a' j ≡ block_at a j
+
+-- ## any groups
+-- a group stands in two journals, in a version in each, 1 or 2
 pub record InBoth (a a' : List ℕ) : Type 0 where
   pub group : Source
   pub measured : Measured group

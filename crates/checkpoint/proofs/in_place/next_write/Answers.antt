@@ -5,10 +5,10 @@ use Rattle.checkpoint.proofs.Placing.{next-zeros, next-header, next-body}
 use Rattle.checkpoint.proofs.in_place.next_write.Goals as goal
 
 pub returns-then-written-place : goal.returns-then-written-place
-returns-then-written-place c = next-zeros _ _ _ _ _ refl (search rules)
+returns-then-written-place c = next-zeros _ _ _ _ (search rules)
 
 pub returns-then-place-bodies : goal.returns-then-place-bodies
-returns-then-place-bodies c = next-header _ _ _ _ _ refl (search rules) (search rules)
+returns-then-place-bodies c = next-header _ _ _ _ (search rules) (search rules)
 
 pub returns : goal.returns
-returns c = next-body _ _ _ _ _ refl (search rules) (search rules) _ refl
+returns c = next-body _ _ _ _ (search rules) (search rules) _ refl

@@ -10,11 +10,11 @@ use lib.ListN.{length, take}
 use Rattle.journal.specs.Answers.{block_of}
 use Rattle.journal.specs.Blocks.{bodies_for}
 use Rattle.consumer.specs.View.{view}
-use Rattle.checkpoint.specs.Checkpoint.{bodies, new_ceiling, is_last, sync_due, next_place, next_block}
+use Rattle.checkpoint.specs.Checkpoint.{bodies, new_ceiling, is_last, next_place, next_block}
 use Rattle.checkpoint.specs.Parts.{Parts, parts, with_parts, PlaceIs, NextIs, Steppable, header_by}
 use Rattle.checkpoint.specs.Writing.{view_writing, SoundWriting}
 use Rattle.checkpoint.specs.declared.Writing.{Writing}
-use Rattle.checkpoint.proofs.Steps.{Small, small, place-small, next_small, write-last, write-sync, write-place, write_content, write-inside, step-refused, step-last, step-going}
+use Rattle.checkpoint.proofs.Steps.{Small, small, place-small, next_small, write-last, write-place, write_content, write-inside, step-refused, step-last, step-going}
 use Rattle.checkpoint.proofs.in_place.step_in_place.Goals as goal
 
 -- ---- what is known at a place
@@ -87,5 +87,5 @@ returns c =
     let p = parts c.args.written c.args.cursor_len c.args.attempt_len c.args.area_len c.args.next_generation c.args.ceiling c.args.redeliveries c.args.number c.args.block c.args.payload.now in
     let x : NextIs c.place_of-place.result c.bodies_of-bodies.result c.args.written (header_by c.args.number c.new_ceiling-raised.result c.args.cursor_len c.args.attempt_len) c.next_write-next.result = rw c.header_of-header.ensures at c.next_write-next.ensures in
     λ w ok.
-    step-going p w ok c.args.area.now (search rules) c.next_write-next.result.at c.next_write-next.result.sync _ _
-    (sym (write-last p w ok c.args.area.now _ _ (count c.requires _ c.bodies_of-bodies.ensures w ok) c.new_ceiling-raised.ensures _ c.place_of-place.ensures _ x) ∙ c.if-next.false) (write-place p w ok c.args.area.now _ _ (count c.requires _ c.bodies_of-bodies.ensures w ok) c.new_ceiling-raised.ensures _ c.place_of-place.ensures _ x) (write-sync p w ok c.args.area.now _ _ (count c.requires _ c.bodies_of-bodies.ensures w ok) c.new_ceiling-raised.ensures _ c.place_of-place.ensures _ x) (write_content p w ok c.args.area.now _ _ (count c.requires _ c.bodies_of-bodies.ensures w ok) c.new_ceiling-raised.ensures _ c.place_of-place.ensures _ x) c.put_block.ensures
+    step-going p w ok c.args.area.now (search rules) c.next_write-next.result.at _ _
+    (sym (write-last p w ok c.args.area.now _ _ (count c.requires _ c.bodies_of-bodies.ensures w ok) c.new_ceiling-raised.ensures _ c.place_of-place.ensures _ x) ∙ c.if-next.false) (write-place p w ok c.args.area.now _ _ (count c.requires _ c.bodies_of-bodies.ensures w ok) c.new_ceiling-raised.ensures _ c.place_of-place.ensures _ x) (write_content p w ok c.args.area.now _ _ (count c.requires _ c.bodies_of-bodies.ensures w ok) c.new_ceiling-raised.ensures _ c.place_of-place.ensures _ x) c.put_block.ensures
