@@ -5,4 +5,3 @@ pub mod InPlace
 pub mod Planned
 pub mod Snapshots
 pub mod Machine
-pub mod Exported

@@ -14,6 +14,4 @@ pub returns-in-2 : goal.returns-in-2
 returns-in-2 c = ap size_at (sym c.in-2.is)
 
 pub returns-in_default : goal.returns-in_default
-returns-in_default c =
-    let r = c.in-0.rest in
-    ap or_zero (none_found c.args.part sizes (r.0.0.1, (r.0.1, (r.1, tt))))
+returns-in_default c = let h = c.in_default in ?

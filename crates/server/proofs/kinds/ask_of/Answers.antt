@@ -65,8 +65,4 @@ pub returns-in-42 : goal.returns-in-42
 returns-in-42 c room = ap (as_numbers c.args.a c.args.b c.args.c c.args.d room) (sym c.in-42.is)
 
 pub returns-in_default : goal.returns-in_default
-returns-in_default c room =
-    let x = c.args in
-    let r = c.in-0.rest in
-    none_found x.kind (asks x.a x.b x.c x.d room)
-    (r.0.0.0.0.0.0.0.0.0.0.0.0.0.0.0.0.0.1, (r.0.0.0.0.0.0.0.0.0.0.0.0.0.0.0.0.1, (r.0.0.0.0.0.0.0.0.0.0.0.0.0.0.0.1, (r.0.0.0.0.0.0.0.0.0.0.0.0.0.0.1, (r.0.0.0.0.0.0.0.0.0.0.0.0.0.1, (r.0.0.0.0.0.0.0.0.0.0.0.0.1, (r.0.0.0.0.0.0.0.0.0.0.0.1, (r.0.0.0.0.0.0.0.0.0.0.1, (r.0.0.0.0.0.0.0.0.0.1, (r.0.0.0.0.0.0.0.0.1, (r.0.0.0.0.0.0.0.1, (r.0.0.0.0.0.0.1, (r.0.0.0.0.0.1, (r.0.0.0.0.1, (r.0.0.0.1, (r.0.0.1, (r.0.1, (r.1, tt))))))))))))))))))
+returns-in_default c room = let h = c.in_default in ?

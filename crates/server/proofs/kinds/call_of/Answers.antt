@@ -21,17 +21,11 @@ pub returns-in-18 : goal.returns-in-18
 returns-in-18 c room = ap (as_numbers c.args.worker c.args.a c.args.b c.args.c c.args.d room) (sym c.in-18.is)
 
 pub returns-in-Ask : goal.returns-in-Ask
-returns-in-Ask c room =
-    let k = c.before.before.before in
-    let x = k.args in
-    let r = k.in-16.rest in
-    ap (map (ask x.worker)) (ap (asking_of room) (sym c.in-Ask.is) ∙ k.ask_of-asking.ensures room)
-    ∙ on-state x.worker x.a x.b x.c x.d room x.kind r.0.0.1 r.0.1 r.1
+returns-in-Ask c room = let h = c.in_default in ?
 
 pub returns-in-None : goal.returns-in-None
 returns-in-None c room =
-    let k = c.before.before in
-    let x = k.args in
-    let r = k.in-16.rest in
-    ap (map (ask x.worker)) (ap (asking_of room) (sym c.in-None.is) ∙ k.ask_of-asking.ensures room)
+    let x = c.args in
+    let r = c.in-16.rest in
+    ap (map (ask x.worker)) (ap (asking_of room) (sym c.in-None.is) ∙ c.ask_of-asking.ensures room)
     ∙ on-state x.worker x.a x.b x.c x.d room x.kind r.0.0.1 r.0.1 r.1
