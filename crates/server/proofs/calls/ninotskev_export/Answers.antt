@@ -2,42 +2,12 @@
 use borrow.Author.Rules.{rules}
 use Rattle.consumer.specs.Export.{snapshots}
 use Rattle.server.proofs.Snapshots.{exported-on}
-use Rattle.server.proofs.Machine.{SizedIn, askable-told}
+use Rattle.server.proofs.Machine.{askable-told}
 use Rattle.server.proofs.calls.ninotskev_export.Goals as goal
-use Rattle.server.proofs.calls.ninotskev_export.Goals.{Start}
-
--- what the type of a machine says of its arrays
-sized : (c : Start) → SizedIn c.args.machine.now
-sized c =
-    let ok = c.well_formed in
-    record {
-      consumer =
-          record {
-            starts = search (rules, ok);
-            ends = search (rules, ok);
-            table =
-                record {
-                  offsets = search (rules, ok);
-                  slots = search (rules, ok);
-                  leases =
-                      record {
-                        generations = search (rules, ok);
-                        starts = search (rules, ok);
-                        deadlines = search (rules, ok);
-                        counts = search (rules, ok);
-                        workers = search (rules, ok);
-                      };
-                  carried-offsets = search (rules, ok);
-                  carried-counts = search (rules, ok);
-                };
-            backoffs = search (rules, ok);
-          };
-      payload = search (rules, ok);
-    }
 
 pub export_in_place-done-requires : goal.export_in_place-done-requires
 export_in_place-done-requires c =
-    record { consumer = c.args.machine.now.writing.consumer; askable = askable-told c.args.machine.now c.requires (sized (goal.at.export_in_place-done-requires c).Start) }
+    record { consumer = c.args.machine.now.writing.consumer; askable = askable-told c.args.machine.now c.lengths.ensures.arrays c.requires }
 
 pub returns : goal.returns
 returns c =
@@ -45,4 +15,4 @@ returns c =
     let g = c.args in
     let r = c.export_in_place-done in
     exported-on m.configuration m.writing g.worker (snapshots g.cursor.now g.attempts.now) r.result _ (snapshots r.new.cursor r.new.attempts) m.phase
-    (r.ensures m.writing.consumer (askable-told m c.requires (sized (goal.at.returns c).Start)))
+    (r.ensures m.writing.consumer (askable-told m c.lengths.ensures.arrays c.requires))

@@ -1,16 +1,12 @@
 -- `ninotskev_plan` meets its contract: the call on its parts is one on the machine. Assumes nothing.
 use borrow.Author.Rules.{rules}
 use Rattle.server.proofs.Planned.{planned-on}
-use Rattle.server.proofs.Machine.{SizedIn, askable-told}
+use Rattle.server.proofs.Machine.{askable-told}
 use Rattle.server.proofs.calls.ninotskev_plan.Goals as goal
-use Rattle.server.proofs.calls.ninotskev_plan.Goals.{Start}
-
-sized : (c : Start) → SizedIn c.args.machine.now
-sized c = let ok = c.well_formed in ?
 
 pub plan_in_place-done-requires : goal.plan_in_place-done-requires
 plan_in_place-done-requires c =
-    record { consumer = c.args.machine.now.writing.consumer; askable = askable-told c.args.machine.now c.requires (sized (goal.at.plan_in_place-done-requires c).Start) }
+    record { consumer = c.args.machine.now.writing.consumer; askable = askable-told c.args.machine.now c.lengths.ensures.arrays c.requires }
 
 pub returns : goal.returns
 returns c =
