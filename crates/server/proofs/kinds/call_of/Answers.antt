@@ -1,5 +1,6 @@
 -- `call_of` meets its contract: a number that isn't the machine's own is that of a call on the state. Assumes nothing.
 use Prim.Native.Nat.{ℕ}
+use native.Mathlib.Omega.{arith}
 use mathlib.Core.Path.{sym, ap, ◌∙◌}
 use mathlib.Core.Option.{Option, map}
 use Rattle.machine.specs.Calls.{Call, ask}
@@ -22,16 +23,12 @@ returns-in-18 c room = ap (as_numbers c.args.worker c.args.a c.args.b c.args.c c
 
 pub returns-in-Ask : goal.returns-in-Ask
 returns-in-Ask c room =
-    let k = c.before.before.before in
-    let x = k.args in
-    let r = k.in-16.rest in
-    ap (map (ask x.worker)) (ap (asking_of room) (sym c.in-Ask.is) ∙ k.ask_of-asking.ensures room)
-    ∙ on-state x.worker x.a x.b x.c x.d room x.kind r.0.0.1 r.0.1 r.1
+    let x = c.args in
+    ap (map (ask x.worker)) (ap (asking_of room) (sym c.in-Ask.is) ∙ c.ask_of-asking.ensures room)
+    ∙ on-state x.worker x.a x.b x.c x.d room x.kind (λ e. omega arith) (λ e. omega arith) (λ e. omega arith)
 
 pub returns-in-None : goal.returns-in-None
 returns-in-None c room =
-    let k = c.before.before in
-    let x = k.args in
-    let r = k.in-16.rest in
-    ap (map (ask x.worker)) (ap (asking_of room) (sym c.in-None.is) ∙ k.ask_of-asking.ensures room)
-    ∙ on-state x.worker x.a x.b x.c x.d room x.kind r.0.0.1 r.0.1 r.1
+    let x = c.args in
+    ap (map (ask x.worker)) (ap (asking_of room) (sym c.in-None.is) ∙ c.ask_of-asking.ensures room)
+    ∙ on-state x.worker x.a x.b x.c x.d room x.kind (λ e. omega arith) (λ e. omega arith) (λ e. omega arith)

@@ -5,13 +5,10 @@ use Rattle.server.proofs.transitions.made.Goals as goal
 
 pub returns-in_default : goal.returns-in_default
 returns-in_default c =
-    let k = c.before in
-    let x = k.args in
-    λ right s size h. made-refused right x.before s size x.made k.of_start-numbers.result h k.of_start-numbers.ensures c.in-Started.keys2
+    let x = c.args in
+    λ right s size h. made-refused right x.before s size x.made c.of_start-numbers.result h c.of_start-numbers.ensures c.in_default.not-Started
 
 pub returns : goal.returns
 returns c =
-    let t = c.before.before in
-    let k = t.before in
-    let x = k.args in
-    λ right s size h. made-done right x.before s size x.made k.of_start-numbers.result h k.of_start-numbers.ensures c.in-Started.is
+    let x = c.args in
+    λ right s size h. made-done right x.before s size x.made c.of_start-numbers.result h c.of_start-numbers.ensures c.in-Started.is
