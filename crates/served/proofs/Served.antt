@@ -50,7 +50,7 @@ use Rattle.crash_safety.proofs.Demand3.{demand_3}
 use Rattle.crash_safety.proofs.Batch.{batch-bound}
 use Rattle.crash_safety.proofs.Totals.{batch-total}
 use Rattle.crash_safety.proofs.Ran.{fresh-fits}
-use Rattle.served.specs.Served.{Served, rests, asks, asks_nothing, plans, exports, begins, steps, strays, fails, reopens, answered_as, left_by, answers_to, IsServed, ServedIsRun, Found, FindsCopy, Begins, starts, opens, Demand3Served}
+use Rattle.served.specs.Served.{Served, rests, asks, asks_nothing, plans, exports, begins, steps, strays, fails, reopens, answered_as, left_by, answers_to, IsServed, ServedIsRun, Found, FindsCopy, Begins, starts, opens, Demand3Served, Demand3Opened}
 use Rattle.served.specs.Served as served
 use Rattle.served.proofs.Told.{told_same, restarts-answered}
 
@@ -309,5 +309,5 @@ demand_3_served s size m how is ns last end p =
     }
 
 pub demand_3_opened : Demand3Opened
-unfolding Demand3Opened
+unfolding Demand3Opened Demand3Served
 demand_3_opened s size m n m' is-off h accepted = demand_3_served s size m' (opens m n is-off h accepted)

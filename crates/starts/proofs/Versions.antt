@@ -291,7 +291,7 @@ module _ (a a' : List ℕ) (o : OtherVersions a a') where
 
 -- ## Two journals whose last group alone is in another version
 module _ (a a' : List ℕ) (v w : ℕ) (kv : known v ≡ true) (kw : known w ≡ true) (g : Source) (m : Measured g) (o : OtherVersion a a' v w g) where
-  last-in-both : InBoth a a'
+  abbrev last-in-both : InBoth a a'
   last-in-both = record { group = g; measured = m; one = v; one_known = kv; stands = o.one; other = w; other-known = kw; stands_too = o.other }
 
   -- its header is the same in either version
