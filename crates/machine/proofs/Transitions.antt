@@ -5,8 +5,6 @@ use mathlib.Core.Path.{◌≡◌, refl, sym, ap, subst, ◌∙◌}
 use mathlib.Core.Bool.{Bool, true, false, true≢false}
 use mathlib.Core.List.{List, [], ◌∷◌}
 use mathlib.Core.Option.{Option, none}
-use types.Run.{OneOf, miss}
-use denote.Enum.Declared.{tag_of}
 use Rattle.types.specs.Refusal.{Refusal, Result, refused, done}
 use Rattle.types.specs.Refusal as refusal
 use Rattle.types.specs.Table.{Row, ◌⇒◌, Passed, Answer, answer, Kept}
@@ -24,7 +22,6 @@ use Rattle.checkpoint.specs.declared.Writing.{Writing}
 use Rattle.checkpoint.specs.declared.Begun.{Begun}
 use Rattle.checkpoint.specs.declared.BeginAnswer.{BeginAnswer}
 use Rattle.checkpoint.specs.declared.BeginAnswer.TheVariants as begins
-use Rattle.checkpoint.specs.contracts.BeginAnswer as begin-answer
 use Rattle.checkpoint.specs.declared.Stepped.{Stepped}
 use Rattle.checkpoint.specs.declared.StepAnswer.{StepAnswer}
 use Rattle.checkpoint.specs.declared.StepAnswer.TheVariants as steps
@@ -126,15 +123,11 @@ pub record RefusedBegin (answer : BeginAnswer) (w : Writing) : Type 0 where
   pub is : begin_of answer w ≡ refused refusal
   pub seen : begun_of answer ≡ refused refusal
 
--- the places of those answers among the variants
-abbrev pub not_begun_places : List ℕ
-not_begun_places = 1 ∷ 2 ∷ 3 ∷ []
-
 abbrev pub NotBegun : BeginAnswer → Type 0
-NotBegun answer = OneOf not_begun_places (tag_of begin-answer.the_type answer)
+NotBegun answer = (n : ℕ) → answer ≡ begins.Begun n → ⊥
 
 pub begin_faulty : (answer : BeginAnswer) → NotBegun answer → (w : Writing) → RefusedBegin answer w
-begin_faulty (begins.Begun n) p w = absurd (miss not_begun_places 0 tt p)
+begin_faulty (begins.Begun n) p w = absurd (p n refl)
 begin_faulty begins.JournalFull p w = record { refusal = _; is = refl; seen = refl }
 begin_faulty begins.UnknownWorker p w = record { refusal = _; is = refl; seen = refl }
 begin_faulty begins.NotPermitted p w = record { refusal = _; is = refl; seen = refl }
