@@ -3,4 +3,4 @@ use borrow.Author.Rules.{rules}
 use Rattle.operations.proofs.on_config.flush.Goals as goal
 
 pub left-requires-2 : goal.left-requires-2
-left-requires-2 c = c.before.«with-attempts-flush-redeliveries».ensures.sound (search rules)
+left-requires-2 c = c.with_attempts_flush_redeliveries.ensures.sound (search rules)
