@@ -1,4 +1,4 @@
--- The digits that `digits` writes are those of the definitions: the fewest decimal digits that hold a number are its decimal digits,
+-- The digits that `numerals` writes are those of the definitions: the fewest decimal digits that hold a number are its decimal digits,
 -- and two hexadecimal digits hold a byte. Assumes nothing.
 use Prim.Native.Nat.{ℕ, zero, suc, ◌-◌, ◌/◌, ◌%◌, ◌*◌, ◌^◌, ◌≤◌, ◌<◌}
 use native.Mathlib.Nat.{pow-suc, mod-eq_of_lt, zero-lt-suc, div-lt_iff_lt-mul, le-div_iff_mul-le, pow-le-pow_right}
