@@ -8,8 +8,7 @@ use borrow.Author.Rules.{rules}
 use Rattle.text.proofs.lines.refill.Goals as goal
 
 pub returns : goal.returns
-returns c =
-    let s = c.before.before.before.before.before.before.before.before.before in
+returns g c =
     let front = c.to_front in
-    let inside : s.args.input.to - s.args.input.from ≤ length front.new.0 = omega arith in
-    refilled s.args.buf.now s.args.input s.requires _ c.read_Some.result (omega arith) (rw take_put front.ensures)
+    let inside : c.args.input.to - c.args.input.from ≤ length front.new.buf = omega arith in
+    refilled c.args.buf.now c.args.input c.requires _ c.read_some-more.result (omega arith) (rw take_put front.ensures)

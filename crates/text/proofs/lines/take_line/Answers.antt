@@ -7,21 +7,15 @@ use Rattle.text.proofs.lines.take_line.Goals as goal
 
 pub returns-then-n-to : goal.returns-then-n-to
 returns-then-n-to c =
-    let s = c.before.before.before.before.before.before in
-    let f = c.before.before.before in
-    rw (c.line_at_lem.ensures, c.behind.ensures)
-    (took_line s.args.buf.now s.args.input s.requires f.find-n.result (f.find-n.ensures.is ∙ zero-add _) c.if-n-to.true)
+    rw (c.line_at.ensures, c.behind.ensures)
+    (took_line c.args.buf.now c.args.input c.requires c.find-n.result (c.find-n.ensures.is ∙ zero-add _) c.if-n-to.true)
 
 pub returns-then-input : goal.returns-then-input
 returns-then-input c =
-    let s = c.before.before.before.before.before.before in
-    let f = c.before.before.before in
-    rw c.last_Line.ensures
-    (took_last s.args.buf.now s.args.input s.requires f.find-n.result (f.find-n.ensures.is ∙ zero-add _) c.if-n-to.false c.if-input.true)
+    rw c.last_line.ensures
+    (took_last c.args.buf.now c.args.input c.requires c.find-n.result (c.find-n.ensures.is ∙ zero-add _) c.if-n-to.false c.if-input.true)
 
 pub returns : goal.returns
 returns c =
-    let s = c.before.before.before.before.before.before.before in
-    let f = c.before.before.before.before in
     rw (c.for_more.ensures, c.byte_at.ensures)
-    (took_more s.args.buf.now s.args.input s.requires f.find-n.result (f.find-n.ensures.is ∙ zero-add _) c.if-n-to.false c.if-input.false)
+    (took_more c.args.buf.now c.args.input c.requires c.find-n.result (c.find-n.ensures.is ∙ zero-add _) c.if-n-to.false c.if-input.false)

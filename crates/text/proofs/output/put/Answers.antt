@@ -7,7 +7,7 @@ pub returns-in-Next : goal.returns-in-Next
 returns-in-Next c =
     let a = c.args in
     let w = c.write_bytes-written in
-    put-room a.at a.bytes.now a.out.now w.new.0 w.result w.ensures _ c.in-Next.is
+    put-room a.at a.bytes.now a.out.now w.new.buf w.result w.ensures _ c.in-Next.is
 
 pub returns-in-Next-again : goal.returns-in-Next-again
 returns-in-Next-again c =
@@ -15,7 +15,7 @@ returns-in-Next-again c =
     let w = c.write_bytes-written in
     let v = c.write_bytes-again in
     let short = c.in_default.is in
-    put-again a.at a.bytes.now a.out.now w.result v.result w.new.0 v.new.0 short w.ensures v.ensures _ c.in-Next-again.is
+    put-again a.at a.bytes.now a.out.now w.result v.result w.new.buf v.new.buf short w.ensures v.ensures _ c.in-Next-again.is
 
 pub returns : goal.returns
 returns c =
@@ -23,4 +23,4 @@ returns c =
     let w = c.write_bytes-written in
     let v = c.write_bytes-again in
     let short = c.in_default.is in
-    put-at-once a.at a.bytes.now a.out.now w.result v.result w.new.0 v.new.0 short w.ensures v.ensures c.in_default-again.is
+    put-at-once a.at a.bytes.now a.out.now w.result v.result w.new.buf v.new.buf short w.ensures v.ensures c.in_default-again.is

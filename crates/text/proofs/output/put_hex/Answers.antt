@@ -9,4 +9,4 @@ returns c =
     let a = c.args in
     let d = c.hex-k in
     let p = c.put in
-    rw (← hexadecimal-is d.result a.byte d.ensures.1.0 (omega arith), ← d.ensures.1.1) p.ensures
+    rw (← hexadecimal-is d.result a.byte d.ensures.len (omega arith), ← d.ensures.digits) p.ensures

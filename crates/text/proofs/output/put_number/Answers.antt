@@ -8,4 +8,4 @@ returns c =
     let a = c.args in
     let d = c.decimal-k in
     let p = c.put in
-    rw (← decimal-is d.result a.n d.ensures.1.0, ← d.ensures.1.1) p.ensures
+    rw (← decimal-is d.result a.n d.ensures.len, ← d.ensures.digits) p.ensures

@@ -13,7 +13,7 @@ use Rattle.text.proofs.templates.fill.Goals as goal
 pub returns : goal.returns
 returns c =
     let a = c.args in
-    let s = c.start_of_lem in
+    let s = c.start_of-from in
     let f = c.find-end in
     let e : template_at a.k a.templates.now ≡ take (f.result - s.result) (drop s.result a.templates.now) =
     ap (first_part BAR) (sym s.ensures.is) ∙ first-from BAR a.templates.now s.result f.result f.ensures.is in

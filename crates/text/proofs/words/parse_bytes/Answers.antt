@@ -52,9 +52,9 @@ pub loop-at-preserved : goal.loop-at-preserved
 loop-at-preserved c =
     let l = c.loop-at in
     let a = c.args in
-    let b = c.before.before.before.before.before in (
+    let b = c in (
       omega arith,
-      rw c.IsStore-byte.ensures
+      rw c.store_byte.ensures
           (decoding_more a.word.now a.out.now _ _ _ l.invariant.1 (omega arith) _ (sym b.hex_byte.ensures ∙ ap byte_of b.in-Is.is)),
       l.invariant.2,
     )

@@ -25,7 +25,7 @@ returns-in_default c =
 
 pub loop-i-preserved : goal.loop-i-preserved
 loop-i-preserved c =
-    let d = c.before.before.before in
+    let d = c in
     let l = d.loop-i in
     let w = d.args.word.now in
     let e = sym d.with_digit-more.ensures ∙ ap number_of c.in-Value.is in
