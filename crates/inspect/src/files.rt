@@ -5,6 +5,7 @@ ghost use Rattle.std.specs.Prelude.{◌≡◌, ◌+◌, ◌*◌, ◌≤◌, ◌<
 use crate::facts::Layout;
 use crate::{facts, forms, journals};
 use sectors::{Form, State};
+use std::io::Stdout;
 use text::output::flush;
 
 // Which journal of a file is asked for: its number, counted from 0, or no one in particular.
@@ -92,6 +93,7 @@ fn read_area(fd: i32, blocks: u32, journal: u32, area: &mut [u8], unread: &mut [
 
 // The journal of `len` bytes at the front of an area that was read.
 fn put_journal(
+    stdout: Stdout,
     out: &mut [u8],
     area: &[u8],
     len: usize,
@@ -101,7 +103,7 @@ fn put_journal(
     if area.len() < len {
         return 0;
     }
-    journals::journal(out, 0, &area[..len], layout, unread)
+    journals::journal(stdout, out, 0, &area[..len], layout, unread)
 }
 
 // Prints the one journal of a file with blocks side by side.
@@ -109,13 +111,13 @@ fn show_area(asked: Asked, area: &[u8], len: usize, unread: &[u8; 128]) {
     let mut out = io::large_buffer();
     if let Asked::One(number) = asked {
         if number != 0 {
-            let at = forms::no_such(&mut out, 0, number, 1);
-            flush(&out, at);
+            let at = forms::no_such(stdout, &mut out, 0, number, 1);
+            flush(stdout, &out, at);
             return;
         }
     }
-    let at = put_journal(&mut out, area, len, Layout::SideBySide, unread);
-    flush(&out, at);
+    let at = put_journal(stdout, &mut out, area, len, Layout::SideBySide, unread);
+    flush(stdout, &out, at);
 }
 
 // Prints a file with blocks side by side that can be read at once; else tells what stands behind what was read.
@@ -184,8 +186,8 @@ fn state_of(fd: i32, blocks: u32, journal: u32, area: &[u8], len: usize) -> Stat
 // Says of a journal that isn't in use what it is.
 fn show_state(state: State, number: u64) {
     let mut out = io::buffer();
-    let at = forms::marked(&mut out, 0, state, number);
-    flush(&out, at);
+    let at = forms::marked(stdout, &mut out, 0, state, number);
+    flush(stdout, &out, at);
 }
 
 // Prints a journal of a file in sectors.
@@ -204,12 +206,13 @@ fn show_one(fd: i32, bytes: u64, blocks: u32, journals: u32, number: u32)
         journals: journals as u64,
         number: number as u64,
     };
-    let at = put_journal(&mut out, &area, len, layout, &unread);
-    flush(&out, at);
+    let at = put_journal(stdout, &mut out, &area, len, layout, &unread);
+    flush(stdout, &out, at);
 }
 
 // A line of a list, of the journal of `len` bytes at the front of an area that was read.
 fn put_line(
+    stdout: Stdout,
     out: &mut [u8],
     at: usize,
     area: &[u8],
@@ -220,11 +223,11 @@ fn put_line(
     if area.len() < len {
         return at;
     }
-    journals::summary(out, at, &area[..len], number, unread)
+    journals::summary(stdout, out, at, &area[..len], number, unread)
 }
 
 // The same of a journal that is read for it.
-fn line(out: &mut [u8], at: usize, fd: i32, blocks: u32, number: u32) -> usize
+fn line(stdout: Stdout, out: &mut [u8], at: usize, fd: i32, blocks: u32, number: u32) -> usize
     requires { (blocks ≤ 128) × (number ≤ 65535) }
 {
     let mut area = io::large_buffer();
@@ -233,9 +236,9 @@ fn line(out: &mut [u8], at: usize, fd: i32, blocks: u32, number: u32) -> usize
     let len = 512 * (blocks as usize);
     let state = state_of(fd, blocks, number, &area, len);
     if let State::InUse = state {
-        return put_line(out, at, &area, len, number as u64, &unread);
+        return put_line(stdout, out, at, &area, len, number as u64, &unread);
     }
-    forms::marked(out, at, state, number as u64)
+    forms::marked(stdout, out, at, state, number as u64)
 }
 
 // Prints a line for each journal of a file in sectors, and what the file is.
@@ -247,11 +250,11 @@ fn show_list(fd: i32, bytes: u64, blocks: u32, journals: u32)
     let mut at: usize = 0;
     let mut number: u32 = 0;
     while number < journals {
-        at = line(out, at, fd, blocks, number);
+        at = line(stdout, out, at, fd, blocks, number);
         number += 1;
     }
-    at = facts::shape(out, at, bytes, journals as u64, blocks as u64);
-    flush(out, at);
+    at = facts::shape(stdout, out, at, bytes, journals as u64, blocks as u64);
+    flush(stdout, out, at);
 }
 
 // Prints what is asked for of a file in sectors.
@@ -261,8 +264,8 @@ fn show_asked(asked: Asked, fd: i32, bytes: u64, blocks: u32, journals: u32)
     if let Asked::One(number) = asked {
         if (journals as u64) <= number {
             let mut out = io::large_buffer();
-            let at = forms::no_such(&mut out, 0, number, journals as u64);
-            flush(&out, at);
+            let at = forms::no_such(stdout, &mut out, 0, number, journals as u64);
+            flush(stdout, &out, at);
             return;
         }
         show_one(fd, bytes, blocks, journals, number as u32);
@@ -281,8 +284,8 @@ fn in_sectors(asked: Asked, fd: i32, bytes: u64) {
     let mut sector = io::buffer();
     let got = libc::pread(fd, &mut sector, 0);
     if got != 4096 {
-        let at = forms::unreadable(&mut out, 0);
-        flush(&out, at);
+        let at = forms::unreadable(stdout, &mut out, 0);
+        flush(stdout, &out, at);
         return;
     }
     let form = sectors::form_of(&sector, bytes);
@@ -290,8 +293,8 @@ fn in_sectors(asked: Asked, fd: i32, bytes: u64) {
         show_asked(asked, fd, bytes, blocks, journals);
         return;
     }
-    let at = forms::wrong(&mut out, 0, form, bytes);
-    flush(&out, at);
+    let at = forms::wrong(stdout, &mut out, 0, form, bytes);
+    flush(stdout, &out, at);
 }
 
 // Prints a file of `len` bytes part by part.

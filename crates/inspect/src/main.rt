@@ -1,6 +1,7 @@
 // Prints what a file has, for people: the journals of consumers, a cursor snapshot or an attempt snapshot, as the first argument says.
 // The first line is the verdict. The file is opened for reading and never changed. What can't be read is said on standard error.
 #![tactic(auto)]
+
 use files::{Asked, Behind};
 use libc::STDERR_FILENO;
 use text::output;
@@ -81,8 +82,8 @@ fn asked_by(count: usize) -> Asked {
 
 fn snapshot_of(kind: Kind, bytes: &[u8], out: &mut [u8]) -> usize {
     match kind {
-        Kind::Cursor => snapshots::cursor(out, 0, bytes),
-        Kind::Attempts => snapshots::attempts(out, 0, bytes),
+        Kind::Cursor => snapshots::cursor(stdout, out, 0, bytes),
+        Kind::Attempts => snapshots::attempts(stdout, out, 0, bytes),
         _ => 0,
     }
 }
@@ -96,15 +97,16 @@ fn show_snapshot(kind: Kind, path: &[u8], fd: i32) {
         Behind::Failed => os::fail(path),
         Behind::More => {
             let at = output::put(
+                stdout,
                 &mut out,
                 0,
                 b"refused: it has more than 65536 bytes, and no snapshot has more than 2061\n",
             );
-            output::flush(&out, at);
+            output::flush(stdout, &out, at);
         }
         Behind::Nothing => {
             let at = snapshot_of(kind, &buf[..n], &mut out);
-            output::flush(&out, at);
+            output::flush(stdout, &out, at);
         }
     }
 }

@@ -2,6 +2,7 @@
 // names, or from standard input, and writes an answer line for each; `script` has the lines, `printing` the answers, docs/REPLAY.md
 // both.
 #![tactic(auto)]
+
 mod blocks;
 mod printing;
 mod script;
@@ -14,6 +15,7 @@ ghost use Rattle.replay.specs.Running.{Ready, Going};
 use libc::{STDERR_FILENO, STDIN_FILENO};
 use script::Line;
 use session::Session;
+use std::io::Stdout;
 use text::lines::{Found, Input};
 use text::{lines, output};
 
@@ -80,6 +82,7 @@ fn answer<'a>(
     told: bool,
     bytes: &'a [u8],
     area: &'a mut [u8],
+    stdout: Stdout,
     out: &'a mut [u8],
     at: usize,
 ) -> Done
@@ -97,7 +100,7 @@ fn answer<'a>(
     }
     Done {
         session: after,
-        at: printing::print(out, at, said, &list, area, after, form),
+        at: printing::print(stdout, out, at, said, &list, area, after, form),
         told: tells,
     }
 }
@@ -106,6 +109,7 @@ fn answer<'a>(
 fn next_line<'a>(
     fd: i32,
     buf: &'a mut [u8],
+    stdout: Stdout,
     out: &'a mut [u8],
     area: &'a mut [u8],
     bytes: &'a mut [u8],
@@ -122,7 +126,7 @@ fn next_line<'a>(
     let found = taken.found;
     if is_line(found) {
         let line = line_in(buf, found, bytes);
-        let done = answer(line, session, state.told, bytes, area, out, at);
+        let done = answer(line, session, state.told, bytes, area, stdout, out, at);
         let after = done.session;
         return State {
             input: input,
@@ -132,7 +136,7 @@ fn next_line<'a>(
             ended: false,
         };
     }
-    output::flush(out, at);
+    output::flush(stdout, out, at);
     State {
         input: more(fd, buf, input),
         at: 0,
@@ -147,6 +151,7 @@ fn run<'a>(
     fd: i32,
     told: bool,
     buf: &'a mut [u8],
+    stdout: Stdout,
     out: &'a mut [u8],
     area: &'a mut [u8],
     bytes: &'a mut [u8],

@@ -37,28 +37,28 @@ fn number_at(numbers: [u64; 4], i: usize) -> u64
 }
 
 // Puts a template, with the numbers in place of its marks.
-fn fill_one(to: Stdout, out: &mut [u8], at: usize, template: &[u8], numbers: [u64; 4]) -> usize
+fn fill_one(stdout: Stdout, out: &mut [u8], at: usize, template: &[u8], numbers: [u64; 4]) -> usize
     ensures { Says (filled template.now numbers) at out.old result out.new }
 {
     let len = template.len();
     let mut end = find(template, 0, 35);
-    let mut next = put(to, out, at, &template[..end]);
+    let mut next = put(stdout, out, at, &template[..end]);
     let mut i: usize = 0;
     while end < len {
         let start = end + 1;
         end = find(template, start, 35);
-        next = put_number(to, out, next, number_at(numbers, i));
-        next = put(to, out, next, &template[start..end]);
+        next = put_number(stdout, out, next, number_at(numbers, i));
+        next = put(stdout, out, next, &template[start..end]);
         i += 1;
     }
     next
 }
 
 // Puts template k of a text, counted from 0, with up to four numbers in place of its marks.
-pub fn fill(to: Stdout, out: &mut [u8], at: usize, templates: &[u8], k: usize, numbers: [u64; 4]) -> usize
+pub fn fill(stdout: Stdout, out: &mut [u8], at: usize, templates: &[u8], k: usize, numbers: [u64; 4]) -> usize
     ensures { Says (filled (template_at k templates.now) numbers) at out.old result out.new }
 {
     let from = start_of(templates, k);
     let end = find(templates, from, 124);
-    fill_one(to, out, at, &templates[from..end], numbers)
+    fill_one(stdout, out, at, &templates[from..end], numbers)
 }
