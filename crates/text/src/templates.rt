@@ -55,7 +55,14 @@ fn fill_one(stdout: Stdout, out: &mut [u8], at: usize, template: &[u8], numbers:
 }
 
 // Puts template k of a text, counted from 0, with up to four numbers in place of its marks.
-pub fn fill(stdout: Stdout, out: &mut [u8], at: usize, templates: &[u8], k: usize, numbers: [u64; 4]) -> usize
+pub fn fill(
+    stdout: Stdout,
+    out: &mut [u8],
+    at: usize,
+    templates: &[u8],
+    k: usize,
+    numbers: [u64; 4],
+) -> usize
     ensures { Says (filled (template_at k templates.now) numbers) at out.old result out.new }
 {
     let from = start_of(templates, k);

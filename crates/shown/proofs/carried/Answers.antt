@@ -11,7 +11,7 @@ use borrow.Author.Rules.{rules}
 use Rattle.shown.proofs.carried.Goals as goal
 use Rattle.shown.proofs.carried.Goals.{Start}
 
-full : (c : Start) → (length c.args.t3.carried_offsets ≡ 128) × (length c.args.t3.carried_counts ≡ 128)
+full : (c : Start) → (length c.args.table.carried_offsets ≡ 128) × (length c.args.table.carried_counts ≡ 128)
 full c = (search rules, search rules)
 
 pub loop-i-init : goal.loop-i-init
@@ -19,7 +19,7 @@ loop-i-init c = (refl, left-all _ _)
 
 pub loop-i-preserved : goal.loop-i-preserved
 loop-i-preserved c =
-    let a = c.args.t3 in
+    let a = c.args.table in
     let l = c.loop-i in
     let h = full (goal.at.loop-i-preserved c).Start in
     let e = entries_next a.carried_len a.carried_offsets a.carried_counts 0 l.i (omega arith) (omega (arith, h.0)) (omega (arith, h.1)) in
@@ -27,7 +27,7 @@ loop-i-preserved c =
 
 pub returns-after-loop-i : goal.returns-after-loop-i
 returns-after-loop-i c =
-    let a = c.args.t3 in
+    let a = c.args.table in
     let l = c.loop-i in
     let h = full (goal.at.returns-after-loop-i c).Start in
     let e = entries-end a.carried_len a.carried_offsets a.carried_counts l.i (omega (arith, h.0)) in
@@ -37,7 +37,7 @@ returns-after-loop-i c =
 
 pub returns-then-table-i : goal.returns-then-table-i
 returns-then-table-i c =
-    let a = c.args.t3 in
+    let a = c.args.table in
     let l = c.loop-i in
     let h = full (goal.at.returns-then-table-i c).Start in
     let e = entries-end a.carried_len a.carried_offsets a.carried_counts l.i (omega (arith, h.0)) in

@@ -13,13 +13,10 @@ use Rattle.shown.specs.Shown.{lease_text, marked}
 use Rattle.shown.proofs.Lists.{entries_next, entries-end, entries-nothing}
 use borrow.Author.Rules.{rules}
 use Rattle.shown.proofs.leases.Goals as goal
-use Rattle.shown.proofs.leases.Goals.{At-loop-i, Start}
+use Rattle.shown.proofs.leases.Goals.{Start}
 
--- the start, seen from the loop, and the table's columns
-abbrev start : At-loop-i → Start
-start l = l.before.before.before.before.before.before.before.before.before.before.before
-
-full : (s : Start) → Full s.args.t3
+-- the table's columns
+full : (s : Start) → Full s.args.table
 full s =
     record {
       offsets = search rules;
@@ -34,22 +31,19 @@ loop-i-init c = (refl, left-all _ _)
 
 pub loop-i-preserved : goal.loop-i-preserved
 loop-i-preserved c =
-    let r = c.before.before.before.before.before in
-    let b = r.before.before.before.before in
-    let at-loop = b.before.before.before.before in
-    let l = at-loop.loop-i in
-    let a = (start at-loop).args.t3 in
-    let f = full (start at-loop) in
-    let e : drop l.i (leases_of a) ≡ (entry (get_or a.offsets l.i 0) r.stored_at-held.result ∷ drop (l.i + 1) (leases_of a))
-    = rw (r.stored_at-held.ensures, ← through-at nil a.slots (stored_in a) l.i (omega (arith, f.slots)))
+    let l = c.loop-i in
+    let a = c.args.table in
+    let f = full (goal.at.loop-i-preserved c).Start in
+    let e : drop l.i (leases_of a) ≡ (entry (get_or a.offsets l.i 0) c.stored_at-held.result ∷ drop (l.i + 1) (leases_of a))
+    = rw (c.stored_at-held.ensures, ← through-at nil a.slots (stored_in a) l.i (omega (arith, f.slots)))
     (entries_next a.len a.offsets (leases_in a) nil l.i (omega arith) (omega (arith, f.offsets)) (omega (arith, through-length nil a.slots (stored_in a), f.slots))) in
-    (search rules, left-next (marked lease_text) (leases_of a) l.i _ e l.invariant.1 (says_then b.before-next.ensures c.lease-next.ensures))
+    (search rules, left-next (marked lease_text) (leases_of a) l.i _ e l.invariant.1 (says_then c.before-next.ensures c.lease-next.ensures))
 
 pub returns-after-loop-i : goal.returns-after-loop-i
 returns-after-loop-i c =
-    let a = (start (goal.at.returns-after-loop-i c).At-loop-i).args.t3 in
+    let a = c.args.table in
     let l = c.loop-i in
-    let h = full (start (goal.at.returns-after-loop-i c).At-loop-i) in
+    let h = full (goal.at.returns-after-loop-i c).Start in
     let e = entries-end a.len a.offsets (leases_in a) l.i (omega (arith, h.offsets)) in
     let nothing = entries-nothing a.len a.offsets (leases_in a) (omega (arith, h.offsets)) (omega (arith, through-length nil a.slots (stored_in a), h.slots)) in
     says_then c.put-next.ensures
@@ -57,9 +51,9 @@ returns-after-loop-i c =
 
 pub returns-then-table-i : goal.returns-then-table-i
 returns-then-table-i c =
-    let a = (start (goal.at.returns-then-table-i c).At-loop-i).args.t3 in
+    let a = c.args.table in
     let l = c.loop-i in
-    let h = full (start (goal.at.returns-then-table-i c).At-loop-i) in
+    let h = full (goal.at.returns-then-table-i c).Start in
     let e = entries-end a.len a.offsets (leases_in a) l.i (omega (arith, h.offsets)) in
     let nothing = entries-nothing a.len a.offsets (leases_in a) (omega (arith, h.offsets)) (omega (arith, through-length nil a.slots (stored_in a), h.slots)) in
     says_then c.put-next.ensures

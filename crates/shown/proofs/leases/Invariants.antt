@@ -15,7 +15,7 @@ use borrow.Author.Rules.{rules}
 use Rattle.shown.proofs.leases.Given as goal
 
 abbrev pub invariant-loop-i : goal.invariant-loop-i
-invariant-loop-i l = (length l.initial.i ≡ length l.stdout) × Left (marked lease_text) (leases_of l.at) l.table l.stdout l.next l.out l.initial.i
+invariant-loop-i l = (length l.out ≡ length l.initial.out) × Left (marked lease_text) (leases_of l.table) l.initial.next l.initial.out l.i l.next l.out
 
 abbrev pub decreases-loop-i : goal.decreases-loop-i
-decreases-loop-i l = 64 - l.next
+decreases-loop-i l = 64 - l.i

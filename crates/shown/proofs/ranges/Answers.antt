@@ -11,7 +11,7 @@ use borrow.Author.Rules.{rules}
 use Rattle.shown.proofs.ranges.Goals as goal
 use Rattle.shown.proofs.ranges.Goals.{Start}
 
-full : (c : Start) → (length c.args.t3.starts ≡ 128) × (length c.args.t3.ends ≡ 128)
+full : (c : Start) → (length c.args.cursor.starts ≡ 128) × (length c.args.cursor.ends ≡ 128)
 full c = (search rules, search rules)
 
 pub loop-i-init : goal.loop-i-init
@@ -19,7 +19,7 @@ loop-i-init c = (refl, left-all _ _)
 
 pub loop-i-preserved : goal.loop-i-preserved
 loop-i-preserved c =
-    let a = c.args.t3 in
+    let a = c.args.cursor in
     let l = c.loop-i in
     let h = full (goal.at.loop-i-preserved c).Start in
     let e = zipped-next range 0 0 l.i a.runs a.starts a.ends (omega arith) (omega (arith, h.0)) (omega (arith, h.1)) in
@@ -27,7 +27,7 @@ loop-i-preserved c =
 
 pub returns-after-loop-i : goal.returns-after-loop-i
 returns-after-loop-i c =
-    let a = c.args.t3 in
+    let a = c.args.cursor in
     let l = c.loop-i in
     let h = full (goal.at.returns-after-loop-i c).Start in
     let e = zipped-end range l.i a.runs a.starts a.ends (omega (arith, h.0)) in
@@ -37,7 +37,7 @@ returns-after-loop-i c =
 
 pub returns-then-cursor-i : goal.returns-then-cursor-i
 returns-then-cursor-i c =
-    let a = c.args.t3 in
+    let a = c.args.cursor in
     let l = c.loop-i in
     let h = full (goal.at.returns-then-cursor-i c).Start in
     let e = zipped-end range l.i a.runs a.starts a.ends (omega (arith, h.0)) in

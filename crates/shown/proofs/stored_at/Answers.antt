@@ -15,10 +15,10 @@ even s = record { generations = search rules; starts = search rules; deadlines =
 
 pub returns-then-at-ge-LEASES : goal.returns-then-at-ge-LEASES
 returns-then-at-ge-LEASES c =
-    let s = c.before in
+    let s = c in
     sym (get_or-eq_default (stored_in s.args.table) nil {n = s.args.slot} (omega (arith, column-length (even (goal.at.returns-then-at-ge-LEASES c).Start), c.if-at-ge-LEASES.true)))
 
 pub returns : goal.returns
 returns c =
-    let s = c.before.before.before.before.before.before in
+    let s = c in
     sym (column-at (even (goal.at.returns c).Start) s.args.slot)

@@ -1,0 +1,13 @@
+// Failures, which the programs tell on standard error.
+use std::alloc::Global;
+use std::io::{Error, Result, Stderr};
+
+// What failed, as the caller names it, a colon and the system's words for why.
+pub fn fail(stderr: Stderr, alloc: Global, what: &str, error: Error) -> Result<()> {
+    let told = format!(in alloc; "{error}")?;
+    let words = match told.as_str().split_once(" (os error ") {
+        Some((words, _)) => words,
+        None => told.as_str(),
+    };
+    eprintln!(stderr; "{what}: {words}")
+}
