@@ -204,9 +204,9 @@ pub fn journal(
 }
 
 // Whether there is something to be known before a restart that isn't refused.
-fn is_odd(area: &[u8], walked: Walked, unread: &[u8; 128]) -> bool {
-    let mut aside = io::buffer();
-    if 0 < reasons(&mut aside, 0, area, walked) {
+fn is_odd(stdout: Stdout, area: &[u8], walked: Walked, unread: &[u8; 128]) -> bool {
+    let mut aside = [0u8; 4096];
+    if 0 < reasons(stdout, &mut aside, 0, area, walked) {
         return true;
     }
     !raw::all_zero(unread)
@@ -255,7 +255,7 @@ pub fn summary(
         said.template,
         found,
     );
-    if !is_odd(area, walked, unread) {
+    if !is_odd(stdout, area, walked, unread) {
         return next;
     }
     fill(

@@ -84,7 +84,7 @@ fn asked_by(word: Option<&str>) -> Asked {
     Asked::One(number)
 }
 
-fn snapshot_of(kind: Kind, bytes: &[u8], out: &mut [u8]) -> usize {
+fn snapshot_of(kind: Kind, bytes: &[u8], stdout: Stdout, out: &mut [u8]) -> usize {
     match kind {
         Kind::Cursor => snapshots::cursor(stdout, out, 0, bytes),
         Kind::Attempts => snapshots::attempts(stdout, out, 0, bytes),
