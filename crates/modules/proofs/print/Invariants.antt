@@ -7,7 +7,7 @@ use borrow.Author.Rules.{rules}
 use Rattle.modules.proofs.print.Given as goal
 
 abbrev pub invariant-loop-from : goal.invariant-loop-from
-invariant-loop-from l = (l.at ≤ length l.stdout) × (length l.initial.from ≡ length l.answers)
+invariant-loop-from l = (l.from ≤ length l.answers) × (length l.out ≡ length l.initial.out)
 
 abbrev pub decreases-loop-from : goal.decreases-loop-from
-decreases-loop-from l = length l.stdout - l.at
+decreases-loop-from l = length l.answers - l.from

@@ -7,7 +7,7 @@ use borrow.Author.Rules.{rules}
 use Rattle.modules.proofs.read.Given as goal
 
 abbrev pub invariant-loop-turns : goal.invariant-loop-turns
-invariant-loop-turns l = (length l.initial.turns ≡ length l.initial.stdin) × (length l.stdin ≡ length l.initial.buf) × Going (length l.initial.stdin) (length l.initial.buf) l.buf
+invariant-loop-turns l = (length l.buf ≡ length l.initial.buf) × (length l.ops ≡ length l.initial.ops) × Going (length l.initial.buf) (length l.initial.ops) l.reading
 
 abbrev pub decreases-loop-turns : goal.decreases-loop-turns
-decreases-loop-turns l = l.ops
+decreases-loop-turns l = l.turns

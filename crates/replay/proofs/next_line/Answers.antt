@@ -3,4 +3,4 @@ use Rattle.std.proofs.Common.{rules}
 use Rattle.replay.proofs.next_line.Goals as goal
 
 pub returns-then-is_line : goal.returns-then-is_line
-returns-then-is_line c = record { input = c.take_line-taken.ensures.left; session = c.answer-done.ensures }
+returns-then-is_line g c = record { input = c.take_line-taken.ensures.left; session = c.answer-done.ensures }

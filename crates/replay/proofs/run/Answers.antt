@@ -5,7 +5,7 @@ use Rattle.replay.specs.Running.{Going}
 use Rattle.replay.proofs.run.Goals as goal
 
 pub loop-turns-init : goal.loop-turns-init
-loop-turns-init c = (
+loop-turns-init g c = (
   refl,
   refl,
   refl,
@@ -14,21 +14,21 @@ loop-turns-init c = (
 )
 
 pub next_line-state-requires : goal.next_line-state-requires
-next_line-state-requires c = let l = c.loop-turns in rw (l.invariant.0, l.invariant.2) l.invariant.4
+next_line-state-requires g c = let l = c.loop-turns in rw (l.invariant.0, l.invariant.2) l.invariant.4
 
 pub loop-turns-preserved : goal.loop-turns-preserved
-loop-turns-preserved c =
+loop-turns-preserved g c =
     let l = c.loop-turns in
     (search rules, search rules, search rules, search rules, rw (l.invariant.0, l.invariant.2) at c.next_line-state.ensures)
 
 pub shape_of-buf : goal.shape_of-buf
-shape_of-buf c = c.loop-turns.invariant.0
+shape_of-buf g c = c.loop-turns.invariant.0
 
 pub shape_of-out : goal.shape_of-out
-shape_of-out c = c.loop-turns.invariant.1
+shape_of-out g c = c.loop-turns.invariant.1
 
 pub shape_of-area : goal.shape_of-area
-shape_of-area c = c.loop-turns.invariant.2
+shape_of-area g c = c.loop-turns.invariant.2
 
 pub shape_of-bytes : goal.shape_of-bytes
-shape_of-bytes c = c.loop-turns.invariant.3
+shape_of-bytes g c = c.loop-turns.invariant.3

@@ -5,9 +5,9 @@ use Rattle.replay.specs.Running.{Going}
 use Rattle.replay.proofs.run.Given as goal
 
 abbrev pub invariant-loop-turns : goal.invariant-loop-turns
-invariant-loop-turns l =
-    (length l.initial.turns ≡ length l.initial.buf) × (length l.source ≡ length l.stdout) × (length l.buf ≡ length l.initial.out) × (length l.out ≡ length l.initial.area) ×
-    Going (length l.initial.buf) (length l.initial.out) l.area
+invariant-loop-turns g l = 
+    (length l.buf ≡ length l.initial.buf) × (length l.out ≡ length l.initial.out) × (length l.area ≡ length l.initial.area) × (length l.bytes ≡ length l.initial.bytes) ×
+    Going (length l.initial.buf) (length l.initial.area) l.state
 
 abbrev pub decreases-loop-turns : goal.decreases-loop-turns
-decreases-loop-turns l = l.bytes
+decreases-loop-turns g l = l.turns

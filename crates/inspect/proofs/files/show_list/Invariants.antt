@@ -6,7 +6,7 @@ use lib.ListN.{length}
 use Rattle.inspect.proofs.files.show_list.Given as goal
 
 abbrev pub invariant-loop-number : goal.invariant-loop-number
-invariant-loop-number l = (length l.initial.number ≡ length l.journals) × (l.at ≤ l.blocks)
+invariant-loop-number l = (length l.out ≡ length l.initial.out) × (l.number ≤ l.journals)
 
 abbrev pub decreases-loop-number : goal.decreases-loop-number
-decreases-loop-number l = l.blocks - l.at
+decreases-loop-number l = l.journals - l.number

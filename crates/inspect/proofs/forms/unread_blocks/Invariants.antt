@@ -6,7 +6,7 @@ use lib.ListN.{length}
 use Rattle.inspect.proofs.forms.unread_blocks.Given as goal
 
 abbrev pub invariant-loop-block : goal.invariant-loop-block
-invariant-loop-block l = (length l.out ≡ length l.stdout) × (l.block ≤ 128)
+invariant-loop-block l = (length l.out ≡ length l.initial.out) × (l.block ≤ 128)
 
 abbrev pub decreases-loop-block : goal.decreases-loop-block
 decreases-loop-block l = 128 - l.block

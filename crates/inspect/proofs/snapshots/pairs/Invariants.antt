@@ -7,7 +7,7 @@ use borrow.Author.Rules.{rules}
 use Rattle.inspect.proofs.snapshots.pairs.Given as goal
 
 abbrev pub invariant-loop-i : goal.invariant-loop-i
-invariant-loop-i l = (l.decoded ≤ 128) × (length l.initial.i ≡ length l.stdout)
+invariant-loop-i l = (l.n ≤ 128) × (length l.out ≡ length l.initial.out)
 
 abbrev pub decreases-loop-i : goal.decreases-loop-i
-decreases-loop-i l = l.decoded - l.next
+decreases-loop-i l = l.n - l.i

@@ -7,7 +7,7 @@ use borrow.Author.Rules.{rules}
 use Rattle.inspect.proofs.snapshots.ranges.Given as goal
 
 abbrev pub invariant-loop-i : goal.invariant-loop-i
-invariant-loop-i l = (l.cursor ≤ 128) × (length l.initial.i ≡ length l.stdout)
+invariant-loop-i l = (l.n ≤ 128) × (length l.out ≡ length l.initial.out)
 
 abbrev pub decreases-loop-i : goal.decreases-loop-i
-decreases-loop-i l = l.cursor - l.next
+decreases-loop-i l = l.n - l.i
