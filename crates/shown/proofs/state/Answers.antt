@@ -6,5 +6,5 @@ use Rattle.shown.proofs.state.Goals as goal
 pub returns : goal.returns
 returns c =
     says_then c.with-next.ensures
-    (says_then c.ranges-2.ensures
+    (says_then c.ranges-next.ensures
     (says_then c.leases-next.ensures (says_then c.carried-next.ensures c.numbers.ensures)))
