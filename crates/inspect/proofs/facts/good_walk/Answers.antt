@@ -4,6 +4,6 @@ use Rattle.inspect.proofs.facts.good_walk.Goals as goal
 
 pub returns-in-Damaged : goal.returns-in-Damaged
 returns-in-Damaged c =
-    let o = c.before in
+    let o = c in
     let p = o.before.before in
     rw (p.in-Damaged.is, ← o.origin-from.ensures) c.walk.ensures

@@ -16,7 +16,7 @@ pub returns-then-bytes-used : goal.returns-then-bytes-used
 returns-then-bytes-used c = other-used _ _ _ c.if-block-index.false (λ e. c.if-bytes-used.true (c.read_u16-bytes.ensures ∙ e))
 
 pub returns-then-not-all_zero : goal.returns-then-not-all_zero
-returns-then-not-all_zero c = let u = c.before.before.before.before in no-zeros-after _ _ _ u.if-block-index.false (sym u.read_u16-bytes.ensures ∙ u.if-bytes-used.false) (sym (zeros-from _ _ _ (rw u.if-bytes-used.false at c.shorter-from.ensures)) ∙ sym c.all_zero.ensures ∙ not-true _ c.if-not-all_zero.true)
+returns-then-not-all_zero c = let u = c in no-zeros-after _ _ _ u.if-block-index.false (sym u.read_u16-bytes.ensures ∙ u.if-bytes-used.false) (sym (zeros-from _ _ _ (rw u.if-bytes-used.false at c.shorter-from.ensures)) ∙ sym c.all_zero.ensures ∙ not-true _ c.if-not-all_zero.true)
 
 pub returns : goal.returns
-returns c = let u = c.before.before.before.before in body-sound _ _ _ u.if-block-index.false (sym u.read_u16-bytes.ensures ∙ u.if-bytes-used.false) (sym (zeros-from _ _ _ (rw u.if-bytes-used.false at c.shorter-from.ensures)) ∙ sym c.all_zero.ensures ∙ not-false _ c.if-not-all_zero.false)
+returns c = let u = c in body-sound _ _ _ u.if-block-index.false (sym u.read_u16-bytes.ensures ∙ u.if-bytes-used.false) (sym (zeros-from _ _ _ (rw u.if-bytes-used.false at c.shorter-from.ensures)) ∙ sym c.all_zero.ensures ∙ not-false _ c.if-not-all_zero.false)

@@ -15,7 +15,7 @@ pub returns-then-not-is_sealed : goal.returns-then-not-is_sealed
 returns-then-not-is_sealed c = unchecked _ _ _ c.if-block-ne512.false c.if-block-kind.false (sym c.is_sealed.ensures ∙ not-true _ c.if-not-is_sealed.true)
 
 pub returns-then-group-number : goal.returns-then-group-number
-returns-then-group-number c = let s = c.before.before.before in other-number _ _ _ s.if-block-ne512.false s.if-block-kind.false (sym s.is_sealed.ensures ∙ not-false _ c.if-not-is_sealed.false) (λ e. c.if-group-number.true (c.read_u32-group.ensures ∙ e))
+returns-then-group-number c = let s = c in other-number _ _ _ s.if-block-ne512.false s.if-block-kind.false (sym s.is_sealed.ensures ∙ not-false _ c.if-not-is_sealed.false) (λ e. c.if-group-number.true (c.read_u32-group.ensures ∙ e))
 
 pub returns : goal.returns
-returns c = let s = c.before.before.before in opening-sound _ _ _ s.if-block-ne512.false s.if-block-kind.false (sym s.is_sealed.ensures ∙ not-false _ c.if-not-is_sealed.false) (sym c.read_u32-group.ensures ∙ c.if-group-number.false)
+returns c = let s = c in opening-sound _ _ _ s.if-block-ne512.false s.if-block-kind.false (sym s.is_sealed.ensures ∙ not-false _ c.if-not-is_sealed.false) (sym c.read_u32-group.ensures ∙ c.if-group-number.false)

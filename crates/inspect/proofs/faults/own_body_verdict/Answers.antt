@@ -8,7 +8,7 @@ overflow_cast-block c = omega (arith, c.shared_slice_known-2-1.given 1)
 
 pub returns : goal.returns
 returns c =
-    let s = c.before in
+    let s = c in
     rw (
       c.body_verdict.ensures,
       s.larger-index.ensures,

@@ -12,17 +12,17 @@ returns-then-is_head c =
 
 pub returns-then-block-ne512 : goal.returns-then-block-ne512
 returns-then-block-ne512 c =
-    let s = c.before in
+    let s = c in
     named_none _ (sym s.is_head.ensures ∙ s.if-is_head.false) (sym (no_kind 2 _ (λ k. c.if-block-ne512.true k.whole)))
 
 pub returns-then-block-ne2 : goal.returns-then-block-ne2
 returns-then-block-ne2 c =
-    let s = c.before.before.before in
+    let s = c in
     named_none _ (sym s.is_head.ensures ∙ s.if-is_head.false) (sym (no_kind 2 _ (λ k. c.if-block-ne2.true k.kind-is)))
 
 pub returns-then-not-is_sealed : goal.returns-then-not-is_sealed
 returns-then-not-is_sealed c =
-    let t = c.before in
+    let t = c in
     let w = t.before.before.before in
     let s = w.before in
     let k = sym (kind-test 2 _ w.if-block-ne512.false t.if-block-ne2.false) ∙ sym t.is_sealed.ensures ∙ not-true _ c.if-not-is_sealed.true in
@@ -30,7 +30,7 @@ returns-then-not-is_sealed c =
 
 pub returns : goal.returns
 returns c =
-    let t = c.before.before in
+    let t = c in
     let w = t.before.before.before in
     let s = w.before in
     let k = sym (kind-test 2 _ w.if-block-ne512.false t.if-block-ne2.false) ∙ sym t.is_sealed.ensures ∙ not-false _ c.if-not-is_sealed.false in

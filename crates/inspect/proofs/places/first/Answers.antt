@@ -10,7 +10,7 @@ returns-then-at-walked c = rw (← c.origin-walked.ensures, eq-eqb _ _ c.if-at-w
 
 pub returns : goal.returns
 returns c =
-    let e = c.before.before.before in
+    let e = c in
     let s = e.before.before in
     let a = s.args in
     c.opened_by.ensures

@@ -4,7 +4,7 @@ use borrow.Author.Rules.{rules}
 use Rattle.inspect.proofs.places.opened_by.Goals as goal
 
 pub returns-then-is_sound_but_number : goal.returns-then-is_sound_but_number
-returns-then-is_sound_but_number c = let s = c.before.before in rw (sym s.is_sound_but_number.ensures ∙ c.if-is_sound_but_number.true, c.read_u32-number.ensures)
+returns-then-is_sound_but_number c = let s = c in rw (sym s.is_sound_but_number.ensures ∙ c.if-is_sound_but_number.true, c.read_u32-number.ensures)
 
 pub returns : goal.returns
 returns c = rw (sym c.is_sound_but_number.ensures ∙ c.if-is_sound_but_number.false)

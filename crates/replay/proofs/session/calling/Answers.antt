@@ -3,4 +3,4 @@ use Rattle.std.proofs.Common.{rules}
 use Rattle.replay.proofs.session.calling.Goals as goal
 
 pub returns : goal.returns
-returns c n h = record { machine = h.machine-1; inside = h.inside }
+returns c n h = record { machine = h.machine; inside = h.inside }

@@ -4,5 +4,5 @@ use Rattle.replay.proofs.session.zeroed.Goals as goal
 
 pub slice_bounds-clear-end-then-acted-template : goal.slice_bounds-clear-end-then-acted-template
 slice_bounds-clear-end-then-acted-template c =
-    let s = c.before.before.before.before in
+    let s = c in
     sym (length-take-le s.args.acted.session.len s.args.area.now s.requires.inside)
