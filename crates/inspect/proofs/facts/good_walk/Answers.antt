@@ -5,5 +5,5 @@ use Rattle.inspect.proofs.facts.good_walk.Goals as goal
 pub returns-in-Damaged : goal.returns-in-Damaged
 returns-in-Damaged c =
     let o = c in
-    let p = o.before.before in
+    let p = o in
     rw (p.in-Damaged.is, ← o.origin-from.ensures) c.walk.ensures

@@ -23,15 +23,15 @@ returns-then-block-ne2 c =
 pub returns-then-not-is_sealed : goal.returns-then-not-is_sealed
 returns-then-not-is_sealed c =
     let t = c in
-    let w = t.before.before.before in
-    let s = w.before in
+    let w = t in
+    let s = w in
     let k = sym (kind-test 2 _ w.if-block-ne512.false t.if-block-ne2.false) ∙ sym t.is_sealed.ensures ∙ not-true _ c.if-not-is_sealed.true in
     named_none _ (sym s.is_head.ensures ∙ s.if-is_head.false) k
 
 pub returns : goal.returns
 returns c =
     let t = c in
-    let w = t.before.before.before in
-    let s = w.before in
+    let w = t in
+    let s = w in
     let k = sym (kind-test 2 _ w.if-block-ne512.false t.if-block-ne2.false) ∙ sym t.is_sealed.ensures ∙ not-false _ c.if-not-is_sealed.false in
     c.group_of-2.ensures ∙ named-body _ (sym s.is_head.ensures ∙ s.if-is_head.false) k

@@ -11,7 +11,7 @@ returns-then-at-walked c = rw (← c.origin-walked.ensures, eq-eqb _ _ c.if-at-w
 pub returns : goal.returns
 returns c =
     let e = c in
-    let s = e.before.before in
+    let s = e in
     let a = s.args in
     c.opened_by.ensures
     ∙ rw (c.half_blocks.ensures, part-is-block a.area.now a.at, ← s.origin-walked.ensures, ne_eqb _ _ e.if-at-walked.false)
