@@ -140,7 +140,7 @@ fn show(
 }
 
 // What a failure names: the file, or where its name is too long that it is the name.
-fn named(path: &str) -> &str {
+fn told_as(path: &str) -> &str {
     if 4096 < path.len() {
         return "inspect: the file's name";
     }
@@ -158,7 +158,7 @@ fn inspect<R: Files<File = File>>(
 ) -> io::Result<()> {
     let mut file = match fs::open(rt, path) {
         Ok(file) => file,
-        Err(error) => return fail(stderr, alloc, named(path), error),
+        Err(error) => return fail(stderr, alloc, told_as(path), error),
     };
     show(kind, asked, path, &mut file, alloc, stdout, stderr)
 }

@@ -193,7 +193,7 @@ fn unreadable<R: Read>(source: &mut R) -> Option<Error> {
 }
 
 // What a failure names: the file, or where its name is too long that it is the name.
-fn named(path: &str) -> &str {
+fn told_as(path: &str) -> &str {
     if 4096 < path.len() {
         return "replay: the file's name";
     }
@@ -210,7 +210,7 @@ fn run_file<R: Files>(
 ) -> io::Result<()> {
     let mut file = match fs::open(rt, path) {
         Ok(file) => file,
-        Err(error) => return fail(stderr, alloc, named(path), error),
+        Err(error) => return fail(stderr, alloc, told_as(path), error),
     };
     if let Some(error) = unreadable(&mut file) {
         return fail(stderr, alloc, path, error);
