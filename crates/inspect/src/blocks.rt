@@ -7,6 +7,7 @@ use crate::places;
 use crate::places::{Judged, Place};
 use crate::said::{Said, byte, same, says};
 use consumer::halves::half_blocks;
+use std::io::Stdout;
 use text::templates::fill;
 
 // What a block is, and how that is what is expected at its place.
@@ -17,9 +18,10 @@ pub struct Row {
 }
 
 // What a block is. Behind the texts of a header and a body stands a row for each fault, and last those of the kind of the other.
-fn put_what(out: &mut [u8], at: usize, what: Said) -> usize {
+fn put_what(stdout: Stdout, out: &mut [u8], at: usize, what: Said) -> usize {
     let numbers = what.numbers;
     fill(
+        stdout,
         out,
         at,
         b"empty|\
@@ -44,9 +46,10 @@ fn put_what(out: &mut [u8], at: usize, what: Said) -> usize {
 }
 
 // The end of a line: how many bodies a header has, and what of the block is not as expected.
-fn put_rest(out: &mut [u8], at: usize, rest: Said) -> usize {
+fn put_rest(stdout: Stdout, out: &mut [u8], at: usize, rest: Said) -> usize {
     let numbers = rest.numbers;
     fill(
+        stdout,
         out,
         at,
         b"\n|\
@@ -200,7 +203,7 @@ pub fn same_row(a: Row, b: Row) -> bool {
 }
 
 // The end of a line, behind the blocks that it is of.
-pub fn put_row(out: &mut [u8], at: usize, row: Row) -> usize {
-    let next = put_what(out, at, row.what);
-    put_rest(out, next, row.rest)
+pub fn put_row(stdout: Stdout, out: &mut [u8], at: usize, row: Row) -> usize {
+    let next = put_what(stdout, out, at, row.what);
+    put_rest(stdout, out, next, row.rest)
 }

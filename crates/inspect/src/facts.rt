@@ -7,6 +7,7 @@ ghost use Rattle.inspect.specs.Missed.{in_front};
 use crate::said::{Said, less, says};
 use consumer::halves::half_blocks;
 use journal::{LastGroup, Walked};
+use std::io::Stdout;
 use text::output::put;
 use text::templates::fill;
 
@@ -30,13 +31,14 @@ fn bytes_of(layout: Layout, len: usize) -> u64 {
 }
 
 // How long the file is, and the bytes that are no whole block, where there are any.
-fn file(out: &mut [u8], at: usize, bytes: u64, len: usize) -> usize {
+fn file(stdout: Stdout, out: &mut [u8], at: usize, bytes: u64, len: usize) -> usize {
     let rest = len % 512;
     let mut template: usize = 0;
     if rest != 0 {
         template = 1;
     }
     fill(
+        stdout,
         out,
         at,
         b"\nfile: # bytes, # blocks of 512 bytes in two halves of #\n|\
@@ -63,9 +65,10 @@ fn form_said(layout: Layout) -> Said {
     }
 }
 
-fn form(out: &mut [u8], at: usize, said: Said) -> usize {
+fn form(stdout: Stdout, out: &mut [u8], at: usize, said: Said) -> usize {
     let numbers = said.numbers;
     fill(
+        stdout,
         out,
         at,
         b"form: blocks side by side, for a disk that writes each block of 512 bytes whole\n|\
@@ -78,24 +81,33 @@ fn form(out: &mut [u8], at: usize, said: Said) -> usize {
 }
 
 // What a file of several journals is, with an empty line in front.
-pub fn shape(out: &mut [u8], at: usize, bytes: u64, journals: u64, blocks: u64) -> usize {
+pub fn shape(
+    stdout: Stdout,
+    out: &mut [u8],
+    at: usize,
+    bytes: u64,
+    journals: u64,
+    blocks: u64,
+) -> usize {
     let next = fill(
+        stdout,
         out,
         at,
         b"\nfile: # bytes, # journals of # blocks of 512 bytes\n",
         0,
         [bytes, journals, blocks, 0],
     );
-    form(out, next, says(2, 0, 0))
+    form(stdout, out, next, says(2, 0, 0))
 }
 
 // Which half is in use: the one that begins at block `first`, and ends before block `hi`.
-fn half(out: &mut [u8], at: usize, first: u64, hi: u64) -> usize {
+fn half(stdout: Stdout, out: &mut [u8], at: usize, first: u64, hi: u64) -> usize {
     let mut template: usize = 0;
     if first != 0 {
         template = 1;
     }
     fill(
+        stdout,
         out,
         at,
         b"half in use: the first, blocks # to #|half in use: the second, blocks # to #",
@@ -112,9 +124,10 @@ fn left_said(hi: u64, walked: Walked) -> Said {
     says(0, 0, 0)
 }
 
-fn left(out: &mut [u8], at: usize, said: Said) -> usize {
+fn left(stdout: Stdout, out: &mut [u8], at: usize, said: Said) -> usize {
     let numbers = said.numbers;
     fill(
+        stdout,
         out,
         at,
         b"\n|; blocks left in it: #, and a checkpoint takes 2 to 9\n",
@@ -179,9 +192,10 @@ fn stop_said(first: u64, last: LastGroup, number: u64, block: u64) -> Said {
     }
 }
 
-fn groups(out: &mut [u8], at: usize, said: Said) -> usize {
+fn groups(stdout: Stdout, out: &mut [u8], at: usize, said: Said) -> usize {
     let numbers = said.numbers;
     fill(
+        stdout,
         out,
         at,
         b"groups in it: #; the last is group #, with its header at block #; the next would stand at block #\n|\
@@ -215,9 +229,10 @@ fn ceiling_said(area: &[u8], good: Walked) -> Said {
     }
 }
 
-fn ceiling(out: &mut [u8], at: usize, said: Said) -> usize {
+fn ceiling(stdout: Stdout, out: &mut [u8], at: usize, said: Said) -> usize {
     let numbers = said.numbers;
     fill(
+        stdout,
         out,
         at,
         b"\n|\
@@ -229,26 +244,34 @@ fn ceiling(out: &mut [u8], at: usize, said: Said) -> usize {
 }
 
 // The half in use, how much of it is left, its groups and its ceiling.
-fn contents(out: &mut [u8], at: usize, area: &[u8], walked: Walked) -> usize {
+fn contents(stdout: Stdout, out: &mut [u8], at: usize, area: &[u8], walked: Walked) -> usize {
     let from = starts::origin(area);
     let hi = starts::limit(area) as u64;
-    let mut next = half(out, at, from.block as u64, hi);
-    next = left(out, next, left_said(hi, walked));
+    let mut next = half(stdout, out, at, from.block as u64, hi);
+    next = left(stdout, out, next, left_said(hi, walked));
     let good = good_walk(area, walked);
-    next = groups(out, next, groups_said(from.number, walked, good));
-    ceiling(out, next, ceiling_said(area, good))
+    next = groups(stdout, out, next, groups_said(from.number, walked, good));
+    ceiling(stdout, out, next, ceiling_said(area, good))
 }
 
 // Of an area, the walk over it and how it lies in its file, with an empty line in front and behind.
-pub fn facts(out: &mut [u8], at: usize, area: &[u8], walked: Walked, layout: Layout) -> usize {
-    let mut next = file(out, at, bytes_of(layout, area.len()), area.len());
-    next = form(out, next, form_said(layout));
+pub fn facts(
+    stdout: Stdout,
+    out: &mut [u8],
+    at: usize,
+    area: &[u8],
+    walked: Walked,
+    layout: Layout,
+) -> usize {
+    let mut next = file(stdout, out, at, bytes_of(layout, area.len()), area.len());
+    next = form(stdout, out, next, form_said(layout));
     if let Walked::BadArea = walked {
         return put(
+            stdout,
             out,
             next,
             b"blocks: listed in halves as if it were a journal\n\n",
         );
     }
-    contents(out, next, area, walked)
+    contents(stdout, out, next, area, walked)
 }

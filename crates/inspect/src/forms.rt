@@ -2,6 +2,7 @@
 // disk can't read.
 use crate::said::{Said, less, says};
 use sectors::{Form, State};
+use std::io::Stdout;
 use text::output::put;
 use text::templates::fill;
 
@@ -29,8 +30,9 @@ fn advice_of(template: usize) -> usize {
     }
 }
 
-fn advise(out: &mut [u8], at: usize, advice: usize) -> usize {
+fn advise(stdout: Stdout, out: &mut [u8], at: usize, advice: usize) -> usize {
     fill(
+        stdout,
         out,
         at,
         b"to do: see that this is the file of a journal: one with blocks side by side has at most 65536 bytes, and any other begins so\n|\
@@ -43,10 +45,11 @@ fn advise(out: &mut [u8], at: usize, advice: usize) -> usize {
 }
 
 // A file that has too many bytes for blocks side by side, and isn't one in sectors.
-pub fn wrong(out: &mut [u8], at: usize, form: Form, bytes: u64) -> usize {
+pub fn wrong(stdout: Stdout, out: &mut [u8], at: usize, form: Form, bytes: u64) -> usize {
     let said = wrong_said(form, bytes);
     let numbers = said.numbers;
     let next = fill(
+        stdout,
         out,
         at,
         b"no journal: # bytes, and it doesn't begin with NINOTSKV\n|\
@@ -59,22 +62,28 @@ pub fn wrong(out: &mut [u8], at: usize, form: Form, bytes: u64) -> usize {
         said.template,
         numbers,
     );
-    advise(out, next, advice_of(said.template))
+    advise(stdout, out, next, advice_of(said.template))
 }
 
 // Sector 0 that the disk can't read.
-pub fn unreadable(out: &mut [u8], at: usize) -> usize {
-    let next = put(out, at, b"no journal: the disk can't read sector 0\n");
-    advise(out, next, 3)
+pub fn unreadable(stdout: Stdout, out: &mut [u8], at: usize) -> usize {
+    let next = put(
+        stdout,
+        out,
+        at,
+        b"no journal: the disk can't read sector 0\n",
+    );
+    advise(stdout, out, next, 3)
 }
 
 // A file of so many journals that has none of this number.
-pub fn no_such(out: &mut [u8], at: usize, number: u64, journals: u64) -> usize {
+pub fn no_such(stdout: Stdout, out: &mut [u8], at: usize, number: u64, journals: u64) -> usize {
     let mut template: usize = 0;
     if 1 < journals {
         template = 1;
     }
     fill(
+        stdout,
         out,
         at,
         b"no journal #: the file has one, journal 0\n|no journal #: the file has journals 0 to #\n",
@@ -93,8 +102,9 @@ fn marked_said(state: State) -> usize {
 }
 
 // A journal of a file for several that isn't in use: no server restarts from it, whatever its blocks are.
-pub fn marked(out: &mut [u8], at: usize, state: State, number: u64) -> usize {
+pub fn marked(stdout: Stdout, out: &mut [u8], at: usize, state: State, number: u64) -> usize {
     fill(
+        stdout,
         out,
         at,
         b"journal #: free: no server restarts from it; a start or an import can take it\n|\
@@ -105,29 +115,31 @@ pub fn marked(out: &mut [u8], at: usize, state: State, number: u64) -> usize {
 }
 
 // A block that the disk can't read: its number, where this byte is not 0.
-fn unread_block(out: &mut [u8], at: usize, block: usize, byte: u8) -> usize {
+fn unread_block(stdout: Stdout, out: &mut [u8], at: usize, block: usize, byte: u8) -> usize {
     if byte == 0 {
         return at;
     }
-    fill(out, at, b" #", 0, [block as u64, 0, 0, 0])
+    fill(stdout, out, at, b" #", 0, [block as u64, 0, 0, 0])
 }
 
 // The blocks that the disk can't read, those for which a list has 1.
-pub fn unread_blocks(out: &mut [u8], at: usize, unread: &[u8; 128]) -> usize {
+pub fn unread_blocks(stdout: Stdout, out: &mut [u8], at: usize, unread: &[u8; 128]) -> usize {
     if raw::all_zero(unread) {
         return at;
     }
     let mut next = put(
+        stdout,
         out,
         at,
         b"beware: the disk can't read these blocks, which count as unsound:",
     );
     let mut block: usize = 0;
     while block < 128 {
-        next = unread_block(out, next, block, unread[block]);
+        next = unread_block(stdout, out, next, block, unread[block]);
         block += 1;
     }
     put(
+        stdout,
         out,
         next,
         b"\nto do: where the power failed, the next writes mend what was being written; else copy the file part by part, and repair or replace \

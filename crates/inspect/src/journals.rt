@@ -13,6 +13,7 @@ use hours::Hours;
 use journal::{LastGroup, Walked};
 use lease::LeaseConfig;
 use starts::StartAnswer;
+use std::io::Stdout;
 use text::templates::fill;
 use types::limits::WORKERS;
 
@@ -50,9 +51,10 @@ fn found_said(walked: Walked) -> Said {
     }
 }
 
-fn finds(out: &mut [u8], at: usize, said: Said) -> usize {
+fn finds(stdout: Stdout, out: &mut [u8], at: usize, said: Said) -> usize {
     let numbers = said.numbers;
     fill(
+        stdout,
         out,
         at,
         b"a restart finds no checkpoint, and begins as a fresh start does\n|\
@@ -62,11 +64,11 @@ fn finds(out: &mut [u8], at: usize, said: Said) -> usize {
     )
 }
 
-fn no_restart(out: &mut [u8], at: usize, numbers: Numbers) -> usize {
+fn no_restart(stdout: Stdout, out: &mut [u8], at: usize, numbers: Numbers) -> usize {
     let number = [numbers.0, 0, 0, 0];
-    let mut next = fill(out, at, b"a restart is refused: # ", 0, number);
-    next = refused(out, next, numbers);
-    journal_advice(out, next, numbers.0)
+    let mut next = fill(stdout, out, at, b"a restart is refused: # ", 0, number);
+    next = refused(stdout, out, next, numbers);
+    journal_advice(stdout, out, next, numbers.0)
 }
 
 // Whether a walk below block `hi` ended at the header of group `number`, sound in all but its fit.
@@ -93,9 +95,18 @@ fn highest_unsaid(area: &[u8], hi: usize, block: usize) -> u64 {
 
 // What a walk below block `hi` that ended at a block, where group `number` would come next, should not have ended at, and what the
 // other half has.
-fn ended(out: &mut [u8], at: usize, area: &[u8], hi: usize, number: u64, block: usize) -> usize {
+fn ended(
+    stdout: Stdout,
+    out: &mut [u8],
+    at: usize,
+    area: &[u8],
+    hi: usize,
+    number: u64,
+    block: usize,
+) -> usize {
     if is_unfit(area, hi, number, block) {
         return fill(
+            stdout,
             out,
             at,
             b"why: group #, at block #, passes the end of its half, as groups may in a journal from before there were halves: \
@@ -104,49 +115,57 @@ fn ended(out: &mut [u8], at: usize, area: &[u8], hi: usize, number: u64, block: 
             [number, block as u64, 0, 0],
         );
     }
-    let next = missed(out, at, area, hi, number, block);
-    other(out, next, area, number, highest_unsaid(area, hi, block))
+    let next = missed(stdout, out, at, area, hi, number, block);
+    other(
+        stdout,
+        out,
+        next,
+        area,
+        number,
+        highest_unsaid(area, hi, block),
+    )
 }
 
 // Whose body at a block is unsound, what is out of reach with it, and what the other half has.
-fn unsound(out: &mut [u8], at: usize, area: &[u8], body: usize) -> usize {
+fn unsound(stdout: Stdout, out: &mut [u8], at: usize, area: &[u8], body: usize) -> usize {
     let Walked::Stopped { number, block, .. } = good_walk(area, Walked::Damaged(body)) else {
         return at;
     };
     let mut next = fill(
+        stdout,
         out,
         at,
         b"why: the header of group #, at block #, is sound, and its body at block # is not\n",
         0,
         [number, block as u64, body as u64, 0],
     );
-    next = lost(out, next, area, number);
-    other_unsound(out, next, area)
+    next = lost(stdout, out, next, area, number);
+    other_unsound(stdout, out, next, area)
 }
 
 // Why the groups end where they should not, and warnings.
-fn reasons(out: &mut [u8], at: usize, area: &[u8], walked: Walked) -> usize {
+fn reasons(stdout: Stdout, out: &mut [u8], at: usize, area: &[u8], walked: Walked) -> usize {
     match walked {
         Walked::Stopped { number, block, .. } => {
-            ended(out, at, area, starts::limit(area), number, block)
+            ended(stdout, out, at, area, starts::limit(area), number, block)
         }
-        Walked::Damaged(block) => unsound(out, at, area, block),
+        Walked::Damaged(block) => unsound(stdout, out, at, area, block),
         Walked::BadArea => at,
     }
 }
 
 // What a restart would find, or its refusal, and what else is to be known before it.
-fn verdict(out: &mut [u8], at: usize, area: &[u8], walked: Walked) -> usize {
+fn verdict(stdout: Stdout, out: &mut [u8], at: usize, area: &[u8], walked: Walked) -> usize {
     let started = starts::restart(configuration(), area);
     let answer = started.answer;
     let StartAnswer::Started = answer else {
-        let refusal = no_restart(out, at, answers::of_start(answer));
-        return reasons(out, refusal, area, walked);
+        let refusal = no_restart(stdout, out, at, answers::of_start(answer));
+        return reasons(stdout, out, refusal, area, walked);
     };
     let consumer = started.consumer;
-    let mut next = finds(out, at, found_said(walked));
-    next = reasons(out, next, area, walked);
-    shown::state(out, next, consumer)
+    let mut next = finds(stdout, out, at, found_said(walked));
+    next = reasons(stdout, out, next, area, walked);
+    shown::state(stdout, out, next, consumer)
 }
 
 // Whether a consumer can be started on so many bytes.
@@ -170,6 +189,7 @@ fn walk(area: &[u8]) -> Walked {
 
 // A journal of any length, which lies in its file so, and of which these blocks can't be read.
 pub fn journal(
+    stdout: Stdout,
     out: &mut [u8],
     at: usize,
     area: &[u8],
@@ -177,16 +197,16 @@ pub fn journal(
     unread: &[u8; 128],
 ) -> usize {
     let walked = walk(area);
-    let mut next = verdict(out, at, area, walked);
-    next = unread_blocks(out, next, unread);
-    next = facts(out, next, area, walked, layout);
-    listed(out, next, area)
+    let mut next = verdict(stdout, out, at, area, walked);
+    next = unread_blocks(stdout, out, next, unread);
+    next = facts(stdout, out, next, area, walked, layout);
+    listed(stdout, out, next, area)
 }
 
 // Whether there is something to be known before a restart that isn't refused.
-fn is_odd(area: &[u8], walked: Walked, unread: &[u8; 128]) -> bool {
-    let mut aside = io::buffer();
-    if 0 < reasons(&mut aside, 0, area, walked) {
+fn is_odd(stdout: Stdout, area: &[u8], walked: Walked, unread: &[u8; 128]) -> bool {
+    let mut aside = [0u8; 4096];
+    if 0 < reasons(stdout, &mut aside, 0, area, walked) {
         return true;
     }
     !raw::all_zero(unread)
@@ -200,36 +220,46 @@ fn summary_said(said: Said, ceiling: u64) -> Said {
 
 // A journal of several in one line: its number, and what a restart finds, with the ceiling, or its refusal. A line more where it wants
 // a look.
-pub fn summary(out: &mut [u8], at: usize, area: &[u8], number: u64, unread: &[u8; 128]) -> usize {
+pub fn summary(
+    stdout: Stdout,
+    out: &mut [u8],
+    at: usize,
+    area: &[u8],
+    number: u64,
+    unread: &[u8; 128],
+) -> usize {
     let walked = walk(area);
     let started = starts::restart(configuration(), area);
     let answer = started.answer;
-    let mut next = fill(out, at, b"journal #: ", 0, [number, 0, 0, 0]);
+    let mut next = fill(stdout, out, at, b"journal #: ", 0, [number, 0, 0, 0]);
     let StartAnswer::Started = answer else {
         let numbers = answers::of_start(answer);
         next = fill(
+            stdout,
             out,
             next,
             b"a restart is refused: # ",
             0,
             [numbers.0, 0, 0, 0],
         );
-        return refused(out, next, numbers);
+        return refused(stdout, out, next, numbers);
     };
     let consumer = started.consumer;
     let said = summary_said(found_said(walked), consumer.ceiling.0);
     let found = said.numbers;
     next = fill(
+        stdout,
         out,
         next,
         b"a restart finds no checkpoint, and begins as a fresh start does\n|a restart finds the checkpoint of group #, ceiling #\n",
         said.template,
         found,
     );
-    if !is_odd(area, walked, unread) {
+    if !is_odd(stdout, area, walked, unread) {
         return next;
     }
     fill(
+        stdout,
         out,
         next,
         b"beware: journal # wants a look before a restart: inspect it by its number\n",

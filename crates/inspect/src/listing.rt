@@ -8,6 +8,7 @@ use crate::places::Place;
 use crate::said::{Said, less};
 use crate::{blocks, places};
 use consumer::halves::half_blocks;
+use std::io::Stdout;
 use text::templates::fill;
 use types::numbers::saturating_add;
 
@@ -37,19 +38,20 @@ fn blocks_said(from: usize, to: usize) -> Said
 }
 
 // A line for the blocks from `from` up to the one before `to`.
-fn line(out: &mut [u8], at: usize, from: usize, to: usize, row: Row) -> usize
+fn line(stdout: Stdout, out: &mut [u8], at: usize, from: usize, to: usize, row: Row) -> usize
     requires { from < to }
 {
     let blocks = blocks_said(from, to);
     let numbers = blocks.numbers;
     let next = fill(
+        stdout,
         out,
         at,
         b"block #: |blocks # to #: ",
         blocks.template,
         numbers,
     );
-    blocks::put_row(out, next, row)
+    blocks::put_row(stdout, out, next, row)
 }
 
 // What is expected behind block `m` of the half that begins at block `half`, where `place` is what is expected at that block.
@@ -86,7 +88,7 @@ fn run_from(area: &[u8], half: usize, count: usize, m: usize, place: Place, said
 }
 
 // Lines for `count` blocks of an area from block `half` on, where a half begins.
-fn lines(out: &mut [u8], at: usize, area: &[u8], half: usize, count: usize) -> usize
+fn lines(stdout: Stdout, out: &mut [u8], at: usize, area: &[u8], half: usize, count: usize) -> usize
     requires { 512 * (half + count) ≤ length area.now }
 {
     if count == 0 {
@@ -99,7 +101,7 @@ fn lines(out: &mut [u8], at: usize, area: &[u8], half: usize, count: usize) -> u
         let said = blocks::row_at(area, half, m, place);
         let reached = run_from(area, half, count, m, place, said);
         let end = reached.end;
-        next = line(out, next, half + m, half + end, said);
+        next = line(stdout, out, next, half + m, half + end, said);
         place = reached.place;
         m = end;
     }
@@ -121,7 +123,7 @@ fn half_template(half: usize, used: usize) -> usize {
 }
 
 // The end of a heading: behind the second half, where the number of blocks is odd, stands one that is in neither.
-fn heading_end(out: &mut [u8], at: usize, area: &[u8], half: usize) -> usize {
+fn heading_end(stdout: Stdout, out: &mut [u8], at: usize, area: &[u8], half: usize) -> usize {
     let blocks = area.len() / 512;
     let mut template: usize = 0;
     if half != 0 {
@@ -129,6 +131,7 @@ fn heading_end(out: &mut [u8], at: usize, area: &[u8], half: usize) -> usize {
     }
     let last = less(blocks as u64, 1);
     fill(
+        stdout,
         out,
         at,
         b"\n|; block # is in neither half\n",
@@ -138,7 +141,7 @@ fn heading_end(out: &mut [u8], at: usize, area: &[u8], half: usize) -> usize {
 }
 
 // Which half begins at block `half`, whether it is in use, and its blocks.
-fn half_heading(out: &mut [u8], at: usize, area: &[u8], half: usize) -> usize {
+fn half_heading(stdout: Stdout, out: &mut [u8], at: usize, area: &[u8], half: usize) -> usize {
     let blocks = half_blocks(area.len());
     if blocks == 0 {
         return at;
@@ -146,6 +149,7 @@ fn half_heading(out: &mut [u8], at: usize, area: &[u8], half: usize) -> usize {
     let used = starts::origin(area).block;
     let last = saturating_add(half as u64, (blocks - 1) as u64);
     let next = fill(
+        stdout,
         out,
         at,
         b"the first half, in use: blocks # to #|\
@@ -155,14 +159,14 @@ fn half_heading(out: &mut [u8], at: usize, area: &[u8], half: usize) -> usize {
         half_template(half, used),
         [half as u64, last, 0, 0],
     );
-    heading_end(out, next, area, half)
+    heading_end(stdout, out, next, area, half)
 }
 
 // The whole blocks of an area, half by half. A block more than the halves have stands behind the second.
-pub fn listed(out: &mut [u8], at: usize, area: &[u8]) -> usize {
+pub fn listed(stdout: Stdout, out: &mut [u8], at: usize, area: &[u8]) -> usize {
     let middle = half_blocks(area.len());
-    let mut next = half_heading(out, at, area, 0);
-    next = lines(out, next, area, 0, middle);
-    next = half_heading(out, next, area, middle);
-    lines(out, next, area, middle, area.len() / 512 - middle)
+    let mut next = half_heading(stdout, out, at, area, 0);
+    next = lines(stdout, out, next, area, 0, middle);
+    next = half_heading(stdout, out, next, area, middle);
+    lines(stdout, out, next, area, middle, area.len() / 512 - middle)
 }

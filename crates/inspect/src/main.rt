@@ -1,8 +1,13 @@
 // Prints what a file has, for people: the journals of consumers, a cursor snapshot or an attempt snapshot, as the first argument says.
 // The first line is the verdict. The file is opened for reading and never changed. What can't be read is said on standard error.
 #![tactic(auto)]
+
 use files::{Asked, Behind};
-use libc::STDERR_FILENO;
+use std::alloc::Global;
+use std::fs::{File, Files};
+use std::io::{Stderr, Stdout};
+use std::{env, fs, io};
+use text::failures::fail;
 use text::output;
 use text::words::{Number, parse_number, same};
 
@@ -29,9 +34,8 @@ enum Kind {
     None,
 }
 
-fn usage() {
-    io::write_all(
-        STDERR_FILENO,
+fn usage(stderr: Stderr) -> io::Result<()> {
+    stderr.write_all(
         b"usage: inspect journal FILE            a consumer's journal: what a restart finds, or why it is refused; then its blocks.\n\
         \x20                                      Of a file with several journals, a line for each\n\
         \x20      inspect journal FILE NUMBER     one of them, counted from 0\n\
@@ -41,7 +45,7 @@ fn usage() {
         'a restart finds' or 'sound' where all is well. A line that begins with 'beware' wants a look before a restart:\n\
         \x20      inspect journal FILE >found; grep -q '^a restart finds' found && ! grep -q '^beware' found\n\
         \x20      inspect cursor FILE | grep -q '^sound'\n",
-    );
+    )
 }
 
 // What the first of the arguments names, where there are as many as it takes.
@@ -66,86 +70,124 @@ fn kind_of(count: usize, word: &[u8]) -> Kind {
     Kind::None
 }
 
-// Which journal the third argument names.
-fn asked_by(count: usize) -> Asked {
-    if count != 4 {
+// Which journal the third argument names, where there is one.
+fn asked_by(word: Option<&str>) -> Asked {
+    let Some(word) = word else {
         return Asked::All;
+    };
+    if 32 < word.len() {
+        return Asked::None;
     }
-    let mut word = [0u8; 32];
-    let n = os::arg(3, &mut word);
-    let Number::Value(number) = parse_number(&word[..n]) else {
+    let Number::Value(number) = parse_number(word.as_bytes()) else {
         return Asked::None;
     };
     Asked::One(number)
 }
 
-fn snapshot_of(kind: Kind, bytes: &[u8], out: &mut [u8]) -> usize {
+fn snapshot_of(kind: Kind, bytes: &[u8], stdout: Stdout, out: &mut [u8]) -> usize {
     match kind {
-        Kind::Cursor => snapshots::cursor(out, 0, bytes),
-        Kind::Attempts => snapshots::attempts(out, 0, bytes),
+        Kind::Cursor => snapshots::cursor(stdout, out, 0, bytes),
+        Kind::Attempts => snapshots::attempts(stdout, out, 0, bytes),
         _ => 0,
     }
 }
 
-fn show_snapshot(kind: Kind, path: &[u8], fd: i32) {
-    let mut buf = io::large_buffer();
-    let mut out = io::large_buffer();
-    let n = io::read_full(fd, &mut buf);
-    let rest = files::read_on(fd, n == 65536);
+fn show_snapshot(
+    kind: Kind,
+    path: &str,
+    file: &mut File,
+    alloc: Global,
+    stdout: Stdout,
+    stderr: Stderr,
+) -> io::Result<()> {
+    let mut buf = [0u8; 65536];
+    let mut out = [0u8; 65536];
+    let read = files::read_full(file, &mut buf);
+    let n = read.len;
+    let rest = files::read_on(file, n == 65536, read.failed);
     match rest {
-        Behind::Failed => os::fail(path),
+        Behind::Failed(error) => return fail(stderr, alloc, path, error),
         Behind::More => {
             let at = output::put(
+                stdout,
                 &mut out,
                 0,
                 b"refused: it has more than 65536 bytes, and no snapshot has more than 2061\n",
             );
-            output::flush(&out, at);
+            output::flush(stdout, &out, at);
         }
         Behind::Nothing => {
-            let at = snapshot_of(kind, &buf[..n], &mut out);
-            output::flush(&out, at);
+            let at = snapshot_of(kind, &buf[..n], stdout, &mut out);
+            output::flush(stdout, &out, at);
         }
     }
+    Ok(())
 }
 
-fn show(kind: Kind, asked: Asked, path: &[u8], fd: i32) {
+fn show(
+    kind: Kind,
+    asked: Asked,
+    path: &str,
+    file: &mut File,
+    alloc: Global,
+    stdout: Stdout,
+    stderr: Stderr,
+) -> io::Result<()> {
     if let Kind::Journal = kind {
-        files::show_journal(asked, path, fd);
-        return;
+        return files::show_journal(asked, path, file, alloc, stdout, stderr);
     }
-    show_snapshot(kind, path, fd);
+    show_snapshot(kind, path, file, alloc, stdout, stderr)
 }
 
-fn inspect(kind: Kind, asked: Asked) {
-    let mut path = io::buffer();
-    let n = os::arg(2, &mut path);
-    if os::errno() != 0 {
-        os::fail(b"inspect: the file's name");
-        return;
+// What a failure names: the file, or where its name is too long that it is the name.
+fn told_as(path: &str) -> &str {
+    if 4096 < path.len() {
+        return "inspect: the file's name";
     }
-    let fd = os::open_read(&path[..n]);
-    if fd < 0 {
-        os::fail(&path[..n]);
-        return;
-    }
-    show(kind, asked, &path[..n], fd);
-    libc::close(fd);
+    path
 }
 
-fn main() {
-    let count = os::arg_count();
-    let mut word = [0u8; 16];
-    let n = os::arg(1, &mut word);
-    let kind = kind_of(count, &word[..n]);
-    let asked = asked_by(count);
+fn inspect<R: Files<File = File>>(
+    rt: &R,
+    kind: Kind,
+    asked: Asked,
+    path: &str,
+    alloc: Global,
+    stdout: Stdout,
+    stderr: Stderr,
+) -> io::Result<()> {
+    let mut file = match fs::open(rt, path) {
+        Ok(file) => file,
+        Err(error) => return fail(stderr, alloc, told_as(path), error),
+    };
+    show(kind, asked, path, &mut file, alloc, stdout, stderr)
+}
+
+fn main(rt: HostRuntime) -> io::Result<()> {
+    let alloc = rt.alloc();
+    let args: Vec<String> = env::args(&rt)?.collect(alloc)?;
+    let count = args.len();
+    let kind = match args.get(1) {
+        Some(word) => kind_of(count, word.as_bytes()),
+        None => Kind::None,
+    };
+    let asked = asked_by(args.get(3).map(|word| word.as_str()));
+    let Some(path) = args.get(2) else {
+        return usage(rt.stderr());
+    };
     if let Kind::None = kind {
-        usage();
-        return;
+        return usage(rt.stderr());
     }
     if let Asked::None = asked {
-        usage();
-        return;
+        return usage(rt.stderr());
     }
-    inspect(kind, asked);
+    inspect(
+        &rt,
+        kind,
+        asked,
+        path.as_str(),
+        alloc,
+        rt.stdout(),
+        rt.stderr(),
+    )
 }

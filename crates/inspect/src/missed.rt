@@ -6,6 +6,7 @@ ghost use Rattle.journal.specs.Blocks.{group_of};
 ghost use Rattle.inspect.specs.Missed.{first_of, first_header, named, HeadersAre, named_by, highest_named};
 
 use crate::said::{Said, less, says};
+use std::io::Stdout;
 use text::templates::fill;
 use types::numbers::{larger, saturating_add, shorter};
 
@@ -149,11 +150,12 @@ fn one_lost_said(next: u64, highest: u64) -> Said {
 }
 
 // Of an area on which a restart is refused, where the groups that it can read end before group `next`.
-pub fn lost(out: &mut [u8], at: usize, area: &[u8], next: u64) -> usize {
+pub fn lost(stdout: Stdout, out: &mut [u8], at: usize, area: &[u8], next: u64) -> usize {
     let headers = headers_behind(area, 0, area.len() / 512);
     let said = lost_said(next, headers.number, highest_named(area));
     let numbers = said.numbers;
     fill(
+        stdout,
         out,
         at,
         b"out of reach: groups # to #; checkpoints a restart can't reach: at least #\n|\
@@ -167,7 +169,15 @@ pub fn lost(out: &mut [u8], at: usize, area: &[u8], next: u64) -> usize {
 }
 
 // Of a walk below block `hi` that ended at a block, where group `next` would come next. Nothing is said where no header stands behind.
-pub fn missed(out: &mut [u8], at: usize, area: &[u8], hi: usize, next: u64, block: usize) -> usize {
+pub fn missed(
+    stdout: Stdout,
+    out: &mut [u8],
+    at: usize,
+    area: &[u8],
+    hi: usize,
+    next: u64,
+    block: usize,
+) -> usize {
     if hi <= block {
         return at;
     }
@@ -176,6 +186,7 @@ pub fn missed(out: &mut [u8], at: usize, area: &[u8], hi: usize, next: u64, bloc
     };
     let headers = headers_behind(area, first, hi);
     let said = fill(
+        stdout,
         out,
         at,
         b"why: no sound header at block #, where the groups end; but block #, behind it, has the kind of a header and a right check, and \
@@ -188,5 +199,5 @@ pub fn missed(out: &mut [u8], at: usize, area: &[u8], hi: usize, next: u64, bloc
             headers.count as u64,
         ],
     );
-    lost(out, said, area, next)
+    lost(stdout, out, said, area, next)
 }

@@ -9,6 +9,7 @@ use crate::places;
 use crate::places::Place;
 use crate::said::{Said, says};
 use consumer::halves::half_blocks;
+use std::io::Stdout;
 use text::templates::fill;
 use types::numbers::saturating_add;
 
@@ -50,9 +51,10 @@ fn other_said(area: &[u8], other: usize, next: u64, later: usize) -> Said {
     says(0, 0, 0)
 }
 
-fn warned(out: &mut [u8], at: usize, said: Said) -> usize {
+fn warned(stdout: Stdout, out: &mut [u8], at: usize, said: Said) -> usize {
     let numbers = said.numbers;
     fill(
+        stdout,
         out,
         at,
         b"|\
@@ -85,14 +87,21 @@ fn or_above(said: Said, next: u64, highest: u64) -> Said {
 }
 
 // Of a walk that ended where group `next` would come next, on an area whose blocks name groups up to `highest`.
-pub fn other(out: &mut [u8], at: usize, area: &[u8], next: u64, highest: u64) -> usize {
+pub fn other(
+    stdout: Stdout,
+    out: &mut [u8],
+    at: usize,
+    area: &[u8],
+    next: u64,
+    highest: u64,
+) -> usize {
     let said = other_said(area, other_half(area), next, 1);
-    warned(out, at, or_above(said, next, highest))
+    warned(stdout, out, at, or_above(said, next, highest))
 }
 
 // Of a walk that met an unsound body: all headers of the half in use count, those behind that body too.
-pub fn other_unsound(out: &mut [u8], at: usize, area: &[u8]) -> usize {
+pub fn other_unsound(stdout: Stdout, out: &mut [u8], at: usize, area: &[u8]) -> usize {
     let used = headers_behind(area, starts::origin(area).block, starts::limit(area));
     let next = saturating_add(used.number, 1);
-    warned(out, at, other_said(area, other_half(area), next, 3))
+    warned(stdout, out, at, other_said(area, other_half(area), next, 3))
 }

@@ -1,10 +1,12 @@
 // Refusals for people: the name of each number (SPEC.md, "Refusals"), and the values.
 use answers::Numbers;
+use std::io::Stdout;
 use text::templates::fill;
 
 // The line's end behind a refusal's number. There is a row for each number, from 0 on, which is no refusal.
-pub fn refused(out: &mut [u8], at: usize, numbers: Numbers) -> usize {
+pub fn refused(stdout: Stdout, out: &mut [u8], at: usize, numbers: Numbers) -> usize {
     fill(
+        stdout,
         out,
         at,
         b"|\
@@ -55,8 +57,9 @@ fn advice_template(number: u64) -> usize {
 }
 
 // What to do about a refusal of a journal.
-pub fn journal_advice(out: &mut [u8], at: usize, number: u64) -> usize {
+pub fn journal_advice(stdout: Stdout, out: &mut [u8], at: usize, number: u64) -> usize {
     fill(
+        stdout,
         out,
         at,
         b"to do: see that the file is whole: a journal has an even number of blocks of 512 bytes, from 18 to 128. One from before there \
@@ -72,12 +75,13 @@ pub fn journal_advice(out: &mut [u8], at: usize, number: u64) -> usize {
 }
 
 // What to do about a refusal of a snapshot.
-pub fn snapshot_advice(out: &mut [u8], at: usize, number: u64) -> usize {
+pub fn snapshot_advice(stdout: Stdout, out: &mut [u8], at: usize, number: u64) -> usize {
     let mut template: usize = 1;
     if advice_template(number) == 2 {
         template = 0;
     }
     fill(
+        stdout,
         out,
         at,
         b"to do: see who wrote it: this reader doesn't know that version\n|\

@@ -4,21 +4,23 @@ use crate::said::{Said, byte, says};
 use answers::Numbers;
 use attempt::Decoded;
 use cursor::AckCursor;
+use std::io::Stdout;
 use text::templates::fill;
 use types::numbers::{shorter, wide};
 
 // A snapshot's refusal, and what to do.
-fn no_snapshot(out: &mut [u8], at: usize, read: Numbers) -> usize {
+fn no_snapshot(stdout: Stdout, out: &mut [u8], at: usize, read: Numbers) -> usize {
     let number = [read.0, 0, 0, 0];
-    let mut next = fill(out, at, b"refused: # ", 0, number);
-    next = refused(out, next, read);
-    snapshot_advice(out, next, read.0)
+    let mut next = fill(stdout, out, at, b"refused: # ", 0, number);
+    next = refused(stdout, out, next, read);
+    snapshot_advice(stdout, out, next, read.0)
 }
 
-fn no_cursor(out: &mut [u8], at: usize, len: u64, read: Numbers) -> usize {
-    let next = no_snapshot(out, at, read);
+fn no_cursor(stdout: Stdout, out: &mut [u8], at: usize, len: u64, read: Numbers) -> usize {
+    let next = no_snapshot(stdout, out, at, read);
     let numbers = [len, 0, 0, 0];
     fill(
+        stdout,
         out,
         next,
         b"file: # bytes, read as a cursor snapshot\n",
@@ -39,9 +41,10 @@ fn range_said(start: u64, end: u64) -> Said {
     says(1, start, last)
 }
 
-fn range(out: &mut [u8], at: usize, said: Said) -> usize {
+fn range(stdout: Stdout, out: &mut [u8], at: usize, said: Said) -> usize {
     let numbers = said.numbers;
     fill(
+        stdout,
         out,
         at,
         b"offset # is settled\n|offsets # to # are settled\n",
@@ -51,34 +54,40 @@ fn range(out: &mut [u8], at: usize, said: Said) -> usize {
 }
 
 // A line for each range ahead of committed.
-fn ranges(out: &mut [u8], at: usize, cursor: AckCursor) -> usize {
+fn ranges(stdout: Stdout, out: &mut [u8], at: usize, cursor: AckCursor) -> usize {
     let n = shorter(cursor.runs, 128);
     let mut next = at;
     let mut i: usize = 0;
     while i < n {
-        next = range(out, next, range_said(cursor.starts[i], cursor.ends[i]));
+        next = range(
+            stdout,
+            out,
+            next,
+            range_said(cursor.starts[i], cursor.ends[i]),
+        );
         i += 1;
     }
     next
 }
 
 // Which offsets are settled: those below committed, and those of each range.
-pub fn cursor(out: &mut [u8], at: usize, bytes: &[u8]) -> usize {
+pub fn cursor(stdout: Stdout, out: &mut [u8], at: usize, bytes: &[u8]) -> usize {
     let decoded = AckCursor::decode_snapshot(bytes);
     let outcome = decoded.outcome;
     let read = answers::of_decode_cursor(outcome, decoded.cursor.committed, decoded.cursor.runs);
     let len = bytes.len() as u64;
     if read.0 != 0 {
-        return no_cursor(out, at, len, read);
+        return no_cursor(stdout, out, at, len, read);
     }
     let next = fill(
+        stdout,
         out,
         at,
         b"sound: a cursor snapshot of # bytes\nevery offset below # is settled; ranges above it: #\n",
         0,
         [len, read.2, read.3, 0],
     );
-    ranges(out, next, decoded.cursor)
+    ranges(stdout, out, next, decoded.cursor)
 }
 
 // The file of an attempt snapshot that is refused. Its version is named but where there is none (13), or where the refusal names it (14).
@@ -89,10 +98,11 @@ fn file_said(len: u64, version: u64, number: u64) -> Said {
     }
 }
 
-fn no_attempts(out: &mut [u8], at: usize, file: Said, read: Numbers) -> usize {
-    let next = no_snapshot(out, at, read);
+fn no_attempts(stdout: Stdout, out: &mut [u8], at: usize, file: Said, read: Numbers) -> usize {
+    let next = no_snapshot(stdout, out, at, read);
     let numbers = file.numbers;
     fill(
+        stdout,
         out,
         next,
         b"file: # bytes, read as an attempt snapshot\n|file: # bytes, read as an attempt snapshot of version #\n",
@@ -109,9 +119,10 @@ fn count_said(offset: u64, count: u64) -> Said {
     says(1, offset, count)
 }
 
-fn count(out: &mut [u8], at: usize, said: Said) -> usize {
+fn count(stdout: Stdout, out: &mut [u8], at: usize, said: Said) -> usize {
     let numbers = said.numbers;
     fill(
+        stdout,
         out,
         at,
         b"offset # was handed out once\n|offset # was handed out # times\n",
@@ -121,34 +132,40 @@ fn count(out: &mut [u8], at: usize, said: Said) -> usize {
 }
 
 // A line for each pair.
-fn pairs(out: &mut [u8], at: usize, decoded: Decoded) -> usize {
+fn pairs(stdout: Stdout, out: &mut [u8], at: usize, decoded: Decoded) -> usize {
     let n = shorter(decoded.count, 128);
     let mut next = at;
     let mut i: usize = 0;
     while i < n {
         let pair = decoded.pairs[i];
-        next = count(out, next, count_said(pair.offset, wide(pair.attempt)));
+        next = count(
+            stdout,
+            out,
+            next,
+            count_said(pair.offset, wide(pair.attempt)),
+        );
         i += 1;
     }
     next
 }
 
 // How often each offset was handed out.
-pub fn attempts(out: &mut [u8], at: usize, bytes: &[u8]) -> usize {
+pub fn attempts(stdout: Stdout, out: &mut [u8], at: usize, bytes: &[u8]) -> usize {
     let decoded = attempt::decode_pairs(bytes);
     let outcome = decoded.outcome;
     let read = answers::of_decode_attempts(outcome);
     let len = bytes.len() as u64;
     let version = byte(bytes, 0);
     if read.0 != 0 {
-        return no_attempts(out, at, file_said(len, version, read.0), read);
+        return no_attempts(stdout, out, at, file_said(len, version, read.0), read);
     }
     let next = fill(
+        stdout,
         out,
         at,
         b"sound: an attempt snapshot of # bytes, version #\noffsets with a count: #\n",
         0,
         [len, version, read.2, 0],
     );
-    pairs(out, next, decoded)
+    pairs(stdout, out, next, decoded)
 }

@@ -1,10 +1,11 @@
 // Runs a list of operations on the ported modules. It reads the list from standard input, at most 4,096 operations of it, and answers
 // each with a line of numbers, the last of them the digest of the state; docs/ORACLE.md has the lines.
 #![tactic(auto)]
+
 ghost use Rattle.std.specs.Prelude.{◌≤◌, ◌+◌, length};
 ghost use Rattle.modules.specs.Reading.{Going};
 
-use libc::STDIN_FILENO;
+use std::io::{Stdin, Stdout};
 use text::lines::{Found, Input};
 use text::words::Numbers;
 use text::{lines, output, words};
@@ -50,7 +51,12 @@ fn take(line: &[u8], ops: &mut [u64], n: usize) -> usize
 }
 
 // Takes the next line in, or reads more. Of a line that is too long for the buffer the first byte is taken: it is none, or a comment.
-fn next_line<'a>(buf: &'a mut [u8], ops: &'a mut [u64], reading: Reading) -> Reading
+fn next_line<'a>(
+    stdin: &mut Stdin,
+    buf: &'a mut [u8],
+    ops: &'a mut [u64],
+    reading: Reading,
+) -> Reading
     requires { Going (length buf.old) (length ops.old) reading }
     ensures { Going (length buf.old) (length ops.old) result }
 {
@@ -74,7 +80,7 @@ fn next_line<'a>(buf: &'a mut [u8], ops: &'a mut [u64], reading: Reading) -> Rea
             }
         }
         Found::More => Reading {
-            input: lines::refill(STDIN_FILENO, buf, input),
+            input: lines::refill(stdin, buf, input),
             n: n,
             ended: false,
         },
@@ -87,7 +93,7 @@ fn next_line<'a>(buf: &'a mut [u8], ops: &'a mut [u64], reading: Reading) -> Rea
 }
 
 // Reads the list. A proved loop has to end, so it counts its turns down from a number that no run uses up.
-fn read<'a>(buf: &'a mut [u8], ops: &'a mut [u64]) -> usize
+fn read<'a>(stdin: &mut Stdin, buf: &'a mut [u8], ops: &'a mut [u64]) -> usize
     ensures { result ≤ length ops.old }
 {
     let mut reading = Reading {
@@ -97,7 +103,7 @@ fn read<'a>(buf: &'a mut [u8], ops: &'a mut [u64]) -> usize
     };
     let mut turns = u64::MAX;
     while 0 < turns {
-        reading = next_line(buf, ops, reading);
+        reading = next_line(stdin, buf, ops, reading);
         if reading.ended {
             return reading.n;
         }
@@ -107,26 +113,26 @@ fn read<'a>(buf: &'a mut [u8], ops: &'a mut [u64]) -> usize
 }
 
 // A value behind a space, where it is there.
-fn put_value(out: &mut [u8], at: usize, there: bool, n: u64) -> usize {
+fn put_value(stdout: Stdout, out: &mut [u8], at: usize, there: bool, n: u64) -> usize {
     if there {
-        let next = output::put(out, at, b" ");
-        return output::put_number(out, next, n);
+        let next = output::put(stdout, out, at, b" ");
+        return output::put_number(stdout, out, next, n);
     }
     at
 }
 
 // The line of an answer: the first `count` of its number and three values, and the digest.
-fn put_answer(out: &mut [u8], at: usize, answer: [u64; 6]) -> usize {
+fn put_answer(stdout: Stdout, out: &mut [u8], at: usize, answer: [u64; 6]) -> usize {
     let count = answer[0];
     if count == 0 {
-        return output::put(out, at, b"bad\n");
+        return output::put(stdout, out, at, b"bad\n");
     }
-    let number = output::put_number(out, at, answer[1]);
-    let first = put_value(out, number, 1 < count, answer[2]);
-    let second = put_value(out, first, 2 < count, answer[3]);
-    let third = put_value(out, second, 3 < count, answer[4]);
-    let digest = put_value(out, third, true, answer[5]);
-    output::put(out, digest, b"\n")
+    let number = output::put_number(stdout, out, at, answer[1]);
+    let first = put_value(stdout, out, number, 1 < count, answer[2]);
+    let second = put_value(stdout, out, first, 2 < count, answer[3]);
+    let third = put_value(stdout, out, second, 3 < count, answer[4]);
+    let digest = put_value(stdout, out, third, true, answer[5]);
+    output::put(stdout, out, digest, b"\n")
 }
 
 // Six numbers from a place on.
@@ -144,22 +150,23 @@ fn six(answers: &[u64], at: usize) -> [u64; 6]
 }
 
 // Prints all answers.
-fn print(answers: &[u64], out: &mut [u8]) {
+fn print(stdout: Stdout, answers: &[u64], out: &mut [u8]) {
     let mut at: usize = 0;
     let mut from: usize = 0;
     while 6 <= answers.len() - from {
         let answer = six(answers, from);
         from += 6;
-        at = put_answer(out, at, answer);
+        at = put_answer(stdout, out, at, answer);
     }
-    output::flush(out, at);
+    output::flush(stdout, out, at);
 }
 
-fn main() {
-    let mut buf = io::large_buffer();
+fn main(rt: HostRuntime) {
+    let mut stdin = rt.stdin();
+    let mut buf = [0u8; 65536];
     let mut ops = [0u64; 20480];
     let mut answers = [0u64; 24576];
-    let n = read(&mut buf, &mut ops);
+    let n = read(&mut stdin, &mut buf, &mut ops);
     let m = operations::ninotskev_operations(&ops[0..n], &mut answers);
-    print(&answers[0..m], &mut buf);
+    print(rt.stdout(), &answers[0..m], &mut buf);
 }

@@ -95,7 +95,7 @@ pub fn cut(machine: Machine, kind: Kind, area: &mut [u8]) -> Failed
     requires { Sound machine }
     ensures { Sound result.machine }
 {
-    let mut copied = io::large_buffer();
+    let mut copied = [0u8; 65536];
     let block = trial(machine, area, &mut copied);
     if 128 <= block {
         return Failed {

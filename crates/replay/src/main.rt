@@ -2,6 +2,7 @@
 // names, or from standard input, and writes an answer line for each; `script` has the lines, `printing` the answers, docs/REPLAY.md
 // both.
 #![tactic(auto)]
+
 mod blocks;
 mod printing;
 mod script;
@@ -11,9 +12,13 @@ ghost use Rattle.std.specs.Prelude.{length};
 ghost use Rattle.text.specs.Lines.{Within, Lies};
 ghost use Rattle.replay.specs.Running.{Ready, Going};
 
-use libc::{STDERR_FILENO, STDIN_FILENO};
 use script::Line;
 use session::Session;
+use std::alloc::Global;
+use std::fs::Files;
+use std::io::{Error, Read, Stderr, Stdout};
+use std::{env, fs, io};
+use text::failures::fail;
 use text::lines::{Found, Input};
 use text::{lines, output};
 
@@ -55,14 +60,14 @@ fn is_line(found: Found) -> bool {
 }
 
 // What there is to take once more is read, unless the input has ended.
-fn more(fd: i32, buf: &mut [u8], input: Input) -> Input
+fn more<R: Read>(source: &mut R, buf: &mut [u8], input: Input) -> Input
     requires { Within (length buf.old) input }
     ensures { Within (length buf.old) result }
 {
     if input.ended {
         return input;
     }
-    lines::refill(fd, buf, input)
+    lines::refill(source, buf, input)
 }
 
 // The form that a bad line is told.
@@ -80,6 +85,7 @@ fn answer<'a>(
     told: bool,
     bytes: &'a [u8],
     area: &'a mut [u8],
+    stdout: Stdout,
     out: &'a mut [u8],
     at: usize,
 ) -> Done
@@ -97,15 +103,16 @@ fn answer<'a>(
     }
     Done {
         session: after,
-        at: printing::print(out, at, said, &list, area, after, form),
+        at: printing::print(stdout, out, at, said, &list, area, after, form),
         told: tells,
     }
 }
 
 // Answers the next line. Before more is read, all answers are written out, so that whoever waits for them gets them.
-fn next_line<'a>(
-    fd: i32,
+fn next_line<'a, R: Read>(
+    source: &mut R,
     buf: &'a mut [u8],
+    stdout: Stdout,
     out: &'a mut [u8],
     area: &'a mut [u8],
     bytes: &'a mut [u8],
@@ -122,7 +129,7 @@ fn next_line<'a>(
     let found = taken.found;
     if is_line(found) {
         let line = line_in(buf, found, bytes);
-        let done = answer(line, session, state.told, bytes, area, out, at);
+        let done = answer(line, session, state.told, bytes, area, stdout, out, at);
         let after = done.session;
         return State {
             input: input,
@@ -132,9 +139,9 @@ fn next_line<'a>(
             ended: false,
         };
     }
-    output::flush(out, at);
+    output::flush(stdout, out, at);
     State {
-        input: more(fd, buf, input),
+        input: more(source, buf, input),
         at: 0,
         session: session,
         told: state.told,
@@ -143,10 +150,11 @@ fn next_line<'a>(
 }
 
 // Line by line up to the end. A proved loop has to end, so it counts its turns down from a number that no run uses up.
-fn run<'a>(
-    fd: i32,
+fn run<'a, R: Read>(
+    source: &mut R,
     told: bool,
     buf: &'a mut [u8],
+    stdout: Stdout,
     out: &'a mut [u8],
     area: &'a mut [u8],
     bytes: &'a mut [u8],
@@ -160,7 +168,7 @@ fn run<'a>(
     };
     let mut turns = u64::MAX;
     while 0 < turns {
-        state = next_line(fd, buf, out, area, bytes, state);
+        state = next_line(source, buf, stdout, out, area, bytes, state);
         if state.ended {
             return;
         }
@@ -168,57 +176,65 @@ fn run<'a>(
     }
 }
 
-fn run_all(fd: i32, told: bool) {
-    let mut buf = io::large_buffer();
-    let mut out = io::large_buffer();
-    let mut area = io::large_buffer();
-    let mut bytes = io::large_buffer();
-    run(fd, told, &mut buf, &mut out, &mut area, &mut bytes);
-}
-
-// Whether a descriptor can't be read, as that of a folder.
-fn is_unreadable(fd: i32) -> bool {
-    let mut none = [0u8; 1];
-    libc::read(fd, &mut none[..0]) < 0
-}
-
-// The script that the first argument names, whose bad lines are told.
-fn run_file() {
-    let mut path = io::buffer();
-    let n = os::arg(1, &mut path);
-    if os::errno() != 0 {
-        os::fail(b"replay: the file's name");
-        return;
-    }
-    let fd = os::open_read(&path[..n]);
-    if fd < 0 {
-        os::fail(&path[..n]);
-        return;
-    }
-    if is_unreadable(fd) {
-        os::fail(&path[..n]);
-    } else {
-        run_all(fd, true);
-    }
-    libc::close(fd);
-}
-
-fn usage() {
-    io::write_all(
-        STDERR_FILENO,
-        b"usage: replay [FILE]    runs the script FILE, or the one on standard input; its line help prints all lines\n",
+fn run_all<R: Read>(source: &mut R, told: bool, stdout: Stdout) {
+    let mut buf = [0u8; 65536];
+    let mut out = [0u8; 65536];
+    let mut area = [0u8; 65536];
+    let mut bytes = [0u8; 65536];
+    run(
+        source, told, &mut buf, stdout, &mut out, &mut area, &mut bytes,
     );
 }
 
-fn main() {
-    let count = os::arg_count();
-    if count < 2 {
-        run_all(STDIN_FILENO, false);
-        return;
+// Why a file can't be read, as that of a folder.
+fn unreadable<R: Read>(source: &mut R) -> Option<Error> {
+    let mut none = [0u8; 1];
+    source.read(&mut none[..0]).err()
+}
+
+// What a failure names: the file, or where its name is too long that it is the name.
+fn told_as(path: &str) -> &str {
+    if 4096 < path.len() {
+        return "replay: the file's name";
     }
-    if count == 2 {
-        run_file();
-        return;
+    path
+}
+
+// The script that the first argument names, whose bad lines are told.
+fn run_file<R: Files>(
+    rt: &R,
+    alloc: Global,
+    path: &str,
+    stdout: Stdout,
+    stderr: Stderr,
+) -> io::Result<()> {
+    let mut file = match fs::open(rt, path) {
+        Ok(file) => file,
+        Err(error) => return fail(stderr, alloc, told_as(path), error),
+    };
+    if let Some(error) = unreadable(&mut file) {
+        return fail(stderr, alloc, path, error);
     }
-    usage();
+    run_all(&mut file, true, stdout);
+    Ok(())
+}
+
+fn usage(stderr: Stderr) -> io::Result<()> {
+    eprintln!(stderr;
+        "usage: replay [FILE]    runs the script FILE, or the one on standard input; its line help prints all lines"
+    )
+}
+
+fn main(rt: HostRuntime) -> io::Result<()> {
+    let mut args = env::args(&rt)?;
+    args.next();
+    let Some(path) = args.next() else {
+        let mut stdin = rt.stdin();
+        run_all(&mut stdin, false, rt.stdout());
+        return Ok(());
+    };
+    if args.next().is_some() {
+        return usage(rt.stderr());
+    }
+    run_file(&rt, rt.alloc(), path.as_str(), rt.stdout(), rt.stderr())
 }

@@ -2,6 +2,7 @@
 use crate::script;
 use crate::session::Session;
 use answers::Numbers;
+use std::io::Stdout;
 use text::{output, templates};
 
 // The places of a list that the bytes of an export take: the cursor's first, of which there are at most so many, and behind those the counts'.
@@ -203,22 +204,22 @@ pub fn answer_said(form: usize, offset: u64, code: Numbers) -> Said {
 }
 
 // The first n entries of a list, and the line's end.
-fn waiting(out: &mut [u8], at: usize, list: &[u64], n: usize) -> usize {
+fn waiting(stdout: Stdout, out: &mut [u8], at: usize, list: &[u64], n: usize) -> usize {
     let mut next = at;
     let mut i: usize = 0;
     while i < list.len() {
         if n <= i {
             break;
         }
-        next = shown::with(out, next, b" ", list[i]);
+        next = shown::with(stdout, out, next, b" ", list[i]);
         i += 1;
     }
-    output::put(out, next, b"\n")
+    output::put(stdout, out, next, b"\n")
 }
 
 // The stretches whose numbers are the first n of a list, and the line's end.
-fn stretches(out: &mut [u8], at: usize, list: &[u64], n: usize) -> usize {
-    let mut next = shown::or_none(out, at, n);
+fn stretches(stdout: Stdout, out: &mut [u8], at: usize, list: &[u64], n: usize) -> usize {
+    let mut next = shown::or_none(stdout, out, at, n);
     let len = list.len();
     let mut i: usize = 0;
     while i < len {
@@ -229,34 +230,34 @@ fn stretches(out: &mut [u8], at: usize, list: &[u64], n: usize) -> usize {
         if len <= end {
             break;
         }
-        next = shown::before(out, next, i);
-        next = output::put_number(out, next, list[i]);
-        next = shown::with(out, next, b"-", list[end]);
+        next = shown::before(stdout, out, next, i);
+        next = output::put_number(stdout, out, next, list[i]);
+        next = shown::with(stdout, out, next, b"-", list[end]);
         i += 2;
     }
-    output::put(out, next, b"\n")
+    output::put(stdout, out, next, b"\n")
 }
 
 // An entry of a list with commas between them.
-fn entry(out: &mut [u8], at: usize, i: usize, x: u64) -> usize {
+fn entry(stdout: Stdout, out: &mut [u8], at: usize, i: usize, x: u64) -> usize {
     if i == 0 {
-        return shown::with(out, at, b" ", x);
+        return shown::with(stdout, out, at, b" ", x);
     }
-    shown::with(out, at, b",", x)
+    shown::with(stdout, out, at, b",", x)
 }
 
 // The first n entries of such a list, and the line's end.
-fn plan(out: &mut [u8], at: usize, list: &[u64], n: usize) -> usize {
+fn plan(stdout: Stdout, out: &mut [u8], at: usize, list: &[u64], n: usize) -> usize {
     let mut next = at;
     let mut i: usize = 0;
     while i < list.len() {
         if n <= i {
             break;
         }
-        next = entry(out, next, i, list[i]);
+        next = entry(stdout, out, next, i, list[i]);
         i += 1;
     }
-    output::put(out, next, b"\n")
+    output::put(stdout, out, next, b"\n")
 }
 
 fn narrow(x: u64) -> u8 {
@@ -264,7 +265,7 @@ fn narrow(x: u64) -> u8 {
 }
 
 // The hexadecimal digits of n entries of a list, from a place on.
-fn bytes(out: &mut [u8], at: usize, list: &[u64], from: usize, n: usize) -> usize {
+fn bytes(stdout: Stdout, out: &mut [u8], at: usize, list: &[u64], from: usize, n: usize) -> usize {
     let mut next = at;
     let mut i: usize = from;
     let mut left: usize = n;
@@ -272,7 +273,7 @@ fn bytes(out: &mut [u8], at: usize, list: &[u64], from: usize, n: usize) -> usiz
         if list.len() <= i {
             break;
         }
-        next = output::put_hex(out, next, narrow(list[i]));
+        next = output::put_hex(stdout, out, next, narrow(list[i]));
         i += 1;
         left -= 1;
     }
@@ -280,15 +281,15 @@ fn bytes(out: &mut [u8], at: usize, list: &[u64], from: usize, n: usize) -> usiz
 }
 
 // The two snapshots of an export, of so many bytes, and the line's end.
-fn snapshots(out: &mut [u8], at: usize, list: &[u64], n: usize, k: usize) -> usize {
-    let mut next = bytes(out, at, list, 0, n);
-    next = output::put(out, next, b" ");
-    next = bytes(out, next, list, CURSOR_PLACES, k);
-    output::put(out, next, b"\n")
+fn snapshots(stdout: Stdout, out: &mut [u8], at: usize, list: &[u64], n: usize, k: usize) -> usize {
+    let mut next = bytes(stdout, out, at, list, 0, n);
+    next = output::put(stdout, out, next, b" ");
+    next = bytes(stdout, out, next, list, CURSOR_PLACES, k);
+    output::put(stdout, out, next, b"\n")
 }
 
 // The hexadecimal digits of the block that begins at a place, and the line's end.
-fn block(out: &mut [u8], at: usize, area: &[u8], from: usize) -> usize {
+fn block(stdout: Stdout, out: &mut [u8], at: usize, area: &[u8], from: usize) -> usize {
     let mut next = at;
     let mut i: usize = from;
     let mut left: usize = 512;
@@ -296,43 +297,45 @@ fn block(out: &mut [u8], at: usize, area: &[u8], from: usize) -> usize {
         if area.len() <= i {
             break;
         }
-        next = output::put_hex(out, next, area[i]);
+        next = output::put_hex(stdout, out, next, area[i]);
         i += 1;
         left -= 1;
     }
-    output::put(out, next, b"\n")
+    output::put(stdout, out, next, b"\n")
 }
 
 // The end of a bad line's answer: the form that it should have had, by its place in the table, where that is known and to be told.
-fn bad_line(out: &mut [u8], at: usize, expected: usize) -> usize {
+fn bad_line(stdout: Stdout, out: &mut [u8], at: usize, expected: usize) -> usize {
     if script::BAD <= expected {
-        return output::put(out, at, b"\n");
+        return output::put(stdout, out, at, b"\n");
     }
-    let mut next = output::put(out, at, b": ");
-    next = templates::fill(out, next, &script::FORMS, expected, [0; 4]);
-    output::put(out, next, b"\n")
+    let mut next = output::put(stdout, out, at, b": ");
+    next = templates::fill(stdout, out, next, &script::FORMS, expected, [0; 4]);
+    output::put(stdout, out, next, b"\n")
 }
 
 // A line for each form of the table.
-fn forms(out: &mut [u8], at: usize) -> usize {
+fn forms(stdout: Stdout, out: &mut [u8], at: usize) -> usize {
     let mut next = at;
     let mut k: usize = 0;
     while k < script::BAD {
-        next = templates::fill(out, next, &script::FORMS, k, [0; 4]);
-        next = output::put(out, next, b"\n");
+        next = templates::fill(stdout, out, next, &script::FORMS, k, [0; 4]);
+        next = output::put(stdout, out, next, b"\n");
         k += 1;
     }
     next
 }
 
-fn help(out: &mut [u8], at: usize) -> usize {
+fn help(stdout: Stdout, out: &mut [u8], at: usize) -> usize {
     let mut next = output::put(
+        stdout,
         out,
         at,
         b"A line is a word and decimal numbers, with one space between. An empty line, and one that begins with #, asks for nothing.\n",
     );
-    next = forms(out, next);
+    next = forms(stdout, out, next);
     output::put(
+        stdout,
         out,
         next,
         b"A call that is refused answers refused NUMBER VALUE..., one that can't be made where it stands not now, any other line bad line.\n\
@@ -343,6 +346,7 @@ fn help(out: &mut [u8], at: usize) -> usize {
 // An answer; `list` has the waiting list, the stretches, the answers of a plan or the bytes of an export, and `expected` is the place of the form that a bad line
 // is told.
 pub fn print<'a>(
+    stdout: Stdout,
     out: &'a mut [u8],
     at: usize,
     said: Said,
@@ -357,6 +361,7 @@ pub fn print<'a>(
     let template = said.template;
     let numbers = said.numbers;
     let next = templates::fill(
+        stdout,
         out,
         at,
         b"|bad line|not now\n|refused #\n|refused # #\n|refused # # #\n|started\n|deliver # # #\n|deadletter # # #\n|settled\n|requeued #\n|extended #\n|committed\n|unchanged\n|waiting|begun #\n|wrote #\n|done #\n|restarted\n|cut #\n|poked\n|worker #\n|rights\n|view settled\n|view held\n|view waiting\n|view settled none none none none\n|view waiting # none none none\n|view held # # # #\n|view waiting # # # #\n|open|nearest #\n|plan # none\n|plan #|block ||hours\n||imported\n|exported ",
@@ -364,14 +369,21 @@ pub fn print<'a>(
         numbers,
     );
     match template {
-        WAITING => waiting(out, next, list, numbers[0] as usize),
-        OPEN => stretches(out, next, list, numbers[0] as usize),
-        PLAN => plan(out, next, list, numbers[1] as usize),
-        EXPORTED => snapshots(out, next, list, numbers[0] as usize, numbers[1] as usize),
-        BLOCK => block(out, next, area, numbers[0] as usize),
-        STATE => shown::state(out, next, consumer),
-        BAD_LINE => bad_line(out, next, expected),
-        HELP => help(out, next),
+        WAITING => waiting(stdout, out, next, list, numbers[0] as usize),
+        OPEN => stretches(stdout, out, next, list, numbers[0] as usize),
+        PLAN => plan(stdout, out, next, list, numbers[1] as usize),
+        EXPORTED => snapshots(
+            stdout,
+            out,
+            next,
+            list,
+            numbers[0] as usize,
+            numbers[1] as usize,
+        ),
+        BLOCK => block(stdout, out, next, area, numbers[0] as usize),
+        STATE => shown::state(stdout, out, next, consumer),
+        BAD_LINE => bad_line(stdout, out, next, expected),
+        HELP => help(stdout, out, next),
         _ => next,
     }
 }

@@ -1,5 +1,6 @@
 // What the programs print alike: the state of a consumer.
 #![tactic(auto)]
+
 ghost use Rattle.std.specs.Prelude.{◌≡◌, [], ◌∷◌, get_or};
 ghost use Rattle.types.specs.Keyed.{entry};
 ghost use Rattle.lease.specs.State.{nil, stored_in, leases_of, carried_of};
@@ -11,6 +12,7 @@ use consumer::Consumer;
 use consumer::halves::half_in_use;
 use cursor::AckCursor;
 use lease::{Lease, LeaseTable};
+use std::io::Stdout;
 use text::output::{put, put_number};
 use text::templates::fill;
 use types::Generation;
@@ -18,52 +20,52 @@ use types::limits::LEASES;
 use types::numbers::wide;
 
 // A text and a number behind it.
-pub fn with(out: &mut [u8], at: usize, text: &[u8], n: u64) -> usize
+pub fn with(stdout: Stdout, out: &mut [u8], at: usize, text: &[u8], n: u64) -> usize
     ensures { Says (text_number text.now n) at out.old result out.new }
 {
-    let next = put(out, at, text);
-    put_number(out, next, n)
+    let next = put(stdout, out, at, text);
+    put_number(stdout, out, next, n)
 }
 
 // What stands in front of entry i of a list, and what an empty list is.
-pub fn before(out: &mut [u8], at: usize, i: usize) -> usize
+pub fn before(stdout: Stdout, out: &mut [u8], at: usize, i: usize) -> usize
     ensures { Says (mark i ∷ []) at out.old result out.new }
 {
     if i == 0 {
-        return put(out, at, b" ");
+        return put(stdout, out, at, b" ");
     }
-    put(out, at, b",")
+    put(stdout, out, at, b",")
 }
 
-pub fn or_none(out: &mut [u8], at: usize, n: usize) -> usize
+pub fn or_none(stdout: Stdout, out: &mut [u8], at: usize, n: usize) -> usize
     ensures { Says (none_where n) at out.old result out.new }
 {
     if n == 0 {
-        return put(out, at, b" none");
+        return put(stdout, out, at, b" none");
     }
     at
 }
 
 // The ranges ahead of committed.
-pub fn ranges(out: &mut [u8], at: usize, cursor: AckCursor) -> usize
+pub fn ranges(stdout: Stdout, out: &mut [u8], at: usize, cursor: AckCursor) -> usize
     ensures { Says (ranges_text (ahead_of cursor)) at out.old result out.new }
 {
-    let mut next = put(out, at, b" ranges");
-    next = or_none(out, next, cursor.runs);
+    let mut next = put(stdout, out, at, b" ranges");
+    next = or_none(stdout, out, next, cursor.runs);
     let mut i: usize = 0;
     while i < 128 {
         if cursor.runs <= i {
             break;
         }
-        next = before(out, next, i);
-        next = put_number(out, next, cursor.starts[i]);
-        next = with(out, next, b"-", cursor.ends[i]);
+        next = before(stdout, out, next, i);
+        next = put_number(stdout, out, next, cursor.starts[i]);
+        next = with(stdout, out, next, b"-", cursor.ends[i]);
         i += 1;
     }
     next
 }
 
-fn lease(out: &mut [u8], at: usize, offset: u64, lease: Lease) -> usize
+fn lease(stdout: Stdout, out: &mut [u8], at: usize, offset: u64, lease: Lease) -> usize
     ensures { Says (lease_text (entry offset lease)) at out.old result out.new }
 {
     let times = [
@@ -72,8 +74,8 @@ fn lease(out: &mut [u8], at: usize, offset: u64, lease: Lease) -> usize
         lease.attempt_start,
         lease.deadline,
     ];
-    let next = fill(out, at, b"#:#:#:#", 0, times);
-    with(out, next, b":", lease.deliveries as u64)
+    let next = fill(stdout, out, at, b"#:#:#:#", 0, times);
+    with(stdout, out, next, b":", lease.deliveries as u64)
 }
 
 // The lease at a slot. A number that is no slot, which no call leaves, has one of zeros.
@@ -101,45 +103,45 @@ fn stored_at(slot: u32, table: LeaseTable) -> Lease
     }
 }
 
-fn leases(out: &mut [u8], at: usize, table: LeaseTable) -> usize
+fn leases(stdout: Stdout, out: &mut [u8], at: usize, table: LeaseTable) -> usize
     ensures { Says (leases_text (leases_of table)) at out.old result out.new }
 {
-    let mut next = put(out, at, b" leases");
-    next = or_none(out, next, table.len);
+    let mut next = put(stdout, out, at, b" leases");
+    next = or_none(stdout, out, next, table.len);
     let mut i: usize = 0;
     while i < 64 {
         if table.len <= i {
             break;
         }
-        next = before(out, next, i);
+        next = before(stdout, out, next, i);
         let slot = table.slots[i];
         let held = stored_at(slot, table);
-        next = lease(out, next, table.offsets[i], held);
+        next = lease(stdout, out, next, table.offsets[i], held);
         i += 1;
     }
     next
 }
 
-fn carried(out: &mut [u8], at: usize, table: LeaseTable) -> usize
+fn carried(stdout: Stdout, out: &mut [u8], at: usize, table: LeaseTable) -> usize
     ensures { Says (carried_text (carried_of table)) at out.old result out.new }
 {
-    let mut next = put(out, at, b" carried");
-    next = or_none(out, next, table.carried_len);
+    let mut next = put(stdout, out, at, b" carried");
+    next = or_none(stdout, out, next, table.carried_len);
     let mut i: usize = 0;
     while i < 128 {
         if table.carried_len <= i {
             break;
         }
-        next = before(out, next, i);
-        next = put_number(out, next, table.carried_offsets[i]);
-        next = with(out, next, b":", wide(table.carried_counts[i]));
+        next = before(stdout, out, next, i);
+        next = put_number(stdout, out, next, table.carried_offsets[i]);
+        next = with(stdout, out, next, b":", wide(table.carried_counts[i]));
         i += 1;
     }
     next
 }
 
 // Generations, the redelivery counter, where the next group goes, and the half in use.
-fn numbers(out: &mut [u8], at: usize, consumer: Consumer) -> usize
+fn numbers(stdout: Stdout, out: &mut [u8], at: usize, consumer: Consumer) -> usize
     ensures { Says (numbers_text (view consumer)) at out.old result out.new }
 {
     let numbers = [
@@ -148,10 +150,18 @@ fn numbers(out: &mut [u8], at: usize, consumer: Consumer) -> usize
         wide(consumer.table.redeliveries_since_flush),
         consumer.next.number,
     ];
-    let next = fill(out, at, b" next # ceiling # counter # group #", 0, numbers);
+    let next = fill(
+        stdout,
+        out,
+        at,
+        b" next # ceiling # counter # group #",
+        0,
+        numbers,
+    );
     let block = consumer.next.block;
     let half = half_in_use(consumer.area_len, block);
     fill(
+        stdout,
         out,
         next,
         b" block # half #\n",
@@ -161,14 +171,14 @@ fn numbers(out: &mut [u8], at: usize, consumer: Consumer) -> usize
 }
 
 // The whole state.
-pub fn state(out: &mut [u8], at: usize, consumer: Consumer) -> usize
+pub fn state(stdout: Stdout, out: &mut [u8], at: usize, consumer: Consumer) -> usize
     ensures { Says (state_line (view consumer)) at out.old result out.new }
 {
     let cursor = consumer.cursor;
     let table = consumer.table;
-    let mut next = with(out, at, b"state committed ", cursor.committed);
-    next = ranges(out, next, cursor);
-    next = leases(out, next, table);
-    next = carried(out, next, table);
-    numbers(out, next, consumer)
+    let mut next = with(stdout, out, at, b"state committed ", cursor.committed);
+    next = ranges(stdout, out, next, cursor);
+    next = leases(stdout, out, next, table);
+    next = carried(stdout, out, next, table);
+    numbers(stdout, out, next, consumer)
 }

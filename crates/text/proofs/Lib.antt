@@ -4,3 +4,5 @@ mod Taking
 pub mod Putting
 mod Digits
 mod Filling
+mod Powers
+mod Counting

@@ -1,4 +1,5 @@
 pub mod Words
 pub mod Lines
+pub mod Digits
 pub mod Output
 pub mod Templates

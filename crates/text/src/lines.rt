@@ -4,6 +4,7 @@ ghost use Rattle.std.specs.Prelude.{◌≡◌, ◌-◌, ◌≤◌, length, take,
 ghost use Rattle.text.specs.Lines.{Within, nothing, line_at, after, last_line, for_more, Took, Shortened, Refilled};
 
 use crate::words::find;
+use std::io::Read;
 
 // The bytes of the buffer that are still to be taken: from a place up to another. `long`: they go on with a line that was too
 // long, which began with `first`. `ended`: nothing comes behind them.
@@ -181,16 +182,18 @@ fn to_front(buf: &mut [u8], from: usize, to: usize)
     }
 }
 
-// Reads once, and answers how many bytes came.
-fn read_some(fd: i32, buf: &mut [u8]) -> usize
+// Reads once, and answers how many bytes came: none where the read fails.
+fn read_some<R: Read>(source: &mut R, buf: &mut [u8]) -> usize
     ensures { result ≤ length buf.old }
 {
-    let got = libc::read(fd, buf);
-    io::count(got, buf)
+    match source.read(buf) {
+        Ok(got) => got,
+        Err(_) => 0,
+    }
 }
 
 // Reads once, behind the bytes that are still to be taken, which go to the front first. Where nothing comes, the input has ended.
-pub fn refill(fd: i32, buf: &mut [u8], input: Input) -> Input
+pub fn refill<R: Read>(source: &mut R, buf: &mut [u8], input: Input) -> Input
     requires { Within (length buf.old) input }
     ensures { Refilled buf.old input result buf.new }
 {
@@ -198,7 +201,7 @@ pub fn refill(fd: i32, buf: &mut [u8], input: Input) -> Input
     let to = input.to;
     to_front(buf, from, to);
     let kept = to - from;
-    let more = read_some(fd, &mut buf[kept..]);
+    let more = read_some(source, &mut buf[kept..]);
     Input {
         from: 0,
         to: kept + more,

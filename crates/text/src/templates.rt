@@ -6,6 +6,7 @@ ghost use Rattle.text.specs.Templates.{template_at, filled, BeginsAt};
 
 use crate::output::{put, put_number};
 use crate::words::find;
+use std::io::Stdout;
 
 // Where template k begins: behind k bars, or at the end where there are fewer.
 fn start_of(templates: &[u8], k: usize) -> usize
@@ -36,28 +37,35 @@ fn number_at(numbers: [u64; 4], i: usize) -> u64
 }
 
 // Puts a template, with the numbers in place of its marks.
-fn fill_one(out: &mut [u8], at: usize, template: &[u8], numbers: [u64; 4]) -> usize
+fn fill_one(stdout: Stdout, out: &mut [u8], at: usize, template: &[u8], numbers: [u64; 4]) -> usize
     ensures { Says (filled template.now numbers) at out.old result out.new }
 {
     let len = template.len();
     let mut end = find(template, 0, 35);
-    let mut next = put(out, at, &template[..end]);
+    let mut next = put(stdout, out, at, &template[..end]);
     let mut i: usize = 0;
     while end < len {
         let start = end + 1;
         end = find(template, start, 35);
-        next = put_number(out, next, number_at(numbers, i));
-        next = put(out, next, &template[start..end]);
+        next = put_number(stdout, out, next, number_at(numbers, i));
+        next = put(stdout, out, next, &template[start..end]);
         i += 1;
     }
     next
 }
 
 // Puts template k of a text, counted from 0, with up to four numbers in place of its marks.
-pub fn fill(out: &mut [u8], at: usize, templates: &[u8], k: usize, numbers: [u64; 4]) -> usize
+pub fn fill(
+    stdout: Stdout,
+    out: &mut [u8],
+    at: usize,
+    templates: &[u8],
+    k: usize,
+    numbers: [u64; 4],
+) -> usize
     ensures { Says (filled (template_at k templates.now) numbers) at out.old result out.new }
 {
     let from = start_of(templates, k);
-    let to = find(templates, from, 124);
-    fill_one(out, at, &templates[from..to], numbers)
+    let end = find(templates, from, 124);
+    fill_one(stdout, out, at, &templates[from..end], numbers)
 }

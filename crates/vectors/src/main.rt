@@ -5,29 +5,31 @@
 ghost use Rattle.std.specs.Prelude.{◌≡◌};
 ghost use Rattle.crc.specs.Crc32c.{crc};
 
-use libc::STDOUT_FILENO;
+use std::io;
+use std::io::Stdout;
 
-fn main() {
-    example(b"32 bytes of zeroes", &[0u8; 32], 0x8a91_36aa);
-    example(b"32 bytes of ones", &[255u8; 32], 0x62a8_ab43);
+fn main(rt: HostRuntime) -> io::Result<()> {
+    let stdout = rt.stdout();
+    example(stdout, "32 bytes of zeroes", &[0u8; 32], 0x8a91_36aa)?;
+    example(stdout, "32 bytes of ones", &[255u8; 32], 0x62a8_ab43)?;
     let rising = b"\x00\x01\x02\x03\x04\x05\x06\x07\x08\x09\x0a\x0b\x0c\x0d\x0e\x0f\
           \x10\x11\x12\x13\x14\x15\x16\x17\x18\x19\x1a\x1b\x1c\x1d\x1e\x1f";
-    example(b"32 bytes of incrementing 00..1f", rising, 0x46dd_794e);
+    example(stdout, "32 bytes of incrementing 00..1f", rising, 0x46dd_794e)?;
     let falling = b"\x1f\x1e\x1d\x1c\x1b\x1a\x19\x18\x17\x16\x15\x14\x13\x12\x11\x10\
           \x0f\x0e\x0d\x0c\x0b\x0a\x09\x08\x07\x06\x05\x04\x03\x02\x01\x00";
-    example(b"32 bytes of decrementing 1f..00", falling, 0x113f_db5c);
+    example(stdout, "32 bytes of decrementing 1f..00", falling, 0x113f_db5c)?;
     let pdu = b"\x01\xc0\x00\x00\x00\x00\x00\x00\x00\x00\x00\x00\x00\x00\x00\x00\
           \x14\x00\x00\x00\x00\x00\x04\x00\x00\x00\x00\x14\x00\x00\x00\x18\
           \x28\x00\x00\x00\x00\x00\x00\x00\x02\x00\x00\x00\x00\x00\x00\x00";
-    example(b"SCSI Read (10) Command PDU", pdu, 0xd996_3a56);
-    example(b"123456789", b"123456789", 0xe306_9283);
+    example(stdout, "SCSI Read (10) Command PDU", pdu, 0xd996_3a56)?;
+    example(stdout, "123456789", b"123456789", 0xe306_9283)
 }
 
 // Three lines for an example: its bytes whole, in two parts, and behind others.
-fn example(name: &[u8], bytes: &[u8], expected: u32) {
-    line(name, b", whole: ", crc::crc32c(bytes), expected);
-    line(name, b", in two parts: ", in_two_parts(bytes), expected);
-    line(name, b", behind 69 bytes: ", behind_others(bytes), expected);
+fn example(stdout: Stdout, name: &str, bytes: &[u8], expected: u32) -> io::Result<()> {
+    line(stdout, name, ", whole: ", crc::crc32c(bytes), expected)?;
+    line(stdout, name, ", in two parts: ", in_two_parts(bytes), expected)?;
+    line(stdout, name, ", behind 69 bytes: ", behind_others(bytes), expected)
 }
 
 // The check of the first half of bytes, and from there on that of all.
@@ -58,15 +60,11 @@ fn behind_others(bytes: &[u8]) -> u32 {
 }
 
 // One line, which says whether the check computed is the one expected.
-fn line(name: &[u8], how: &[u8], computed: u32, expected: u32) {
-    io::write_all(STDOUT_FILENO, name);
-    io::write_all(STDOUT_FILENO, how);
-    io::print_hex(STDOUT_FILENO, computed as u64, 8);
-    io::write_all(STDOUT_FILENO, b", expected ");
-    io::print_hex(STDOUT_FILENO, expected as u64, 8);
+fn line(stdout: Stdout, name: &str, how: &str, computed: u32, expected: u32) -> io::Result<()> {
+    print!(stdout; "{name}{how}{computed:08x}, expected {expected:08x}")?;
     if computed == expected {
-        io::write_all(STDOUT_FILENO, b", ok\n");
+        println!(stdout; ", ok")
     } else {
-        io::write_all(STDOUT_FILENO, b", WRONG\n");
+        println!(stdout; ", WRONG")
     }
 }

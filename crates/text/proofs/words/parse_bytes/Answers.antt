@@ -1,0 +1,69 @@
+-- `parse_bytes` meets its contract. The loop's invariant: `count` bytes are in the list, and the digits from `at` on are left. Assumes
+-- nothing.
+use Prim.Native.Nat.{◌-◌, ◌≤◌}
+use native.Mathlib.Omega.{arith}
+use mathlib.Core.Path.{◌≡◌, sym, ap, ◌∙◌}
+use lib.ListN.{length}
+use Rattle.text.specs.Words.{all_hex, is_bytes, byte_of}
+use Rattle.text.proofs.Hex.{Decoding, decoding_none, plainly, decoding_more, decoded-bad, decoded_odd, decoded-all, decoded_dash, decoded-empty}
+use borrow.Author.Rules.{rules}
+use Rattle.text.proofs.words.parse_bytes.Goals as goal
+
+pub returns-then-same : goal.returns-then-same
+returns-then-same c =
+    let k = c.before in
+    let a = k.args in
+    decoded_dash a.word.now a.out.now (sym k.same.ensures ∙ c.if-same.true)
+
+pub returns-then-len-eq0 : goal.returns-then-len-eq0
+returns-then-len-eq0 c =
+    let a = c.args in
+    decoded-empty a.word.now a.out.now c.if-len-eq0.true
+
+pub loop-at-init : goal.loop-at-init
+loop-at-init c =
+    let k = c.before.before in
+    let a = k.args in
+    (omega arith, decoding_none a.word.now a.out.now, plainly a.word.now a.out.now (sym k.same.ensures ∙ c.if-same.false) (omega arith))
+
+pub shape_of-out-then-next-len : goal.shape_of-out-then-next-len
+shape_of-out-then-next-len c = c.loop-at.invariant.1.size
+
+pub returns-then-next-len : goal.returns-then-next-len
+returns-then-next-len c =
+    let l = c.loop-at in
+    let a = c.args in
+    decoded_odd a.word.now a.out.now _ _ _ l.invariant.1 l.invariant.2 c.if-next-len.true
+
+pub shape_of-out-in_default : goal.shape_of-out-in_default
+shape_of-out-in_default c = c.loop-at.invariant.1.size
+
+pub returns-in_default : goal.returns-in_default
+returns-in_default c =
+    let l = c.loop-at in
+    let h = c.before.before in
+    let a = c.args in
+    decoded-bad a.word.now a.out.now _ _ _ l.invariant.1 (omega arith) l.invariant.2 (sym h.hex_byte.ensures ∙ ap byte_of c.in_default.is)
+
+pub overflow_add-count : goal.overflow_add-count
+overflow_add-count c = let l = c.loop-at in omega (arith, l.invariant.0, l.invariant.1.counted)
+
+pub loop-at-preserved : goal.loop-at-preserved
+loop-at-preserved c =
+    let l = c.loop-at in
+    let a = c.args in
+    let b = c in (
+      omega arith,
+      rw c.store_byte.ensures
+          (decoding_more a.word.now a.out.now _ _ _ l.invariant.1 (omega arith) _ (sym b.hex_byte.ensures ∙ ap byte_of b.in-Is.is)),
+      l.invariant.2,
+    )
+
+pub shape_of-out : goal.shape_of-out
+shape_of-out c = c.loop-at.invariant.1.size
+
+pub returns : goal.returns
+returns c =
+    let l = c.loop-at in
+    let a = c.args in
+    decoded-all a.word.now a.out.now _ _ _ l.invariant.1 l.invariant.2 (omega (arith, l.invariant.0))
