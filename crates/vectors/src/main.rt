@@ -1,6 +1,5 @@
-// The compiled check on RFC 3720's examples (B.4) and on the digits 1 to 9, each whole, in two parts, and behind other bytes, so
-// that it goes the way of a block. A line has the example, the check computed and the one that it should be. The RFC prints a check
-// as bytes, the lowest first.
+// The compiled check on RFC 3720's examples (B.4) and on the digits 1 to 9, each whole and in two parts. A line has the
+// example, the check computed and the one that it should be. The RFC prints a check as bytes, the lowest first.
 #![tactic(auto)]
 ghost use Rattle.std.specs.Prelude.{◌≡◌};
 ghost use Rattle.crc.specs.Crc32c.{crc};
@@ -25,11 +24,10 @@ fn main(rt: HostRuntime) -> io::Result<()> {
     example(stdout, "123456789", b"123456789", 0xe306_9283)
 }
 
-// Three lines for an example: its bytes whole, in two parts, and behind others.
+// Two lines for an example: its bytes whole, and in two parts.
 fn example(stdout: Stdout, name: &str, bytes: &[u8], expected: u32) -> io::Result<()> {
     line(stdout, name, ", whole: ", crc::crc32c(bytes), expected)?;
-    line(stdout, name, ", in two parts: ", in_two_parts(bytes), expected)?;
-    line(stdout, name, ", behind 69 bytes: ", behind_others(bytes), expected)
+    line(stdout, name, ", in two parts: ", in_two_parts(bytes), expected)
 }
 
 // The check of the first half of bytes, and from there on that of all.
@@ -38,25 +36,6 @@ fn in_two_parts(bytes: &[u8]) -> u32
 {
     let half = bytes.len() / 2;
     crc::crc32c_append(crc::crc32c(&bytes[..half]), &bytes[half..])
-}
-
-// The check of at most 59 bytes behind 69 others that leave the register as it begins: 65 zeros and four that make up for them. From
-// 64 bytes on eight are taken at a step, and what is left one at a step.
-fn behind_others(bytes: &[u8]) -> u32 {
-    if 59 < bytes.len() {
-        return 0;
-    }
-    let mut all = [0u8; 128];
-    all[65] = 0x98;
-    all[66] = 0xf7;
-    all[67] = 0x92;
-    all[68] = 0x7c;
-    let mut i: usize = 0;
-    while i < bytes.len() {
-        all[69 + i] = bytes[i];
-        i += 1;
-    }
-    crc::crc32c(&all[..69 + bytes.len()])
 }
 
 // One line, which says whether the check computed is the one expected.
