@@ -1,6 +1,7 @@
 // Where an answer becomes numbers: the refusal's number, 0 where nothing was refused, and its values. For what crosses to another
 // language, and for what the programs print.
 #![tactic(auto)]
+
 ghost use Rattle.std.specs.Prelude.{◌≡◌, ℕ, List, [], ◌∷◌, ◌++◌, get_or, take};
 ghost use Rattle.types.specs.Refusal.{code, done, numbered, answered};
 ghost use Rattle.types.specs.Table.{unless};

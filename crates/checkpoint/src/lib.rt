@@ -1,6 +1,7 @@
 // A checkpoint, block write by block write: begin takes the consumer into a writing record, each step makes the next block
 // write, and the last one, the header's, gives the consumer back. While a record is out there is no consumer to call.
 #![tactic(auto)]
+
 ghost use Rattle.consumer.specs.View.{Sound};
 ghost use Rattle.std.specs.Prelude.{◌≡◌};
 ghost use Rattle.checkpoint.specs.Checkpoint.{sync_due};

@@ -1,5 +1,6 @@
 // How a consumer starts: fresh, from what its journal has, or from the snapshots of another server.
 #![tactic(auto)]
+
 ghost use Rattle.std.specs.Prelude.{◌≡◌, ◌≤◌, not, ◌&&◌, [], ◌∷◌, ◌++◌, leb, length};
 ghost use Rattle.types.specs.Limits.{LEASES};
 ghost use Rattle.types.specs.Refusal.{Result, BadArea};

@@ -25,10 +25,10 @@ overflow_cast-worker c =
 
 pub grant_at-out-requires : goal.grant_at-out-requires
 grant_at-out-requires c = (
-      lent-table c.requires,
-      subst (λ (x : List ℕ). PlacedIn c.args.offset.0 x c.in-Open.place) (sym (table-part c.args.words.now)) (subst (OpenAt c.args.offset.0 c.args.words.now) c.in-Open.is c.claim_test-test.ensures.place),
-      lent-passed c.requires c.args.worker c.args.offset.0 c.args.now (omega arith) (open_passed (claim_table (view c.args.words.now) c.args.worker c.args.offset.0 c.args.now) (sym (ap test_of c.in-Open.is) ∙ c.claim_test-test.ensures.is)),
-    )
+  lent-table c.requires,
+  subst (λ (x : List ℕ). PlacedIn c.args.offset.0 x c.in-Open.place) (sym (table-part c.args.words.now)) (subst (OpenAt c.args.offset.0 c.args.words.now) c.in-Open.is c.claim_test-test.ensures.place),
+  lent-passed c.requires c.args.worker c.args.offset.0 c.args.now (omega arith) (open_passed (claim_table (view c.args.words.now) c.args.worker c.args.offset.0 c.args.now) (sym (ap test_of c.in-Open.is) ∙ c.claim_test-test.ensures.is)),
+)
 
 pub returns : goal.returns
 returns c =

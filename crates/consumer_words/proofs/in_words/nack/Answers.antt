@@ -42,10 +42,10 @@ returns-then-is_at_ceiling c =
 
 pub requeue_at-deadline-requires : goal.requeue_at-deadline-requires
 requeue_at-deadline-requires c = (
-      lent-table c.requires,
-      subst (λ (x : List ℕ). c.in-Held.held.at < (table_in x).len) (sym (table-part c.args.words.now)) (owned-low (leases-sound c.requires) c.args.token.offset.0 c.args.token.generation.0 (subst (TokenAt c.args.token.offset.0 c.args.token.generation.0 c.args.words.now) c.in-Held.is c.token_test-test.ensures.at) refl),
-      subst (λ (x : List ℕ). eqb (lease.view x).next_generation MAX ≡ false) (sym (table-part c.args.words.now)) (sym c.is_exhausted.ensures ∙ c.if-is_exhausted.false),
-    )
+  lent-table c.requires,
+  subst (λ (x : List ℕ). c.in-Held.held.at < (table_in x).len) (sym (table-part c.args.words.now)) (owned-low (leases-sound c.requires) c.args.token.offset.0 c.args.token.generation.0 (subst (TokenAt c.args.token.offset.0 c.args.token.generation.0 c.args.words.now) c.in-Held.is c.token_test-test.ensures.at) refl),
+  subst (λ (x : List ℕ). eqb (lease.view x).next_generation MAX ≡ false) (sym (table-part c.args.words.now)) (sym c.is_exhausted.ensures ∙ c.if-is_exhausted.false),
+)
 
 pub returns : goal.returns
 returns c =

@@ -30,10 +30,10 @@ returns c o e =
     let x = delay_of c.args.delay in
     -- the delay before the hours
     let capped : c.nack_delay_in_place-capped_nanos.result ≡ nack_delay (view w) o x =
-        c.nack_delay_in_place-capped_nanos.ensures
-        ∙ ap (λ (l : List ℕ). capped_delay (take n l) a x c.config-config.result.hard_cap_nanos) (column-is BACKOFFS STEPS w)
-        ∙ ap (λ (k : LeaseConfig). capped_delay (view w).settings.policy.backoff a x k.hard_cap_nanos) (c.config-config.ensures ∙ ap (λ (t : List ℕ). (lease.view t).config) (table-part w))
-        ∙ ap (λ (i : ℕ). capped_delay (view w).settings.policy.backoff i x (view w).table.config.hard_cap_nanos) e in
+    c.nack_delay_in_place-capped_nanos.ensures
+    ∙ ap (λ (l : List ℕ). capped_delay (take n l) a x c.config-config.result.hard_cap_nanos) (column-is BACKOFFS STEPS w)
+    ∙ ap (λ (k : LeaseConfig). capped_delay (view w).settings.policy.backoff a x k.hard_cap_nanos) (c.config-config.ensures ∙ ap (λ (t : List ℕ). (lease.view t).config) (table-part w))
+    ∙ ap (λ (i : ℕ). capped_delay (view w).settings.policy.backoff i x (view w).table.config.hard_cap_nanos) e in
     c.delay_in_hours.ensures
     ∙ ap (λ (y : Hours). next_opening (hours.view y) (sat64 c.args.now c.nack_delay_in_place-capped_nanos.result)) c.hours_of-hours.ensures
     ∙ ap (λ (m : ℕ). next_opening (view w).settings.hours (sat64 c.args.now m)) capped
