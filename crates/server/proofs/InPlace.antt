@@ -2,10 +2,10 @@
 use Prim.Native.Nat.{ℕ, zero, suc}
 use native.Mathlib.Omega.{arith}
 use mathlib.Core.Path.{◌≡◌, refl, ap, subst, ◌∙◌}
+use borrow.Author.Rules.{rules}
 use mathlib.Core.Bool.{true}
 use mathlib.Core.List.{List}
 use lib.ListN.{length}
-use types.Run.{hit}
 use Rattle.types.specs.Limits.{LEASES}
 use Rattle.types.specs.Refusal as refusal
 use Rattle.types.specs.Table.{unless}
@@ -37,7 +37,7 @@ use Rattle.machine.specs.declared.in_place.Fixed.{Fixed}
 use Rattle.machine.specs.declared.in_place.Figures.{Figures}
 use Rattle.machine.specs.declared.calls.AskAnswer.TheVariants as asks
 use Rattle.machine.specs.declared.calls.CallAnswer.TheVariants as calls
-use Rattle.machine.proofs.Transitions.{not_begun, not_stepped, not_begun_places, NotBegun, begin_faulty, begin-refused, begin-done, step-called, restart-kept, restart-made}
+use Rattle.machine.proofs.Transitions.{not_begun, not_stepped, NotBegun, begin_faulty, begin-refused, begin-done, step-called, restart-kept, restart-made}
 use Rattle.answers.specs.Numbers.{numbers_of, not_now, no_values, one_value, wrote_values}
 use Rattle.answers.specs.declared.Numbers.{Numbers}
 use Rattle.answers.proofs.Starts.{start-numbers}
@@ -98,9 +98,9 @@ module _ (s : Configuration) (k : ℕ) (w : Writing) (ok : SoundAt k w) (v : ℕ
         → CalledIs (machine_of s k w) (begin v) a out (record { answer = calls.Begun answer; machine = machine_of s (phase_begun answer) w' }) a out
     begun-called (begins.Begun n) h =
         begin-done (machine_of s k w) e a out ok v f (record { answer = begins.Begun n; writing = w' }) h.begun n refl
-    begun-called begins.JournalFull h = begun-refused begins.JournalFull (hit not_begun_places 1 tt) h
-    begun-called begins.UnknownWorker h = begun-refused begins.UnknownWorker (hit not_begun_places 2 tt) h
-    begun-called begins.NotPermitted h = begun-refused begins.NotPermitted (hit not_begun_places 3 tt) h
+    begun-called begins.JournalFull h = begun-refused begins.JournalFull (search rules) h
+    begun-called begins.UnknownWorker h = begun-refused begins.UnknownWorker (search rules) h
+    begun-called begins.NotPermitted h = begun-refused begins.NotPermitted (search rules) h
 
     pub begun-numbers : (answer : BeginAnswer) → BegunAs answer v w w' → (n : Numbers) (k' : ℕ) → n ≡ numbers_of (refusal.answered one_value (begun_of answer))
         → k' ≡ phase_begun answer → CallIs (machine_of s k w) v 16 0 0 0 0 a out n (machine_of s k' w') a out
