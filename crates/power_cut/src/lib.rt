@@ -1,5 +1,6 @@
 // A simulated power failure in a checkpoint's step, for programs that try what a restart then finds. It is no part of a server.
 #![tactic(auto)]
+
 ghost use Rattle.std.specs.Prelude.{◌≡◌};
 ghost use Rattle.machine.specs.View.{Sound};
 ghost use Rattle.power_cut.specs.Cut.{new, torn};

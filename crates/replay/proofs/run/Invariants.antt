@@ -5,7 +5,7 @@ use Rattle.replay.specs.Running.{Going}
 use Rattle.replay.proofs.run.Given as goal
 
 abbrev pub invariant-loop-turns : goal.invariant-loop-turns
-invariant-loop-turns g l = 
+invariant-loop-turns g l =
     (length l.buf ≡ length l.initial.buf) × (length l.out ≡ length l.initial.out) × (length l.area ≡ length l.initial.area) × (length l.bytes ≡ length l.initial.bytes) ×
     Going (length l.initial.buf) (length l.initial.area) l.state
 
