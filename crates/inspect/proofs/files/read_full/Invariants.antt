@@ -1,5 +1,5 @@
 -- `read_full` is safe and ends. Assumes nothing.
-use Rattle.std.specs.Prelude.{◌-◌, ◌×◌, ◌≤◌, ◌≡◌, length}
+use Rattle.std.specs.Prelude.{◌-◌, ◌≤◌, ◌≡◌, length}
 use Rattle.inspect.proofs.files.read_full.Given as goal
 
 abbrev pub invariant-loop-len : goal.invariant-loop-len

@@ -3,7 +3,6 @@
 use Prim.Native.Nat.{◌-◌, ◌/◌, ◌≤◌, max}
 use native.Mathlib.Omega.{arith}
 use mathlib.Core.Path.{◌≡◌, sym, ap, ◌∙◌}
-use mathlib.Core.Logic.{⊎_elim}
 use lib.ListN.{length}
 use borrow.Author.Rules.{rules}
 use Rattle.journal.specs.Blocks.{group_of}
@@ -12,6 +11,7 @@ use Rattle.inspect.specs.Missed.{named}
 use Rattle.inspect.proofs.Sequence.{part-is-block}
 use Rattle.inspect.proofs.Named.{Tally, tally_none, tally_header, tally_other, tally_end}
 use Rattle.inspect.proofs.missed.headers_behind.Goals as goal
+use Rattle.inspect.proofs.missed.headers_behind.Goals.{then-is_head, else-is_head}
 
 pub loop-i-init : goal.loop-i-init
 loop-i-init c = (omega (arith, c.shorter-end.ensures), tally_none _ _ _)
@@ -26,13 +26,13 @@ loop-i-preserved c =
     let t = c.loop-i-test.true in
     let p = part-is-block a l.i in
     let b = ap has_header_kind (sym p) ∙ sym c.is_head.ensures in
-    ⊎_elim
-    (λ w.
-    let n = w.4 ∙ w.2.ensures ∙ ap (max l.number) (w.1.ensures ∙ ap group_of p) in
-    rw (w.3, n) (l.invariant.0, tally_header _ _ _ _ _ _ l.invariant.1 t (b ∙ w.0.taken)))
-    (λ w.
-    rw (w.1, w.2) (l.invariant.0, tally_other _ _ _ _ _ _ l.invariant.1 t (b ∙ w.0.left)))
-    c.if-is_head.branch
+    elim c.if-is_head.branch [
+      | then-is_head w ↦
+          let n = w.number-is ∙ w.larger-number.ensures ∙ ap (max l.number) (w.group_of.ensures ∙ ap group_of p) in
+          rw (w.count-is, n) (l.invariant.0, tally_header _ _ _ _ _ _ l.invariant.1 t (b ∙ w.if-is_head.true))
+      | else-is_head w ↦
+          rw (w.count-is, w.number-is) (l.invariant.0, tally_other _ _ _ _ _ _ l.invariant.1 t (b ∙ w.if-is_head.false))
+    ]
 
 pub returns : goal.returns
 returns c =

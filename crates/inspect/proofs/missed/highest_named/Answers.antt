@@ -17,7 +17,7 @@ pub loop-i-preserved : goal.loop-i-preserved
 loop-i-preserved c =
     let l = c.loop-i in
     let t = c.loop-i-test.true in
-    let n = c.larger-number.ensures ∙ ap (max l.number) (c.Named-by.ensures ∙ ap named_by (part-is-block _ l.i)) in
+    let n = c.larger-number.ensures ∙ ap (max l.number) (c.named_by.ensures ∙ ap named_by (part-is-block _ l.i)) in
     (l.invariant.0, highest_on_lem _ _ _ _ _ l.invariant.1 t n)
 
 pub returns : goal.returns

@@ -5,4 +5,4 @@ use Rattle.replay.proofs.blocks.trial.Goals as goal
 pub slice_bounds-call-end-2 : goal.slice_bounds-call-end-2
 slice_bounds-call-end-2 c =
     let n = length c.args.area.now in
-    sym (length-take-le n c.write_bytes.new.0 (omega arith))
+    sym (length-take-le n c.write_bytes.new.buf (omega arith))
