@@ -53,26 +53,14 @@ fn file(stdout: Stdout, out: &mut [u8], at: usize, bytes: u64, len: usize) -> us
     )
 }
 
-// What form the file has, and what that asks of the disk.
-fn form_said(layout: Layout) -> Said {
-    match layout {
-        Layout::SideBySide => says(0, 0, 0),
-        Layout::InSectors {
-            journals,
-            number,
-            ..
-        } => says(1, number, journals),
-    }
-}
-
+// What form a file in sectors has, and what that asks of the disk.
 fn form(stdout: Stdout, out: &mut [u8], at: usize, said: Said) -> usize {
     let numbers = said.numbers;
     fill(
         stdout,
         out,
         at,
-        b"form: blocks side by side, for a disk that writes each block of 512 bytes whole\n|\
-        form: journal # of #, a block in each sector of 4096 bytes, for any disk that writes such a sector whole, or tears only the one \
+        b"form: journal # of #, a block in each sector of 4096 bytes, for any disk that writes such a sector whole, or tears only the one \
         being written\n|\
         form: a block in each sector of 4096 bytes, for any disk that writes such a sector whole, or tears only the one being written\n",
         said.template,
@@ -97,7 +85,7 @@ pub fn shape(
         0,
         [bytes, journals, blocks, 0],
     );
-    form(stdout, out, next, says(2, 0, 0))
+    form(stdout, out, next, says(1, 0, 0))
 }
 
 // Which half is in use: the one that begins at block `first`, and ends before block `hi`.
@@ -264,7 +252,14 @@ pub fn facts(
     layout: Layout,
 ) -> usize {
     let mut next = file(stdout, out, at, bytes_of(layout, area.len()), area.len());
-    next = form(stdout, out, next, form_said(layout));
+    if let Layout::InSectors {
+        journals,
+        number,
+        ..
+    } = layout
+    {
+        next = form(stdout, out, next, says(0, number, journals));
+    }
     if let Walked::BadArea = walked {
         return put(
             stdout,

@@ -36,11 +36,9 @@ enum Kind {
 
 fn usage(stderr: Stderr) -> io::Result<()> {
     stderr.write_all(
-        b"usage: inspect journal FILE            a consumer's journal: what a restart finds, or why it is refused; then its blocks.\n\
-        \x20                                      Of a file with several journals, a line for each\n\
-        \x20      inspect journal FILE NUMBER     one of them, counted from 0\n\
-        \x20      inspect cursor FILE             a cursor snapshot: which offsets are settled\n\
-        \x20      inspect attempts FILE           an attempt snapshot: how often each offset was handed out\n\
+        b"usage: inspect journal FILE     a consumer's journal: what a restart finds, or why it is refused; then its blocks\n\
+        \x20      inspect cursor FILE      a cursor snapshot: which offsets are settled\n\
+        \x20      inspect attempts FILE    an attempt snapshot: how often each offset was handed out\n\
         It only reads. A program of this language has no exit status: a script looks at what is printed, which begins with\n\
         'a restart finds' or 'sound' where all is well. A line that begins with 'beware' wants a look before a restart:\n\
         \x20      inspect journal FILE >found; grep -q '^a restart finds' found && ! grep -q '^beware' found\n\

@@ -314,13 +314,24 @@ fn bad_line(stdout: Stdout, out: &mut [u8], at: usize, expected: usize) -> usize
     output::put(stdout, out, next, b"\n")
 }
 
-// A line for each form of the table.
+// The line of a form, but for those of moving in and out, which help doesn't list yet.
+fn form(stdout: Stdout, out: &mut [u8], at: usize, k: usize) -> usize {
+    if k == script::EXPORT {
+        return at;
+    }
+    if k == script::IMPORT {
+        return at;
+    }
+    let next = templates::fill(stdout, out, at, &script::FORMS, k, [0; 4]);
+    output::put(stdout, out, next, b"\n")
+}
+
+// A line for each form of the table that help lists.
 fn forms(stdout: Stdout, out: &mut [u8], at: usize) -> usize {
     let mut next = at;
     let mut k: usize = 0;
     while k < script::BAD {
-        next = templates::fill(stdout, out, next, &script::FORMS, k, [0; 4]);
-        next = output::put(stdout, out, next, b"\n");
+        next = form(stdout, out, next, k);
         k += 1;
     }
     next
