@@ -1,4 +1,4 @@
--- The digits that `numerals` writes are those of the definitions: the fewest decimal digits that hold a number are its decimal digits,
+-- The digits that `io` writes are those of the definitions: the fewest decimal digits that hold a number are its decimal digits,
 -- and two hexadecimal digits hold a byte. Assumes nothing.
 use Prim.Native.Nat.{ℕ, zero, suc, ◌-◌, ◌/◌, ◌%◌, ◌*◌, ◌^◌, ◌≤◌, ◌<◌}
 use native.Mathlib.Nat.{pow-suc, mod-eq_of_lt, zero-lt-suc, div-lt_iff_lt-mul, le-div_iff_mul-le, pow-le-pow_right}
@@ -6,7 +6,7 @@ use native.Mathlib.Omega.{arith}
 use mathlib.Core.Path.{◌≡◌, refl, ap, ◌∙◌}
 use mathlib.Core.List.{List, [], ◌∷◌, ◌++◌}
 use borrow.Author.Tests.{lt-ltb, le-ltb}
-use Rattle.text.specs.Digits.{hex_digit_ascii, last_digits, IsDigitCount}
+use Rattle.io.specs.Digits.{hex_digit_ascii, last_digits, IsDigitCount}
 use Rattle.text.specs.Output.{decimal_in, decimal, hexadecimal}
 
 one_less : (i : ℕ) → suc i - 1 ≡ i

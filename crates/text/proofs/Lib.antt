@@ -4,5 +4,3 @@ mod Taking
 pub mod Putting
 mod Digits
 mod Filling
-mod Powers
-mod Counting

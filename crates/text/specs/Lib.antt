@@ -1,5 +1,4 @@
 pub mod Words
 pub mod Lines
-pub mod Digits
 pub mod Output
 pub mod Templates

@@ -3,7 +3,7 @@
 ghost use Rattle.std.specs.Prelude.{[], ◌∷◌};
 ghost use Rattle.text.specs.Output.{decimal, hexadecimal, Says};
 
-use crate::numerals::{decimal, hex};
+use io::{decimal, hex};
 use raw::Write;
 use std::io::Stdout;
 
