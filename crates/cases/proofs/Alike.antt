@@ -1,4 +1,4 @@
--- Two consumers that are alike to a worker answer one who is no supervisor the same to every question but those that `mayDiffer` names:
+-- Two consumers that are alike to a worker answer one who is no supervisor the same to every question but those that `may_differ` names:
 -- what is settled tells all of a valid cursor. Assumes nothing.
 use Prim.Native.Nat.{ℕ, suc, ◌≤◌}
 use native.Mathlib.Omega.{arith}

@@ -88,7 +88,7 @@ pub import-cursor-order : of_cursor (encode_cursor (cursor 5 (range 5 6 ∷ []))
 unfolding import bad_area decode_cursor encode_cursor is_sealed bits unbits polynomial crc xor
 import-cursor-order = refl
 
--- 12 for ranges as they were read, 129 of them and not for 128 (`cursor-after-its-frame` of proofs/Order.antt)
+-- 12 for ranges as they were read, 129 of them and not for 128 (`cursor-after_its_frame` of proofs/Order.antt)
 abbrev of_ranges : ℕ → Result State
 of_ranges n = from_snapshots accepted 9216 (resume_with_ahead 0 (ranges_from n 1)) (decode_attempts (replicate 9 0)) 100 (next_group_at 1 0)
 
@@ -136,7 +136,7 @@ pub import-attempts-order : of_attempts (encode_attempts 1 (entry 9 1 ∷ entry 
 unfolding decode_attempts encode_attempts is_sealed bits unbits polynomial crc xor
 import-attempts-order = refl
 
--- 19 for pairs as they were read, 129 of them (`attempts-after-their-frame`)
+-- 19 for pairs as they were read, 129 of them (`attempts-after_their_frame`)
 abbrev of_pairs : List (Entry ℕ) → Result State
 of_pairs l = from_snapshots accepted 9216 (done settled_there) (checked (pairs_table l) (done l)) 100 (next_group_at 1 0)
 

@@ -1,5 +1,5 @@
 -- The count of an offset is that of its lease, or else its carried one; and the list of all counts, which a checkpoint stores, is
--- sorted, short enough and of unsettled offsets. Both go by what the leases make of the carried counts: look-ups after `raiseAll`.
+-- sorted, short enough and of unsettled offsets. Both go by what the leases make of the carried counts: look-ups after `raise_all`.
 -- Assumes nothing.
 use Prim.Native.Nat.{ℕ, suc, ◌+◌, ◌≤◌, max}
 use native.Mathlib.Omega.{arith}

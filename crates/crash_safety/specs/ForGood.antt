@@ -90,28 +90,28 @@ OnlyTheCopy =
     → FindsNow c (ends c (fresh_world s size) items).journal (book_after empty_book (run c (fresh_world s size) items)).copy
 
 -- ## the same on a disk that keeps no order between two syncs
--- `shows-until-restart` on the disk
+-- `shows_until_restart` on the disk
 unfoldable pub ShowsOnDisk : Type 0
 ShowsOnDisk =
     (c : Configuration) (size : ℕ) (s : State) (items : List DiskItem) → Fits c.settings → start c size ≡ done s
     → (o : ℕ) (by : SettledSince o (run_on c (fresh_disk s size) items))
     → Shows o (run_on c (fresh_disk s size) items) (state_in (ends_on c (fresh_disk s size) items).phase) by
 
--- `settled-for-good` on the disk
+-- `settled_for_good` on the disk
 unfoldable pub SettledOnDisk : Type 0
 SettledOnDisk =
     (c : Configuration) (size : ℕ) (s : State) (before after : List DiskItem) (o : ℕ) → Fits c.settings → start c size ≡ done s
     → (book_after empty_book (run_on c (fresh_disk s size) before)).copy.settled o ≡ true
     → ForGood o (run_on c (ends_on c (fresh_disk s size) before) after) (state_in (ends_on c (ends_on c (fresh_disk s size) before) after).phase)
 
--- `written-for-good` on the disk
+-- `written_for_good` on the disk
 unfoldable pub WrittenOnDisk : Type 0
 WrittenOnDisk =
     (c : Configuration) (size : ℕ) (s : State) (before after : List DiskItem) (o : ℕ) → Fits c.settings → start c size ≡ done s
     → WrittenSince o (run_on c (fresh_disk s size) before)
     → ForGood o (run_on c (ends_on c (fresh_disk s size) before) after) (state_in (ends_on c (ends_on c (fresh_disk s size) before) after).phase)
 
--- `only-the-copy` of what the disk holds. A power failure leaves that if it loses all that is pending
+-- `only_the_copy` of what the disk holds. A power failure leaves that if it loses all that is pending
 unfoldable pub HeldIsTheCopy : Type 0
 HeldIsTheCopy =
     (c : Configuration) (size : ℕ) (s : State) (items : List DiskItem) → Fits c.settings → start c size ≡ done s

@@ -75,7 +75,7 @@ Demand3From =
     (c : Configuration) (a : List ℕ) (s : State) (items : List Item) → Fits c.settings → IsBytes a → restart c a ≡ done s
     → HoldsFrom c (page_of s) s.ceiling (restarts_in items) (run c (world (idle s) a) items) (state_in (ends c (world (idle s) a) items).phase)
 
--- `demand-3-from` on the disk. It keeps no order between two syncs, and holds this area
+-- `demand_3_from` on the disk. It keeps no order between two syncs, and holds this area
 unfoldable pub UnorderedFrom : Type 0
 UnorderedFrom =
     (c : Configuration) (a : List ℕ) (s : State) (items : List DiskItem) → Fits c.settings → IsBytes a → restart c a ≡ done s

@@ -20,7 +20,7 @@ use Rattle.crash_safety.specs.Hours.{InHours}
 use Rattle.crash_safety.specs.Disk.{Disk}
 use Rattle.crash_safety.specs.Unordered.{DiskItem, does, OnDisk, on_disk, leads, next_on, run_on, ends_on, fresh_disk}
 
--- `nothing-forgotten` on the disk. An offset that is settled in the state that a list leaves was settled by an accepted
+-- `nothing_forgotten` on the disk. An offset that is settled in the state that a list leaves was settled by an accepted
 -- Ack, Term or Commit of that list
 unfoldable pub NothingForgottenOnDisk : Type 0
 NothingForgottenOnDisk =
@@ -65,7 +65,7 @@ NothingWithoutRightOnDisk =
     → (e : Event) (p : Phase) (d : Disk) → SeenAs c (ends_on c (fresh_disk s size) items) q e p d
     → TurnedOn (ends_on c (fresh_disk s size) items) r e p d
 
--- `in-opening-hours` on the disk. After every list that leaves a state with nothing pending
+-- `in_opening-hours` on the disk. After every list that leaves a state with nothing pending
 unfoldable pub InHoursOnDisk : Type 0
 InHoursOnDisk =
     (c : Configuration) (size : ℕ) (s : State) (items : List DiskItem) → Fits c.settings → start c size ≡ done s

@@ -33,7 +33,7 @@ unfoldable pub NacksInTime : Configuration → List Event → Type 0
 NacksInTime c [] = Unit {0}
 NacksInTime c (e ∷ es) = NackInTime c e × NacksInTime c es
 
--- `nack-within-cap` of every nack of every list. By the hard cap and the hours of the configuration
+-- `nack-within_cap` of every nack of every list. By the hard cap and the hours of the configuration
 unfoldable pub NacksWithinCap : Type 0
 NacksWithinCap =
     (c : Configuration) (size : ℕ) (s : State) (items : List Item) → Fits c.settings → start c size ≡ done s

@@ -1,4 +1,4 @@
--- A resumption takes range by range what `resumeWithAhead` tests and keeps. Assumes nothing.
+-- A resumption takes range by range what `resume_with_ahead` tests and keeps. Assumes nothing.
 use Prim.Native.Nat.{ℕ, zero, suc, ◌+◌, ◌≤◌, ◌<◌, min}
 use native.Mathlib.Omega.{arith}
 use mathlib.Core.Path.{◌≡◌, refl, sym, ap, subst, ◌∙◌}

@@ -23,7 +23,7 @@ use Rattle.crash_safety.specs.Demand3.{delivers, hand_outs, restarts_in, limit_o
 use Rattle.crash_safety.specs.Batch.{is_repeated, offsets_handed_out, different, different_offsets}
 use Rattle.crash_safety.specs.From.{page_of, delivered_before, repeated_before, sum}
 
--- what a restart finds there (`foreign-counts-2`): ceiling 7, and offset 9 handed out once
+-- what a restart finds there (`foreign-counts_2`): ceiling 7, and offset 9 handed out once
 abbrev found : State
 found = resumed configuration 9216 (cursor 5 []) (entry 9 1 ∷ entry MAX 4 ∷ []) 7 (next_group_at 2 2)
 

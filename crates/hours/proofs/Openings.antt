@@ -1,5 +1,5 @@
 -- The next opening: it is at or after the clock (`opening-after`), no clock before it is open (`opening-least`), it is open unless it is
--- given as MAX (`opening-open`), and it is within a week (`opening-soon`). A week that 33 and 34 let through has an open half hour
+-- given as MAX (`opening_open`), and it is within a week (`opening-soon`). A week that 33 and 34 let through has an open half hour
 -- (`accepted-opens`), and so an opening from every clock on (`always-opens`). Assumes nothing.
 use Prim.Native.Nat.{ℕ, ◌+◌, ◌*◌, ◌-◌, ◌/◌, ◌%◌, ◌≤◌, ◌<◌, min}
 use native.Mathlib.Omega.{arith}

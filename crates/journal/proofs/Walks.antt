@@ -1,6 +1,6 @@
 -- The walk, for any area, end, first number and first block: what it says of where it ended, that it depends on
 -- nothing behind that place, and what a write or a whole group there makes of it. The definition counts its turns;
--- `walk_turn` and `walk-ind` free all other laws of the count. Assumes nothing.
+-- `walk_turn` and `walk_ind` free all other laws of the count. Assumes nothing.
 use Prim.Native.Nat.{ℕ, zero, suc, ◌+◌, ◌*◌, ◌-◌, ◌≤◌, ◌<◌}
 use native.Mathlib.Omega.{arith}
 use native.Mathlib.Decide.{ℕ_discrete}

@@ -32,7 +32,7 @@ pub record TokenAnswered (c : state.Configuration) (v w : ℕ) (q : Ask) (up : B
   -- its own worker, who may: for an Ack 0 or 29
   pub own : up ≡ false → w ≡ v → May c w (operation_of q) → 0 < times n.0 (beyond_token q)
 
--- `token-both-ways` of every server, in numbers. A server that does whatever it does; a claim of worker v, answered 0;
+-- `token-both_ways` of every server, in numbers. A server that does whatever it does; a claim of worker v, answered 0;
 -- whatever comes then; and a call, which can be made, with the claim's offset and the generation that it was answered
 unfoldable pub TokensServed : Type 0
 TokensServed =

@@ -1,5 +1,5 @@
 -- Where a number belongs among numbers: what a search by halving answers, whatever the numbers are. Where they rise, the place
--- is the number of those below (`boundary-below`, proofs/Search.antt).
+-- is the number of those below (`boundary_below`, proofs/Search.antt).
 -- SPEC.md, "Forms".
 use Rattle.std.specs.Prelude.{ℕ, ◌+◌, ◌-◌, ◌≤◌, ◌<◌, ◌≡◌, List, length, get_or}
 use Rattle.tables.specs.declared.Place.{Place}

@@ -1,5 +1,5 @@
 -- The fields of a struct behind a reference, at any depth: a path of field numbers leads to one.
---     Path τ           a path from a value of the type τ; `end_of`, `place_in`: the type and the place where it leads, `getIn`, `setIn`: the value there
+--     Path τ           a path from a value of the type τ; `end_of`, `place_in`: the type and the place where it leads, `get_in`, `set_in`: the value there
 --     inside p         a cell has within it the cell where p leads
 --     fetches          statements that copy fields to locals or take their addresses, one after another
 --     stores           statements that store fields of a local into fields behind the reference
