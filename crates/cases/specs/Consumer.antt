@@ -109,7 +109,7 @@ pub claim-below_the_ceiling : (claim (with (held 4095 0)) 0 5 110).outcome ≡ h
 unfolding claim
 claim-below_the_ceiling = refl
 
--- 26 where as many redeliveries as the threshold were granted, for a first hand_out_lem too; not with one less
+-- 26 where as many redeliveries as the threshold were granted, for a first hand-out too; not with one less
 pub claim-at_the_threshold : (claim (with (held 1 3)) 0 6 110).outcome ≡ refused CheckpointDue
 unfolding claim
 claim-at_the_threshold = refl
@@ -118,7 +118,7 @@ pub claim-below_the_threshold : (claim (with (held 1 2)) 0 5 110).outcome ≡ ha
 unfolding claim
 claim-below_the_threshold = refl
 
--- that grant raises the counter to the threshold, and a first hand_out_lem leaves it
+-- that grant raises the counter to the threshold, and a first hand-out leaves it
 pub redelivery_feeds_the_counter : (claim (with (held 1 2)) 0 5 110).state.table.redeliveries ≡ 3
 unfolding claim
 redelivery_feeds_the_counter = refl

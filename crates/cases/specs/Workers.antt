@@ -203,7 +203,7 @@ pub ack-without-a-lease : (ack (with (held 1 0)) 1 6 0).outcome ≡ refused Fenc
 unfolding ack
 ack-without-a-lease = refl
 
--- a hand_out_lem to worker 1 at the deadline makes the lease his: he acks it, and worker 0 can't, with either token
+-- a hand-out to worker 1 at the deadline makes the lease his: he acks it, and worker 0 can't, with either token
 abbrev handed_over : State
 handed_over = (claim (with (held 1 0)) 1 5 110).state
 

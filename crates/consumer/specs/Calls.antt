@@ -33,7 +33,7 @@ token_rows s w op o g =
     call_rows s w op ++ (token_row s.table o g ∷ not (held_by w (lease_of s.table o)) ⇒ ForeignToken ∷ [])
 
 -- ## claim
--- a hand-out: the token, the count with this hand_out_lem in it, and whether it is for delivery or for the dead letters
+-- a hand-out: the token, the count with this hand-out in it, and whether it is for delivery or for the dead letters
 pub record HandOut : Type 0 where
   pub offset : ℕ
   pub generation : ℕ

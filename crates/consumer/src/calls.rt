@@ -11,7 +11,7 @@ use delivery::Delay;
 use lease::{LeaseTable, LeaseToken};
 use types::{Generation, Offset};
 
-// What a claim answers: a hand_out_lem for delivery or for the dead letters, with its token and the number of hand-outs so far,
+// What a claim answers: a hand-out for delivery or for the dead letters, with its token and the number of hand-outs so far,
 // this one counted; or refusal 38, 39, 21, 22, 35 with the clock of the next opening, 23, 25, 26 or 27.
 #[derive(Clone, Copy)]
 pub enum ClaimAnswer {

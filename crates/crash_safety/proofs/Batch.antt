@@ -233,7 +233,7 @@ module _ (M N : ℕ) (fires : M < MAX32) where
         idles = λ r. omega arith;
       }
 
-  -- a hand_out_lem is made below the threshold alone
+  -- a hand-out is made below the threshold alone
   below-threshold : (l : Ledger) (x : Effect) → l.redeliveries ≤ N → HandsFew M N l x → since l.redeliveries x ≤ N
   below-threshold l (handing o h) low w = split (leb 2 h.deliveries) (λ t. rw t (omega (arith, w.under))) (λ t. rw t low)
   below-threshold l (settling named) low w = low

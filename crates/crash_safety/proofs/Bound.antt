@@ -49,7 +49,7 @@ module _ (p : Policy) (limited : 0 < p.maxDeliver) (fires : p.maxDeliver < MAX32
       (λ t. rw (t, ne_eqb M 0 (λ z. omega arith), le-ltb M n (leb-true n M t)))
       (λ t. rw (t, ne_eqb M 0 (λ z. omega arith), lt-ltb M n (leb-false n M t)))
 
--- a hand_out_lem of an offset that is unsettled, with the next count, for delivery up to count M alone, and fewer than N redeliveries before it
+-- a hand-out of an offset that is unsettled, with the next count, for delivery up to count M alone, and fewer than N redeliveries before it
 pub record Counted (M N : ℕ) (l : Ledger) (o : ℕ) (h : HandOut) : Type 0 where
   pub offset : h.offset ≡ o
   pub unsettled : l.book.page.settled o ≡ false
@@ -131,7 +131,7 @@ module _ (M N : ℕ) (fires : M < MAX32) where
           copy = λ o d. omega (arith, k.copy o d, k.low);
         }
 
-    -- a hand_out_lem of offset o with count n, for delivery or not
+    -- a hand-out of offset o with count n, for delivery or not
     module _ (o n : ℕ) (delivered : Bool) (open-on-page : b.page.settled o ≡ false) (counted : n ≡ sat32 (b.page.count o) 1)
         (few : delivered ≡ true → n ≤ M) (under : r < N) where
       open_at : (x : ℕ) → eqb x o ≡ true → b.page.settled x ≡ false

@@ -38,7 +38,7 @@ use Rattle.crash_safety.proofs.OnDisk.{along-behind, along-on, at-end-on}
 use Rattle.crash_safety.proofs.Unordered.{Standing, InvOn, kept_on}
 
 -- ## the events
--- a hand_out_lem answers a claim of its offset, which the page has open
+-- a hand-out answers a claim of its offset, which the page has open
 abbrev pub OfOpen : Ledger → Effect → Type 0
 OfOpen l (handing o h) = (h.offset ≡ o) × (l.book.page.settled o ≡ false)
 OfOpen l (settling named) = Unit {0}

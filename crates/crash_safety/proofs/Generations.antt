@@ -1,4 +1,4 @@
--- No two hand-outs share a generation: each is at or above a floor that lies above all before it. The floor never falls, so every hand_out_lem
+-- No two hand-outs share a generation: each is at or above a floor that lies above all before it. The floor never falls, so every hand-out
 -- and the ceiling of every restart are at or above the one that a list begins with. Assumes nothing.
 use Prim.Native.Nat.{ℕ, ◌+◌, ◌≤◌, ◌<◌}
 use native.Mathlib.Omega.{arith}

@@ -78,7 +78,7 @@ module _ (t : Tokens) (floor : ℕ) (leases : List (Entry Lease)) (k : Known t f
         }
 
   -- ## what becomes of it
-  -- a hand_out_lem, under a generation of at least the floor
+  -- a hand-out, under a generation of at least the floor
   gives-out : (h : HandOut) (l : Lease) → floor ≤ h.generation → l.generation.0 ≡ h.generation
       → Known (gives_out t h) (suc h.generation) (put h.offset l leases)
   gives-out h l f e =

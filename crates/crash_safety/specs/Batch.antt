@@ -19,7 +19,7 @@ abbrev pub is_repeated : HandOut → Bool
 is_repeated h = for_delivery h.destination && leb 2 h.deliveries
 
 -- ## D, the different offsets ever handed out
--- the offset of each hand_out_lem among the events, for delivery or as a dead letter
+-- the offset of each hand-out among the events, for delivery or as a dead letter
 abbrev pub offset_of : Option HandOut → List ℕ
 offset_of none = []
 offset_of (some h) = h.offset ∷ []

@@ -25,7 +25,7 @@ blank = record { settled = λ o. false; count = λ o. 0 }
 abbrev pub empty_book : Book
 empty_book = record { page = blank; copy = blank }
 
--- a hand_out_lem adds 1 to the offset's count, at most to 4294967295
+-- a hand-out adds 1 to the offset's count, at most to 4294967295
 abbrev pub with_hand_out : Page → ℕ → Page
 with_hand_out p o = record { settled = p.settled; count = λ x. cond (eqb x o) (sat32 (p.count x) 1) (p.count x) }
 

@@ -73,7 +73,7 @@ FencedAfter c w between o g =
 
 -- the tokens of offsets below the bound that a commit takes away, on a state that a list has left
 pub record TakenAway (c : Configuration) (es : List Event) (s : State) (bound : ℕ) (w : World) (between : List Item) : Type 0 where
-  -- those that a hand_out_lem gave, the holders' among them
+  -- those that a hand-out gave, the holders' among them
   pub given : (o g : ℕ) → o < bound → (tokens_in no_tokens es).given o g ≡ true → FencedAfter c w between o g
   -- all under a generation that was used up, be it that of a nack, which was handed to nobody
   pub used : (o g : ℕ) → o < bound → g < s.table.next_generation → FencedAfter c w between o g

@@ -31,7 +31,7 @@ abbrev pub for_delivery : Destination → Bool
 for_delivery Deliver = true
 for_delivery DeadLetter = false
 
--- a hand_out_lem of an offset for delivery, and one under a generation
+-- a hand-out of an offset for delivery, and one under a generation
 abbrev pub delivers : ℕ → HandOut → Bool
 delivers o h = for_delivery h.destination && eqb o h.offset
 

@@ -18,7 +18,7 @@ use Rattle.crash_safety.specs.Demand3.{hand_outs, Finds, restarts_seen}
 use Rattle.crash_safety.specs.Settled.{settles, state_in}
 use Rattle.crash_safety.specs.Unordered.{DiskItem, run_on, ends_on, fresh_disk}
 
--- a hand_out_lem of an offset, for delivery or as a dead letter
+-- a hand-out of an offset, for delivery or as a dead letter
 abbrev pub hands : ℕ → HandOut → Bool
 hands o h = eqb o h.offset
 

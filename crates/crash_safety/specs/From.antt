@@ -44,7 +44,7 @@ sum f [] = 0
 sum f (x ∷ l) = f x + sum f l
 
 -- ## ceilings
--- each hand_out_lem has a generation of at least g, and what each restart answers a ceiling of at least g
+-- each hand-out has a generation of at least g, and what each restart answers a ceiling of at least g
 unfoldable pub AllAtLeast : ℕ → List Event → Type 0
 AllAtLeast g [] = Unit {0}
 AllAtLeast g (e ∷ es) = AtLeast g (effect_of e) × AllAtLeast g es

@@ -53,7 +53,7 @@ abbrev pub empty_ledger : Ledger
 empty_ledger = ledger empty_book 0 0
 
 -- ## the law
--- a hand_out_lem that answers a claim of offset o: the book has it unsettled, its count is the book's and 1, at most 4294967295, and says where
+-- a hand-out that answers a claim of offset o: the book has it unsettled, its count is the book's and 1, at most 4294967295, and says where
 -- it goes; and the redeliveries are below the threshold
 pub record Lawful (p : Policy) (l : Ledger) (o : ℕ) (h : HandOut) : Type 0 where
   pub offset : h.offset ≡ o
@@ -70,7 +70,7 @@ HandsOut p l renewing = Unit {0}
 HandsOut p l (restarting a) = Unit {0}
 HandsOut p l nothing = Unit {0}
 
--- a hand_out_lem has a generation of at least g, and what a restart answers a ceiling of at least g
+-- a hand-out has a generation of at least g, and what a restart answers a ceiling of at least g
 abbrev pub AtLeast : ℕ → Effect → Type 0
 AtLeast g (handing o h) = g ≤ h.generation
 AtLeast g (settling named) = Unit {0}
@@ -80,7 +80,7 @@ AtLeast g (restarting (refused r)) = Unit {0}
 AtLeast g (restarting (done s)) = g ≤ s.ceiling
 AtLeast g nothing = Unit {0}
 
--- what a restart finds; generations and ceilings above all generations before; and the rest of a hand_out_lem
+-- what a restart finds; generations and ceilings above all generations before; and the rest of a hand-out
 abbrev pub Law : Policy → Ledger → Event → Type 0
 Law p l e = Right l.book.copy (effect_of e) × AtLeast l.floor (effect_of e) × HandsOut p l (effect_of e)
 

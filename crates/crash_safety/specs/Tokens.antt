@@ -1,4 +1,4 @@
--- No stale token: what went wrong in the clinics can't. A token that a hand_out_lem gave is refused 24 once its offset was handed out
+-- No stale token: what went wrong in the clinics can't. A token that a hand-out gave is refused 24 once its offset was handed out
 -- again, nacked, settled, or a restart came; and one from before a restart is refused 24 ever after. (38 and 39 stand in front: a worker
 -- who may not make the call is told that.) A nack gives its lease a generation that nobody is handed: the statement is about tokens that
 -- were given, and the lease's worker, if he guesses such a generation, is accepted, as in the Rust. And the other way: until then the
@@ -21,17 +21,17 @@ use Rattle.crash_safety.specs.Workers.{operation_of, rows_for, May, refusal_of, 
 
 -- what the events tell of tokens, each an offset and a generation
 pub record Tokens : Type 0 where
-  -- a hand_out_lem gave it
+  -- a hand-out gave it
   pub given : ℕ → ℕ → Bool
   -- it was given before the last restart
   pub lost : ℕ → ℕ → Bool
-  -- the generation of the offset's latest hand_out_lem, unless the offset was nacked or settled or a restart came since
+  -- the generation of the offset's latest hand-out, unless the offset was nacked or settled or a restart came since
   pub held : ℕ → Option ℕ
 
 abbrev pub no_tokens : Tokens
 no_tokens = record { given = λ o g. false; lost = λ o g. false; held = λ o. none }
 
--- a hand_out_lem gives its token, under which its offset is held
+-- a hand-out gives its token, under which its offset is held
 abbrev pub gives_out : Tokens → HandOut → Tokens
 gives_out t h =
     record {

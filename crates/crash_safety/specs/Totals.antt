@@ -18,7 +18,7 @@ use Rattle.crash_safety.specs.Unordered.{DiskItem, run_on, fresh_disk, restarts_
 abbrev pub is_delivery : HandOut → Bool
 is_delivery h = for_delivery h.destination
 
--- how many generations were taken since the last header was wholly written: one by each hand_out_lem and by each nack that isn't refused
+-- how many generations were taken since the last header was wholly written: one by each hand-out and by each nack that isn't refused
 abbrev pub taken_after : ℕ → Effect → ℕ
 taken_after n (handing o h) = n + 1
 taken_after n (settling named) = n

@@ -77,7 +77,7 @@ module _ (t : Table) (h : Fresh t) where
 pub owned-once : (t : Table) → Valid t → (i j o : ℕ) (d : Entry Lease) → i < length t.leases → j < length t.leases → (get_or t.leases i d).key ≡ o → (get_or t.leases j d).key ≡ o → i ≡ j
 owned-once t v i j o d h k p q = rising-once 0 i j d t.leases v.rising h k (p ∙ sym q)
 
--- the token of an earlier hand_out_lem is fenced off
+-- the token of an earlier hand-out is fenced off
 pub grant_fences : (t : Table) (w o now g : ℕ) → (g ≡ t.next_generation → ⊥) → owns (lease_of (grant t w o now) o) g ≡ false
 grant_fences t w o now g n = rw (lease-after-grant t o o w now, eq-eqb o o refl, ne_eqb t.next_generation g (λ e. n (sym e)))
 

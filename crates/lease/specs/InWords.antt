@@ -36,7 +36,7 @@ pub record Becomes (after : List ℕ) (right : Table) : Type 0 where
   pub is : view after ≡ right
   pub sound : Sound after
 
--- what a hand_out_lem says
+-- what a hand-out says
 abbrev pub grant_in : HandOut → Grant
 grant_in r = grant_of r.token.offset.0 r.token.generation.0 r.deliveries
 

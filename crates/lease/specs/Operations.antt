@@ -50,7 +50,7 @@ abbrev pub times_handed_out : Option Lease → Option ℕ → ℕ
 times_handed_out (some l) c = l.deliveries
 times_handed_out none c = get_or c 0
 
--- the count of the next hand_out_lem
+-- the count of the next hand-out
 abbrev pub next_count : Table → ℕ → ℕ
 next_count t o = sat32 (times_handed_out (lease_of t o) (lookup o t.carried)) 1
 

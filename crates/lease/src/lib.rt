@@ -1,5 +1,5 @@
 // The leases of one work group over a log: who holds which message until when, under which generation, and how often it
-// was handed out. A message in flight is handed out again once its lease's deadline has come; each hand_out_lem takes a new
+// was handed out. A message in flight is handed out again once its lease's deadline has come; each hand-out takes a new
 // generation, so that whoever held the message before is fenced off. The caller brings the time, in nanoseconds of any
 // clock: it may stand still or run backwards.
 #![tactic(auto)]
@@ -29,7 +29,7 @@ pub mod lookup;
 pub mod reads;
 mod stored;
 
-// How long a hand_out_lem lasts, in nanoseconds. A hard cap below the visibility shortens every lease to the cap; where one
+// How long a hand-out lasts, in nanoseconds. A hard cap below the visibility shortens every lease to the cap; where one
 // of the two is 0, a lease runs out the moment it is granted.
 #[repr(C)]
 #[derive(Clone, Copy)]
@@ -83,7 +83,7 @@ impl LeaseConfig {
     }
 }
 
-// Names one hand_out_lem of a message: an ack, an extension or a nack carries it, and works only while the lease of the
+// Names one hand-out of a message: an ack, an extension or a nack carries it, and works only while the lease of the
 // offset has this generation.
 #[repr(C)]
 #[derive(Clone, Copy)]
@@ -365,7 +365,7 @@ impl LeaseTable {
 
     // Puts the lease of an offset under another generation, if it still has the one that the caller claimed it under: whoever
     // claimed it since keeps the fence. Messages that are handed out as one batch come under one generation so; an offset and a
-    // generation together still name one hand_out_lem. The new generation is to be one that was given before, below the next: then a
+    // generation together still name one hand-out. The new generation is to be one that was given before, below the next: then a
     // later claim of the offset takes another, and fences the batch's token off.
     pub fn reseal_from_to(
         mut self,

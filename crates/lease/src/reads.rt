@@ -204,7 +204,7 @@ pub fn redeliveries_since_flush(table: &[u64]) -> u32
     table[REDELIVERIES] as u32
 }
 
-// How long a hand_out_lem lasts.
+// How long a hand-out lasts.
 pub fn config(table: &[u64]) -> LeaseConfig
     requires { Sound table.now }
     ensures { result ≡ (view table.now).config }

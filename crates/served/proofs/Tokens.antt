@@ -109,10 +109,10 @@ callable c p a w q here e f none_made = made-asked q (rw (e, f) at none_made)
 
 -- ## a claim that is answered 0 hands out, and its third number is the generation
 record Hands (o now : ℕ) (e : Event) (n : Numbers) : Type 0 where
-  hand_out_lem : HandOut
-  is : e ≡ claimed o now (done hand_out_lem)
-  offset : hand_out_lem.offset ≡ o
-  generation : hand_out_lem.generation ≡ n.2
+  handed : HandOut
+  is : e ≡ claimed o now (done handed)
+  offset : handed.offset ≡ o
+  generation : handed.generation ≡ n.2
 
 hands : (s : State) (a : List ℕ) (v o now : ℕ) (t : After) (n : Numbers) → asked s a v (claim o now) ≡ some t → seen_numbers t.event ≡ n → n.0 ≡ 0
     → Hands o now t.event n
@@ -124,7 +124,7 @@ hands s a v o now t n =
     (λ p f e z.
     let is : claimed o now (done (hand_out s o)) ≡ t.event = ap (λ (x : After). x.event) (some_inj f) in
     record {
-      hand_out_lem = hand_out s o;
+      handed = hand_out s o;
       is = sym is;
       offset = refl;
       generation = ap (λ (k : Event). (seen_numbers k).2) is ∙ ap (λ (k : Numbers). k.2) e;
@@ -159,8 +159,8 @@ module _ (c : state.Configuration) (size : ℕ) (fresh : State) (fit : valid.Fit
       let first : next c (ends c (fresh_world fresh size) before) (call (ask v (claim o now))) ≡ some m.then = rw at₁ m.made in
       let left : ends c (after m.then) since ≡ w₃ = rw m.leaves at₃ in
       let second : next c (ends c (after m.then) since) (call (ask w q)) ≡ some u.then = rw left u.made in
-      let so = token-both_ways c size fresh before since fit starts v o now h.hand_out_lem m.then first h.is w q (rw (h.offset, h.generation) token) u.then second in
-      let told : given_up_told o (told_of since ns) ≡ given_up_in h.hand_out_lem.offset (run c (after m.then) since) =
+      let so = token-both_ways c size fresh before since fit starts v o now h.handed m.then first h.is w q (rw (h.offset, h.generation) token) u.then second in
+      let told : given_up_told o (told_of since ns) ≡ given_up_in h.handed.offset (run c (after m.then) since) =
       rw (h.offset, m.leaves, ← answers) ((told_same c since w₂).takes o) in
       rw told (in_numbers c v w q _ (refusal_of u.then.event) p (sym (ap (λ (k : Numbers). k.0) u.numbers) ∙ number-seen u.then.event) so)
 

@@ -101,7 +101,7 @@ record Tells (q : Call) (x : Option After) : Type 0 where
   hands : handed_by q (numbers_in x) ≡ handed (done_by x)
   takes : (o : ℕ) → taken_by o q (numbers_in x) ≡ given_up_by o (done_by x)
 
--- neither a hand_out_lem nor a token taken away
+-- neither a hand-out nor a token taken away
 record Idles (x : Effect) : Type 0 where
   hands : none ≡ handed x
   takes : (o : ℕ) → false ≡ given_up_by o x

@@ -15,7 +15,7 @@ pub mod numbers;
 #[derive(Clone, Copy)]
 pub struct Offset(pub u64);
 
-// Names one hand_out_lem of a message.
+// Names one hand-out of a message.
 #[repr(C)]
 #[derive(Clone, Copy)]
 pub struct Generation(pub u64);
