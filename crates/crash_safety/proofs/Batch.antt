@@ -31,7 +31,7 @@ use Rattle.crash_safety.specs.Demand3.{handed, for_delivery, counted, hand_outs}
 use Rattle.crash_safety.specs.From.{repeated_before, sum}
 use Rattle.crash_safety.specs.Batch.{is_repeated, offset_of, offsets_handed_out, different, different_offsets, BatchBound}
 use Rattle.crash_safety.specs.Totals.{is_delivery, taken_after}
-use Rattle.crash_safety.proofs.Law.{Ledger, empty_ledger, noted, Law, Along, since}
+use Rattle.crash_safety.proofs.Law.{Ledger, empty_ledger, noted, Law, Seen, law-seen, all-seen, Along, since}
 use Rattle.crash_safety.proofs.Bound.{is_restart, restarts_seen, Counted, HandsFew, few-handed}
 use Rattle.crash_safety.proofs.Runs.{fold_both, SaysBoth}
 use Rattle.crash_safety.proofs.Restarts.{all_made}
@@ -301,18 +301,18 @@ module _ (M N : ℕ) (fires : M < MAX32) where
 
 -- ## under one policy
 module _ (p : Policy) (limited : 0 < p.maxDeliver) (fires : p.maxDeliver < MAX32) where
-  lawful-few : (l : Ledger) (e : Event) → Law p l e → HandsFew p.maxDeliver p.flush_redeliveries l (effect_of e)
-  lawful-few l e h = few-handed p limited fires p.maxDeliver p.flush_redeliveries (omega arith) (omega arith) l (effect_of e) h.2
+  seen-few : (l : Ledger) (e : Event) → Seen p l e → HandsFew p.maxDeliver p.flush_redeliveries l (effect_of e)
+  seen-few l e h = few-handed p limited fires p.maxDeliver p.flush_redeliveries (omega arith) (omega arith) l (effect_of e) h.2
 
-  pub batch-bounded : (es : List Event) → Along noted (Law p) empty_ledger es
+  pub batch-bounded : (es : List Event) → Along noted (Seen p) empty_ledger es
       → hand_outs is_repeated es ≤ (p.maxDeliver - 1) * different_offsets es + restarts_seen es * p.flush_redeliveries
-  batch-bounded es h = omega (arith, repeated_from p.maxDeliver p.flush_redeliveries fires (Law p) lawful-few empty_ledger refl refl es h)
+  batch-bounded es h = omega (arith, repeated_from p.maxDeliver p.flush_redeliveries fires (Seen p) seen-few empty_ledger refl refl es h)
 
   fair_deliveries : (es : List Event) (b : Ledger × ℕ) → Along (fold_both noted taken_seen) (SaysBoth (Law p) Few) b es
       → Along (fold_both noted taken_seen) (Delivers p.maxDeliver p.flush_redeliveries fires) b es
   unfolding Along
   fair_deliveries [] b h = tt
-  fair_deliveries (e ∷ es) b h = ((lawful-few b.0 e h.0.0, h.0.1), fair_deliveries es (fold_both noted taken_seen b e) h.1)
+  fair_deliveries (e ∷ es) b h = ((seen-few b.0 e (law-seen p b.0 e h.0.0), h.0.1), fair_deliveries es (fold_both noted taken_seen b e) h.1)
 
   pub total-bounded : (es : List Event) → Along (fold_both noted taken_seen) (SaysBoth (Law p) Few) (empty_ledger, 0) es
       → hand_outs is_delivery es ≤ p.maxDeliver * different_offsets es + restarts_seen es * 4096
@@ -324,5 +324,6 @@ batch-bound c n s items p f e =
     omega (
       arith,
       rw (all_made c items (fresh_world s n)) at
-          (batch-bounded c.settings.policy (limits c p f).0 (limits c p f).1 (run c (fresh_world s n) items) (lawfully c n s items f e)),
+          (batch-bounded c.settings.policy (limits c p f).0 (limits c p f).1 (run c (fresh_world s n) items)
+          (all-seen c.settings.policy (run c (fresh_world s n) items) empty_ledger (lawfully c n s items f e))),
     )

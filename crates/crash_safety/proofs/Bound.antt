@@ -24,7 +24,7 @@ use Rattle.crash_safety.specs.Book.{Page, Book, with_hand_out, settle, with_page
 use Rattle.crash_safety.specs.Demand3.{handed, for_delivery, delivers, counted, hand_outs}
 pub use Rattle.crash_safety.specs.Demand3.{is_restart}
 unfoldable pub use Rattle.crash_safety.specs.Demand3.{restarts_seen}
-use Rattle.crash_safety.proofs.Law.{Ledger, empty_ledger, noted, HandsOut, Law, Along, since}
+use Rattle.crash_safety.proofs.Law.{Ledger, empty_ledger, noted, HandsOut, Seen, Along, since}
 
 -- ## pages
 -- what is unsettled on the second page is so on the first, with the same count
@@ -206,11 +206,11 @@ module _ (M N : ℕ) (fires : M < MAX32) where
 
 -- ## under one policy
 module _ (p : Policy) (limited : 0 < p.maxDeliver) (fires : p.maxDeliver < MAX32) where
-  pub bounded-from : (l : Ledger) → l.book.copy ≡ l.book.page → l.redeliveries ≡ 0 → (es : List Event) → Along noted (Law p) l es
+  pub bounded-from : (l : Ledger) → l.book.copy ≡ l.book.page → l.redeliveries ≡ 0 → (es : List Event) → Along noted (Seen p) l es
       → (o : ℕ) → min (l.book.page.count o) p.maxDeliver + hand_outs (delivers o) es ≤ p.maxDeliver + restarts_seen es * (p.flush_redeliveries + 1)
   bounded-from =
-      few-from p.maxDeliver p.flush_redeliveries fires (Law p)
+      few-from p.maxDeliver p.flush_redeliveries fires (Seen p)
       (λ l e h. few-handed p limited fires p.maxDeliver p.flush_redeliveries (omega arith) (omega arith) l (effect_of e) h.2)
 
-  pub bounded : (es : List Event) → Along noted (Law p) empty_ledger es → (o : ℕ) → hand_outs (delivers o) es ≤ p.maxDeliver + restarts_seen es * (p.flush_redeliveries + 1)
+  pub bounded : (es : List Event) → Along noted (Seen p) empty_ledger es → (o : ℕ) → hand_outs (delivers o) es ≤ p.maxDeliver + restarts_seen es * (p.flush_redeliveries + 1)
   bounded es h o = omega (arith, bounded-from empty_ledger refl refl es h o)

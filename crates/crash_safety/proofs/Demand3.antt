@@ -11,7 +11,7 @@ use Rattle.consumer.specs.Valid.{Fits}
 use Rattle.starts.specs.Restart.{start}
 use Rattle.crash_safety.specs.Runs.{Item, run, fresh_world}
 use Rattle.crash_safety.specs.Demand3.{Limited, Demand3}
-use Rattle.crash_safety.proofs.Law.{empty_ledger, noted, Law, Along, restarts-right}
+use Rattle.crash_safety.proofs.Law.{empty_ledger, noted, Law, Seen, all-seen, Along, restarts-right}
 use Rattle.crash_safety.proofs.Generations.{none_shared}
 use Rattle.crash_safety.proofs.Bound.{bounded}
 use Rattle.crash_safety.proofs.Runs.{along}
@@ -34,12 +34,13 @@ lawfully c n s items f e =
 pub demand_3 : Demand3
 unfolding Demand3
 demand_3 c n s items f e =
-    let obeyed = lawfully c n s items f e in
+    let seen : Along noted (Seen c.settings.policy) empty_ledger (run c (fresh_world s n) items) =
+    all-seen c.settings.policy (run c (fresh_world s n) items) empty_ledger (lawfully c n s items f e) in
     record {
       bound = λ p o. omega (
         arith,
-        rw (all_made c items (fresh_world s n)) at (bounded c.settings.policy (limits c p f).0 (limits c p f).1 (run c (fresh_world s n) items) obeyed o),
+        rw (all_made c items (fresh_world s n)) at (bounded c.settings.policy (limits c p f).0 (limits c p f).1 (run c (fresh_world s n) items) seen o),
       );
-      generations = none_shared c.settings.policy (run c (fresh_world s n) items) empty_ledger obeyed;
-      found = restarts-right c.settings.policy (run c (fresh_world s n) items) empty_ledger obeyed;
+      generations = none_shared c.settings.policy (run c (fresh_world s n) items) empty_ledger seen;
+      found = restarts-right c.settings.policy (run c (fresh_world s n) items) empty_ledger seen;
     }

@@ -37,7 +37,7 @@ use Rattle.crash_safety.specs.Effects.{effect_of}
 use Rattle.crash_safety.specs.Book.{Page}
 use Rattle.crash_safety.specs.Demand3.{Finds, restarts_in, Limited, limit_of, threshold_of}
 use Rattle.crash_safety.specs.From.{page_of, book_from, CountsWithin, Keeps, HoldsFrom, Demand3From, UnorderedFrom}
-use Rattle.crash_safety.proofs.Law.{Ledger, ledger, noted, AtLeast, Law, Along, folded, restarts-right}
+use Rattle.crash_safety.proofs.Law.{Ledger, ledger, noted, AtLeast, Law, Seen, all-seen, Along, folded, restarts-right}
 use Rattle.crash_safety.proofs.Generations.{none_shared, all-at-least, floor-after}
 use Rattle.crash_safety.proofs.Bound.{restarts_seen, HandsFew, few-handed, few-from}
 use Rattle.crash_safety.proofs.Batch.{repeated_from}
@@ -243,6 +243,7 @@ holds-from : (c : Configuration) (p : Page) (g : ℕ) (es : List Event) (restart
 holds-from c p g es restarts left f counted obeyed leaves =
     let by = c.settings.policy in
     let l = ledger_from p g in
+    let seen : Along noted (Seen by) l es = all-seen by es l obeyed in
     let few : Limited c → (m : Ledger) (e : Event) → Law by m e → HandsFew (limit_of c) (threshold_of c) m (effect_of e) =
     λ q m e h. few-handed by (limits c q f).0 (limits c q f).1 (limit_of c) (threshold_of c) (omega arith) (omega arith) m (effect_of e) h.2 in
     let counts : Limited c → CountsWithin (limit_of c) (threshold_of c) restarts p es =
@@ -250,8 +251,8 @@ holds-from c p g es restarts left f counted obeyed leaves =
     record {
       holds = record {
         bound = λ q o. omega (arith, (counts q).bound o);
-        generations = none_shared by es l obeyed;
-        found = restarts-right by es l obeyed;
+        generations = none_shared by es l seen;
+        found = restarts-right by es l seen;
       };
       counts = counts;
       keeps = keeps-from (Law by) (λ m e h. h.1) (λ m e h. of_open by m (effect_of e) h.2) p g es left obeyed leaves;

@@ -15,29 +15,24 @@ use Rattle.machine.specs.Calls.{Event}
 use Rattle.crash_safety.specs.Effects.{Effect, handing, settling, requeuing, renewing, restarting, nothing, effect_of}
 use Rattle.crash_safety.specs.Demand3.{handed, is_under, counted, hand_outs}
 use Rattle.crash_safety.specs.From.{AllAtLeast}
-use Rattle.crash_safety.proofs.Law.{Ledger, noted, AtLeast, Law, Along, folded, above}
+use Rattle.crash_safety.proofs.Law.{Ledger, noted, AtLeast, AtLeastHanded, Seen, least-handed, Along, folded, above}
+
+rises : (g : ℕ) (h : Option HandOut) → AtLeastHanded g h → g ≤ above g h
+rises g none f = omega arith
+rises g (some h) f = omega arith
 
 pub floor-rises : (g : ℕ) (x : Effect) → AtLeast g x → g ≤ above g (handed x)
-floor-rises g (handing o h) f = omega arith
-floor-rises g (settling named) f = omega arith
-floor-rises g (requeuing o) f = omega arith
-floor-rises g renewing f = omega arith
-floor-rises g (restarting a) f = omega arith
-floor-rises g nothing f = omega arith
+floor-rises g x f = rises g (handed x) (least-handed g x f)
 
 -- a generation below the floor is not handed out
-not_under : (g k : ℕ) (x : Effect) → g < k → AtLeast k x → counted (is_under g) (handed x) ≡ 0
-not_under g k (handing o h) b f = rw (ne_eqb g h.generation (λ q. omega arith))
-not_under g k (settling named) b f = refl
-not_under g k (requeuing o) b f = refl
-not_under g k renewing b f = refl
-not_under g k (restarting a) b f = refl
-not_under g k nothing b f = refl
+not_under : (g k : ℕ) (h : Option HandOut) → g < k → AtLeastHanded k h → counted (is_under g) h ≡ 0
+not_under g k none b f = refl
+not_under g k (some h) b f = rw (ne_eqb g h.generation (λ q. omega arith))
 
 pub none_at-least : (g k : ℕ) → g < k → (es : List Event) → AllAtLeast k es → hand_outs (is_under g) es ≡ 0
 unfolding AllAtLeast hand_outs
 none_at-least g k b [] h = refl
-none_at-least g k b (e ∷ es) h = omega (arith, not_under g k (effect_of e) b h.0, none_at-least g k b es h.1)
+none_at-least g k b (e ∷ es) h = omega (arith, not_under g k (handed (effect_of e)) b (least-handed k (effect_of e) h.0), none_at-least g k b es h.1)
 
 -- what is at least k is at least g below it
 least : (g k : ℕ) (x : Effect) → g ≤ k → AtLeast k x → AtLeast g x
@@ -49,17 +44,17 @@ least g k (restarting (refused r)) m f = tt
 least g k (restarting (done s)) m f = omega arith
 least g k nothing m f = tt
 
--- from whatever says that each is at or above the floor
-module _ (L : Ledger → Event → Type 0) (low : (l : Ledger) (e : Event) → L l e → AtLeast l.floor (effect_of e)) where
+-- from whatever says that each hand-out is at or above the floor
+module _ (L : Ledger → Event → Type 0) (low : (l : Ledger) (e : Event) → L l e → AtLeastHanded l.floor (handed (effect_of e))) where
   none_under : (g : ℕ) (es : List Event) (l : Ledger) → g < l.floor → Along noted L l es → hand_outs (is_under g) es ≡ 0
   unfolding Along hand_outs
   none_under g [] l b h = refl
   none_under g (e ∷ es) l b h =
-      let f : AtLeast l.floor (effect_of e) = low l e h.0 in
+      let f : AtLeastHanded l.floor (handed (effect_of e)) = low l e h.0 in
       omega (
         arith,
-        not_under g l.floor (effect_of e) b f,
-        none_under g es (noted l e) (omega (arith, floor-rises l.floor (effect_of e) f)) h.1,
+        not_under g l.floor (handed (effect_of e)) b f,
+        none_under g es (noted l e) (omega (arith, rises l.floor (handed (effect_of e)) f)) h.1,
       )
 
   pub once-each : (es : List Event) (l : Ledger) → Along noted L l es → (g : ℕ) → hand_outs (is_under g) es ≤ 1
@@ -74,6 +69,8 @@ module _ (L : Ledger → Event → Type 0) (low : (l : Ledger) (e : Event) → L
           (λ t. rw t (omega (arith, none_under g es (noted l e) (rw q (omega (arith, eqb-true g d.generation t))) h.1)))
           (λ t. rw t (omega arith))
 
+-- from whatever says that each hand-out, and the ceiling of each restart, is at or above the floor
+module _ (L : Ledger → Event → Type 0) (low : (l : Ledger) (e : Event) → L l e → AtLeast l.floor (effect_of e)) where
   pub all-at-least : (g : ℕ) (es : List Event) (l : Ledger) → g ≤ l.floor → Along noted L l es → AllAtLeast g es
   unfolding Along AllAtLeast
   all-at-least g [] l m h = tt
@@ -88,8 +85,8 @@ module _ (L : Ledger → Event → Type 0) (low : (l : Ledger) (e : Event) → L
   floor-after (e ∷ es) l h = omega (arith, floor-rises l.floor (effect_of e) (low l e h.0), floor-after es (noted l e) h.1)
 
 -- under one policy
-pub none_below : (p : Policy) (g : ℕ) (es : List Event) (l : Ledger) → g < l.floor → Along noted (Law p) l es → hand_outs (is_under g) es ≡ 0
-none_below p = none_under (Law p) (λ l e h. h.1)
+pub none_below : (p : Policy) (g : ℕ) (es : List Event) (l : Ledger) → g < l.floor → Along noted (Seen p) l es → hand_outs (is_under g) es ≡ 0
+none_below p = none_under (Seen p) (λ l e h. h.1)
 
-pub none_shared : (p : Policy) (es : List Event) (l : Ledger) → Along noted (Law p) l es → (g : ℕ) → hand_outs (is_under g) es ≤ 1
-none_shared p = once-each (Law p) (λ l e h. h.1)
+pub none_shared : (p : Policy) (es : List Event) (l : Ledger) → Along noted (Seen p) l es → (g : ℕ) → hand_outs (is_under g) es ≤ 1
+none_shared p = once-each (Seen p) (λ l e h. h.1)

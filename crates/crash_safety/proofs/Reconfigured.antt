@@ -36,7 +36,7 @@ use Rattle.crash_safety.specs.Settled.{state_in}
 use Rattle.crash_safety.specs.Disk.{Write, Disk, disk, written, answers}
 use Rattle.crash_safety.specs.Unordered.{DiskItem, does, steps_on, syncs, fails, OnDisk, on_disk, Then, next_on, restart_on}
 use Rattle.crash_safety.specs.Reconfigured.{Handed, run_each, ends_each, restarts_each, Each, Accepted, largest, HoldsEach, Reconfigured}
-use Rattle.crash_safety.proofs.Law.{Ledger, noted, Law, Along, folded, found_right}
+use Rattle.crash_safety.proofs.Law.{Ledger, noted, Law, least-handed, Along, folded, found_right}
 use Rattle.crash_safety.proofs.Runs.{Made}
 use Rattle.crash_safety.proofs.Generations.{once-each}
 use Rattle.crash_safety.proofs.Bound.{HandsFew, few-handed}
@@ -323,7 +323,7 @@ module _ (c : Configuration) (n : ℕ) (f : Fits c.settings) (accepted : Passed 
             let m = gone (Within M N) n hs first w ok (each_within c f q hs ok qs)
             (record { by = c; allowed = first-within c f q hs; accepted = accepted; inv = inv }) in
             rw (← each_seen hs w) (counts-from M N (largest_fires c f q hs ok qs) (LawUnder (Within M N)) (few-under M N) p g es m.obeyed);
-        generations = once-each (LawUnder P) (λ m x h. h.law.1) es first b.obeyed;
+        generations = once-each (LawUnder P) (λ m x h. least-handed m.floor (effect_of x) h.law.1) es first b.obeyed;
         found = found_right (LawUnder P) (λ m x h. h.law.0) es first b.obeyed;
         keeps = keeps-from (LawUnder P) (λ m x h. h.law.1) (λ m x h. of_open h.by.settings.policy m (effect_of x) h.law.2) p g es
             (state_in left.phase) b.obeyed

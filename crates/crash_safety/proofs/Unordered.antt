@@ -27,7 +27,7 @@ use Rattle.crash_safety.specs.Runs.{call, step_on, world, keeps_journal, step_el
 use Rattle.crash_safety.specs.Demand3.{Finds}
 use Rattle.crash_safety.specs.Disk.{Write, write, Disk, disk, written, area, synced, has_header, answers, survivors}
 use Rattle.crash_safety.specs.Unordered.{DiskItem, does, steps_on, syncs, fails, OnDisk, on_disk, leads_as, Then, leads, joins, is_none, step_onto, unless_header, next_on, run_on, fresh_disk, restart_on, restarts_on, Unordered}
-use Rattle.crash_safety.proofs.Law.{Ledger, empty_ledger, noted, Law, Along, folded, restarts-right}
+use Rattle.crash_safety.proofs.Law.{Ledger, empty_ledger, noted, Law, Seen, all-seen, Along, folded, restarts-right}
 use Rattle.crash_safety.proofs.Runs.{Made, Answered}
 use Rattle.crash_safety.proofs.Invariant.{Saved, restored, Journal, Stands, is-ready, Written, Inv}
 use Rattle.crash_safety.proofs.Writes.{plain-block, inside, free, more-written, torn-journal, same_kept}
@@ -438,18 +438,18 @@ pub unordered : Unordered
 unfolding Unordered
 unordered c n s items f e =
     let es : List Event = run_on c (fresh_disk s n) items in
-    let obeyed = lawfully-on c n s items f e in
+    let seen : Along noted (Seen c.settings.policy) empty_ledger es = all-seen c.settings.policy es empty_ledger (lawfully-on c n s items f e) in
     record {
       holds = record {
         bound = λ p o. omega (
           arith,
-          rw (all_seen c items (fresh_disk s n)) at (bounded c.settings.policy (limits c p f).0 (limits c p f).1 es obeyed o),
+          rw (all_seen c items (fresh_disk s n)) at (bounded c.settings.policy (limits c p f).0 (limits c p f).1 es seen o),
         );
-        generations = none_shared c.settings.policy es empty_ledger obeyed;
-        found = restarts-right c.settings.policy es empty_ledger obeyed;
+        generations = none_shared c.settings.policy es empty_ledger seen;
+        found = restarts-right c.settings.policy es empty_ledger seen;
       };
       batch = λ p. omega (
         arith,
-        rw (all_seen c items (fresh_disk s n)) at (batch-bounded c.settings.policy (limits c p f).0 (limits c p f).1 es obeyed),
+        rw (all_seen c items (fresh_disk s n)) at (batch-bounded c.settings.policy (limits c p f).0 (limits c p f).1 es seen),
       );
     }

@@ -34,7 +34,7 @@ use Rattle.starts.proofs.Restarting.{Other, other_faulty}
 use Rattle.machine.specs.Calls.{Ask, Call, ask, begin, step, restart, u64, fits}
 use Rattle.machine.specs.Transitions.{writing, After, on_state, on_record, left_as, transition}
 use Rattle.machine.specs.Answers.{call_of, AskKept, begun_of}
-use Rattle.machine.specs.View.{AskedIs, MadeIs, StartMade, MadeOff, phase_at, phase_of, SoundAt, Sound, held, CalledIs, Stands, Rests, phaseAfter}
+use Rattle.machine.specs.View.{AskedIs, MadeIs, StartMade, OffIs, MadeOff, phase_at, phase_of, SoundAt, Sound, held, CalledIs, Stands, Rests, phaseAfter}
 use Rattle.machine.specs.declared.calls.Asked.{Asked}
 use Rattle.machine.specs.declared.calls.AskAnswer.{AskAnswer}
 use Rattle.machine.specs.declared.calls.AskAnswer.TheVariants as answers
@@ -209,6 +209,10 @@ module _ (m : Machine) (e : m.phase ≡ 1) (a a' : List ℕ) (r : Stepped) (h : 
         lists = rw e;
       })
 
+-- a machine that writes nothing stands with its consumer
+pub rests-stands : {s : Configuration} {n : ℕ} {c : Consumer} {m : Machine} → Rests s n c m → Stands s n c m
+rests-stands i = record { configuration = i.configuration; phase = i.phase; consumer = ap (λ (w : Writing). w.consumer) i.writing }
+
 -- ## restart
 module _ (m : Machine) (a out : List ℕ) (d : StartAnswer) (c : Consumer) (h : start_of d (view c) ≡ restarts.restart (configuration_of m.configuration) a) where
   pub restart-kept : Sound m → Other d → CalledIs m restart a out (record { answer = calls.Restarted d; machine = m }) a out
@@ -230,13 +234,12 @@ module _ (m : Machine) (ok : Sound m) (a out : List ℕ) (size : ℕ) (r : Start
   pub restart-refused : Other r.answer → CalledIs m restart a out (record { answer = calls.Restarted r.answer; machine = m }) a out
   restart-refused = restart-kept m a out r.answer r.consumer h.is ok
 
-  pub restart-done : r.answer ≡ starts.Started → (m' : Machine) → Rests m.configuration 0 r.consumer m'
+  pub restart-done : r.answer ≡ starts.Started → (m' : Machine) → Stands m.configuration 0 r.consumer m'
       → CalledIs m restart a out (record { answer = calls.Restarted r.answer; machine = m' }) a out
   restart-done p m' i =
       let w : done (view r.consumer) ≡ restarts.restart (configuration_of m.configuration) a = rw p at h.is in
       let s : consumer.Sound r.consumer = rw (← w) at h.beside in
-      restart-made m a out r.answer r.consumer h.is p s m'
-      (record { configuration = i.configuration; phase = i.phase; consumer = ap (λ (w : Writing). w.consumer) i.writing })
+      restart-made m a out r.answer r.consumer h.is p s m' i
 
 -- ## start and import
 module _ (right : Result State) (s : Configuration) (size : ℕ) (r : Started) (h : StartedIs s size right r) (m : Machine) where
@@ -284,15 +287,32 @@ fresh-of_none s c (done t) e b =
     let last : Passed area = (passed-append (restarts.settings_table given.settings) area passed).1 in
     absurd (true≢false last.0)
 
+-- a start, with no more of it than an answer and who can be called
+module _ (s : Configuration) (size : ℕ) (r : Started) (h : StartedIs s size (restarts.start (configuration_of s) size) r) (m : Machine) where
+  pub start-refused : Other r.answer → Stands s 2 r.consumer m → views.StartedIs s size (record { answer = r.answer; machine = m })
+  start-refused o i =
+      let f = other_faulty r.answer o in
+      let w : refused f.refusal ≡ restarts.start (configuration_of s) size = rw f.is at h.is in
+      record { is = rw f.is w; phase = rw (i.phase, ← w); configuration = i.configuration; sound = rw i.phase tt }
+
+  pub start-done : r.answer ≡ starts.Started → Stands s 0 r.consumer m → views.StartedIs s size (record { answer = r.answer; machine = m })
+  start-done p i =
+      let w : done (view r.consumer) ≡ restarts.start (configuration_of s) size = rw p at h.is in
+      let ok : consumer.Sound r.consumer = rw (← w) at h.beside in
+      record { is = rw (p, i.consumer) w; phase = rw (i.phase, i.consumer, ← w); configuration = i.configuration; sound = rw (i.phase, i.consumer) ok }
+
 -- a start that was made is one
 pub start-is : (s : Configuration) (size : ℕ) (r : machine.Started) → StartMade s size r → views.StartedIs s size r
 start-is s size r h = record { is = h.is; phase = h.phase; configuration = h.configuration; sound = h.sound }
 
-pub rests-off : (s : Configuration) (r : Started) (m : Machine) → StartedIs s 0 (restarts.start (configuration_of s) 0) r → Rests s 2 r.consumer m → MadeOff s m
-rests-off s r m h i =
+pub rests-off : (s : Configuration) (c : Consumer) (m : Machine) → Stands s 2 c m → OffIs s m
+rests-off s c m i = record { phase = rw i.phase; configuration = i.configuration; sound = rw i.phase tt }
+
+pub made-off : (s : Configuration) (r : Started) (m : Machine) → StartedIs s 0 (restarts.start (configuration_of s) 0) r → Rests s 2 r.consumer m → MadeOff s m
+made-off s r m h i =
     let same : m.writing.consumer ≡ r.consumer = ap (λ (w : Writing). w.consumer) i.writing in
     record {
-      off = record { phase = rw i.phase; configuration = i.configuration; sound = rw i.phase tt };
+      off = rests-off s r.consumer m (rests-stands i);
       rests = subst (λ (c : Consumer). Rests s 2 c m) (sym same) i;
       fresh = rw same (fresh-of_none s r.consumer (restarts.start (configuration_of s) 0) refl h.beside);
     }

@@ -16,6 +16,7 @@ use Rattle.consumer.specs.View as consumer
 use Rattle.consumer.specs.declared.Consumer.{Consumer}
 use Rattle.consumer.specs.declared.Configuration.{Configuration}
 use Rattle.checkpoint.specs.declared.Writing.{Writing}
+use Rattle.starts.specs.Restart as restarts
 use Rattle.starts.specs.Starting.{configuration_of, start_fault}
 use Rattle.starts.specs.declared.StartAnswer.TheVariants as starts
 use Rattle.starts.proofs.Restarting.{Other, other_faulty}
@@ -35,7 +36,7 @@ use Rattle.machine.specs.declared.calls.CallAnswer.TheVariants as callAnswers
 use Rattle.answers.specs.Numbers.{numbers_of, not_now, no_values, seen_numbers, numbers_in}
 use Rattle.server.specs.Kinds.{ask_at, call_at}
 use Rattle.answers.proofs.Starts.{start-numbers}
-use Rattle.server.specs.Transitions.{on_ask, on_call, phase_in, area_in, answered_with, answered_by, KeptBy, KeptIn, ask_after, AnswersAsk, Declined, SoundIf, AskedOn, holding, AskIs, CallIs, MadeIs}
+use Rattle.server.specs.Transitions.{on_ask, on_call, phase_in, area_in, answered_with, answered_by, KeptBy, KeptIn, ask_after, AnswersAsk, Declined, SoundIf, AskedOn, holding, AskIs, CallIs, MadeIs, StartIs}
 use Rattle.answers.specs.declared.Numbers.{Numbers}
 
 -- ## parts
@@ -213,3 +214,20 @@ module _ (right : Result State) (before : Machine) (s : Configuration) (size : �
   made-done p =
       let w : done (view r.machine.writing.consumer) ≡ right = rw p at h.is in
       record { is = made-said; made = rw (← w) (rw (← w) at h.phase, h.configuration, h.sound) }
+
+-- a start, with no more of it than an answer and who can be called
+module _ (before : Machine) (s : Configuration) (size : ℕ) (r : Started) (n : Numbers) (h : machine.StartedIs s size r)
+    (e : n ≡ numbers_of (refusal.answered no_values (unless (start_fault r.answer) (done (tt {0}))))) where
+  start-said : n ≡ numbers_of (refusal.answered no_values (restarts.start (configuration_of s) size))
+  start-said = e ∙ start-numbers (start_fault r.answer) _ ∙ ap (λ u. numbers_of (refusal.answered no_values u)) h.is
+
+  pub start-refused : Other r.answer → StartIs before s size n before
+  start-refused o =
+      let f = other_faulty r.answer o in
+      let w : refused f.refusal ≡ restarts.start (configuration_of s) size = rw f.is at h.is in
+      record { is = start-said; made = rw (← w) refl }
+
+  pub start-done : r.answer ≡ starts.Started → StartIs before s size n r.machine
+  start-done p =
+      let w : done (view r.machine.writing.consumer) ≡ restarts.start (configuration_of s) size = rw p at h.is in
+      record { is = start-said; made = rw (← w) (rw (← w) at h.phase, h.configuration, h.sound) }

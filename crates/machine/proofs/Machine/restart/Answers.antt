@@ -1,6 +1,6 @@
 -- `Machine::restart` meets its contract: a refusal keeps the machine, and else it rests on what the journal has. Assumes nothing.
 use borrow.Author.Rules.{rules}
-use Rattle.machine.proofs.Transitions.{restart-refused, restart-done}
+use Rattle.machine.proofs.Transitions.{rests-stands, restart-refused, restart-done}
 use Rattle.machine.proofs.Machine.restart.Goals as goal
 
 pub returns-in_default : goal.returns-in_default
@@ -11,4 +11,4 @@ pub returns : goal.returns
 returns c =
     λ out.
     restart-done c.args.self c.requires c.args.area.now out _ c.restart-started.result c.restart-started.ensures c.in-Started.is
-    c.resting.result c.resting.ensures
+    c.resting.result (rests-stands c.resting.ensures)
