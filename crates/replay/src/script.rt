@@ -335,3 +335,18 @@ pub fn parse(line: &[u8], bytes: &mut [u8]) -> Line {
     let end = lines::without_return(line);
     read(&line[..end], bytes)
 }
+
+// A line as it counts. One that begins as an import or an export does is a bad one, of which nothing is told, unless what moves in and out is
+// asked for.
+pub fn counted(line: Line, moving: bool) -> Line {
+    if moving {
+        return line;
+    }
+    if line.near == IMPORT {
+        return plain(BAD);
+    }
+    if line.near == EXPORT {
+        return plain(BAD);
+    }
+    line
+}
