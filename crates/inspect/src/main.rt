@@ -68,8 +68,11 @@ fn kind_of(count: usize, word: &[u8]) -> Kind {
     Kind::None
 }
 
-// Which journal is asked for by its number, in the environment's JOURNAL_NUMBER: none in particular where it isn't there.
-fn asked_by(word: Result<String, VarError>) -> Asked {
+// Which journal is asked for by its number, in the environment's JOURNAL_NUMBER: none in particular where it isn't there. A snapshot has none.
+fn asked_by(kind: Kind, word: Result<String, VarError>) -> Asked {
+    let Kind::Journal = kind else {
+        return Asked::All;
+    };
     let word = match word {
         Ok(word) => word,
         Err(VarError::NotPresent) => return Asked::All,
@@ -190,7 +193,7 @@ fn main(rt: HostRuntime) -> io::Result<()> {
     if let Kind::None = kind {
         return usage(rt.stderr());
     }
-    let asked = asked_by(env::var(&rt, "JOURNAL_NUMBER"));
+    let asked = asked_by(kind, env::var(&rt, "JOURNAL_NUMBER"));
     if let Asked::None = asked {
         return no_number(rt.stderr());
     }

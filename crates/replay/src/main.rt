@@ -43,11 +43,11 @@ struct Done {
 }
 
 // The line that was found; nothing, where more is to be read first or the input has ended. The bytes of an import go into a lent list.
-fn line_in(buf: &[u8], found: Found, bytes: &mut [u8]) -> Line
+fn line_in(buf: &[u8], found: Found, moving: bool, bytes: &mut [u8]) -> Line
     requires { Lies (length buf.now) found }
 {
     match found {
-        Found::Line { from, to } => script::parse(&buf[from..to], bytes),
+        Found::Line { from, to } => script::parse_as(&buf[from..to], moving, bytes),
         Found::TooLong { first } => script::too_long(first),
         _ => script::plain(script::NOTHING),
     }
@@ -129,7 +129,7 @@ fn next_line<'a, R: Read>(
     let input = taken.input;
     let found = taken.found;
     if is_line(found) {
-        let line = script::counted(line_in(buf, found, bytes), state.moving);
+        let line = line_in(buf, found, state.moving, bytes);
         let done = answer(line, session, state.told, bytes, area, stdout, out, at);
         let after = done.session;
         return State {
