@@ -1,5 +1,6 @@
-// Journals out of files, of either form: one with blocks side by side, read at once; or in sectors, read one by one. Where the disk can't
-// read a part (EIO), the rest is read, and its blocks are unsound: 1 stands for each of them in a list that goes with the area.
+// Journals out of files in sectors, and such as are asked for by their number: of a file with blocks side by side, read at once; or in
+// sectors, read one by one. Where the disk can't read a part (EIO), the rest is read, and its blocks are unsound: 1 stands for each of them
+// in a list that goes with the area.
 ghost use Rattle.std.specs.Prelude.{◌≡◌, ◌+◌, ◌*◌, ◌≤◌, ◌<◌, length};
 
 use crate::facts::Layout;
@@ -84,6 +85,23 @@ fn read_at(file: &File, buf: &mut [u8], place: u64) -> usize
     match file.read_at(buf, place) {
         Ok(got) => got,
         Err(_) => 0,
+    }
+}
+
+// Whether a file is longer than any with blocks side by side, and begins as one in sectors does.
+pub fn is_in_sectors(file: &File) -> bool {
+    let mut sector = [0u8; 4096];
+    let got = read_at(file, &mut sector, 0);
+    if got != 4096 {
+        return false;
+    }
+    if let Form::Magic = sectors::form_of(&sector, 0) {
+        return false;
+    }
+    let mut one = [0u8; 1];
+    match file.read_at(&mut one, 65536) {
+        Ok(0) => false,
+        _ => true,
     }
 }
 

@@ -14,6 +14,7 @@ use journal::{LastGroup, Walked};
 use lease::LeaseConfig;
 use starts::StartAnswer;
 use std::io::Stdout;
+use text::output::put;
 use text::templates::fill;
 use types::limits::WORKERS;
 
@@ -200,6 +201,18 @@ pub fn journal(
     let mut next = verdict(stdout, out, at, area, walked);
     next = unread_blocks(stdout, out, next, unread);
     next = facts(stdout, out, next, area, walked, layout);
+    listed(stdout, out, next, area)
+}
+
+// The first blocks of a file that is longer than any journal: a restart on it is 4.
+pub fn oversized(stdout: Stdout, out: &mut [u8], at: usize, area: &[u8]) -> usize {
+    let mut next = no_restart(stdout, out, at, answers::of_start(StartAnswer::BadArea));
+    next = put(
+        stdout,
+        out,
+        next,
+        b"\nfile: more than 65536 bytes, which the longest journal has; its first blocks follow, in halves as if they were all\n\n",
+    );
     listed(stdout, out, next, area)
 }
 

@@ -2,8 +2,10 @@
 // The first line is the verdict. The file is opened for reading and never changed. What can't be read is said on standard error.
 #![tactic(auto)]
 
+use facts::Layout;
 use files::{Asked, Behind};
 use std::alloc::Global;
+use std::env::VarError;
 use std::fs::{File, Files};
 use std::io::{Stderr, Stdout};
 use std::{env, fs, io};
@@ -25,12 +27,15 @@ mod refusals;
 mod said;
 mod snapshots;
 
-// What a file is printed as, which the first argument names.
+// What a file is printed as: what the first argument names, and of a file that is longer than the buffer the first blocks where it
+// is to be a journal.
 #[derive(Clone, Copy)]
 enum Kind {
     Journal,
     Cursor,
     Attempts,
+    Oversized,
+    TooLong,
     None,
 }
 
@@ -46,13 +51,8 @@ fn usage(stderr: Stderr) -> io::Result<()> {
     )
 }
 
-// What the first of the arguments names, where there are as many as it takes.
+// What the first of two arguments names.
 fn kind_of(count: usize, word: &[u8]) -> Kind {
-    if same(word, b"journal") {
-        if count == 4 {
-            return Kind::Journal;
-        }
-    }
     if count != 3 {
         return Kind::None;
     }
@@ -68,10 +68,15 @@ fn kind_of(count: usize, word: &[u8]) -> Kind {
     Kind::None
 }
 
-// Which journal the third argument names, where there is one.
-fn asked_by(word: Option<&str>) -> Asked {
-    let Some(word) = word else {
+// Which journal is asked for by its number, in the environment's JOURNAL_NUMBER: none in particular where it isn't there. A snapshot has none.
+fn asked_by(kind: Kind, word: Result<String, VarError>) -> Asked {
+    let Kind::Journal = kind else {
         return Asked::All;
+    };
+    let word = match word {
+        Ok(word) => word,
+        Err(VarError::NotPresent) => return Asked::All,
+        Err(_) => return Asked::None,
     };
     if 32 < word.len() {
         return Asked::None;
@@ -82,15 +87,40 @@ fn asked_by(word: Option<&str>) -> Asked {
     Asked::One(number)
 }
 
-fn snapshot_of(kind: Kind, bytes: &[u8], stdout: Stdout, out: &mut [u8]) -> usize {
+fn no_number(stderr: Stderr) -> io::Result<()> {
+    stderr.write_all(b"inspect: JOURNAL_NUMBER is no number of a journal\n")
+}
+
+fn printed_as(kind: Kind, behind: Behind) -> Kind {
+    let Behind::More = behind else {
+        return kind;
+    };
+    if let Kind::Journal = kind {
+        return Kind::Oversized;
+    }
+    Kind::TooLong
+}
+
+fn report_of(kind: Kind, bytes: &[u8], stdout: Stdout, out: &mut [u8]) -> usize {
     match kind {
+        Kind::Journal => {
+            let unread = [0u8; 128];
+            journals::journal(stdout, out, 0, bytes, Layout::SideBySide, &unread)
+        }
         Kind::Cursor => snapshots::cursor(stdout, out, 0, bytes),
         Kind::Attempts => snapshots::attempts(stdout, out, 0, bytes),
-        _ => 0,
+        Kind::Oversized => journals::oversized(stdout, out, 0, bytes),
+        Kind::TooLong => output::put(
+            stdout,
+            out,
+            0,
+            b"refused: it has more than 65536 bytes, and no snapshot has more than 2061\n",
+        ),
+        Kind::None => 0,
     }
 }
 
-fn show_snapshot(
+fn show(
     kind: Kind,
     path: &str,
     file: &mut File,
@@ -103,38 +133,23 @@ fn show_snapshot(
     let read = files::read_full(file, &mut buf);
     let n = read.len;
     let rest = files::read_on(file, n == 65536, read.failed);
-    match rest {
-        Behind::Failed(error) => return fail(stderr, alloc, path, error),
-        Behind::More => {
-            let at = output::put(
-                stdout,
-                &mut out,
-                0,
-                b"refused: it has more than 65536 bytes, and no snapshot has more than 2061\n",
-            );
-            output::flush(stdout, &out, at);
-        }
-        Behind::Nothing => {
-            let at = snapshot_of(kind, &buf[..n], stdout, &mut out);
-            output::flush(stdout, &out, at);
-        }
+    if let Behind::Failed(error) = rest {
+        return fail(stderr, alloc, path, error);
     }
+    let at = report_of(printed_as(kind, rest), &buf[..n], stdout, &mut out);
+    output::flush(stdout, &out, at);
     Ok(())
 }
 
-fn show(
-    kind: Kind,
-    asked: Asked,
-    path: &str,
-    file: &mut File,
-    alloc: Global,
-    stdout: Stdout,
-    stderr: Stderr,
-) -> io::Result<()> {
-    if let Kind::Journal = kind {
-        return files::show_journal(asked, path, file, alloc, stdout, stderr);
+// Whether a file can be one of several journals: it is to be a journal, and one is asked for by its number, or it is in sectors.
+fn has_journals(kind: Kind, asked: Asked, file: &File) -> bool {
+    let Kind::Journal = kind else {
+        return false;
+    };
+    if let Asked::All = asked {
+        return files::is_in_sectors(file);
     }
-    show_snapshot(kind, path, file, alloc, stdout, stderr)
+    true
 }
 
 // What a failure names: the file, or where its name is too long that it is the name.
@@ -158,7 +173,10 @@ fn inspect<R: Files<File = File>>(
         Ok(file) => file,
         Err(error) => return fail(stderr, alloc, told_as(path), error),
     };
-    show(kind, asked, path, &mut file, alloc, stdout, stderr)
+    if has_journals(kind, asked, &file) {
+        return files::show_journal(asked, path, &mut file, alloc, stdout, stderr);
+    }
+    show(kind, path, &mut file, alloc, stdout, stderr)
 }
 
 fn main(rt: HostRuntime) -> io::Result<()> {
@@ -169,15 +187,15 @@ fn main(rt: HostRuntime) -> io::Result<()> {
         Some(word) => kind_of(count, word.as_bytes()),
         None => Kind::None,
     };
-    let asked = asked_by(args.get(3).map(|word| word.as_str()));
     let Some(path) = args.get(2) else {
         return usage(rt.stderr());
     };
     if let Kind::None = kind {
         return usage(rt.stderr());
     }
+    let asked = asked_by(kind, env::var(&rt, "JOURNAL_NUMBER"));
     if let Asked::None = asked {
-        return usage(rt.stderr());
+        return no_number(rt.stderr());
     }
     inspect(
         &rt,

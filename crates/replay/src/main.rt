@@ -1,6 +1,6 @@
 // Runs a script of calls, with power failures, against a consumer and its journal. It reads lines from the file that its argument
 // names, or from standard input, and writes an answer line for each; `script` has the lines, `printing` the answers, docs/REPLAY.md
-// both.
+// both. Lines that move a consumer in and out are understood where the environment has MOVING.
 #![tactic(auto)]
 
 mod blocks;
@@ -22,14 +22,15 @@ use text::failures::fail;
 use text::lines::{Found, Input};
 use text::{lines, output};
 
-// The input, how many bytes of answers wait, what is being run, and whether bad lines are told what they should be; or the input has
-// ended.
+// The input, how many bytes of answers wait, what is being run, whether bad lines are told what they should be, and whether lines that
+// move in and out are understood; or the input has ended.
 #[derive(Clone, Copy)]
 struct State {
     input: Input,
     at: usize,
     session: Session,
     told: bool,
+    moving: bool,
     ended: bool,
 }
 
@@ -42,11 +43,11 @@ struct Done {
 }
 
 // The line that was found; nothing, where more is to be read first or the input has ended. The bytes of an import go into a lent list.
-fn line_in(buf: &[u8], found: Found, bytes: &mut [u8]) -> Line
+fn line_in(buf: &[u8], found: Found, moving: bool, bytes: &mut [u8]) -> Line
     requires { Lies (length buf.now) found }
 {
     match found {
-        Found::Line { from, to } => script::parse(&buf[from..to], bytes),
+        Found::Line { from, to } => script::parse_as(&buf[from..to], moving, bytes),
         Found::TooLong { first } => script::too_long(first),
         _ => script::plain(script::NOTHING),
     }
@@ -128,7 +129,7 @@ fn next_line<'a, R: Read>(
     let input = taken.input;
     let found = taken.found;
     if is_line(found) {
-        let line = line_in(buf, found, bytes);
+        let line = line_in(buf, found, state.moving, bytes);
         let done = answer(line, session, state.told, bytes, area, stdout, out, at);
         let after = done.session;
         return State {
@@ -136,6 +137,7 @@ fn next_line<'a, R: Read>(
             at: done.at,
             session: after,
             told: done.told,
+            moving: state.moving,
             ended: false,
         };
     }
@@ -145,6 +147,7 @@ fn next_line<'a, R: Read>(
         at: 0,
         session: session,
         told: state.told,
+        moving: state.moving,
         ended: input.ended,
     }
 }
@@ -153,6 +156,7 @@ fn next_line<'a, R: Read>(
 fn run<'a, R: Read>(
     source: &mut R,
     told: bool,
+    moving: bool,
     buf: &'a mut [u8],
     stdout: Stdout,
     out: &'a mut [u8],
@@ -164,6 +168,7 @@ fn run<'a, R: Read>(
         at: 0,
         session: session::nothing_started(),
         told: told,
+        moving: moving,
         ended: false,
     };
     let mut turns = u64::MAX;
@@ -176,13 +181,13 @@ fn run<'a, R: Read>(
     }
 }
 
-fn run_all<R: Read>(source: &mut R, told: bool, stdout: Stdout) {
+fn run_all<R: Read>(source: &mut R, told: bool, moving: bool, stdout: Stdout) {
     let mut buf = [0u8; 65536];
     let mut out = [0u8; 65536];
     let mut area = [0u8; 65536];
     let mut bytes = [0u8; 65536];
     run(
-        source, told, &mut buf, stdout, &mut out, &mut area, &mut bytes,
+        source, told, moving, &mut buf, stdout, &mut out, &mut area, &mut bytes,
     );
 }
 
@@ -205,6 +210,7 @@ fn run_file<R: Files>(
     rt: &R,
     alloc: Global,
     path: &str,
+    moving: bool,
     stdout: Stdout,
     stderr: Stderr,
 ) -> io::Result<()> {
@@ -215,7 +221,7 @@ fn run_file<R: Files>(
     if let Some(error) = unreadable(&mut file) {
         return fail(stderr, alloc, path, error);
     }
-    run_all(&mut file, true, stdout);
+    run_all(&mut file, true, moving, stdout);
     Ok(())
 }
 
@@ -226,15 +232,23 @@ fn usage(stderr: Stderr) -> io::Result<()> {
 }
 
 fn main(rt: HostRuntime) -> io::Result<()> {
+    let moving = env::var(&rt, "MOVING").is_ok();
     let mut args = env::args(&rt)?;
     args.next();
     let Some(path) = args.next() else {
         let mut stdin = rt.stdin();
-        run_all(&mut stdin, false, rt.stdout());
+        run_all(&mut stdin, false, moving, rt.stdout());
         return Ok(());
     };
     if args.next().is_some() {
         return usage(rt.stderr());
     }
-    run_file(&rt, rt.alloc(), path.as_str(), rt.stdout(), rt.stderr())
+    run_file(
+        &rt,
+        rt.alloc(),
+        path.as_str(),
+        moving,
+        rt.stdout(),
+        rt.stderr(),
+    )
 }

@@ -304,34 +304,31 @@ fn block(stdout: Stdout, out: &mut [u8], at: usize, area: &[u8], from: usize) ->
     output::put(stdout, out, next, b"\n")
 }
 
+// A form of a table, behind what a bad line is answered.
+fn told(stdout: Stdout, out: &mut [u8], at: usize, forms: &[u8], place: usize) -> usize {
+    let mut next = output::put(stdout, out, at, b": ");
+    next = templates::fill(stdout, out, next, forms, place, [0; 4]);
+    output::put(stdout, out, next, b"\n")
+}
+
 // The end of a bad line's answer: the form that it should have had, by its place in the table, where that is known and to be told.
 fn bad_line(stdout: Stdout, out: &mut [u8], at: usize, expected: usize) -> usize {
+    if script::EXPORT <= expected {
+        return told(stdout, out, at, &script::MOVES, expected - script::EXPORT);
+    }
     if script::BAD <= expected {
         return output::put(stdout, out, at, b"\n");
     }
-    let mut next = output::put(stdout, out, at, b": ");
-    next = templates::fill(stdout, out, next, &script::FORMS, expected, [0; 4]);
-    output::put(stdout, out, next, b"\n")
+    told(stdout, out, at, &script::FORMS, expected)
 }
 
-// The line of a form, but for those of moving in and out, which help doesn't list yet.
-fn form(stdout: Stdout, out: &mut [u8], at: usize, k: usize) -> usize {
-    if k == script::EXPORT {
-        return at;
-    }
-    if k == script::IMPORT {
-        return at;
-    }
-    let next = templates::fill(stdout, out, at, &script::FORMS, k, [0; 4]);
-    output::put(stdout, out, next, b"\n")
-}
-
-// A line for each form of the table that help lists.
+// A line for each form of the table.
 fn forms(stdout: Stdout, out: &mut [u8], at: usize) -> usize {
     let mut next = at;
     let mut k: usize = 0;
     while k < script::BAD {
-        next = form(stdout, out, next, k);
+        next = templates::fill(stdout, out, next, &script::FORMS, k, [0; 4]);
+        next = output::put(stdout, out, next, b"\n");
         k += 1;
     }
     next

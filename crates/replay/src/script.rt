@@ -5,9 +5,8 @@ use text::words::{Number, Numbers};
 use text::{lines, words};
 
 // The table of forms, with bars between them. Of each stand its words, then a colon and what it is for: words in capitals are numbers,
-// two of `import` bytes, and of the last there are any number where it ends in dots. Forms that begin alike stand together, and the first
-// says what they are.
-pub const FORMS: [u8; 2135] = *b"claim OFFSET NOW: hands an offset out|\
+// and of the last there are any number where it ends in dots. Forms that begin alike stand together, and the first says what they are.
+pub const FORMS: [u8; 1915] = *b"claim OFFSET NOW: hands an offset out|\
     ack OFFSET GENERATION: settles an offset, by the token that it was handed out with|\
     term OFFSET GENERATION: the same, of a job that is given up|\
     nack OFFSET GENERATION NOW: gives an offset back, to wait as the backoffs say; a DELAY may stand behind|\
@@ -33,11 +32,14 @@ pub const FORMS: [u8; 2135] = *b"claim OFFSET NOW: hands an offset out|\
     open FROM TO ROOM: the stretches from one offset up to another that are not settled; ROOM for them is 0 to 256|\
     nearest OFFSET: the first offset from there on that is not settled|\
     plan ROOM OFFSET...: which of up to 128 offsets are settled; ROOM for the answers is 0 to 256|\
-    export: the snapshots of the cursor and of all counts, in hexadecimal|\
     hours SHIFT MON TUE WED THU FRI SAT SUN: the opening hours from the next start or restart on; or hours none|\
     hours none: no opening hours from the next start or restart on|\
-    import GENERATION CURSOR ATTEMPTS: a consumer with what two snapshots have, and its journal anew; bytes are lower-case hexadecimal digits, - for none|\
     help: these lines; behind it a bad line is told what it should be";
+
+// The forms that move in and out, which help doesn't list; the last two words of `import` are bytes.
+pub const MOVES: [u8; 219] =
+    *b"export: the snapshots of the cursor and of all counts, in hexadecimal|\
+    import GENERATION CURSOR ATTEMPTS: a consumer with what two snapshots have, and its journal anew; bytes are lower-case hexadecimal digits, - for none";
 
 // The forms, by their places in the table. A line of none of them is bad, and has one place more; `NOTHING` is no form of the table.
 pub const CLAIM: usize = 0;
@@ -92,19 +94,20 @@ pub const NEAREST: usize = 24;
 
 pub const PLAN: usize = 25;
 
-pub const EXPORT: usize = 26;
+pub const HOURS: usize = 26;
 
-pub const HOURS: usize = 27;
+pub const HOURS_NONE: usize = 27;
 
-pub const HOURS_NONE: usize = 28;
+pub const HELP: usize = 28;
 
-pub const IMPORT: usize = 29;
+pub const BAD: usize = 29;
 
-pub const HELP: usize = 30;
+pub const NOTHING: usize = 30;
 
-pub const BAD: usize = 31;
+// Those of `MOVES`, in its order.
+pub const EXPORT: usize = 31;
 
-pub const NOTHING: usize = 32;
+pub const IMPORT: usize = 32;
 
 // How many numbers of a line are kept: a plan has as many, its room and 128 offsets.
 pub const NUMBERS: usize = 129;
@@ -255,11 +258,11 @@ fn line_of(name: &[u8], word: &[u8], count: usize, numbers: [u64; NUMBERS]) -> L
     }
 }
 
-// A line that is none, and begins as an import does.
-fn bad_import() -> Line {
+// A line that is none, and begins as a form does.
+fn bad_move(near: usize) -> Line {
     Line {
         form: BAD,
-        near: IMPORT,
+        near: near,
         count: 0,
         numbers: [0; NUMBERS],
     }
@@ -268,13 +271,13 @@ fn bad_import() -> Line {
 // An import from this generation of the bytes that two words are, which go into a lent list, one behind the other.
 fn import_of<'a>(generation: u64, cursor: &'a [u8], attempts: &'a [u8], bytes: &mut [u8]) -> Line {
     let Numbers::Count(first) = words::parse_bytes(cursor, bytes) else {
-        return bad_import();
+        return bad_move(IMPORT);
     };
     if bytes.len() < first {
-        return bad_import();
+        return bad_move(IMPORT);
     }
     let Numbers::Count(second) = words::parse_bytes(attempts, &mut bytes[first..]) else {
-        return bad_import();
+        return bad_move(IMPORT);
     };
     let mut numbers = [0u64; NUMBERS];
     numbers[0] = generation;
@@ -292,36 +295,40 @@ fn import_of<'a>(generation: u64, cursor: &'a [u8], attempts: &'a [u8], bytes: &
 fn read_import(line: &[u8], end: usize, bytes: &mut [u8]) -> Line {
     let len = line.len();
     if len <= end {
-        return bad_import();
+        return bad_move(IMPORT);
     }
     let from = end + 1;
     let middle = words::word_end(line, from);
     if len <= middle {
-        return bad_import();
+        return bad_move(IMPORT);
     }
     let Number::Value(generation) = words::parse_number(&line[from..middle]) else {
-        return bad_import();
+        return bad_move(IMPORT);
     };
     let second = middle + 1;
     let last = words::word_end(line, second);
     if len <= last {
-        return bad_import();
+        return bad_move(IMPORT);
     }
     let third = last + 1;
     import_of(generation, &line[second..last], &line[third..], bytes)
 }
 
-// The words of a line. Its name is its first word, where numbers alone stand behind it, and else the whole line; an import has words that
-// are bytes, which go into a lent list.
-fn read(line: &[u8], bytes: &mut [u8]) -> Line {
+// A line that begins with the word `export`: nothing stands behind it.
+fn read_export(line: &[u8]) -> Line {
+    if words::same(line, b"export") {
+        return plain(EXPORT);
+    }
+    bad_move(EXPORT)
+}
+
+// The words of a line. Its name is its first word, where numbers alone stand behind it, and else the whole line.
+fn read(line: &[u8]) -> Line {
     if is_nothing(line) {
         return plain(NOTHING);
     }
     let end = words::word_end(line, 0);
     let word = &line[..end];
-    if words::same(word, b"import") {
-        return read_import(line, end, bytes);
-    }
     let mut numbers = [0u64; NUMBERS];
     let gathered = words::parse_numbers(line, 0, &mut numbers);
     let Numbers::Count(n) = gathered else {
@@ -330,8 +337,30 @@ fn read(line: &[u8], bytes: &mut [u8]) -> Line {
     line_of(word, word, n, numbers)
 }
 
-// A line, without the carriage return that may stand before its line end. The bytes of an import go into a lent list.
-pub fn parse(line: &[u8], bytes: &mut [u8]) -> Line {
+// A line, without the carriage return that may stand before its line end.
+pub fn parse(line: &[u8]) -> Line {
     let end = lines::without_return(line);
-    read(&line[..end], bytes)
+    read(&line[..end])
+}
+
+// The words of a line that may move in or out.
+fn read_moving(line: &[u8], bytes: &mut [u8]) -> Line {
+    let end = words::word_end(line, 0);
+    let word = &line[..end];
+    if words::same(word, b"import") {
+        return read_import(line, end, bytes);
+    }
+    if words::same(word, b"export") {
+        return read_export(line);
+    }
+    read(line)
+}
+
+// The same as `parse`; a line may move in or out where that is asked for. The bytes of an import go into a lent list.
+pub fn parse_as(line: &[u8], moving: bool, bytes: &mut [u8]) -> Line {
+    if !moving {
+        return parse(line);
+    }
+    let end = lines::without_return(line);
+    read_moving(&line[..end], bytes)
 }

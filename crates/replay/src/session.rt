@@ -223,6 +223,15 @@ fn made(session: Session, made: Started, len: usize, most: usize, template: usiz
     }
 }
 
+// What a start answers and leaves, in an area of so many bytes, of which it is to have the first `len`.
+fn started(session: Session, configuration: Configuration, len: usize, most: usize) -> Acted
+    requires { Ready most session }
+    ensures { Ready most result.session }
+{
+    let started = Machine::start(configuration, len);
+    made(session, started, len, most, printing::STARTED)
+}
+
 // What was made, on the first bytes of the area, which are zeroed where it is answered with this template.
 fn zeroed(acted: Acted, template: usize, area: &mut [u8]) -> Acted
     requires { Ready (length area.old) acted.session }
@@ -250,9 +259,7 @@ fn start(session: Session, line: Line, area: &mut [u8]) -> Acted
     let rights = session.machine.configuration.settings.rights;
     let hours = session.machine.configuration.settings.hours;
     let configuration = configuration_of(v, line.count, rights, hours);
-    let len = v[5] as usize;
-    let started = Machine::start(configuration, len);
-    let acted = made(session, started, len, area.len(), printing::STARTED);
+    let acted = started(session, configuration, v[5] as usize, area.len());
     zeroed(acted, printing::STARTED, area)
 }
 

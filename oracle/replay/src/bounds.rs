@@ -25,8 +25,13 @@ pub struct List {
 }
 
 impl List {
+    /// M + C x (N + 1).
+    pub fn recipe_bound(&self) -> u128 {
+        self.limit + self.restarts * (self.threshold + 1)
+    }
+
     /// M - k, not below 0, + C x (N + 1), where k is the count that the offset came with.
-    pub fn recipe_bound(&self, offset: u64) -> u128 {
+    pub fn moved_bound(&self, offset: u64) -> u128 {
         let came = self.counts.get(&offset).copied().unwrap_or(0);
         self.limit.saturating_sub(came) + self.restarts * (self.threshold + 1)
     }
@@ -42,10 +47,16 @@ impl List {
     }
 
     fn judge(&self, offset: u64) -> Result<(), String> {
-        let (deliveries, recipe) = (self.deliveries[&offset], self.recipe_bound(offset));
+        let (deliveries, recipe) = (self.deliveries[&offset], self.recipe_bound());
         if deliveries > recipe {
             return Err(format!(
-                "offset {offset} was delivered {deliveries} times, and M - k + C x (N + 1) is {recipe}"
+                "offset {offset} was delivered {deliveries} times, and M + C x (N + 1) is {recipe}"
+            ));
+        }
+        let moved = self.moved_bound(offset);
+        if deliveries > moved {
+            return Err(format!(
+                "offset {offset} was delivered {deliveries} times, and M - k + C x (N + 1) is {moved}"
             ));
         }
         let (repeats, batch) = (self.repeats, self.batch_bound());

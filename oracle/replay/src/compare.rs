@@ -2,7 +2,7 @@
 use crate::bounds::Bounds;
 use crate::help;
 use crate::line::{asks, read, Call};
-use crate::make::script;
+use crate::make::{moving_script, script};
 use crate::program::{lines, Program};
 use std::io::Write;
 use std::process::{Command, Stdio};
@@ -12,7 +12,11 @@ const SHOWN: usize = 12;
 
 /// The model's answers to a text.
 pub fn answers(text: &[u8]) -> String {
-    let mut program = Program::default();
+    answers_of(Program::default(), text)
+}
+
+/// The same of a model that may understand what moves in and out.
+pub fn answers_of(mut program: Program, text: &[u8]) -> String {
     lines(text)
         .filter_map(|line| program.answer(line))
         .map(|answer| answer + "\n")
@@ -36,9 +40,14 @@ pub fn bounds_of(text: &[u8], given: &str) -> Result<(), String> {
     Ok(())
 }
 
-/// What a program writes when it is given a text.
-pub fn output_of(program: &str, input: Vec<u8>) -> Result<String, String> {
-    let mut child = Command::new(program)
+/// What a program writes when it is given a text; MOVING in its environment lets lines move in and out.
+fn output_of(program: &str, input: Vec<u8>, moving: bool) -> Result<String, String> {
+    let mut command = Command::new(program);
+    command.env_remove("MOVING");
+    if moving {
+        command.env("MOVING", "1");
+    }
+    let mut child = command
         .stdin(Stdio::piped())
         .stdout(Stdio::piped())
         .spawn()
@@ -65,8 +74,7 @@ fn shown(line: &[u8]) -> String {
 }
 
 /// The model's state and the worker who calls before a line of a text, by its place.
-fn before_line(text: &[u8], place: usize) -> String {
-    let mut program = Program::default();
+fn before_line(mut program: Program, text: &[u8], place: usize) -> String {
     for line in lines(text).take(place) {
         program.answer(line);
     }
@@ -76,7 +84,12 @@ fn before_line(text: &[u8], place: usize) -> String {
 
 /// The first difference between the model's answers to a script and those given, with the lines and the state before it.
 pub fn difference(text: &[u8], given: &str) -> Result<usize, String> {
-    let mut program = Program::default();
+    difference_from(Program::default(), text, given)
+}
+
+/// The same of a model that may understand what moves in and out.
+pub fn difference_from(fresh: Program, text: &[u8], given: &str) -> Result<usize, String> {
+    let mut program = fresh.clone();
     let mut given = given.lines();
     let mut before: Vec<String> = Vec::new();
     let mut answered = 0;
@@ -95,7 +108,7 @@ pub fn difference(text: &[u8], given: &str) -> Result<usize, String> {
                 before[from..].concat(),
                 i + 1,
                 shown(line),
-                before_line(text, i)
+                before_line(fresh, text, i)
             ));
         }
         before.push(format!("{}\n    {}\n", shown(line), shown(right.as_bytes())));
@@ -109,11 +122,26 @@ pub fn difference(text: &[u8], given: &str) -> Result<usize, String> {
 
 /// Runs both on the script of a seed, whose lists have to keep the bounds; every second one has no line end at its last line.
 pub fn compare(program: &str, seed: u64, lines: usize) -> Result<usize, String> {
-    let mut text = script(seed, lines).join(&b'\n');
+    compared(program, seed, script(seed, lines), Program::default())
+}
+
+/// The same of a script that moves in and out.
+pub fn compare_moving(program: &str, seed: u64, lines: usize) -> Result<usize, String> {
+    compared(program, seed, moving_script(seed, lines), Program::moving())
+}
+
+/// Runs both on a text, with MOVING in the program's environment where the model understands what moves in and out.
+pub fn run_both(program: &str, text: &[u8], fresh: Program) -> Result<usize, String> {
+    let given = output_of(program, text.to_vec(), fresh.moving)?;
+    let answered = difference_from(fresh, text, &given)?;
+    bounds_of(text, &given)?;
+    Ok(answered)
+}
+
+fn compared(program: &str, seed: u64, script: Vec<Vec<u8>>, fresh: Program) -> Result<usize, String> {
+    let mut text = script.join(&b'\n');
     if seed % 2 == 0 {
         text.push(b'\n');
     }
-    let given = output_of(program, text.clone())?;
-    let answered = difference(&text, &given).and_then(|answered| bounds_of(&text, &given).map(|()| answered));
-    answered.map_err(|said| format!("seed {seed}, {said}"))
+    run_both(program, &text, fresh).map_err(|said| format!("seed {seed}, {said}"))
 }

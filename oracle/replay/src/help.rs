@@ -21,16 +21,25 @@ pub fn count() -> usize {
     lines().count()
 }
 
+/// The forms that move in and out, which help doesn't list.
+const MOVES: [&str; 2] = [
+    "export: the snapshots of the cursor and of all counts, in hexadecimal",
+    "import GENERATION CURSOR ATTEMPTS: a consumer with what two snapshots have, and its journal anew; bytes are lower-case hexadecimal digits, - for none",
+];
+
 /// The first form that begins with this word. The lines of forms begin with a small letter; a form's words stand before a colon.
-fn form(word: &[u8]) -> Option<&'static str> {
-    let mut forms = lines().filter(|line| line.starts_with(|first: char| first.is_ascii_lowercase()));
+fn form(word: &[u8], moving: bool) -> Option<&'static str> {
+    let moves = MOVES.into_iter().filter(|_| moving);
+    let mut forms = lines()
+        .filter(|line| line.starts_with(|first: char| first.is_ascii_lowercase()))
+        .chain(moves);
     forms.find(|form| form.split([' ', ':']).next().map(str::as_bytes) == Some(word))
 }
 
 /// The answer to a line that is none. What it should be is told once somebody asked for help, and where it can be told.
-pub fn bad_line(line: &[u8], told: bool) -> String {
+pub fn bad_line(line: &[u8], told: bool, moving: bool) -> String {
     let word = bare(line).split(|&byte| byte == b' ').next().unwrap_or_default();
-    let known = (told && line.len() <= LINE).then(|| form(word)).flatten();
+    let known = (told && line.len() <= LINE).then(|| form(word, moving)).flatten();
     match known {
         Some(form) => format!("bad line: {form}"),
         None => "bad line".to_string(),

@@ -24,15 +24,13 @@ pub struct Maker {
 }
 
 /// What can't be called before a start.
-const NEEDS_A_START: [&str; 14] = [
+const NEEDS_A_START: [&str; 12] = [
     "restart",
-    "import 0 - -",
     "claim 0 0",
     "view 0 0",
     "open 0 0 0",
     "nearest 0",
     "plan 0",
-    "export",
     "poke 0 0 0",
     "peek 0",
     "step",
@@ -41,8 +39,11 @@ const NEEDS_A_START: [&str; 14] = [
     "state",
 ];
 
+/// Of what moves in and out, what can't be called before a start.
+const MOVES_NEED_A_START: [&str; 2] = ["import 0 - -", "export"];
+
 /// Lines that look like calls, and `help`, which is none and tells bad lines from then on what they should be.
-const NO_CALLS: [&str; 48] = [
+const NO_CALLS: [&str; 37] = [
     "cut",
     "cut half",
     "cut old ",
@@ -77,6 +78,13 @@ const NO_CALLS: [&str; 48] = [
     "plan",
     "plan 257",
     "plan 1 18446744073709551616",
+    "help",
+    "help 1",
+    "helps",
+];
+
+/// Lines that look like what moves in and out.
+const NO_MOVES: [&str; 11] = [
     "import",
     "import 0",
     "import 0 -",
@@ -88,18 +96,28 @@ const NO_CALLS: [&str; 48] = [
     "import - - -",
     "export 1",
     "export -",
-    "help",
-    "help 1",
-    "helps",
 ];
 
-/// A script of so many lines.
+/// A script of so many lines, without what moves in and out.
 pub fn script(seed: u64, lines: usize) -> Vec<Vec<u8>> {
-    let mut maker = Maker::new(seed);
+    filled(Maker::new(seed), lines)
+}
+
+/// The same, with imports and exports everywhere.
+pub fn moving_script(seed: u64, lines: usize) -> Vec<Vec<u8>> {
+    filled(Maker::moving(seed), lines)
+}
+
+fn filled(mut maker: Maker, lines: usize) -> Vec<Vec<u8>> {
     let worker = maker.random.pick(&[0, 1, 8]);
     maker.worker(worker);
     for call in NEEDS_A_START {
         maker.say(call);
+    }
+    if maker.program.moving {
+        for call in MOVES_NEED_A_START {
+            maker.say(call);
+        }
     }
     if lines >= 2 * scenes::GENERATIONS as usize {
         scenes::spend(&mut maker);
@@ -113,7 +131,10 @@ pub fn script(seed: u64, lines: usize) -> Vec<Vec<u8>> {
 
 /// Any scene.
 fn scene(maker: &mut Maker) {
-    match maker.random.below(65) {
+    if maker.program.moving && maker.random.below(16) == 0 {
+        return imports::imports(maker);
+    }
+    match maker.random.below(60) {
         0..=5 => scenes::life(maker),
         6..=7 => scenes::cuts(maker),
         8 => scenes::full(maker),
@@ -140,8 +161,7 @@ fn scene(maker: &mut Maker) {
         46..=47 => plan::plans(maker),
         48..=50 => hours::hours(maker),
         51..=54 => bounds::bounds(maker),
-        55..=57 => help::lines_of_people(maker),
-        58..=61 => imports::imports(maker),
+        55..=56 => help::lines_of_people(maker),
         _ => wear::forged(maker),
     }
 }
@@ -158,6 +178,21 @@ impl Maker {
             tokens: Vec::new(),
             crew: Crew::Alone,
             opening: None,
+        }
+    }
+
+    /// One whose scripts move in and out.
+    pub fn moving(seed: u64) -> Maker {
+        Maker {
+            program: Program::moving(),
+            ..Maker::new(seed)
+        }
+    }
+
+    /// An export, in a script that moves in and out.
+    pub fn export(&mut self) {
+        if self.program.moving {
+            self.say("export");
         }
     }
 
@@ -312,13 +347,16 @@ impl Maker {
             23 => self.open(),
             24 => format!("nearest {}", self.offset()),
             25 => self.plan(),
-            26 => "export".to_string(),
+            26 if self.program.moving => "export".to_string(),
             _ => "state".to_string(),
         }
     }
 
     /// A line that looks like a call.
     pub fn no_call(&mut self) -> Vec<u8> {
+        if self.program.moving && self.random.below(4) == 0 {
+            return self.random.pick(&NO_MOVES).into();
+        }
         self.random.pick(&NO_CALLS).into()
     }
 

@@ -1,8 +1,9 @@
 //! States of the original, moved in and out: made by its own functions, written by its own encoders, imported, called on both sides, and
 //! exported (SPEC.md, "Import", "Export"). An export's bytes are the original's, of the same state after the same calls.
-use crate::compare::{bounds_of, difference, output_of};
+use crate::compare::run_both;
 use crate::imports::line;
 use crate::make::Maker;
+use crate::program::Program;
 use crate::scenes::checkpoint;
 use ironbus::cursor::AckCursor;
 use ironbus::lease::{Claim, LeaseConfig, LeaseTable};
@@ -134,7 +135,7 @@ fn moves(maker: &mut Maker) -> u64 {
 
 /// A script of states, and how many of them were imported.
 fn script(seed: u64) -> (Vec<Vec<u8>>, u64) {
-    let mut maker = Maker::new(seed);
+    let mut maker = Maker::moving(seed);
     maker.alone();
     maker.start_crew("3 0 20", 30, 100, 18, &[]);
     let moved = (0..STATES).map(|_| moves(&mut maker)).sum();
@@ -149,9 +150,8 @@ pub fn moved(program: &str, states: u64) -> Result<[u64; 4], String> {
         let (lines, moved) = script(done[0] + 1);
         let exports = lines.iter().filter(|line| *line == b"export").count();
         let text = lines.join(&b'\n');
-        let given = output_of(program, text.clone())?;
-        let answered = difference(&text, &given).and_then(|answered| bounds_of(&text, &given).map(|()| answered));
-        let answered = answered.map_err(|said| format!("states of seed {}, {said}", done[0] + 1))?;
+        let answered =
+            run_both(program, &text, Program::moving()).map_err(|said| format!("states of seed {}, {said}", done[0] + 1))?;
         for (sum, more) in done.iter_mut().zip([1, moved, exports as u64, answered as u64]) {
             *sum += more;
         }
@@ -211,7 +211,7 @@ mod tests {
     fn every_state_comes_in() {
         let (lines, moved) = script(1);
         assert_eq!(moved, STATES);
-        let mut program = crate::program::Program::default();
+        let mut program = Program::moving();
         let answers = lines.iter().map(|line| (line, program.answer(line).unwrap_or_default()));
         for (_, answer) in answers.filter(|(line, _)| *line == b"export") {
             assert!(answer.starts_with("exported "), "{answer}");

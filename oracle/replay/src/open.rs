@@ -73,7 +73,7 @@ pub fn questions(maker: &mut Maker) {
         let plan = maker.plan();
         maker.say(plan);
     }
-    maker.say("export");
+    maker.export();
 }
 
 /// Some acks out of order and some commits, and the questions after each.

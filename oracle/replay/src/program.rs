@@ -33,6 +33,8 @@ pub struct Program {
     pub handed: Handed,
     /// Whether bad lines are told what they should be: once `help` was asked for.
     pub told: bool,
+    /// Whether lines that move in and out are understood.
+    pub moving: bool,
 }
 
 impl Default for Program {
@@ -45,6 +47,17 @@ impl Default for Program {
                 hours: None,
             },
             told: false,
+            moving: false,
+        }
+    }
+}
+
+impl Program {
+    /// One that understands lines that move in and out.
+    pub fn moving() -> Program {
+        Program {
+            moving: true,
+            ..Program::default()
         }
     }
 }
@@ -307,7 +320,8 @@ impl Program {
             return None;
         }
         Some(match read(line) {
-            None => help::bad_line(line, self.told),
+            None => help::bad_line(line, self.told, self.moving),
+            Some(Call::Import(..) | Call::Export) if !self.moving => help::bad_line(line, self.told, false),
             Some(Call::Help) => {
                 self.told = true;
                 help::text()

@@ -195,7 +195,7 @@ pub fn full(maker: &mut Maker) {
             maker.say(format!("claim {} {now}", base + i));
         }
         maker.say("state");
-        maker.say("export");
+        maker.export();
         let now = 10 + maker.random.below(3);
         maker.say(format!("waiting {now}"));
         for _ in 0..6 {
@@ -208,7 +208,7 @@ pub fn full(maker: &mut Maker) {
         checkpoint(maker);
         maker.say("restart");
         maker.say("waiting 0");
-        maker.say("export");
+        maker.export();
         maker.say(format!("claim {} 5", base + 90));
         checkpoint(maker);
     }

@@ -4,7 +4,7 @@ use crate::compare::{answers, bounds_of, difference};
 use crate::help;
 use crate::journal::{block_of, ends_unfit, header_behind, in_use, walk, writes, Half, Stored};
 use crate::line::{read, Call};
-use crate::make::script;
+use crate::make::{moving_script, script};
 use crate::program::{ask, Phase, Program};
 use crate::rights::{Rights, WORKERS};
 use crate::versions::rewritten;
@@ -28,9 +28,19 @@ fn scripts() -> &'static [Vec<Vec<u8>>] {
     MADE.get_or_init(|| (1..=120).map(|seed| script(seed, 2_000)).collect())
 }
 
+/// Those that move in and out.
+fn moving_scripts() -> &'static [Vec<Vec<u8>>] {
+    static MADE: OnceLock<Vec<Vec<Vec<u8>>>> = OnceLock::new();
+    MADE.get_or_init(|| (1..=120).map(|seed| moving_script(seed, 2_000)).collect())
+}
+
 /// The answers to the lines of a script but `help`.
 fn given(lines: &[Vec<u8>]) -> Vec<String> {
-    let mut program = Program::default();
+    given_by(Program::default(), lines)
+}
+
+/// The same of a model that may understand what moves in and out.
+fn given_by(mut program: Program, lines: &[Vec<u8>]) -> Vec<String> {
     let answers = lines.iter().map(|line| (read(line), program.answer(line)));
     answers
         .filter(|(call, _)| !matches!(call, Some(Call::Help)))
@@ -64,7 +74,15 @@ impl Met {
 
 /// Runs lines written as `LINE => ANSWER`; several steps of a checkpoint are written `checkpoint => BLOCK,..`.
 fn play(text: &str) {
-    let mut program = Program::default();
+    play_on(Program::default(), text);
+}
+
+/// The same where what moves in and out is understood.
+fn play_moving(text: &str) {
+    play_on(Program::moving(), text);
+}
+
+fn play_on(mut program: Program, text: &str) {
     for line in text.lines().map(str::trim).filter(|line| !line.is_empty()) {
         let (call, right) = line.split_once(" => ").expect(line);
         if call != "checkpoint" {
@@ -764,13 +782,12 @@ fn the_last_number() {
     }
 }
 
-/// The scripts that `oracle/run compare` uses have every kind of answer, and every refusal: all but 30, which nothing meets any longer.
-#[test]
-fn scripts_have_everything() {
+/// The first words of all answers to these scripts, and the refusals.
+fn answered(scripts: &[Vec<Vec<u8>>], fresh: &Program) -> (BTreeSet<String>, BTreeSet<u64>) {
     let mut words = BTreeSet::new();
     let mut refusals = BTreeSet::new();
-    for lines in scripts() {
-        for answer in given(lines) {
+    for lines in scripts {
+        for answer in given_by(fresh.clone(), lines) {
             let mut parts = answer.split(' ');
             words.insert(parts.next().unwrap().to_string());
             if answer.starts_with("refused") {
@@ -778,6 +795,25 @@ fn scripts_have_everything() {
             }
         }
     }
+    (words, refusals)
+}
+
+/// The scripts that `oracle/run compare` uses have every kind of answer, and every refusal that a script can meet: all but 6, 12, 13
+/// and 19, which a sound header's lengths rule out, and 30, which nothing meets any longer.
+#[test]
+fn scripts_have_everything() {
+    let (words, refusals) = answered(scripts(), &Program::default());
+    assert_eq!(words.len(), 27, "{words:?}");
+    assert_eq!(
+        refusals,
+        (1..=5).chain(7..=11).chain(14..=18).chain(20..=29).chain(31..=40).collect()
+    );
+}
+
+/// Those that move in and out have every refusal: all but 30.
+#[test]
+fn moving_scripts_have_everything() {
+    let (words, refusals) = answered(moving_scripts(), &Program::moving());
     assert_eq!(words.len(), 29, "{words:?}");
     assert_eq!(refusals, (1..=29).chain(31..=40).collect());
 }
@@ -801,15 +837,13 @@ fn without_workers(program: &Program, line: &[u8]) -> Option<String> {
     })
 }
 
-/// The scripts that `oracle/run compare` uses refuse every call for its worker and its right, and every token for its owner; and so
-/// where something else would have been refused too, each refusal of these calls at least once.
-#[test]
-fn scripts_have_workers() {
+/// That these scripts refuse every call for its worker and its right, and every token for its owner; and so where something else would have
+/// been refused too, each refusal of these calls at least once. `more` has a call beside the others, and what it answers.
+fn have_workers<'a>(scripts: impl Iterator<Item = &'a Vec<Vec<u8>>>, fresh: &Program, more: Option<(&str, &str)>) {
     let mut met = BTreeMap::new();
     let mut instead: BTreeMap<&str, BTreeSet<String>> = BTreeMap::new();
-    let long = [script(1, 9_000), script(2, 9_000)];
-    for lines in scripts().iter().chain(&long) {
-        let mut program = Program::default();
+    for lines in scripts {
+        let mut program = fresh.clone();
         for line in lines {
             let other = without_workers(&program, line);
             let answer = program.answer(line).unwrap_or_default();
@@ -821,9 +855,10 @@ fn scripts_have_workers() {
             instead.entry(refusal).or_default().extend(other);
         }
     }
-    for word in [
-        "claim", "ack", "term", "nack", "progress", "commit", "begin", "waiting", "view", "open", "nearest", "plan", "export",
-    ] {
+    let words = [
+        "claim", "ack", "term", "nack", "progress", "commit", "begin", "waiting", "view", "open", "nearest", "plan",
+    ];
+    for word in words.into_iter().chain(more.map(|(word, _)| word)) {
         assert!(met.get(&("38", word.to_string())) >= Some(&20), "{word} {met:?}");
         assert!(met.get(&("39", word.to_string())) >= Some(&40), "{word} {met:?}");
     }
@@ -836,12 +871,30 @@ fn scripts_have_workers() {
     };
     for refusal in ["38", "39"] {
         has(refusal, "20 21 22 23 24 26 27 28 31 32 35 36 37 unchanged committed");
-        has(
-            refusal,
-            "begun deliver settled requeued extended waiting open nearest plan exported",
-        );
+        has(refusal, "begun deliver settled requeued extended waiting open nearest plan");
+        if let Some((_, answer)) = more {
+            has(refusal, answer);
+        }
     }
     has("40", "25 26 28 29 settled requeued extended");
+}
+
+/// The scripts that `oracle/run compare` uses have workers.
+#[test]
+fn scripts_have_workers() {
+    let long = [script(1, 9_000), script(2, 9_000)];
+    have_workers(scripts().iter().chain(&long), &Program::default(), None);
+}
+
+/// So have those that move in and out.
+#[test]
+fn moving_scripts_have_workers() {
+    let long = [moving_script(1, 9_000), moving_script(2, 9_000)];
+    have_workers(
+        moving_scripts().iter().chain(&long),
+        &Program::moving(),
+        Some(("export", "exported")),
+    );
 }
 
 /// SPEC.md, "Rights": a script without the refused calls of one worker gives all else the same answers.

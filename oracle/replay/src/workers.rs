@@ -184,7 +184,7 @@ fn everything(maker: &mut Maker, base: u64) {
     maker.say(format!("open {from} {} {room}", base + 10));
     let plan = maker.random.pick(&["1 5", "0 5", "3 5 2 1"]);
     maker.say(format!("plan {plan}"));
-    maker.say("export");
+    maker.export();
     maker.say("begin");
     if maker.writing() {
         unattended(maker);

@@ -1,5 +1,5 @@
 //! Demand 3's bound for a recipe and the bound for the batch, on every list of the made scripts.
-use super::{holding, scripts, Met};
+use super::{holding, moving_scripts, scripts, Met};
 use crate::bounds::{Bounds, List};
 use crate::line::{read, Call};
 use crate::program::Program;
@@ -21,18 +21,19 @@ fn events(program: &Program, call: &Call, answer: &str) -> Option<&'static str> 
 fn reached(list: &List) -> Vec<&'static str> {
     let restarts = list.restarts > 0;
     let several = list.deliveries.len() >= 2;
-    let full = |(&offset, &deliveries): (&u64, &u128)| deliveries == list.recipe_bound(offset);
+    let most = list.deliveries.values().max();
+    let full = |(&offset, &deliveries): (&u64, &u128)| deliveries == list.moved_bound(offset);
     holding([
         ("no restart", !restarts),
         ("restarts", restarts),
         ("the batch's bound", restarts && several && list.repeats == list.batch_bound()),
-        ("the recipe's bound", restarts && list.deliveries.iter().any(full)),
+        ("the recipe's bound", restarts && most == Some(&list.recipe_bound())),
+        ("the moved bound", restarts && list.deliveries.iter().any(full)),
     ])
 }
 
-/// The scripts that `oracle/run compare` uses keep both bounds, and reach them often, with all requests in.
-#[test]
-fn scripts_keep_the_bounds() {
+/// What the lists of these scripts reach, all of which keep the bounds.
+fn kept(scripts: &[Vec<Vec<u8>>], fresh: &Program) -> Met {
     let mut met = Met::default();
     let mut add = |list: Option<List>, events: &mut BTreeSet<&'static str>| {
         let events = std::mem::take(events);
@@ -41,8 +42,8 @@ fn scripts_keep_the_bounds() {
             met.add(events);
         }
     };
-    for lines in scripts() {
-        let mut program = Program::default();
+    for lines in scripts {
+        let mut program = fresh.clone();
         let mut bounds = Bounds::default();
         let mut seen = BTreeSet::new();
         for line in lines {
@@ -57,11 +58,32 @@ fn scripts_keep_the_bounds() {
         }
         add(bounds.list, &mut seen);
     }
-    met.want(&[
+    met
+}
+
+/// The scripts that `oracle/run compare` uses keep both bounds, and reach them often, with all requests in.
+#[test]
+fn scripts_keep_the_bounds() {
+    kept(scripts(), &Program::default()).want(&[
         ("no restart", 100),
         ("restarts", 500),
         ("the batch's bound", 15),
         ("the recipe's bound", 15),
+        ("hours", 100),
+        ("workers", 100),
+        ("the second half", 100),
+        ("commits", 200),
+    ]);
+}
+
+/// Those that move in and out keep and reach them too, where an offset has fewer deliveries left by the count that it came with.
+#[test]
+fn moving_scripts_keep_the_bounds() {
+    kept(moving_scripts(), &Program::moving()).want(&[
+        ("no restart", 100),
+        ("restarts", 500),
+        ("the batch's bound", 15),
+        ("the moved bound", 15),
         ("hours", 100),
         ("workers", 100),
         ("the second half", 100),

@@ -1,5 +1,5 @@
 //! SPEC.md, "Export": the snapshots of a consumer, as the original writes them. The checks of the bytes were worked out apart.
-use super::{holding, play, scripts, Met};
+use super::{holding, moving_scripts, play_moving, Met};
 use crate::line::{read, Call};
 use crate::program::Program;
 use lists::codecs::{decode_attempts, decode_cursor};
@@ -7,7 +7,7 @@ use lists::codecs::{decode_attempts, decode_cursor};
 /// Nothing at first; then ranges, a lease's count and a carried one, in the order of the offsets; what a commit leaves of them. 38 and 39.
 #[test]
 fn exports() {
-    play(
+    play_moving(
         "export => not now
         rights 1 63 => rights
         start 9 0 9 10 25 9216 => started
@@ -53,13 +53,13 @@ fn bytes(digits: &str) -> Vec<u8> {
         .collect()
 }
 
-/// The scripts that `oracle/run compare` uses export few ranges and counts and as many as there can be; the original reads each again as
+/// The scripts of `oracle/run compare` that move in and out export few ranges and counts and as many as there can be; the original reads each again as
 /// what the state was.
 #[test]
 fn scripts_have_exports() {
     let mut met = Met::default();
-    for lines in scripts() {
-        let mut program = Program::default();
+    for lines in moving_scripts() {
+        let mut program = Program::moving();
         for line in lines {
             let before = program.consumer().cloned();
             let answer = program.answer(line).unwrap_or_default();

@@ -1,5 +1,7 @@
 //! Imports: what they give, in which order they are refused, and that the made scripts have them everywhere.
-use super::{play, scripts, Met};
+use super::{moving_scripts, play, play_moving, Met};
+use crate::compare::answers_of;
+use crate::help;
 use crate::imports::{line, word};
 use crate::line::{read, Call};
 use crate::program::{Phase, Program};
@@ -25,7 +27,7 @@ fn the_day_of_the_move() {
         format!("state committed 5 ranges 6-7 leases none carried 7:1,9:2 next {next} ceiling {next} counter 0 group {group} block {block} half 0")
     };
     for attempts in [attempt_snapshot(&pairs), attempt_snapshot_v2(&pairs)] {
-        play(&format!(
+        play_moving(&format!(
             "{START}
             {} => imported
             state => {}
@@ -55,11 +57,11 @@ fn an_import_that_was_not_kept() {
         "begin => begun 2\nstep => wrote 1",
         "begin => begun 2\nstep => wrote 1\ncut torn => cut 0",
     ] {
-        play(&format!(
+        play_moving(&format!(
             "{START}\n{import} => imported\n{before}\nrestart => restarted\nstate => {nothing}"
         ));
     }
-    play(&format!(
+    play_moving(&format!(
         "{START}\n{import} => imported\nbegin => begun 2\nstep => wrote 1\ncut new => cut 0\nrestart => restarted
         state => state committed 3 ranges none leases none carried 4:2 next 4105 ceiling 4105 counter 0 group 2 block 2 half 0"
     ));
@@ -71,7 +73,7 @@ fn refused_in_their_order() {
     let good = word(&cursor(5, &[(6, 7)]));
     let (bad_hours, never) = ("hours 604800000000000 1 1 1 1 1 1 1", "hours 0 0 0 0 0 0 0 0");
     let state = "state committed 1 ranges none leases none carried none next 0 ceiling 4096 counter 0 group 2 block 2 half 0";
-    play(&format!(
+    play_moving(&format!(
         "import 0 - - => not now
         {START}
         checkpoint => 1,0
@@ -95,7 +97,30 @@ fn refused_in_their_order() {
 #[test]
 fn on_a_shorter_journal() {
     let import = line(9, &cursor(3, &[]), &attempt_snapshot(&[]));
-    play(&format!("start 5 0 3 30 300 10240 => started\nrestart 9216 => restarted\n{import} => imported\npeek 18 => not now\nrestart 10240 => not now"));
+    play_moving(&format!("start 5 0 3 30 300 10240 => started\nrestart 9216 => restarted\n{import} => imported\npeek 18 => not now\nrestart 10240 => not now"));
+}
+
+/// Where it isn't asked for, what moves in and out is a bad line, of which nothing is told.
+#[test]
+fn not_asked_for() {
+    let import = line(9, &cursor(3, &[]), &attempt_snapshot(&[]));
+    play(&format!(
+        "import 0 - - => bad line\n{START}\n{import} => bad line\nexport => bad line\nexport 1 => bad line"
+    ));
+    let lines = format!("help\nimport 1\n{import}\nexport\nexport 1\nimports\nexports");
+    let told = |fresh: Program| {
+        let given = answers_of(fresh, lines.as_bytes());
+        given.lines().skip(help::count()).map(str::to_string).collect::<Vec<_>>()
+    };
+    assert_eq!(told(Program::default()), ["bad line"; 6]);
+    let (as_import, as_export) = ("bad line: import GENERATION", "bad line: export: the snapshots");
+    for (answer, right) in told(Program::moving())
+        .iter()
+        .zip([as_import, "not now", "not now", as_export, "bad line", "bad line"])
+    {
+        assert!(answer.starts_with(right), "{answer}");
+        assert!(right != "bad line" || answer == right, "{answer}");
+    }
 }
 
 /// Who could be called before an import.
@@ -108,12 +133,12 @@ fn phase(program: &Program) -> &'static str {
     }
 }
 
-/// The scripts that `oracle/run compare` uses import in every phase, both versions, and restart before and after the first checkpoint.
+/// The scripts of `oracle/run compare` that move in and out import in every phase, both versions, and restart before and after the first checkpoint.
 #[test]
 fn scripts_have_imports() {
     let mut met = Met::default();
-    for lines in scripts() {
-        let mut program = Program::default();
+    for lines in moving_scripts() {
+        let mut program = Program::moving();
         let mut begun = None;
         for line in lines {
             let before = phase(&program);

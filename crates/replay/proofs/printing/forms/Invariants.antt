@@ -6,4 +6,4 @@ abbrev pub invariant-loop-k : goal.invariant-loop-k
 invariant-loop-k l = length l.out ≡ length l.initial.out
 
 abbrev pub decreases-loop-k : goal.decreases-loop-k
-decreases-loop-k l = 31 - l.k
+decreases-loop-k l = 29 - l.k
