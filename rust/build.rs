@@ -1,4 +1,4 @@
-//! Links the proved libraries, `target/staticlib/libserver.a` and `libexports.a` of the repository, which `rt staticlib` writes.
+//! Links the proved libraries, `target/staticlib/libserver.a` and `libexports.a` of the repository, which `./release archives` writes.
 //! Another place can be named by the environment variable `NINOTSKEV_LIB`: the folder that has them. An empty one names none.
 //!
 //! The crate's folder is asked for when this runs, and not when it is compiled, and what is linked are copies in cargo's folder for
@@ -35,7 +35,7 @@ fn main() {
         let bytes = fs::read(&archive);
         if let Err(error) = bytes.and_then(|bytes| fs::write(out.join(&name), bytes)) {
             panic!(
-                "{} can't be had: {error}. Write it by `rt staticlib {library}` in the folder above rust/, or name the folder that \
+                "{} can't be had: {error}. Write it by `./release archives {library}` in the folder above rust/, or name the folder that \
                  has it by NINOTSKEV_LIB.",
                 archive.display()
             );

@@ -38,7 +38,7 @@ impl fmt::Display for WrongLibrary {
         write!(
             f,
             "the linked lib{of}.a is not the one that this crate was written for: {what} is {library} there and {here} here. \
-             Write it by `rt staticlib {of}` in the checkout that this crate is from, and see which folder NINOTSKEV_LIB names"
+             Write it by `./release archives {of}` in the checkout that this crate is from, and see which folder NINOTSKEV_LIB names"
         )
     }
 }
@@ -106,7 +106,10 @@ mod tests {
                 "{said}"
             );
             assert!(said.contains(&differs), "{said}");
-            assert!(said.contains(&format!("`rt staticlib {of}`")), "{said}");
+            assert!(
+                said.contains(&format!("`./release archives {of}`")),
+                "{said}"
+            );
         }
     }
 }
