@@ -42,11 +42,11 @@ fn folder() -> PathBuf {
     }
     let here = variable("CARGO_MANIFEST_DIR");
     // Only the one that is found is watched: for a file that isn't there cargo would run this each time.
-    let places = ["../target/staticlib", "../lib"].map(|place| here.join(place));
+    let places = ["../../target/staticlib", "../../lib"].map(|place| here.join(place));
     let found = places.into_iter().find(|place| place.join(SUMS).exists());
     found.unwrap_or_else(|| {
         stop(
-            "The proved libraries are missing: write them by `./release archives` in the folder above rust/, which needs the Rattle kit, \
+            "The proved libraries are missing: write them by `./release archives` at the top of the checkout, which needs the Rattle kit, \
              or name the folder `lib` of a release by NINOTSKEV_LIB.",
         )
     })

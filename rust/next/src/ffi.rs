@@ -906,10 +906,10 @@ mod tests {
         assert_eq!(guarded.machine.writing.payload[0], 1);
         assert_eq!(guarded.machine.writing.payload[13], 2);
         guarded.step(area);
-        assert_eq!(guarded.numbers, code(0, 3, [1, 0, 1, 0]));
+        assert_eq!(guarded.numbers, code(0, 2, [1, 0, 0, 0]));
         assert_eq!(guarded.machine.writing.written, 1);
         guarded.step(area);
-        assert_eq!(guarded.numbers, code(0, 3, [0, 1, 1, 0]));
+        assert_eq!(guarded.numbers, code(0, 2, [0, 1, 0, 0]));
         assert_eq!(guarded.machine.phase, 0);
         assert_eq!(guarded.machine.writing.consumer.ceiling, 4096);
         assert_eq!(guarded.machine.writing.consumer.next.block, 2);
@@ -1096,6 +1096,6 @@ mod tests {
         // What was begun goes on.
         let mut area = [0; 512 * 20];
         guarded.step(&mut area);
-        assert_eq!(guarded.numbers, code(0, 3, [1, 0, 1, 0]));
+        assert_eq!(guarded.numbers, code(0, 2, [1, 0, 0, 0]));
     }
 }

@@ -109,7 +109,7 @@ fn what_the_last_checkpoint_had_takes_the_journals_name() {
     let area = consumer.journal_bytes().unwrap();
     fs::write(folder.join("recipes.again"), area.bytes()).unwrap();
     drop(consumer);
-    let text = include_str!("../../docs/OPERATING.md");
+    let text = include_str!("../../../docs/OPERATING.md");
     let command = text.lines().find(|line| line.starts_with("chmod 600 "));
     let mut sh = Command::new("sh");
     sh.args(["-c", command.unwrap()]).current_dir(&folder);

@@ -138,7 +138,7 @@ fn a_file_from_before_is_gone_on_with() {
 
 /// Runs a line of docs/OPERATING.md, which begins so, in the folder for tests, with a journal's name in place of another.
 fn run_documented(begins: &str, names: &[(&str, &Path)]) {
-    let text = include_str!("../../docs/OPERATING.md");
+    let text = include_str!("../../../docs/OPERATING.md");
     let line = text.lines().find(|line| line.starts_with(begins)).unwrap();
     let command = names.iter().fold(line.to_owned(), |line, (name, path)| {
         assert!(line.contains(name));

@@ -116,7 +116,7 @@ fn put(other: &Other, checkout: &Path) {
 
 /// A checkout of the crate with the libraries that are linked here.
 fn checkout(folder: &Path) {
-    let [crate_folder, libraries] = ["rust", "target/staticlib"].map(|name| folder.join(name));
+    let [crate_folder, libraries] = ["rust/next", "target/staticlib"].map(|name| folder.join(name));
     fs::create_dir_all(crate_folder.join("examples")).unwrap();
     fs::create_dir_all(&libraries).unwrap();
     let here = Path::new(env!("CARGO_MANIFEST_DIR"));
@@ -146,7 +146,7 @@ fn linked_from() -> PathBuf {
         return PathBuf::from(named);
     }
     let here = Path::new(env!("CARGO_MANIFEST_DIR"));
-    let places = ["../target/staticlib", "../lib"].map(|place| here.join(place));
+    let places = ["../../target/staticlib", "../../lib"].map(|place| here.join(place));
     let found = places.into_iter().find(|place| place.join(SUMS).exists());
     found.expect("they were linked from there")
 }
@@ -165,8 +165,8 @@ fn run(checkout: &Path, program: &[&str]) -> Output {
     Command::new(env!("CARGO"))
         .args(["run", "--offline", "--quiet", "--example"])
         .args(program)
-        .current_dir(checkout.join("rust"))
-        .env("CARGO_TARGET_DIR", checkout.join("rust/target"))
+        .current_dir(checkout.join("rust/next"))
+        .env("CARGO_TARGET_DIR", checkout.join("rust/next/target"))
         // which names no folder
         .env("NINOTSKEV_LIB", "")
         .env("RUST_BACKTRACE", "0")
@@ -248,7 +248,7 @@ fn another_library_of_the_snapshots_is_found() {
     for codec in ["1", "2", "read", "create"] {
         panics(&run(&checkout_folder, &["codecs", codec]), &wrong);
     }
-    assert!(!checkout_folder.join("rust/new.journal").exists());
+    assert!(!checkout_folder.join("rust/next/new.journal").exists());
     fs::remove_dir_all(&checkout_folder).unwrap();
 }
 
@@ -259,8 +259,8 @@ fn not_built(checkout: &Path, target: &[&str]) -> String {
         .args(["check", "--offline", "--quiet", "--lib"])
         .args(target);
     build
-        .current_dir(checkout.join("rust"))
-        .env("CARGO_TARGET_DIR", checkout.join("rust/target"))
+        .current_dir(checkout.join("rust/next"))
+        .env("CARGO_TARGET_DIR", checkout.join("rust/next/target"))
         .env("NINOTSKEV_LIB", "");
     let output = build.output().unwrap();
     assert!(!output.status.success());

@@ -384,7 +384,7 @@ fn the_document_runs() -> Result<(), Box<dyn std::error::Error>> {
     let snapshots = consumer.export(worker)?;
     assert_eq!(snapshots, full());
     let here = include_str!("moving.rs");
-    let text = include_str!("../../docs/MOVING.md");
+    let text = include_str!("../../../docs/MOVING.md");
     let blocks = text.split("```rust\n").skip(1);
     let blocks: Vec<&str> = blocks.filter_map(|rest| rest.split("```").next()).collect();
     assert_eq!(blocks.len(), 2);

@@ -111,7 +111,7 @@ fn other_snapshots_are_refused() {
 
 /// A journal that a server from before version 2 wrote, the power failing in its last checkpoint: offset 2 is settled, and 0 and 3
 /// were handed out once. It is the one that `inspect` is shown on.
-const BEFORE: &[u8] = include_bytes!("../../crates/inspect/data/worn.journal");
+const BEFORE: &[u8] = include_bytes!("../../../crates/inspect/data/worn.journal");
 
 fn restart(path: &Path, configuration: &Configuration) -> Consumer {
     Consumer::restart(configuration, Journal::open(path).unwrap()).unwrap()
