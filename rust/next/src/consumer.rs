@@ -21,7 +21,7 @@ use crate::workers::WorkerId;
 pub const MAX_STRETCHES: usize = 129;
 
 /// The bytes of stack that a call needs at most, with or without optimisations. A thread has 2 MiB unless it is made otherwise.
-pub const STACK: usize = 64 * 1024;
+pub const STACK: usize = 96 * 1024;
 
 /// The delivery state of one consumer: which messages are settled, who holds which until when, and how often each was handed out.
 ///
