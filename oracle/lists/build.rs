@@ -3,6 +3,6 @@ use std::path::Path;
 
 fn main() {
     let folder = Path::new(env!("CARGO_MANIFEST_DIR")).join("../../target/staticlib");
-    println!("cargo:rerun-if-changed={}", folder.join("liboperations_c.a").display());
+    println!("cargo:rerun-if-changed={}", folder.join("liboperations.a").display());
     println!("cargo:rustc-link-search=native={}", folder.display());
 }

@@ -3,7 +3,7 @@ use std::path::Path;
 
 fn main() {
     let folder = Path::new(env!("CARGO_MANIFEST_DIR")).join("../../target/staticlib");
-    println!("cargo:rerun-if-changed={}", folder.join("libninotskev_exports.a").display());
+    println!("cargo:rerun-if-changed={}", folder.join("libexports.a").display());
     println!("cargo:rustc-link-search=native={}", folder.display());
-    println!("cargo:rustc-link-lib=static=ninotskev_exports");
+    println!("cargo:rustc-link-lib=static=exports");
 }
