@@ -22,7 +22,8 @@ static void ask(enum ninotskev_call call, uint64_t offset, uint64_t number) {
     ninotskev_ask(&machine, &answer, 0, call, offset, number, 0, 0, NULL, 0);
 }
 
-// Block by block. The second value of a step's answer is 1 after the last block, and a server syncs where the third is 1.
+// Block by block. The second value of a step's answer is 1 after the last block. A server asks ninotskev_sync_due before each step whether
+// to sync after it.
 static void checkpoint(void) {
     ninotskev_begin(&machine, &answer, 0);
     expect(0, "begin");
