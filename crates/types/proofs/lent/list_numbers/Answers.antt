@@ -5,7 +5,7 @@ use native.Mathlib.Omega.{arith}
 use mathlib.Core.Path.{◌≡◌}
 use lib.ListN.{length}
 use borrow.Author.Rules.{rules}
-use Rattle.types.specs.Lists.{listed_of}
+use Rattle.types.specs.Refused.{as_is}
 use Rattle.types.proofs.Listing.{none_written, one_more, numbers_fit, numbers-written}
 use Rattle.types.proofs.lent.list_numbers.Goals as goal
 use Rattle.types.proofs.lent.list_numbers.Goals.{After-count_of-n}
@@ -15,7 +15,7 @@ fits : (c : After-count_of-n)
     → (c.count_of-n.result ≤ length c.args.list.offsets) × (c.count_of-n.result ≤ length c.args.out.now)
 fits c =
     let s = c.before.before.before in
-    numbers_fit s.args.list.len 128 s.args.list.offsets s.args.out.now (search rules) (listed_of c.room_for-outcome.result)
+    numbers_fit s.args.list.len 128 s.args.list.offsets s.args.out.now (search rules) (as_is c.room_for-outcome.result)
     c.room_for-outcome.ensures c.count_of-n.result c.count_of-n.ensures
 
 few : (c : After-count_of-n) → c.count_of-n.result ≤ 128
@@ -36,9 +36,6 @@ offset_bounds-out-i c = omega (arith, few (goal.at.offset_bounds-out-i c).After-
 pub bounds-out-i : goal.bounds-out-i
 bounds-out-i c = let w = c.loop-i.invariant in omega (arith, w.long, (fits (goal.at.bounds-out-i c).After-count_of-n).1)
 
-pub overflow_add-i : goal.overflow_add-i
-overflow_add-i c = omega (arith, few (goal.at.overflow_add-i c).After-count_of-n)
-
 pub loop-i-preserved : goal.loop-i-preserved
 loop-i-preserved c =
     let l = c.loop-i in
@@ -50,5 +47,5 @@ returns c =
     let k = c.before.before.before in
     let s = k.before.before.before in
     let e : l.i ≡ k.count_of-n.result = omega (arith, l.invariant.within) in
-    numbers-written s.args.list.len 128 s.args.list.offsets s.args.out.now (search rules) (listed_of k.room_for-outcome.result)
+    numbers-written s.args.list.len 128 s.args.list.offsets s.args.out.now (search rules) (as_is k.room_for-outcome.result)
     k.room_for-outcome.ensures k.count_of-n.result l.out k.count_of-n.ensures (rw e at l.invariant)
