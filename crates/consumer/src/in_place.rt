@@ -276,9 +276,8 @@ pub fn nack_in_place<'a>(
             next_generation,
         };
     }
-    let capped_nanos = delivery::nack_delay_in_place(
-        backoff_nanos,
-        backoff_len,
+    let capped_nanos = delivery::nack_delay(
+        &backoff_nanos[..backoff_len],
         held.deliveries,
         delay,
         config.hard_cap_nanos,
@@ -399,7 +398,7 @@ pub fn commit_in_place<'a>(
         carried_counts,
     );
     CommittedAt {
-        answer: test,
+        answer: Ok(true),
         committed: moved.committed,
         runs: moved.runs,
         len: released.len,

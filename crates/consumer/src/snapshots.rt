@@ -4,7 +4,7 @@ ghost use Rattle.types.specs.Table.{answer};
 ghost use Rattle.types.specs.Lists.{counts_in};
 ghost use Rattle.cursor.specs.View.{ack_cursor};
 ghost use Rattle.attempt.specs.Snapshot.{encode_into};
-ghost use Rattle.attempt.specs.Codec.{encode_of};
+ghost use Rattle.types.specs.Refused.{as_is};
 ghost use Rattle.lease.specs.Parts.{listing_all};
 ghost use Rattle.consumer.specs.Export.{snapshots};
 ghost use Rattle.consumer.specs.Questions.{export};
@@ -13,6 +13,7 @@ ghost use Rattle.consumer.specs.Parts.{exporting, encoding, Exportable, Exports,
 
 use crate::rights::LOOK;
 use crate::{Consumer, rights};
+use attempt::Version;
 use cursor::AckCursor;
 use cursor::in_place::encode_in_place;
 use lease::in_place::all_counts_in_place;
@@ -131,8 +132,8 @@ fn encode_both<'a>(
     if attempts.len() < attempt_len {
         return Err(Refusal::OutTooShort);
     }
-    encode_in_place(committed, starts, ends, runs, cursor, 0);
-    encode_counts(counts, attempts);
+    let _ = encode_in_place(committed, starts, ends, runs, cursor, 0);
+    let _ = encode_counts(counts, attempts);
     Ok(Lengths {
         cursor_len: cursor_len as u16,
         attempt_len: attempt_len as u16,
@@ -142,10 +143,10 @@ fn encode_both<'a>(
 // Writes the snapshot of counts, in version 1, at the front of lent bytes.
 fn encode_counts(counts: AttemptCounts, out: &mut [u8]) -> Result<usize, Refusal>
     requires { counts.len ≤ 192 }
-    ensures { answer (encode_of result) out.new ≡ encode_into (counts_in counts) 0 out.old }
+    ensures { answer (as_is result) out.new ≡ encode_into (counts_in counts) 0 out.old }
 {
     let offsets = counts.offsets;
     let attempts = counts.attempts;
     let n = counts.len;
-    attempt::encode_columns(&offsets[..n], &attempts[..n], out, 0)
+    attempt::encode_columns(Version::One, &offsets[..n], &attempts[..n], out, 0)
 }

@@ -22,7 +22,6 @@ use lease::Grant;
 use tables::Place;
 use types::lent::OffsetList;
 use types::limits::{CARRIED, LEASES, MAX, RANGES, WORKERS};
-use types::numbers;
 use types::refusals::Refusal;
 
 // What stands against a claim: the first of 38, 39, 21, 22, 35, 23, 25, 26 and 27 that is met. An open claim has its offset at this
@@ -105,10 +104,8 @@ fn offset_test<'a, 'b>(
     if cursor::in_place::is_acked_in_place(committed, starts, ends, runs, offset) {
         return Err(Refusal::Settled);
     }
-    if !hours.is_open(now) {
-        return Err(Refusal::Closed {
-            opening: hours.next_opening(now),
-        });
+    if let Some(opening) = hours.at(now) {
+        return Err(Refusal::Closed { opening });
     }
     let place = tables::find(offsets, len, offset);
     if !lease::in_place::is_claimable_at(place, now, slots, deadlines) {
@@ -240,7 +237,7 @@ pub fn is_shed(outcome: BoundedAck) -> bool
 pub fn delay_in_hours(hours: Hours, now: u64, delay_nanos: u64) -> u64
     ensures { sat64 now result ≡ next_opening (opening.view hours) (sat64 now delay_nanos) }
 {
-    hours.next_opening(numbers::saturating_add(now, delay_nanos)) - now
+    hours.next_opening(now.saturating_add(delay_nanos)) - now
 }
 
 // Whether a commit takes effect: 38, 39, and not where the bound is not above committed.
