@@ -74,7 +74,7 @@ pub(crate) fn write_body<'a>(
     ensures { out.new ≡ overwrite at (body_bytes (view (ack_cursor committed starts.now ends.now n))) out.old }
 {
     out[at] = SNAPSHOT_VERSION;
-    raw::write_u64(out, at + 1, committed);
+    let _ = raw::write_u64(out, at + 1, committed);
     write_ranges(starts, ends, n, out, at + 9);
 }
 
@@ -85,8 +85,8 @@ fn write_ranges<'a>(starts: &'a [u64], ends: &'a [u64], n: usize, out: &mut [u8]
 {
     for i in 0..n {
         let pos = at + RANGE_LEN * i;
-        raw::write_u64(out, pos, starts[i]);
-        raw::write_u64(out, pos + 8, ends[i]);
+        let _ = raw::write_u64(out, pos, starts[i]);
+        let _ = raw::write_u64(out, pos + 8, ends[i]);
     }
 }
 
