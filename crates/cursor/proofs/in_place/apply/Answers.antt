@@ -4,7 +4,7 @@ use mathlib.Core.Path.{sym, ◌∙◌}
 use lib.Seq.{set_out}
 use Rattle.cursor.proofs.Edits.{edited-is}
 use borrow.Author.Rules.{rules}
-use Rattle.cursor.proofs.in_words.apply.Goals as goal
+use Rattle.cursor.proofs.in_place.apply.Goals as goal
 
 pub returns-then-at-column : goal.returns-then-at-column
 returns-then-at-column c =

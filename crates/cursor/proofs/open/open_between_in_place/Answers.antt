@@ -1,4 +1,4 @@
--- `open_columns` meets its contract. The loop's invariant: the numbers of the first i stretches are written, the places behind
+-- `open_between_in_place` meets its contract. The loop's invariant: the numbers of the first i stretches are written, the places behind
 -- them are as they were. Assumes nothing.
 use Prim.Native.Nat.{◌+◌, ◌-◌, ◌*◌, ◌≤◌, ◌<◌}
 use native.Mathlib.Omega.{arith}
@@ -11,8 +11,8 @@ use Rattle.cursor.specs.Unsettled.{stretches, bounds}
 use Rattle.cursor.specs.declared.AckCursor.{AckCursor}
 use Rattle.cursor.proofs.Search.{long-starts, long-ends}
 use Rattle.cursor.proofs.Unsettled.{found-few, found_within, found_at, two-more, numbers_reversed, numbers-short, numbers-put}
-use Rattle.cursor.proofs.open.open_columns.Goals as goal
-use Rattle.cursor.proofs.open.open_columns.Goals.{In-loop-i, Start}
+use Rattle.cursor.proofs.open.open_between_in_place.Goals as goal
+use Rattle.cursor.proofs.open.open_between_in_place.Goals.{In-loop-i, Start}
 
 pub returns-then-b-a : goal.returns-then-b-a
 returns-then-b-a c =

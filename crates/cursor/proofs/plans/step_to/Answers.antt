@@ -1,4 +1,4 @@
--- `step_columns` meets its contract. The loop's invariant: the offset came from `at` to `to` with so many looks. Assumes nothing.
+-- `step_to` meets its contract. The loop's invariant: the offset came from `at` to `to` with so many looks. Assumes nothing.
 use Prim.Native.Nat.{◌-◌}
 use native.Mathlib.Omega.{arith}
 use mathlib.Core.Path.{refl}
@@ -6,8 +6,8 @@ use borrow.Author.Tests.{le-leb, lt-leb}
 use Rattle.cursor.specs.View.{ack_cursor, Whole}
 use Rattle.cursor.specs.declared.AckCursor.{AckCursor}
 use Rattle.cursor.proofs.Plan.{Stepping, stepping_next, step-below, step-on, step-over}
-use Rattle.cursor.proofs.plans.step_columns.Goals as goal
-use Rattle.cursor.proofs.plans.step_columns.Goals.{At-loop-to, Start}
+use Rattle.cursor.proofs.plans.step_to.Goals as goal
+use Rattle.cursor.proofs.plans.step_to.Goals.{At-loop-to, Start}
 
 -- the offset so far
 walking : (p : At-loop-to) → Stepping (ack_cursor p.args.committed p.args.starts.now p.args.ends.now p.args.runs) p.requires p.args.at p.args.offset p.loop-to.to p.loop-to.looks
