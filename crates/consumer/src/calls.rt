@@ -119,7 +119,13 @@ impl Consumer {
     // Failed: the offset can be claimed again after the delay, its own or that of the schedule for so many hand-outs, but no later than
     // the hard cap from now; and where that falls outside the hours, at the next opening. The answer is when. Refusal 38, 39, 24, 40, 25
     // or 26.
-    pub fn nack(self, worker: u64, token: LeaseToken, now: u64, delay: Option<u64>) -> Answered<Result<u64, Refusal>>
+    pub fn nack(
+        self,
+        worker: u64,
+        token: LeaseToken,
+        now: u64,
+        delay: Option<u64>,
+    ) -> Answered<Result<u64, Refusal>>
         requires { Sound self }
         ensures { Answers (nack_of result.answer) self result.consumer (nack (view self) worker token.offset.0 token.generation.0 now (delay_of delay)) }
     {
@@ -154,7 +160,12 @@ impl Consumer {
 
     // Still being worked on: the lease is extended by one visibility window from now, within the hard cap of its attempt. The answer is the
     // new deadline. Refusal 38, 39, 24, 40 or 28.
-    pub fn progress(self, worker: u64, token: LeaseToken, now: u64) -> Answered<Result<u64, Refusal>>
+    pub fn progress(
+        self,
+        worker: u64,
+        token: LeaseToken,
+        now: u64,
+    ) -> Answered<Result<u64, Refusal>>
         requires { Sound self }
         ensures { Answers (progress_of result.answer) self result.consumer (progress (view self) worker token.offset.0 token.generation.0 now) }
     {

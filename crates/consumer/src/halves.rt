@@ -20,14 +20,22 @@ pub fn half_in_use(area_len: usize, block: usize) -> usize
 pub fn half_end(area_len: usize, block: usize) -> usize
     ensures { result ≡ half_end area_len block }
 {
-    if half_blocks(area_len) < block { area_len / 512 } else { half_blocks(area_len) }
+    if half_blocks(area_len) < block {
+        area_len / 512
+    } else {
+        half_blocks(area_len)
+    }
 }
 
 // The first block of the other half.
 pub fn other_half(area_len: usize, block: usize) -> usize
     ensures { result ≡ otherHalf area_len block }
 {
-    if half_blocks(area_len) < block { 0 } else { half_blocks(area_len) }
+    if half_blocks(area_len) < block {
+        0
+    } else {
+        half_blocks(area_len)
+    }
 }
 
 // The blocks that are left in the half in use.

@@ -335,14 +335,7 @@ pub fn progress_in_place<'a>(
         workers,
     );
     let held = test?;
-    lease::in_place::extend_at(
-        config,
-        held.at,
-        now,
-        slots,
-        attempt_starts,
-        deadlines,
-    )
+    lease::in_place::extend_at(config, held.at, now, slots, attempt_starts, deadlines)
 }
 
 // What Commit answers, and the numbers of the cursor and of the table after it.

@@ -61,7 +61,12 @@ impl Consumer {
     }
 
     // A worker's plan of offsets by their numbers: 1 where an offset is settled and 0 where it is open, into a lent list of the same length.
-    pub fn plan_numbers(self, worker: u64, offsets: &[u64], out: &mut [u8]) -> Result<usize, Refusal>
+    pub fn plan_numbers(
+        self,
+        worker: u64,
+        offsets: &[u64],
+        out: &mut [u8],
+    ) -> Result<usize, Refusal>
         requires { Sound self }
         ensures { Plans (look (view self) worker (Plan offsets.now (length out.old))) out.old result out.new }
     {

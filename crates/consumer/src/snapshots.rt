@@ -31,7 +31,12 @@ pub struct Lengths {
 impl Consumer {
     // A worker's export: each snapshot at the front of its own lent bytes. 38, 39, and 20 where one of them doesn't fit; then neither is
     // written.
-    pub fn export(self, worker: u64, cursor: &mut [u8], attempts: &mut [u8]) -> Result<Lengths, Refusal>
+    pub fn export(
+        self,
+        worker: u64,
+        cursor: &mut [u8],
+        attempts: &mut [u8],
+    ) -> Result<Lengths, Refusal>
         requires { Sound self }
         ensures { Exports (view self) (export (view self) worker (snapshots cursor.old attempts.old)) (snapshots cursor.old attempts.old) result (snapshots cursor.new attempts.new) }
     {

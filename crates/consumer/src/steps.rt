@@ -241,7 +241,12 @@ pub fn delay_in_hours(hours: Hours, now: u64, delay_nanos: u64) -> u64
 }
 
 // Whether a commit takes effect: 38, 39, and not where the bound is not above committed.
-pub fn commit_test(committed: u64, worker: u64, bound: u64, rights: &[u8; WORKERS]) -> Result<bool, Refusal>
+pub fn commit_test(
+    committed: u64,
+    worker: u64,
+    bound: u64,
+    rights: &[u8; WORKERS],
+) -> Result<bool, Refusal>
     ensures { DecidesIn result (deciding rights.now committed) worker bound }
 {
     rights::permission_of(rights, worker, COMMIT)?;
