@@ -2,6 +2,8 @@
 use Prim.Native.Nat.{ℕ}
 use mathlib.Core.Path.{◌≡◌, refl, sym, ap, ◌∙◌}
 use mathlib.Core.List.{List, [], ◌∷◌}
+use Rattle.std.specs.Prelude.{Some, None}
+use Rattle.std.specs.Prelude as std
 use mathlib.Core.Option.{Option, none, some, map, none-ne-some}
 use mathlib.Core.Bool.{true, false, cond}
 use Rattle.types.specs.Refusal.{Result, refused, done, optional}
@@ -12,16 +14,10 @@ use Rattle.lease.specs.Answers.{attempts_of}
 use Rattle.lease.specs.Rest.{deliveries_of, holder_of, hold_of, hold}
 use Rattle.lease.specs.Lookup.{lease_in, lease_values, lease_at, hold_in}
 use Rattle.lease.specs.declared.Lease.{Lease}
-use Rattle.lease.specs.declared.Attempts.{Attempts}
-use Rattle.lease.specs.declared.Attempts.TheVariants as attempts
-use Rattle.lease.specs.declared.lookup.LeaseAt.{LeaseAt}
-use Rattle.lease.specs.declared.lookup.LeaseAt.TheVariants.{Some, None}
-use Rattle.lease.specs.declared.in_place.Hold.{Hold}
-use Rattle.lease.specs.declared.in_place.Hold.TheVariants.{Held}
-use Rattle.lease.specs.declared.in_place.Hold.TheVariants as holds
+use Rattle.lease.specs.declared.in_place.Held.{Held}
 
 -- ## a lease
-module _ (x : Option Lease) {r : LeaseAt} (p : lease_in r ≡ x) where
+module _ (x : Option Lease) {r : std.Option Lease} (p : lease_in r ≡ x) where
   pub found-lease : {l : Lease} → r ≡ Some l → x ≡ some l
   found-lease e = sym p ∙ ap lease_in e
 
@@ -29,25 +25,16 @@ module _ (x : Option Lease) {r : LeaseAt} (p : lease_in r ≡ x) where
   found_none e = sym p ∙ ap lease_in e
 
 -- its four values are what the question answers
-pub told-lease : (r : LeaseAt) {x : Option Lease} → lease_in r ≡ x → lease_at r ≡ done (lease_values x)
+pub told-lease : (r : std.Option Lease) {x : Option Lease} → lease_in r ≡ x → lease_at r ≡ done (lease_values x)
 told-lease r p = ap (λ (y : Option Lease). done (lease_values y)) p
 
 -- ## a count
-abbrev count_in : Result (List ℕ) → Option ℕ
-count_in (refused r) = none
-count_in (done []) = none
-count_in (done (n ∷ l)) = some n
+module _ (x : Option ℕ) {r : std.Option ℕ} (p : attempts_of r ≡ x) where
+  pub found-count : {n : ℕ} → r ≡ Some n → x ≡ some n
+  found-count e = sym p ∙ ap attempts_of e
 
-told-count : (x : Option ℕ) → count_in (done (optional x)) ≡ x
-told-count none = refl
-told-count (some n) = refl
-
-module _ (x : Option ℕ) {r : Attempts} (p : attempts_of r ≡ done (optional x)) where
-  pub found-count : {n : ℕ} → r ≡ attempts.Some n → x ≡ some n
-  found-count e = sym (told-count x) ∙ ap count_in (sym p ∙ ap attempts_of e)
-
-  pub no-count : r ≡ attempts.None → x ≡ none
-  no-count e = sym (told-count x) ∙ ap count_in (sym p ∙ ap attempts_of e)
+  pub no-count : r ≡ None → x ≡ none
+  no-count e = sym p ∙ ap attempts_of e
 
 -- ## a token and its holder
 -- a token of generation g owns the lease, which was handed out n times, the last time to worker w
@@ -76,9 +63,9 @@ a-hold x g n w e =
     claimed none = refl
     claimed (some l) = refl
 
-module _ (s : Table) (o g : ℕ) {r : Hold} (p : hold_in r ≡ hold s o g) where
-  pub not_held : r ≡ holds.None → owns (lease_of s o) g ≡ false
+module _ (s : Table) (o g : ℕ) {r : std.Option Held} (p : hold_in r ≡ hold s o g) where
+  pub not_held : r ≡ None → owns (lease_of s o) g ≡ false
   not_held e = no-hold (lease_of s o) g (sym (ap hold_in e) ∙ p)
 
-  pub held_by : {n w at : ℕ} → r ≡ Held n w at → HeldBy (lease_of s o) g n w
-  held_by {n} {w} e = a-hold (lease_of s o) g n w (sym (ap hold_in e) ∙ p)
+  pub held_by : {h : Held} → r ≡ Some h → HeldBy (lease_of s o) g h.deliveries h.worker
+  held_by {h} e = a-hold (lease_of s o) g h.deliveries h.worker (sym (ap hold_in e) ∙ p)

@@ -6,6 +6,7 @@ use mathlib.Core.Path.{◌≡◌, refl, ap, subst}
 use mathlib.Core.Bool.{true, false}
 use mathlib.Core.List.{List, [], ◌∷◌}
 use mathlib.Core.Option.{some}
+use Rattle.std.specs.Prelude.{Option, Some, None}
 use lib.ListN.{length, take, get_or, set}
 use borrow.Author.Tests.{le-leb, lt-leb, eq-eqb, ne_eqb}
 use Rattle.types.specs.Limits.{MAX, sat64}
@@ -35,7 +36,7 @@ with_next s = record { config = s.config; leases = s.leases; carried = s.carried
 
 -- ## a token
 -- the lease that it owns, and that its place is in use
-pub owned_at : (o g : ℕ) (keys slots gs : List ℕ) {at : ℕ} {r : Place} → Owned o g keys slots gs r → r ≡ Found at → OwnedAt o g keys slots gs at
+pub owned_at : (o g : ℕ) (keys slots gs : List ℕ) {at : ℕ} {r : Option ℕ} → Owned o g keys slots gs r → r ≡ Some at → OwnedAt o g keys slots gs at
 owned_at o g keys slots gs p e = subst (Owned o g keys slots gs) e p
 
 pub owned-used : (o g len : ℕ) (keys slots gs : List ℕ) {at : ℕ} → OwnedAt o g (take len keys) slots gs at → at < len
@@ -47,7 +48,7 @@ module _ (t : LeaseTable) (full : Full t) (ok : Sound t) (o g : ℕ) where
   differs-there (Found at) p d = rw (lease-at t full ok o p refl) (ne_eqb _ _ d)
   differs-there (Missing at) p d = rw (free t full ok p refl).is
 
-  pub not_owned : {at : ℕ} {r : Place} → Owned o g (take t.len t.offsets) t.slots t.generations r → r ≡ Missing at → owns (lease_of (view t) o) g ≡ false
+  pub not_owned : {r : Option ℕ} → Owned o g (take t.len t.offsets) t.slots t.generations r → r ≡ None → owns (lease_of (view t) o) g ≡ false
   not_owned p e =
       let u : Unowned o g (take t.len t.offsets) t.slots t.generations = subst (Owned o g (take t.len t.offsets) t.slots t.generations) e p in
       differs-there u.place u.placed u.differs

@@ -2,7 +2,7 @@
 // the numbers that changed. A table by value, and one that lies in another's memory, are served by the same function.
 ghost use Rattle.std.specs.Prelude.{◌≡◌, ℕ, ◌≤◌, ◌<◌, take, get_or};
 ghost use Rattle.types.specs.Limits.{MAX, LEASES, CARRIED};
-ghost use Rattle.types.specs.Refusal.{done, optional};
+ghost use Rattle.types.specs.Refusal.{done};
 ghost use Rattle.types.specs.Keyed.{lookup};
 ghost use Rattle.types.specs.Lists.{ListsOffsets, ListsCounts};
 ghost use Rattle.tables.specs.Search.{Placed};
@@ -16,17 +16,17 @@ ghost use Rattle.lease.specs.Lookup.{lease_in, hold_in, HeldAt};
 ghost use Rattle.lease.specs.Helpers.{granted_at, regranting, AnswersAt, Owned};
 ghost use Rattle.lease.specs.Parts.{gathered, Whole, slot_in, AnswersOwned, BecomesIn, HoldsIn, HoldsAt, PlaceWithin, leasing, removing, extending, requeuing, releasing, counting, due, timing, listing, listing_all, carrying};
 
-use crate::lookup::LeaseAt;
-use crate::{Attempts, Claim, ExtendOutcome, Lease, LeaseConfig, LeaseToken, NackOutcome};
+use crate::{Grant, Lease, LeaseConfig, LeaseToken};
 use tables::{Place, counts};
 use types::lent::{AttemptCounts, OffsetList};
 use types::limits::{CARRIED, COUNTS, LEASES, MAX};
+use types::refusals::Refusal;
 use types::{Generation, Offset, numbers};
 
 // What a claim answers, and the numbers of the table after it.
 #[derive(Clone, Copy)]
 pub struct ClaimedAt {
-    pub outcome: Claim,
+    pub outcome: Result<Grant, Refusal>,
     pub len: usize,
     pub carried_len: usize,
     pub next_generation: u64,
@@ -125,7 +125,7 @@ fn claim_again(
     let slot = slot_at(slots, at);
     if now < deadlines[slot] {
         return ClaimedAt {
-            outcome: Claim::InFlight,
+            outcome: Err(Refusal::InFlight),
             len,
             carried_len,
             next_generation: generation,
@@ -134,7 +134,7 @@ fn claim_again(
     }
     if generation == MAX {
         return ClaimedAt {
-            outcome: Claim::Exhausted,
+            outcome: Err(Refusal::Exhausted),
             len,
             carried_len,
             next_generation: generation,
@@ -179,7 +179,7 @@ fn claim_first(
 {
     if next == MAX {
         return ClaimedAt {
-            outcome: Claim::Exhausted,
+            outcome: Err(Refusal::Exhausted),
             len,
             carried_len,
             next_generation: next,
@@ -188,7 +188,7 @@ fn claim_first(
     }
     if LEASES <= len {
         return ClaimedAt {
-            outcome: Claim::Full,
+            outcome: Err(Refusal::Full),
             len,
             carried_len,
             next_generation: next,
@@ -229,10 +229,10 @@ fn granted(
         offset: Offset(offset),
         generation: Generation(generation),
     };
-    let outcome = Claim::Granted {
-        token: token,
+    let outcome = Ok(Grant {
+        token,
         deliveries: count,
-    };
+    });
     let counted = redeliveries::after_grant(redeliveries, count);
     ClaimedAt {
         outcome,
@@ -243,7 +243,7 @@ fn granted(
     }
 }
 
-// Where the lease stands that a token owns, missing where there is none: the test that every call with a token begins with.
+// Where the lease stands that a token owns: the test that every call with a token begins with.
 pub(crate) fn owned<'a>(
     len: usize,
     offset: u64,
@@ -251,19 +251,19 @@ pub(crate) fn owned<'a>(
     offsets: &'a [u64; LEASES],
     slots: &'a [u32; LEASES],
     generations: &'a [u64; LEASES],
-) -> Place
+) -> Option<usize>
     requires { len ≤ LEASES }
     ensures { Owned offset generation (take len offsets.now) slots.now generations.now result }
 {
     let place = tables::find(offsets, len, offset);
     let Place::Found(at) = place else {
-        return Place::Missing(len);
+        return None;
     };
     let slot = slot_at(slots, at);
     if generations[slot] == generation {
-        return Place::Found(at);
+        return Some(at);
     }
-    Place::Missing(len)
+    None
 }
 
 // What `LeaseTable::ack` does where the token owns the lease at a place: the lease goes, and its slot to the free ones. It answers
@@ -294,24 +294,24 @@ pub fn extend_at<'a>(
     slots: &'a [u32; LEASES],
     attempt_starts: &'a [u64; LEASES],
     deadlines: &mut [u64; LEASES],
-) -> ExtendOutcome
+) -> Result<u64, Refusal>
     requires { at < LEASES }
     ensures { AnswersOwned at (extend_of result) (extending config slots.now attempt_starts.now deadlines.old) (extending config slots.now attempt_starts.now deadlines.new) (λ o g s. extend s o g now) }
 {
     let slot = slot_at(slots, at);
     let start = attempt_starts[slot];
     if config.cap(start) <= now {
-        return ExtendOutcome::CapReached;
+        return Err(Refusal::CapReached);
     }
     let deadline = config.deadline(start, now);
     deadlines[slot] = deadline;
-    ExtendOutcome::Extended(deadline)
+    Ok(deadline)
 }
 
 // What a nack answers, and what the next grant or nack takes.
 #[derive(Clone, Copy)]
 pub struct NackedAt {
-    pub outcome: NackOutcome,
+    pub outcome: Result<u64, Refusal>,
     pub next_generation: u64,
 }
 
@@ -330,7 +330,7 @@ pub fn nack_at(
 {
     if next_generation == MAX {
         return NackedAt {
-            outcome: NackOutcome::Exhausted,
+            outcome: Err(Refusal::Exhausted),
             next_generation,
         };
     }
@@ -339,7 +339,7 @@ pub fn nack_at(
     generations[slot] = next_generation;
     deadlines[slot] = deadline;
     NackedAt {
-        outcome: NackOutcome::Requeued { deadline: deadline },
+        outcome: Ok(deadline),
         next_generation: next_generation + 1,
     }
 }
@@ -422,15 +422,15 @@ pub fn lease_in_place<'a>(
     deadlines: &'a [u64; LEASES],
     deliveries: &'a [u32; LEASES],
     workers: &'a [u32; LEASES],
-) -> LeaseAt
+) -> Option<Lease>
     requires { len ≤ LEASES }
     ensures { HoldsIn (leasing len offsets.now slots.now generations.now attempt_starts.now deadlines.now deliveries.now workers.now) (λ s. lease_in result ≡ lease_of s offset) }
 {
     let place = tables::find(offsets, len, offset);
     let Place::Found(at) = place else {
-        return LeaseAt::None;
+        return None;
     };
-    LeaseAt::Some(lease_at(
+    Some(lease_at(
         at,
         slots,
         generations,
@@ -441,16 +441,13 @@ pub fn lease_in_place<'a>(
     ))
 }
 
-// The lease that a token owns, where it owns one: how often it was handed out, the worker who claimed it, and its place, where a call
-// with the token finds it again.
-#[derive(Clone, Copy)]
-pub enum Hold {
-    Held {
-        deliveries: u32,
-        worker: u32,
-        at: usize,
-    },
-    None,
+// The lease that a token owns: how often it was handed out, the worker who claimed it, and its place, where a call with the token
+// finds it again.
+#[derive(Clone, Copy, Debug, PartialEq, Eq)]
+pub struct Held {
+    pub deliveries: u32,
+    pub worker: u32,
+    pub at: usize,
 }
 
 // What a call with a token asks of its lease.
@@ -463,21 +460,17 @@ pub fn hold_in_place<'a>(
     generations: &'a [u64; LEASES],
     deliveries: &'a [u32; LEASES],
     workers: &'a [u32; LEASES],
-) -> Hold
+) -> Option<Held>
     requires { len ≤ LEASES }
     ensures { HoldsIn (counting len offsets.now slots.now generations.now deliveries.now workers.now) (λ s. hold_in result ≡ hold s offset generation) × HeldAt offset generation (take len offsets.now) slots.now generations.now result }
 {
-    let place = owned(len, offset, generation, offsets, slots, generations);
-    let Place::Found(at) = place else {
-        return Hold::None;
-    };
+    let at = owned(len, offset, generation, offsets, slots, generations)?;
     let slot = slot_at(slots, at);
-    let worker = workers[slot];
-    Hold::Held {
+    Some(Held {
         deliveries: deliveries[slot],
-        worker,
+        worker: workers[slot],
         at,
-    }
+    })
 }
 
 // How often an offset that is in flight was handed out.
@@ -487,16 +480,16 @@ pub fn count_in_place<'a>(
     offsets: &'a [u64; LEASES],
     slots: &'a [u32; LEASES],
     deliveries: &'a [u32; LEASES],
-) -> Attempts
+) -> Option<u32>
     requires { len ≤ LEASES }
-    ensures { HoldsIn (listing len offsets.now slots.now deliveries.now) (λ s. attempts_of result ≡ done (optional (deliveries_of (lease_of s offset)))) }
+    ensures { HoldsIn (listing len offsets.now slots.now deliveries.now) (λ s. attempts_of result ≡ deliveries_of (lease_of s offset)) }
 {
     let place = tables::find(offsets, len, offset);
     let Place::Found(at) = place else {
-        return Attempts::None;
+        return None;
     };
     let slot = slot_at(slots, at);
-    Attempts::Some(deliveries[slot])
+    Some(deliveries[slot])
 }
 
 // What `LeaseTable::is_claimable` answers, where the offset stands at a place or belongs there.
@@ -522,15 +515,15 @@ pub fn carried_in_place<'a>(
     offset: u64,
     carried_offsets: &'a [u64; CARRIED],
     carried_counts: &'a [u32; CARRIED],
-) -> Attempts
+) -> Option<u32>
     requires { carried_len ≤ CARRIED }
-    ensures { HoldsIn (carrying carried_len carried_offsets.now carried_counts.now) (λ s. attempts_of result ≡ done (optional (lookup offset s.carried))) }
+    ensures { HoldsIn (carrying carried_len carried_offsets.now carried_counts.now) (λ s. attempts_of result ≡ lookup offset s.carried) }
 {
     let place = tables::find(carried_offsets, carried_len, offset);
     let Place::Found(at) = place else {
-        return Attempts::None;
+        return None;
     };
-    Attempts::Some(carried_counts[at])
+    Some(carried_counts[at])
 }
 
 // What `LeaseTable::lease_counts` answers.

@@ -8,12 +8,11 @@ ghost use Rattle.lease.specs.Parts.{slot_in};
 ghost use Rattle.lease.specs.Layout.{WORDS, config_in, table_in, Fits, Sound};
 ghost use Rattle.lease.specs.Stored.{held_at, holding, granting, handed_out, placing, displacing, Passes, CountsReleased, LeasesReleased};
 
-use crate::in_words::HandOut;
 use crate::layout::{
     CARRIED_COUNTS, CARRIED_LEN, CARRIED_OFFSETS, DEADLINES, DELIVERIES, GENERATIONS, HARD_CAP,
     LEN, NEXT, OFFSETS, REDELIVERIES, SLOTS, STARTS, VISIBILITY, WORDS, WORKERS,
 };
-use crate::{Lease, LeaseConfig, LeaseToken};
+use crate::{Grant, Lease, LeaseConfig, LeaseToken};
 use tables::Place;
 use types::limits::LEASES;
 use types::{Generation, Offset, numbers};
@@ -73,7 +72,7 @@ pub(crate) fn grant(
     offset: Offset,
     count: u32,
     now: u64,
-) -> HandOut
+) -> Grant
     requires { (length table.old ≡ WORDS) × Fits (table_in table.old) × (at < LEASES) × ((table_in table.old).next_generation.0 < MAX) }
     ensures { (table_in table.new ≡ granting at worker now count (table_in table.old))
         × (result ≡ handed_out offset.0 count (table_in table.old)) }
@@ -96,7 +95,7 @@ pub(crate) fn grant(
         offset,
         generation: Generation(generation),
     };
-    HandOut {
+    Grant {
         token,
         deliveries: count,
     }
