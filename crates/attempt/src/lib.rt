@@ -76,9 +76,13 @@ impl From<AttemptSnapshotError> for Refusal {
     fn from(error: AttemptSnapshotError) -> Refusal {
         match error {
             AttemptSnapshotError::Truncated => Refusal::AttemptTruncated,
-            AttemptSnapshotError::UnsupportedVersion(version) => Refusal::AttemptUnsupportedVersion { version },
+            AttemptSnapshotError::UnsupportedVersion(version) =>
+                Refusal::AttemptUnsupportedVersion { version },
             AttemptSnapshotError::BadLength { len } => Refusal::AttemptBadLength { len },
-            AttemptSnapshotError::CountMismatch { declared, actual } => Refusal::CountMismatch { declared, actual },
+            AttemptSnapshotError::CountMismatch { declared, actual } => Refusal::CountMismatch {
+                declared,
+                actual,
+            },
             AttemptSnapshotError::BadCrc => Refusal::AttemptBadCrc,
             AttemptSnapshotError::NotSorted {
                 offset,
@@ -136,8 +140,8 @@ fn put_pair(out: &mut [u8], to_offset: usize, to_attempt: usize, offset: u64, at
     requires { (to_offset + 8 ≤ length out.old) × (to_attempt + 4 ≤ length out.old) }
     ensures { out.new ≡ overwrite to_attempt (le 4 attempt) (overwrite to_offset (le 8 offset) out.old) }
 {
-    raw::write_u64(out, to_offset, offset);
-    raw::write_u32(out, to_attempt, attempt);
+    let _ = raw::write_u64(out, to_offset, offset);
+    let _ = raw::write_u32(out, to_attempt, attempt);
 }
 
 // Writes the pairs of two columns, of which there are `count`, into a snapshot that begins at a position.
@@ -172,7 +176,7 @@ fn put_body<'a>(
     ensures { out.new ≡ overwrite at (body_bytes (byte_of version) (entries offsets.now attempts.now)) out.old }
 {
     out[at] = version.byte();
-    raw::write_u32(out, at + 1, count as u32);
+    let _ = raw::write_u32(out, at + 1, count as u32);
     put_pairs(version, offsets, attempts, count, out, at);
 }
 
@@ -201,13 +205,18 @@ pub fn encode_columns<'a>(
     put_body(version, offsets, attempts, count, out, at);
     let end = at + (5 + PAIR_LEN * count);
     let check = crc::crc32c(&out[at..end]);
-    raw::write_u32(out, end, check);
+    let _ = raw::write_u32(out, end, check);
     Ok(at + len)
 }
 
 // Writes a version of the snapshot of pairs from a position on, in their order. Over 128 pairs are refused (19), then a snapshot
 // without room (20).
-fn write_pairs(version: Version, pairs: &[Pair], out: &mut [u8], at: usize) -> Result<usize, Refusal>
+fn write_pairs(
+    version: Version,
+    pairs: &[Pair],
+    out: &mut [u8],
+    at: usize,
+) -> Result<usize, Refusal>
     ensures { answer (as_is result) out.new ≡ encode_version (byte_of version) (entries_of pairs.now) at out.old }
 {
     let count = pairs.len();
@@ -224,7 +233,13 @@ fn write_pairs(version: Version, pairs: &[Pair], out: &mut [u8], at: usize) -> R
 }
 
 // Writes a version of the snapshot of the first `count` pairs, likewise.
-fn write_first(version: Version, pairs: [Pair; PAIRS], count: usize, out: &mut [u8], at: usize) -> Result<usize, Refusal>
+fn write_first(
+    version: Version,
+    pairs: [Pair; PAIRS],
+    count: usize,
+    out: &mut [u8],
+    at: usize,
+) -> Result<usize, Refusal>
     ensures { answer (as_is result) out.new ≡ encode_front (byte_of version) count pairs at out.old }
 {
     if PAIRS < count {
@@ -235,14 +250,24 @@ fn write_first(version: Version, pairs: [Pair; PAIRS], count: usize, out: &mut [
 
 // Writes the snapshot of the first `count` pairs from a position on, in their order. Over 128 pairs are refused (19), then a
 // snapshot without room (20).
-pub fn encode_pairs(pairs: [Pair; PAIRS], count: usize, out: &mut [u8], at: usize) -> Result<usize, Refusal>
+pub fn encode_pairs(
+    pairs: [Pair; PAIRS],
+    count: usize,
+    out: &mut [u8],
+    at: usize,
+) -> Result<usize, Refusal>
     ensures { answer (as_is result) out.new ≡ encode_first count pairs at out.old }
 {
     write_first(Version::One, pairs, count, out, at)
 }
 
 // The same in version 2.
-pub fn encode_pairs_v2(pairs: [Pair; PAIRS], count: usize, out: &mut [u8], at: usize) -> Result<usize, Refusal>
+pub fn encode_pairs_v2(
+    pairs: [Pair; PAIRS],
+    count: usize,
+    out: &mut [u8],
+    at: usize,
+) -> Result<usize, Refusal>
     ensures { answer (as_is result) out.new ≡ encode_first2 count pairs at out.old }
 {
     write_first(Version::Two, pairs, count, out, at)
@@ -396,7 +421,11 @@ pub fn encode_attempt_snapshot(pairs: &[Pair], out: &mut [u8], at: usize) -> Res
 }
 
 // The same in version 2: all offsets, then all attempts.
-pub fn encode_attempt_snapshot_v2(pairs: &[Pair], out: &mut [u8], at: usize) -> Result<usize, Refusal>
+pub fn encode_attempt_snapshot_v2(
+    pairs: &[Pair],
+    out: &mut [u8],
+    at: usize,
+) -> Result<usize, Refusal>
     ensures { answer (as_is result) out.new ≡ encode_into2 (entries_of pairs.now) at out.old }
 {
     write_pairs(Version::Two, pairs, out, at)

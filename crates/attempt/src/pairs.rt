@@ -13,7 +13,7 @@ pub fn open_v2(count: usize, out: &mut [u8], at: usize)
     ensures { out.new ≡ overwrite at (2 ∷ le 4 count) out.old }
 {
     out[at] = Version::Two.byte();
-    raw::write_u32(out, at + 1, count as u32);
+    let _ = raw::write_u32(out, at + 1, count as u32);
 }
 
 // Writes pair i of `count` into it.
@@ -33,5 +33,5 @@ pub fn seal_v2(count: usize, out: &mut [u8], at: usize)
 {
     let end = at + (5 + PAIR_LEN * count);
     let check = crc::crc32c(&out[at..end]);
-    raw::write_u32(out, end, check);
+    let _ = raw::write_u32(out, end, check);
 }

@@ -74,7 +74,7 @@ fn seal(block: &mut [u8])
     ensures { block.new ≡ sealed (take 508 block.old) }
 {
     let check = crc::crc32c(&block[..508]);
-    raw::write_u32(block, 508, check);
+    let _ = raw::write_u32(block, 508, check);
 }
 
 // Fills a block with its first eight bytes, and zeros behind them.
@@ -85,8 +85,8 @@ fn open_block(block: &mut [u8], kind: u8, second: u8, third: u16, number: u32)
     raw::clear(block);
     block[0] = kind;
     block[1] = second;
-    raw::write_u16(block, 2, third);
-    raw::write_u32(block, 4, number);
+    let _ = raw::write_u16(block, 2, third);
+    let _ = raw::write_u32(block, 4, number);
 }
 
 // Fills a block with the header of a group. A part of another length than 512 bytes is refused as 4.
@@ -98,9 +98,9 @@ fn write_header(block: &mut [u8], header: Header) -> Result<(), Refusal>
     }
     let bodies = bodies_for(header.cursor_len, header.attempt_len);
     open_block(block, 1, (bodies % 256) as u8, 0, header.number);
-    raw::write_u64(block, 8, header.ceiling);
-    raw::write_u16(block, 16, header.cursor_len);
-    raw::write_u16(block, 18, header.attempt_len);
+    let _ = raw::write_u64(block, 8, header.ceiling);
+    let _ = raw::write_u16(block, 16, header.cursor_len);
+    let _ = raw::write_u16(block, 18, header.attempt_len);
     seal(block);
     Ok(())
 }
@@ -111,7 +111,7 @@ fn put_body(block: &mut [u8], number: u32, index: u8, chunk: &[u8])
     ensures { block.new ≡ body_block number index chunk.now }
 {
     open_block(block, 2, index, chunk.len() as u16, number);
-    raw::write_bytes(block, 8, chunk);
+    let _ = raw::write_bytes(block, 8, chunk);
     seal(block);
 }
 
@@ -281,7 +281,13 @@ fn used_in(index: usize, bodies: usize, total: usize) -> u16
 }
 
 // The block after the bodies of the group whose header stands at block `at`: the first unsound one of them is 5.
-fn bodies_at(area: &[u8], number: u64, at: usize, bodies: usize, total: usize) -> Result<usize, Refusal>
+fn bodies_at(
+    area: &[u8],
+    number: u64,
+    at: usize,
+    bodies: usize,
+    total: usize,
+) -> Result<usize, Refusal>
     requires { Counted bodies total × (512 * (at + 1 + bodies) ≤ length area.now) }
     ensures { result_of (λ e. some e) result ≡ turn_of (or_unsound (first_unsound area.now number at bodies total bodies 1) (at + suc bodies)) }
 {
@@ -388,7 +394,7 @@ fn copy_payload(area: &[u8], first: usize, total: usize, out: &mut [u8])
         let size = shorter(500, total - copied);
         let from = 512 * at + 8;
         let to = from + size;
-        raw::write_bytes(out, copied, &area[from..to]);
+        let _ = raw::write_bytes(out, copied, &area[from..to]);
         copied += size;
         at += 1;
     }

@@ -106,7 +106,7 @@ pub fn put_front(area: &mut [u8], at: usize, sector: &[u8])
     requires { (512 * at + 512 ≤ length area.old) × (512 ≤ length sector.now) }
     ensures { area.new ≡ write_at area.old at (front sector.now) }
 {
-    raw::write_bytes(area, 512 * at, &sector[..512]);
+    let _ = raw::write_bytes(area, 512 * at, &sector[..512]);
 }
 
 // Fills the place of a block that can't be read: neither a header nor a body has such bytes.
@@ -115,7 +115,7 @@ pub fn put_unread(area: &mut [u8], at: usize)
     ensures { area.new ≡ write_at area.old at unread }
 {
     let filler = [255u8; 512];
-    raw::write_bytes(area, 512 * at, &filler);
+    let _ = raw::write_bytes(area, 512 * at, &filler);
 }
 
 // What a file for several journals says of one of them.

@@ -8,4 +8,3 @@ use Rattle.journal.proofs.bodies_at.Given as goal
 
 abbrev pub invariant-loop-j : goal.invariant-loop-j
 invariant-loop-j l = Scanned l.area l.number l.at l.bodies l.total l.j
-
