@@ -4,12 +4,15 @@ use Prim.Native.Nat.{ℕ, ◌+◌, ◌≤◌, ◌<◌}
 use mathlib.Core.Path.{◌≡◌, refl, sym, ap, ◌∙◌}
 use mathlib.Core.Bool.{Bool, true, false, not, ◌&&◌, true≢false}
 use mathlib.Core.List.{List}
-use mathlib.Core.Option.{none, some}
+use mathlib.Core.Option.{Option, none, some}
 use lib.Dec.{leb}
 use lib.ListN.{length}
 use borrow.Author.Tests.{eq-eqb, ne_eqb, le-leb, lt-leb}
+use Rattle.std.specs.Prelude.{Some, None, is_some}
+use Rattle.std.specs.Prelude as std
 use Rattle.types.specs.Limits.{MAX, LEASES, CARRIED}
 use Rattle.types.specs.Refusal.{Refusal, Result, refused, done, LastOffset, Settled, Closed, InFlight, Exhausted, CheckpointDue, Full}
+use Rattle.types.specs.Refused.{option_of}
 use Rattle.types.specs.Table.{Row, first, Passed, Answer, answer}
 use Rattle.types.specs.Keyed.{lookup}
 use Rattle.types.proofs.Table.{first_none, guarded-passed, first-met-before, first_none_before, passed-append}
@@ -39,6 +42,13 @@ use Rattle.consumer.proofs.Valid.{claimed-valid}
 use Rattle.consumer.proofs.CallsReturns.{sound-with, refuses, takes_effect}
 
 -- ## 27
+-- whether there is a count, by the code's own test
+pub uncounted : (x : std.Option ℕ) (b : Bool) → is_some x ≡ not b → is_none (option_of (λ n. n) x) ≡ b
+uncounted None true e = refl
+uncounted (Some n) false e = refl
+uncounted None false e = absurd (true≢false (sym e))
+uncounted (Some n) true e = absurd (true≢false e)
+
 both_false : (b : Bool) → (b && false) ≡ false
 both_false true = refl
 both_false false = refl
@@ -59,8 +69,17 @@ module _ (t : Table) (o : ℕ) where
       pub full-counted : (n : ℕ) → lookup o t.carried ≡ some n → false ≡ is_full t o
       full-counted n e = rw (free, lt-leb LEASES (length t.leases) h, e)
 
-      pub full-counts : CARRIED ≤ length t.leases + length t.carried → lookup o t.carried ≡ none → true ≡ is_full t o
-      full-counts k e = rw (free, lt-leb LEASES (length t.leases) h, e, le-leb CARRIED (length t.leases + length t.carried) k)
+      module _ (k : CARRIED ≤ length t.leases + length t.carried) where
+        pub full-counts : lookup o t.carried ≡ none → true ≡ is_full t o
+        full-counts e = rw (free, lt-leb LEASES (length t.leases) h, e, le-leb CARRIED (length t.leases + length t.carried) k)
+
+        -- then it is whether the offset has a count
+        pub full-by-count : is_none (lookup o t.carried) ≡ is_full t o
+        full-by-count = go (lookup o t.carried) refl
+          where
+            go : (x : Option ℕ) → lookup o t.carried ≡ x → is_none x ≡ is_full t o
+            go none e = full-counts e
+            go (some n) e = full-counted n e
 
 -- ## the tests, each after those before it that failed
 -- whether a claim may go on, from what the table calls claimable
