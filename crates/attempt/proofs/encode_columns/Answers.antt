@@ -1,4 +1,4 @@
--- `write_columns` meets its contract: each return is a law of what the encoder writes. Assumes nothing.
+-- `encode_columns` meets its contract: each return is a law of what the encoder writes. Assumes nothing.
 -- the pairs, and that they are as many as were counted
 use Prim.Native.Nat.{ℕ, ◌+◌, ◌-◌, ◌*◌}
 use native.Mathlib.Omega.{arith}
@@ -8,8 +8,8 @@ use lib.ListN.{length}
 use borrow.Author.Rules.{rules}
 use Rattle.types.specs.Keyed.{Entry, entries}
 use Rattle.attempt.proofs.Writing.{length_both, too_many, too_short, encoded}
-use Rattle.attempt.proofs.write_columns.Goals as goal
-use Rattle.attempt.proofs.write_columns.Goals.{After-shorter-count}
+use Rattle.attempt.proofs.encode_columns.Goals as goal
+use Rattle.attempt.proofs.encode_columns.Goals.{After-shorter-count}
 
 abbrev pairs : After-shorter-count → List (Entry ℕ)
 pairs c = let a = c.args in entries a.offsets.now a.attempts.now
