@@ -2,7 +2,9 @@
 -- consumer and every record that has them.
 -- SPEC.md, "Checkpoint".
 use Rattle.std.specs.Prelude.{ℕ, suc, ◌+◌, ◌-◌, ◌≡◌, cond, List, ltb, leb, length, replicate}
+use Rattle.std.specs.Prelude as std
 use Rattle.types.specs.Table.{Passed, Kept}
+use Rattle.types.specs.declared.refusals.Refusal.{Refusal}
 use Rattle.cursor.specs.View as cursor
 use Rattle.cursor.specs.declared.AckCursor.{AckCursor}
 use Rattle.lease.specs.Parts.{gathered, Full}
@@ -17,7 +19,6 @@ use Rattle.consumer.specs.declared.Consumer.{Consumer}
 use Rattle.checkpoint.specs.Checkpoint.{header_place, zeroed_for}
 use Rattle.checkpoint.specs.Writing.{SoundWriting, begin_of, BegunIs, SteppedIs}
 use Rattle.checkpoint.specs.declared.Writing.{Writing}
-use Rattle.checkpoint.specs.declared.BeginAnswer.{BeginAnswer}
 use Rattle.checkpoint.specs.declared.in_place.SteppedAt.{SteppedAt}
 use Rattle.checkpoint.specs.declared.in_place.Place.{Place}
 use Rattle.checkpoint.specs.declared.in_place.NextWrite.{NextWrite}
@@ -60,15 +61,15 @@ pub record Beginnable (parts : Consumer → Consumer) (bytes : List ℕ) : Type 
   pub payload : length bytes ≡ 3606
 
 -- begin on a record: as by value, and a refusal keeps the very record, its payload included
-pub record BegunAs (answer : BeginAnswer) (worker : ℕ) (before after : Writing) : Type 0 where
+pub record BegunAs (answer : std.Result ℕ Refusal) (worker : ℕ) (before after : Writing) : Type 0 where
   pub begun : BegunIs before.consumer worker (record { answer = answer; writing = after })
   pub kept : Kept (begin_of answer after) before after
 
-abbrev pub BegunIn : BeginAnswer → ℕ → (Consumer → Consumer) → (before after : Consumer → Writing) → Type 0
+abbrev pub BegunIn : std.Result ℕ Refusal → ℕ → (Consumer → Consumer) → (before after : Consumer → Writing) → Type 0
 BegunIn answer w parts before after = (c : Consumer) → Lent (parts c) → BegunAs answer w (before (parts c)) (after (parts c))
 
 -- the same for every worker that may
-abbrev pub PermittedIn : BeginAnswer → (Consumer → Consumer) → (before after : Consumer → Writing) → Type 0
+abbrev pub PermittedIn : std.Result ℕ Refusal → (Consumer → Consumer) → (before after : Consumer → Writing) → Type 0
 PermittedIn answer parts before after =
     (c : Consumer) → Lent (parts c) → (w : ℕ) → Passed (call_rows (view (parts c)) w checkpointing)
     → BegunAs answer w (before (parts c)) (after (parts c))

@@ -9,19 +9,19 @@ ghost use Rattle.journal.specs.Answers.{block_of};
 ghost use Rattle.journal.specs.Blocks.{bodies_for};
 ghost use Rattle.checkpoint.specs.Parts.{beginning, fitting, recording, Beginnable, BegunIn, PermittedIn, parts, PlaceIs, NextIs, Steppable, SteppedIn, header_by};
 
+use crate::Wrote;
 use crate::counts::put_counts;
-use crate::{BeginAnswer, StepAnswer};
-use consumer::rights::{CHECKPOINT, Permission};
+use consumer::rights::CHECKPOINT;
 use consumer::{halves, rights};
 use cursor::AckCursor;
 use journal::{Block, Header};
 use types::limits::{CARRIED, LEASES, MAX32, RANGES, WORKERS};
-use types::numbers;
+use types::refusals::Refusal;
 
 // What a begin answers, and the numbers of the record that it begins.
 #[derive(Clone, Copy)]
 pub struct BegunAt {
-    pub answer: BeginAnswer,
+    pub answer: Result<usize, Refusal>,
     pub written: usize,
     pub cursor_len: usize,
     pub attempt_len: usize,
@@ -30,7 +30,7 @@ pub struct BegunAt {
 // What a step answers, and the numbers that steps change.
 #[derive(Clone, Copy)]
 pub struct SteppedAt {
-    pub answer: StepAnswer,
+    pub answer: Result<Wrote, Refusal>,
     pub written: usize,
     pub ceiling: u64,
     pub redeliveries: u32,
@@ -42,7 +42,7 @@ pub struct SteppedAt {
 fn new_ceiling(next: u64) -> u64
     ensures { result ≡ sat64 next 4096 }
 {
-    numbers::saturating_add(next, 4096)
+    next.saturating_add(4096)
 }
 
 // Bodies for the two snapshots of a group.
@@ -106,40 +106,34 @@ pub fn begin_in_place<'a>(
         (recording written cursor_len attempt_len payload.old) (recording result.written result.cursor_len result.attempt_len payload.new) }
 {
     let permission = rights::permission_of(rights, worker, CHECKPOINT);
-    match permission {
-        Permission::UnknownWorker => BegunAt {
-            answer: BeginAnswer::UnknownWorker,
+    if let Err(refusal) = permission {
+        return BegunAt {
+            answer: Err(refusal),
             written,
             cursor_len,
             attempt_len,
-        },
-        Permission::NotPermitted => BegunAt {
-            answer: BeginAnswer::NotPermitted,
-            written,
-            cursor_len,
-            attempt_len,
-        },
-        Permission::Granted => begin_permitted(
-            written,
-            cursor_len,
-            attempt_len,
-            committed,
-            runs,
-            len,
-            carried_len,
-            number,
-            block,
-            area_len,
-            starts,
-            ends,
-            offsets,
-            slots,
-            deliveries,
-            carried_offsets,
-            carried_counts,
-            payload,
-        ),
+        };
     }
+    begin_permitted(
+        written,
+        cursor_len,
+        attempt_len,
+        committed,
+        runs,
+        len,
+        carried_len,
+        number,
+        block,
+        area_len,
+        starts,
+        ends,
+        offsets,
+        slots,
+        deliveries,
+        carried_offsets,
+        carried_counts,
+        payload,
+    )
 }
 
 // The same where the worker may: both snapshots are encoded there, unless the number of the group is above the largest u32; then
@@ -170,7 +164,7 @@ fn begin_permitted<'a>(
 {
     if (MAX32 as u64) < number {
         return BegunAt {
-            answer: BeginAnswer::JournalFull,
+            answer: Err(Refusal::JournalFull),
             written,
             cursor_len,
             attempt_len,
@@ -178,7 +172,7 @@ fn begin_permitted<'a>(
     }
     let front = AckCursor::snapshot_len(runs);
     let behind = attempt::snapshot_len(len + carried_len);
-    cursor::in_place::encode_in_place(committed, starts, ends, runs, payload, 0);
+    let _ = cursor::in_place::encode_in_place(committed, starts, ends, runs, payload, 0);
     put_counts(
         len,
         carried_len,
@@ -193,9 +187,7 @@ fn begin_permitted<'a>(
     let bodies = bodies_of(front, behind);
     let place = place_of(area_len, block, bodies);
     BegunAt {
-        answer: BeginAnswer::Begun {
-            writes: place.zeros + (bodies + 1),
-        },
+        answer: Ok(place.zeros + (bodies + 1)),
         written: 0,
         cursor_len: front,
         attempt_len: behind,
@@ -260,7 +252,7 @@ fn put_block(area: &mut [u8], at: usize, block: Block, payload: &[u8], total: us
     requires { (total ≤ length payload.now) × (outside (length area.old) at ≡ false) }
     ensures { area.new ≡ write_at area.old at (block_of block (take total payload.now)) }
 {
-    journal::write_block(area, at, block, &payload[..total]);
+    let _ = journal::write_block(area, at, block, &payload[..total]);
 }
 
 // What `Writing::step` does to the parts of a record: the next block write, and no other.
@@ -282,7 +274,7 @@ pub fn step_in_place(
 {
     if area.len() != area_len {
         return SteppedAt {
-            answer: StepAnswer::BadArea,
+            answer: Err(Refusal::BadArea),
             written,
             ceiling,
             redeliveries,
@@ -301,7 +293,10 @@ pub fn step_in_place(
     put_block(area, at, content, payload, total);
     if next.last {
         return SteppedAt {
-            answer: StepAnswer::Finished { block: at },
+            answer: Ok(Wrote {
+                block: at,
+                finished: true,
+            }),
             written,
             ceiling: raised,
             redeliveries: redeliveries::after_flush(redeliveries),
@@ -310,7 +305,10 @@ pub fn step_in_place(
         };
     }
     SteppedAt {
-        answer: StepAnswer::Wrote { block: at },
+        answer: Ok(Wrote {
+            block: at,
+            finished: false,
+        }),
         written: written + 1,
         ceiling,
         redeliveries,

@@ -12,6 +12,7 @@ pub mod counts;
 pub mod in_place;
 
 use consumer::Consumer;
+use types::refusals::Refusal;
 
 // The consumer, the number of blocks written, and what is written: the snapshots of the cursor and of all attempt counts, one
 // behind the other at the front of the payload.
@@ -25,34 +26,26 @@ pub struct Writing {
     pub attempt_len: usize,
 }
 
-// What begin answers: the number of block writes, or refusal 38, 39 or 31.
-#[derive(Clone, Copy)]
-pub enum BeginAnswer {
-    Begun { writes: usize },
-    JournalFull,
-    UnknownWorker,
-    NotPermitted,
+// The block that a step wrote, and whether it was the checkpoint's last one, the header's.
+#[derive(Clone, Copy, Debug, PartialEq, Eq)]
+pub struct Wrote {
+    pub block: usize,
+    pub finished: bool,
 }
 
-// What a step answers: the block that it wrote, the last one or not, or refusal 4.
-#[derive(Clone, Copy)]
-pub enum StepAnswer {
-    Wrote { block: usize },
-    Finished { block: usize },
-    BadArea,
-}
-
-// Beside a refusal nothing is begun in the record, which has the very consumer and is not to be stepped.
+// The number of block writes, or refusal 38, 39 or 31: nothing is begun in the record then, which has the very consumer and is not to
+// be stepped.
 #[derive(Clone, Copy)]
 pub struct Begun {
-    pub answer: BeginAnswer,
+    pub answer: Result<usize, Refusal>,
     pub writing: Writing,
 }
 
-// Behind the last write the record's consumer is the one to go on with, and the record is not to be stepped.
+// What a step wrote, or refusal 4. After the last write the record's consumer is the one to go on with, and the record is not to be
+// stepped.
 #[derive(Clone, Copy)]
 pub struct Stepped {
-    pub answer: StepAnswer,
+    pub answer: Result<Wrote, Refusal>,
     pub writing: Writing,
 }
 

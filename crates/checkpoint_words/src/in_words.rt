@@ -8,44 +8,41 @@ ghost use Rattle.checkpoint_words.specs.InWords.{Begins, Permitted, stored, Step
 
 use crate::counts::put_counts;
 use crate::layout::{ATTEMPT_LEN, CURSOR_LEN, WRITTEN};
+use checkpoint::Wrote;
 use checkpoint::in_place::{bodies_of, place_of, step_in_place};
-use checkpoint::{BeginAnswer, StepAnswer};
-use consumer::rights::{CHECKPOINT, Permission};
+use consumer::rights::CHECKPOINT;
 use consumer_words::layout::{AREA_LEN, CEILING, CURSOR, NEXT_BLOCK, NEXT_NUMBER, TABLE};
 use consumer_words::steps::permission_of;
 use cursor::snapshots;
 use lease::layout::{CARRIED_LEN, LEN, NEXT, REDELIVERIES};
 use types::limits::MAX32;
-use types::numbers;
+use types::refusals::Refusal;
 
-// Takes a consumer into a record of the group to be written: both snapshots go into the payload, and nothing is written yet. Refused where
-// the worker may not do that (38, 39), or where the group would have a number above the largest u32 (31).
-pub fn begin(words: &mut [u64], payload: &mut [u8; 3606], worker: u64) -> BeginAnswer
+// Takes a consumer into a record of the group to be written, and answers how many block writes that takes: both snapshots go into the
+// payload, and nothing is written yet. Refused where the worker may not do that (38, 39), or where the group would have a number above
+// the largest u32 (31).
+pub fn begin(words: &mut [u64], payload: &mut [u8; 3606], worker: u64) -> Result<usize, Refusal>
     requires { Sound words.old × (length payload.old ≡ PAYLOAD) }
     ensures { Begins result worker words.old payload.old words.new payload.new }
 {
-    let permission = permission_of(&words[CURSOR..WRITTEN], worker, CHECKPOINT);
-    match permission {
-        Permission::UnknownWorker => BeginAnswer::UnknownWorker,
-        Permission::NotPermitted => BeginAnswer::NotPermitted,
-        Permission::Granted => begin_permitted(words, payload),
-    }
+    permission_of(&words[CURSOR..WRITTEN], worker, CHECKPOINT)?;
+    begin_permitted(words, payload)
 }
 
 // The same for a worker who may.
-fn begin_permitted(words: &mut [u64], payload: &mut [u8; 3606]) -> BeginAnswer
+fn begin_permitted(words: &mut [u64], payload: &mut [u8; 3606]) -> Result<usize, Refusal>
     requires { Sound words.old × (length payload.old ≡ PAYLOAD) }
     ensures { Permitted result words.old payload.old words.new payload.new }
 {
     if (MAX32 as u64) < words[NEXT_NUMBER] {
-        return BeginAnswer::JournalFull;
+        return Err(Refusal::JournalFull);
     }
     let lengths = encode_both(words, payload);
     let writes = writes_of(words, lengths.cursor, lengths.attempts);
     words[WRITTEN] = 0;
     words[CURSOR_LEN] = lengths.cursor as u64;
     words[ATTEMPT_LEN] = lengths.attempts as u64;
-    BeginAnswer::Begun { writes }
+    Ok(writes)
 }
 
 // How long the two snapshots of a payload are.
@@ -63,7 +60,7 @@ fn encode_both(words: &[u64], payload: &mut [u8; 3606]) -> Lengths
     let count = words[TABLE + LEN] as usize + words[TABLE + CARRIED_LEN] as usize;
     let attempts = attempt::snapshot_len(count);
     let cursor = snapshots::snapshot_len(&words[CURSOR..TABLE]);
-    snapshots::encode_snapshot(&words[CURSOR..TABLE], payload, 0);
+    let _ = snapshots::encode_snapshot(&words[CURSOR..TABLE], payload, 0);
     put_counts(&words[TABLE..CEILING], payload, cursor);
     Lengths { cursor, attempts }
 }
@@ -80,12 +77,12 @@ fn writes_of(words: &[u64], cursor: usize, attempts: usize) -> usize
 
 // Makes the next block write, and no other: zeros over the other half, if the group goes there, bodies 1 to n behind the header's place,
 // then the header. An area of another length than the consumer was started on is refused (4).
-pub fn step(words: &mut [u64], payload: &[u8; 3606], area: &mut [u8]) -> StepAnswer
+pub fn step(words: &mut [u64], payload: &[u8; 3606], area: &mut [u8]) -> Result<Wrote, Refusal>
     requires { SoundWriting words.old payload.now }
     ensures { Steps result payload.now words.old area.old words.new area.new }
 {
     if area.len() != words[AREA_LEN] as usize {
-        return StepAnswer::BadArea;
+        return Err(Refusal::BadArea);
     }
     let after = step_in_place(
         words[WRITTEN] as usize,
@@ -135,7 +132,7 @@ fn put(
 {
     words[WRITTEN] = written as u64;
     words[CEILING] = ceiling;
-    words[TABLE + REDELIVERIES] = numbers::wide(redeliveries);
+    words[TABLE + REDELIVERIES] = u64::from(redeliveries);
     words[NEXT_NUMBER] = number;
     words[NEXT_BLOCK] = block as u64;
 }

@@ -4,30 +4,23 @@
 ghost use Rattle.std.specs.Prelude.{◌≡◌, ◌≤◌, ◌<◌, min, max, ◌∷◌, length, take, get_or};
 ghost use Rattle.types.specs.Identifiers.{offset};
 ghost use Rattle.types.specs.Sorted.{upTo};
-ghost use Rattle.types.specs.Table.{answer, checked};
-ghost use Rattle.types.specs.Lists.{listed, roomFor, listed_of};
+ghost use Rattle.types.specs.Refused.{as_is};
+ghost use Rattle.types.specs.Table.{answer};
+ghost use Rattle.types.specs.Lists.{listed, roomFor};
 ghost use Rattle.cursor.specs.Ranges.{range};
 ghost use Rattle.cursor.specs.View.{ack_cursor, view, Sound, Whole};
 ghost use Rattle.cursor.specs.Place.{rangeAt};
-ghost use Rattle.cursor.specs.Unsettled.{stretches, nearest_open, open_between, open_numbers, open_of, bounds_table, found_in, Found};
+ghost use Rattle.cursor.specs.Unsettled.{stretches, nearest_open, open_between, open_numbers, found_in, Found};
 
 use crate::in_place::{end_before, partition_point};
 use crate::{AckCursor, Range};
-use types::lent::Listed;
 use types::limits::RANGES;
 use types::numbers::larger;
+use types::refusals::Refusal;
 use types::{Offset, lent};
 
 // The longest answer: a stretch before each range and one behind the last.
 const STRETCHES: usize = RANGES + 1;
-
-// What the list of stretches answers: how many places of the lent list were filled, or refusal 32 or 20.
-#[derive(Clone, Copy)]
-pub enum OpenAnswer {
-    Filled(usize),
-    BoundsReversed,
-    OutTooShort,
-}
 
 // Stretches that were found and are to be listed: those of a cursor between a and b. `first` is the place of the first range that starts
 // above a, `count` how many stretches there are.
@@ -51,12 +44,14 @@ impl AckCursor {
     // Lists the unsettled stretches within [a, b) from the first place on, and answers their number; later places stay. They rise, none
     // touches the next, and they are clipped at both bounds. Refused, with the list as it was: a above b (32); then where they don't
     // fit (20).
-    pub fn open_between(self, a: u64, b: u64, out: &mut [Range]) -> OpenAnswer
+    pub fn open_between(self, a: u64, b: u64, out: &mut [Range]) -> Result<usize, Refusal>
         requires { Sound self }
-        ensures { answer (open_of result) out.new ≡ open_between (view self) a b out.old }
+        ensures { answer (as_is result) out.new ≡ open_between (view self) a b out.old }
     {
-        let listed = list_open(self.between(a, b), out);
-        open_answer(a, b, listed)
+        if b < a {
+            return Err(Refusal::BoundsReversed);
+        }
+        list_open(self.between(a, b), out)
     }
 
     // The least offset at or above the given one that is not settled. The last offset of all is never settled, so that there is one.
@@ -84,24 +79,21 @@ impl AckCursor {
 }
 
 // Lists stretches that were found.
-fn list_open(found: Between, out: &mut [Range]) -> Listed
+fn list_open(found: Between, out: &mut [Range]) -> Result<usize, Refusal>
     requires { Found found }
-    ensures { answer (listed_of result) out.new ≡ listed (found_in found) out.old }
+    ensures { answer (as_is result) out.new ≡ listed (found_in found) out.old }
 {
-    let outcome = open_fits(found, out.len());
-    let n = lent::count_of(outcome);
-    let mut i: usize = 0;
-    while i < n {
+    let n = open_fits(found, out.len())?;
+    for i in 0..n {
         out[i] = open_at(found, i);
-        i += 1;
     }
-    outcome
+    Ok(n)
 }
 
 // Whether they fit into a list of some length, and the one at a place.
-fn open_fits(found: Between, room: usize) -> Listed
+fn open_fits(found: Between, room: usize) -> Result<usize, Refusal>
     requires { Found found }
-    ensures { listed_of result ≡ roomFor (length (found_in found)) room }
+    ensures { as_is result ≡ roomFor (length (found_in found)) room }
 {
     lent::room_for(found.count, STRETCHES, room)
 }
@@ -122,37 +114,8 @@ fn open_at(found: Between, at: usize) -> Range
     )
 }
 
-// What the list is answered, by what the listing answered.
-fn open_answer(a: u64, b: u64, listed: Listed) -> OpenAnswer
-    ensures { open_of result ≡ checked (bounds_table a b) (listed_of listed) }
-{
-    if b < a {
-        return OpenAnswer::BoundsReversed;
-    }
-    match listed {
-        Listed::Filled(n) => OpenAnswer::Filled(n),
-        Listed::OutTooShort => OpenAnswer::OutTooShort,
-    }
-}
-
 // `open_between` on the parts of a cursor, into a list of numbers: a stretch takes two of its places, its start and its end.
 pub fn open_between_in_place<'a>(
-    committed: u64,
-    starts: &'a [u64; RANGES],
-    ends: &'a [u64; RANGES],
-    runs: usize,
-    a: u64,
-    b: u64,
-    out: &mut [u64],
-) -> OpenAnswer
-    requires { Whole (ack_cursor committed starts.now ends.now runs) }
-    ensures { answer (open_of result) out.new ≡ open_numbers (view (ack_cursor committed starts.now ends.now runs)) a b out.old }
-{
-    open_columns(committed, starts, ends, runs, a, b, out)
-}
-
-// The same on columns of a length that isn't in their type.
-pub(crate) fn open_columns<'a>(
     committed: u64,
     starts: &'a [u64],
     ends: &'a [u64],
@@ -160,35 +123,32 @@ pub(crate) fn open_columns<'a>(
     a: u64,
     b: u64,
     out: &mut [u64],
-) -> OpenAnswer
+) -> Result<usize, Refusal>
     requires { Whole (ack_cursor committed starts.now ends.now runs) }
-    ensures { answer (open_of result) out.new ≡ open_numbers (view (ack_cursor committed starts.now ends.now runs)) a b out.old }
+    ensures { answer (as_is result) out.new ≡ open_numbers (view (ack_cursor committed starts.now ends.now runs)) a b out.old }
 {
     if b < a {
-        return OpenAnswer::BoundsReversed;
+        return Err(Refusal::BoundsReversed);
     }
     let gaps = find_open(committed, starts, ends, runs, a, b);
     let first = gaps.first;
     let count = gaps.count;
     if out.len() / 2 < count {
-        return OpenAnswer::OutTooShort;
+        return Err(Refusal::OutTooShort);
     }
-    let mut i: usize = 0;
-    while i < count {
+    for i in 0..count {
         let stretch = stretch_at(committed, starts, ends, runs, a, b, first + i);
         out[2 * i] = stretch.start;
         out[2 * i + 1] = stretch.end;
-        i += 1;
     }
-    let filled = 2 * count;
-    OpenAnswer::Filled(filled)
+    Ok(2 * count)
 }
 
 // `nearest_open` on the parts of a cursor.
 pub fn nearest_in_place<'a>(
     committed: u64,
-    starts: &'a [u64; RANGES],
-    ends: &'a [u64; RANGES],
+    starts: &'a [u64],
+    ends: &'a [u64],
     runs: usize,
     offset: u64,
 ) -> u64

@@ -2,11 +2,9 @@
 -- refused, 20, where it would pass the end.
 -- SPEC.md, "Numbers".
 use Rattle.std.specs.Prelude.{ℕ, zero, suc, ◌+◌, ◌*◌, ◌/◌, ◌%◌, ◌^◌, ◌<◌, ◌≡◌, Bool, true, ◌&&◌, List, [], ◌∷◌, ◌++◌, ltb, eqb, length, take, drop}
-use Rattle.types.specs.Refusal.{Result, refused, done}
+use Rattle.types.specs.Refusal.{done}
 use Rattle.types.specs.Refusal as refusal
 use Rattle.types.specs.Table.{◌⇒◌, Answer, answer, guarded}
-use Rattle.raw.specs.declared.Write.{Write}
-use Rattle.raw.specs.declared.Write.TheVariants.{Next, OutTooShort}
 
 -- each is a byte
 abbrev pub IsBytes : List ℕ → Type 0
@@ -46,8 +44,3 @@ abbrev pub write : ℕ → List ℕ → List ℕ → Answer ℕ (List ℕ)
 write pos new bs =
     guarded (ltb (length bs) (pos + length new) ⇒ refusal.OutTooShort ∷ []) bs
     (answer (done (pos + length new)) (overwrite pos new bs))
-
--- what the code's answer says
-abbrev pub outcome_of : Write → Result ℕ
-outcome_of (Next pos) = done pos
-outcome_of OutTooShort = refused refusal.OutTooShort

@@ -3,17 +3,14 @@
 // the compiler makes one load or one store of. And slices of zeros.
 #![tactic(auto)]
 
-ghost use Rattle.std.specs.Prelude.{◌≡◌, ◌+◌, ◌*◌, ◌<◌, ◌≤◌, ltb, length, replicate};
-ghost use Rattle.types.specs.Table.{answer};
-ghost use Rattle.raw.specs.Bytes.{all_zero, le, number_at, ReadIs, overwrite, write, outcome_of};
+ghost use Rattle.std.specs.Prelude.{◌≡◌, ◌+◌, ◌*◌, ◌<◌, ◌≤◌, [], ◌∷◌, ltb, length, replicate};
+ghost use Rattle.types.specs.Refusal.{done, OutTooShort};
+ghost use Rattle.types.specs.Refused.{as_is};
+ghost use Rattle.types.specs.Table.{◌⇒◌, answer, checked};
+ghost use Rattle.raw.specs.Bytes.{all_zero, le, number_at, ReadIs, write};
 ghost use Rattle.raw.specs.Word.{four_at, word_at};
 
-// What a write answers: the position behind what was written, or refusal 20.
-#[derive(Clone, Copy)]
-pub enum Write {
-    Next(usize),
-    OutTooShort,
-}
+use types::refusals::Refusal;
 
 // The number in the bytes from pos on, at most `width` of them.
 fn read_le(buf: &[u8], pos: usize, width: usize) -> u64
@@ -112,131 +109,56 @@ pub fn read_u64(buf: &[u8], pos: usize) -> u64
 pub fn too_short(len: usize, pos: usize, n: usize) -> bool
     ensures { result ≡ ltb len (pos + n) }
 {
-    if len < pos {
-        return true;
-    }
-    if len - pos < n {
-        return true;
-    }
-    false
+    len < pos || len - pos < n
 }
 
-// The low `width` bytes of x from pos on.
-fn write_le(buf: &mut [u8], pos: usize, width: usize, x: u64) -> Write
-    ensures { answer (outcome_of result) buf.new ≡ write pos (le width x) buf.old }
+// The end of n bytes from pos on, which lie within `len`.
+fn end_of(len: usize, pos: usize, n: usize) -> Result<usize, Refusal>
+    ensures { as_is result ≡ checked (ltb len (pos + n) ⇒ OutTooShort ∷ []) (done (pos + n)) }
 {
-    if too_short(buf.len(), pos, width) {
-        return Write::OutTooShort;
+    if too_short(len, pos, n) {
+        return Err(Refusal::OutTooShort);
     }
-    let mut rest = x;
-    let mut i: usize = 0;
-    while i < width {
-        buf[pos + i] = (rest % 256) as u8;
-        rest = rest / 256;
-        i += 1;
-    }
-    Write::Next(pos + width)
-}
-
-// The four bytes of x from pos on, for which there is room.
-fn put_half(buf: &mut [u8], pos: usize, x: u32)
-    requires { pos + 4 ≤ length buf.old }
-    ensures { buf.new ≡ overwrite pos (le 4 x) buf.old }
-{
-    let second = x / 256;
-    let third = second / 256;
-    let fourth = third / 256;
-    buf[pos] = (x % 256) as u8;
-    buf[pos + 1] = (second % 256) as u8;
-    buf[pos + 2] = (third % 256) as u8;
-    buf[pos + 3] = (fourth % 256) as u8;
-}
-
-// The eight bytes of x from pos on, for which there is room.
-fn put_word(buf: &mut [u8], pos: usize, x: u64)
-    requires { pos + 8 ≤ length buf.old }
-    ensures { buf.new ≡ overwrite pos (le 8 x) buf.old }
-{
-    let second = x / 256;
-    let third = second / 256;
-    let fourth = third / 256;
-    let fifth = fourth / 256;
-    let sixth = fifth / 256;
-    let seventh = sixth / 256;
-    let eighth = seventh / 256;
-    buf[pos] = (x % 256) as u8;
-    buf[pos + 1] = (second % 256) as u8;
-    buf[pos + 2] = (third % 256) as u8;
-    buf[pos + 3] = (fourth % 256) as u8;
-    buf[pos + 4] = (fifth % 256) as u8;
-    buf[pos + 5] = (sixth % 256) as u8;
-    buf[pos + 6] = (seventh % 256) as u8;
-    buf[pos + 7] = (eighth % 256) as u8;
-}
-
-pub fn write_u16(buf: &mut [u8], pos: usize, x: u16) -> Write
-    ensures { answer (outcome_of result) buf.new ≡ write pos (le 2 x) buf.old }
-{
-    write_le(buf, pos, 2, x as u64)
-}
-
-pub fn write_u32(buf: &mut [u8], pos: usize, x: u32) -> Write
-    ensures { answer (outcome_of result) buf.new ≡ write pos (le 4 x) buf.old }
-{
-    if too_short(buf.len(), pos, 4) {
-        return Write::OutTooShort;
-    }
-    put_half(buf, pos, x);
-    Write::Next(pos + 4)
-}
-
-pub fn write_u64(buf: &mut [u8], pos: usize, x: u64) -> Write
-    ensures { answer (outcome_of result) buf.new ≡ write pos (le 8 x) buf.old }
-{
-    if too_short(buf.len(), pos, 8) {
-        return Write::OutTooShort;
-    }
-    put_word(buf, pos, x);
-    Write::Next(pos + 8)
+    Ok(pos + n)
 }
 
 // A copy of bytes from pos on.
-pub fn write_bytes(buf: &mut [u8], pos: usize, bytes: &[u8]) -> Write
-    ensures { answer (outcome_of result) buf.new ≡ write pos bytes.now buf.old }
+pub fn write_bytes(buf: &mut [u8], pos: usize, bytes: &[u8]) -> Result<usize, Refusal>
+    ensures { answer (as_is result) buf.new ≡ write pos bytes.now buf.old }
 {
-    let n = bytes.len();
-    if too_short(buf.len(), pos, n) {
-        return Write::OutTooShort;
-    }
-    let mut i: usize = 0;
-    while i < n {
-        buf[pos + i] = bytes[i];
-        i += 1;
-    }
-    Write::Next(pos + n)
+    let end = end_of(buf.len(), pos, bytes.len())?;
+    buf[pos..end].copy_from_slice(bytes);
+    Ok(end)
+}
+
+pub fn write_u16(buf: &mut [u8], pos: usize, x: u16) -> Result<usize, Refusal>
+    ensures { answer (as_is result) buf.new ≡ write pos (le 2 x) buf.old }
+{
+    write_bytes(buf, pos, &x.to_le_bytes())
+}
+
+pub fn write_u32(buf: &mut [u8], pos: usize, x: u32) -> Result<usize, Refusal>
+    ensures { answer (as_is result) buf.new ≡ write pos (le 4 x) buf.old }
+{
+    write_bytes(buf, pos, &x.to_le_bytes())
+}
+
+pub fn write_u64(buf: &mut [u8], pos: usize, x: u64) -> Result<usize, Refusal>
+    ensures { answer (as_is result) buf.new ≡ write pos (le 8 x) buf.old }
+{
+    write_bytes(buf, pos, &x.to_le_bytes())
 }
 
 // Whether every byte is 0.
 pub fn all_zero(bytes: &[u8]) -> bool
     ensures { result ≡ all_zero bytes.now }
 {
-    let mut i: usize = 0;
-    while i < bytes.len() {
-        if bytes[i] != 0 {
-            return false;
-        }
-        i += 1;
-    }
-    true
+    bytes.iter().all(|byte| *byte == 0)
 }
 
 // Fills with zeros.
 pub fn clear(bytes: &mut [u8])
     ensures { bytes.new ≡ replicate (length bytes.old) 0 }
 {
-    let mut i: usize = 0;
-    while i < bytes.len() {
-        bytes[i] = 0;
-        i += 1;
-    }
+    bytes.fill(0);
 }

@@ -4,9 +4,8 @@ ghost use Rattle.std.specs.Prelude.{◌≡◌, get_or};
 ghost use Rattle.text.specs.Output.{Says};
 ghost use Rattle.text.specs.Templates.{template_at, filled, BeginsAt};
 
-use crate::output::{put, put_number};
+use crate::output::Output;
 use crate::words::find;
-use std::io::Stdout;
 
 // Where template k begins: behind k bars, or at the end where there are fewer.
 fn start_of(templates: &[u8], k: usize) -> usize
@@ -14,14 +13,12 @@ fn start_of(templates: &[u8], k: usize) -> usize
 {
     let len = templates.len();
     let mut at: usize = 0;
-    let mut left = k;
-    while 0 < left {
-        let bar = find(templates, at, 124);
+    for i in 0..k {
+        let bar = find(templates, at, b'|');
         if len <= bar {
             return len;
         }
         at = bar + 1;
-        left -= 1;
     }
     at
 }
@@ -30,42 +27,31 @@ fn start_of(templates: &[u8], k: usize) -> usize
 fn number_at(numbers: [u64; 4], i: usize) -> u64
     ensures { result ≡ get_or numbers i 0 }
 {
-    if i < 4 {
-        return numbers[i];
-    }
-    0
+    numbers.get(i).copied().unwrap_or(0)
 }
 
 // Puts a template, with the numbers in place of its marks.
-fn fill_one(stdout: Stdout, out: &mut [u8], at: usize, template: &[u8], numbers: [u64; 4]) -> usize
-    ensures { Says (filled template.now numbers) at out.old result out.new }
+fn fill_one(out: &mut Output, template: &[u8], numbers: [u64; 4])
+    ensures { Says (filled template.now numbers) out.old out.new }
 {
     let len = template.len();
-    let mut end = find(template, 0, 35);
-    let mut next = put(stdout, out, at, &template[..end]);
+    let mut end = find(template, 0, b'#');
+    out.put(&template[..end]);
     let mut i: usize = 0;
     while end < len {
         let start = end + 1;
-        end = find(template, start, 35);
-        next = put_number(stdout, out, next, number_at(numbers, i));
-        next = put(stdout, out, next, &template[start..end]);
+        end = find(template, start, b'#');
+        out.put_number(number_at(numbers, i));
+        out.put(&template[start..end]);
         i += 1;
     }
-    next
 }
 
 // Puts template k of a text, counted from 0, with up to four numbers in place of its marks.
-pub fn fill(
-    stdout: Stdout,
-    out: &mut [u8],
-    at: usize,
-    templates: &[u8],
-    k: usize,
-    numbers: [u64; 4],
-) -> usize
-    ensures { Says (filled (template_at k templates.now) numbers) at out.old result out.new }
+pub fn fill(out: &mut Output, templates: &[u8], k: usize, numbers: [u64; 4])
+    ensures { Says (filled (template_at k templates.now) numbers) out.old out.new }
 {
     let from = start_of(templates, k);
-    let end = find(templates, from, 124);
-    fill_one(stdout, out, at, &templates[from..end], numbers)
+    let end = find(templates, from, b'|');
+    fill_one(out, &templates[from..end], numbers);
 }

@@ -14,9 +14,9 @@ use Rattle.text.proofs.templates.fill_one.Given as goal
 
 abbrev pub invariant-loop-end : goal.invariant-loop-end
 invariant-loop-end l =
-    (length l.out ≡ length l.initial.out) × (l.i ≤ l.end) × (length_to MARK (drop l.end l.template) ≡ 0)
+    (l.i ≤ l.end) × (length_to MARK (drop l.end l.template) ≡ 0)
     × (drop l.i (later_parts MARK l.template) ≡ later_parts MARK (drop l.end l.template))
-    × Left (numbered l.numbers) (later_parts MARK l.template) l.initial.next l.initial.out l.i l.next l.out
+    × Left (numbered l.numbers) (later_parts MARK l.template) l.initial.out l.i l.out
 
 abbrev pub decreases-loop-end : goal.decreases-loop-end
 decreases-loop-end l = length l.template - l.end

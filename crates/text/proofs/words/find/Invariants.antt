@@ -8,7 +8,4 @@ use Rattle.text.proofs.Parsing.{to-here, to-next, to_end}
 use Rattle.text.proofs.words.find.Given as goal
 
 abbrev pub invariant-loop-i : goal.invariant-loop-i
-invariant-loop-i l = (l.from ≤ l.i) × (l.i ≤ max l.from (length l.bytes)) × (l.i + length_to l.c (drop l.i l.bytes) ≡ l.from + length_to l.c (drop l.from l.bytes))
-
-abbrev pub decreases-loop-i : goal.decreases-loop-i
-decreases-loop-i l = length l.bytes - l.i
+invariant-loop-i l = l.i + length_to l.c (drop l.i l.bytes) ≡ l.from + length_to l.c (drop l.from l.bytes)

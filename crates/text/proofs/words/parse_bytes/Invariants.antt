@@ -4,7 +4,7 @@ use Prim.Native.Nat.{◌-◌, ◌≤◌}
 use native.Mathlib.Omega.{arith}
 use mathlib.Core.Path.{◌≡◌, sym, ap, ◌∙◌}
 use lib.ListN.{length}
-use Rattle.text.specs.Words.{all_hex, is_bytes, byte_of}
+use Rattle.text.specs.Words.{all_hex, is_bytes}
 use Rattle.text.proofs.Hex.{Decoding, decoding_none, plainly, decoding_more, decoded-bad, decoded_odd, decoded-all, decoded_dash, decoded-empty}
 use borrow.Author.Rules.{rules}
 use Rattle.text.proofs.words.parse_bytes.Given as goal

@@ -4,7 +4,7 @@ use Prim.Native.Nat.{◌+◌, ◌-◌, ◌≤◌}
 use native.Mathlib.Omega.{arith}
 use mathlib.Core.Path.{◌≡◌, sym, ap, ◌∙◌}
 use lib.ListN.{length, drop}
-use Rattle.text.specs.Words.{SPACE, length_to, later_words, number_of}
+use Rattle.text.specs.Words.{SPACE, length_to, later_words}
 use Rattle.text.proofs.Parsing.{Gathering, gathering_none, gathering_more, gathered-bad, gathered-all, to-there-from, later-from, later-next, later-end}
 use borrow.Author.Rules.{rules}
 use Rattle.text.proofs.words.parse_numbers.Given as goal

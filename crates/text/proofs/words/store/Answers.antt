@@ -5,4 +5,4 @@ use borrow.Author.Rules.{rules}
 use Rattle.text.proofs.words.store.Goals as goal
 
 pub returns-else-i-out : goal.returns-else-i-out
-returns-else-i-out c = sym (set_out c.args.out.now c.args.i c.args.n c.if-i-out.false)
+returns-else-i-out g c = sym (set_out c.args.out.now c.args.i c.args.value c.if-i-out.false)
