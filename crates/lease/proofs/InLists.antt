@@ -64,15 +64,6 @@ module _ (c : AttemptCounts) (l : List (Entry ℕ)) (e : counts_in c ≡ l) (a :
       let values : map (λ (x : Entry ℕ). x.value) l ≡ take c.len c.attempts = ap (map (λ (x : Entry ℕ). x.value)) (sym e) ∙ values_of (take c.len c.offsets) (take c.len c.attempts) even in
       rw (le-ltb (min (length ks) (length vs)) (length l) (omega (arith, as_many)), keys, values, as_many, p, q)
 
--- ## the pairs of two columns, carried one by one: those from place i on are left; one less, and none
-module _ (ks vs : List ℕ) (i : ℕ) where
-  pub pairs-more : (before after : Carried) → i < length ks → i < length vs → CarriesPair (pair (get_or ks i 0) (get_or vs i 0)) before after
-      → carry_on_all (drop (i + 1) (entries ks vs)) (carried_in after) ≡ carry_on_all (drop i (entries ks vs)) (carried_in before)
-  pairs-more before after h k r = rw (add-one i, drop-entry 0 i ks vs h k, r.is)
-
-  pub pairs_end : (c : Carried) → min (length ks) (length vs) ≤ i → carry_on_all (drop i (entries ks vs)) (carried_in c) ≡ carried_in c
-  pairs_end c h = rw (drop-entries-past i ks vs h)
-
 -- ## stored, or refused
 module _ {w : List ℕ} (ok : Sound w) (c : Carried) (tidy : Tidy c) where
   pub resume-refused : c.full ≡ true → Answers (refused TooManyPairs) w w (resumed_with (view w) (carried_in c))

@@ -243,7 +243,7 @@ pub fn starting_at(table: &mut [u64], config: LeaseConfig, generation: Generatio
     requires { length table.old ≡ WORDS }
     ensures { Becomes table.new (starting_at config generation.0) }
 {
-    stored::clear(table);
+    table.fill(0);
     stored::free_slots(&mut table[SLOTS..GENERATIONS]);
     table[NEXT] = generation.0;
     table[VISIBILITY] = config.visibility_nanos;

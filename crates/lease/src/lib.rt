@@ -165,7 +165,7 @@ impl LeaseTable {
         LeaseTable {
             config,
             offsets: [0; LEASES],
-            slots: tables::slots_64(),
+            slots: tables::all_slots(),
             generations: [0; LEASES],
             attempt_starts: [0; LEASES],
             deadlines: [0; LEASES],

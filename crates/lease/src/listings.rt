@@ -37,10 +37,10 @@ pub fn expired_list(table: &[u64], now: u64) -> OffsetList
     let len = table[LEN] as usize;
     let mut listed = [0u64; CARRIED];
     let mut n: usize = 0;
-    for at in 0..len {
-        let lease = stored::lease_at(table, at);
+    for i in 0..len {
+        let lease = stored::lease_at(table, i);
         if lease.deadline <= now {
-            listed[n] = table[OFFSETS + at];
+            listed[n] = table[OFFSETS + i];
             n += 1;
         }
     }

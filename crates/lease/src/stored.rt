@@ -189,13 +189,6 @@ pub(crate) fn put_counts(column: &mut [u64], counts: &[u32], count: usize)
     }
 }
 
-// Stores 0 in every word.
-pub(crate) fn clear(words: &mut [u64])
-    ensures { words.new ≡ replicate (length words.old) 0 }
-{
-    words.fill(0);
-}
-
 // Stores every slot, in its order: all of them are free.
 pub(crate) fn free_slots(slots: &mut [u64])
     ensures { slots.new ≡ upTo (length slots.old) }

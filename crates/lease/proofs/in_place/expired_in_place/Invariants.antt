@@ -10,6 +10,3 @@ use Rattle.lease.proofs.in_place.expired_in_place.Given as goal
 
 abbrev pub invariant-loop-i : goal.invariant-loop-i
 invariant-loop-i l = Listing l.len l.now l.offsets l.slots l.deadlines l.listed l.n l.i
-
-abbrev pub decreases-loop-i : goal.decreases-loop-i
-decreases-loop-i l = l.len - l.i

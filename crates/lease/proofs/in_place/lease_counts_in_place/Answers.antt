@@ -32,12 +32,6 @@ loop-i-init c t w =
 pub slot_at-slot-requires : goal.slot_at-slot-requires
 slot_at-slot-requires c = in_use c.loop-i-test.true (few (goal.at.slot_at-slot-requires c).At-loop-i)
 
-pub overflow_add-i : goal.overflow_add-i
-overflow_add-i c = next_place c.loop-i-test.true (few (goal.at.overflow_add-i c).At-loop-i)
-
-pub loop-i-smaller : goal.loop-i-smaller
-loop-i-smaller c = further _ _ c.loop-i-test.true
-
 pub loop-i-preserved : goal.loop-i-preserved
 loop-i-preserved c t w =
     let u = listing c.args.len c.args.offsets.now c.args.slots.now c.args.deliveries.now t in

@@ -23,6 +23,3 @@ zeros = replicate 192 0
 abbrev pub invariant-loop-i : goal.invariant-loop-i
 invariant-loop-i l =
     (t : LeaseTable) → Whole (listing l.len l.offsets l.slots l.deliveries t) → Filling l.offsets zeros l.listed l.len l.i × Filling (through 0 l.slots l.deliveries) zeros l.attempts l.len l.i
-
-abbrev pub decreases-loop-i : goal.decreases-loop-i
-decreases-loop-i l = l.len - l.i

@@ -6,4 +6,4 @@ use Rattle.lease.proofs.in_words.note_attempts_flushed.Goals as goal
 
 pub returns : goal.returns
 returns c =
-    flush_answers c.requires c.wide.result (c.wide.ensures ∙ c.after_flush.ensures)
+    flush_answers c.requires c.from.result (c.from.ensures ∙ c.after_flush.ensures)

@@ -18,5 +18,5 @@ shape_of-table c =
 
 pub returns : goal.returns
 returns c =
-    started c.clear.new.words (c.clear.ensures ∙ ap (λ (n : ℕ). replicate n 0) c.requires) c.free_slots.new.slots c.table-2-1.given.0 c.free_slots.ensures
+    started c.fill.new.self (c.fill.ensures.after (λ y e. e) ∙ ap (λ (n : ℕ). replicate n 0) c.requires) c.free_slots.new.slots c.table-2-1.given.0 c.free_slots.ensures
     c.args.config c.args.generation.0 (fits (goal.at.returns c).Start)

@@ -23,7 +23,4 @@ zeros = replicate 128 0
 
 abbrev pub invariant-loop-i : goal.invariant-loop-i
 invariant-loop-i l =
-    (l.len ≡ word CARRIED-LEN l.table) × Filling (table_in l.table).carried_offsets zeros l.offsets l.len l.i × Filling (table_in l.table).carried_counts zeros l.counts l.len l.i
-
-abbrev pub decreases-loop-i : goal.decreases-loop-i
-decreases-loop-i l = l.len - l.i
+    Filling (table_in l.table).carried_offsets zeros l.offsets l.len l.i × Filling (table_in l.table).carried_counts zeros l.counts l.len l.i

@@ -16,7 +16,4 @@ use borrow.Author.Rules.{rules}
 use Rattle.lease.proofs.listings.expired_list.Given as goal
 
 abbrev pub invariant-loop-i : goal.invariant-loop-i
-invariant-loop-i l = (l.len ≡ word LEN l.table) × Listing l.len l.now (table_in l.table).offsets (table_in l.table).slots (table_in l.table).deadlines l.listed l.n l.i
-
-abbrev pub decreases-loop-i : goal.decreases-loop-i
-decreases-loop-i l = l.len - l.i
+invariant-loop-i l = Listing l.len l.now (table_in l.table).offsets (table_in l.table).slots (table_in l.table).deadlines l.listed l.n l.i

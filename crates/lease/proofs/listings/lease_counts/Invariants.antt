@@ -24,7 +24,4 @@ zeros = replicate 192 0
 
 abbrev pub invariant-loop-i : goal.invariant-loop-i
 invariant-loop-i l =
-    (l.len ≡ word LEN l.table) × Filling (table_in l.table).offsets zeros l.offsets l.len l.i × Filling (through 0 (table_in l.table).slots (table_in l.table).deliveries) zeros l.attempts l.len l.i
-
-abbrev pub decreases-loop-i : goal.decreases-loop-i
-decreases-loop-i l = l.len - l.i
+    Filling (table_in l.table).offsets zeros l.offsets l.len l.i × Filling (through 0 (table_in l.table).slots (table_in l.table).deliveries) zeros l.attempts l.len l.i

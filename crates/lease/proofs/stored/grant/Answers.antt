@@ -12,7 +12,7 @@ pub returns : goal.returns
 returns c =
     let now = c.args.now in (
       grant-stored c.args.table.now c.put_lease.new.table (c.table-1.given ∙ c.requires.0) c.args.at c.args.worker now c.args.count
-          c.deadline-deadline.result c.wide.result (c.deadline-deadline.ensures ∙ ap (λ (k : LeaseConfig). deadline_from k now now) c.config_of-config.ensures)
-          c.put_lease.ensures (c.wide.ensures ∙ c.after_grant.ensures),
+          c.deadline-deadline.result c.from.result (c.deadline-deadline.ensures ∙ ap (λ (k : LeaseConfig). deadline_from k now now) c.config_of-config.ensures)
+          c.put_lease.ensures (c.from.ensures ∙ c.after_grant.ensures),
       refl,
     )

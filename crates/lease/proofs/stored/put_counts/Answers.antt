@@ -15,7 +15,7 @@ pub loop-i-preserved : goal.loop-i-preserved
 loop-i-preserved c =
     let i = c.loop-i.i in (
       c.loop-i.invariant.0,
-      subst (λ (v : ℕ). Filling c.args.counts.now c.args.column.now (set c.loop-i.column i v) c.args.count (i + 1)) (sym c.wide.ensures)
+      subst (λ (v : ℕ). Filling c.args.counts.now c.args.column.now (set c.loop-i.column i v) c.args.count (i + 1)) (sym c.from.ensures)
           (filling-more 0 c.loop-i.invariant.0 c.loop-i-test.true c.loop-i.invariant.1),
     )
 

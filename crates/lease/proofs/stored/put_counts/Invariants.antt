@@ -9,6 +9,3 @@ use Rattle.lease.proofs.stored.put_counts.Given as goal
 
 abbrev pub invariant-loop-i : goal.invariant-loop-i
 invariant-loop-i l = (l.count ≤ length l.counts) × Filling l.counts l.initial.column l.column l.count l.i
-
-abbrev pub decreases-loop-i : goal.decreases-loop-i
-decreases-loop-i l = l.count - l.i
