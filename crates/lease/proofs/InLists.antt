@@ -1,24 +1,23 @@
 -- What the lists that a table's words give and take owe their contracts: counts carried pair by pair, and stored.
 -- Assumes nothing.
-use Prim.Native.Nat.{ℕ, ◌+◌, ◌≤◌, ◌<◌, min}
+use Prim.Native.Nat.{ℕ, ◌≤◌, ◌<◌, min}
 use native.Mathlib.Omega.{arith}
-use native.Mathlib.Numerals.{add-one}
 use mathlib.Core.Path.{◌≡◌, refl, sym, ap, subst, ◌∙◌}
 use mathlib.Core.Bool.{true, false}
 use mathlib.Core.List.{List, [], ◌∷◌, ◌++◌, map}
 use mathlib.Core.Option.{some, none-ne-some, some-injective}
-use lib.ListN.{length, take, drop, get_or}
+use lib.ListN.{length, take, drop}
 use lib.Seq.{length-take-le}
 use borrow.Author.Tests.{lt-ltb, le-ltb}
 use Rattle.types.specs.Limits.{CARRIED}
 use Rattle.types.specs.Keyed.{Entry, entries}
 use Rattle.types.specs.Refusal.{refused, done, TooManyPairs, OutTooShort}
 use Rattle.types.specs.Table.{answer}
-use Rattle.types.specs.Lists.{pair, counts_in}
+use Rattle.types.specs.Lists.{counts_in}
 use Rattle.types.specs.declared.lent.AttemptCounts.{AttemptCounts}
 use Rattle.types.proofs.Cases.{split}
-use Rattle.types.proofs.Columns.{drop-entry, drop-entries-past, length-used}
-use Rattle.tables.specs.Carried.{held_in, carried_in, Tidy, CarriesPair}
+use Rattle.types.proofs.Columns.{length-used}
+use Rattle.tables.specs.Carried.{held_in, carried_in, Tidy}
 use Rattle.tables.specs.declared.counts.Carried.{Carried}
 use Rattle.lease.specs.State.{with_carried}
 use Rattle.lease.specs.Helpers.{resumed_with}
@@ -26,7 +25,6 @@ use Rattle.lease.specs.Parts.{carrying}
 use Rattle.lease.specs.Layout.{WORDS, table_in, view, Fits, Sound}
 use Rattle.lease.specs.InWords.{Answers, listed_into}
 use Rattle.lease.specs.declared.LeaseTable.{LeaseTable}
-use Rattle.lease.proofs.Carried.{carry_on_all}
 use Rattle.lease.proofs.InWords.{fits_kept}
 use Rattle.lease.proofs.Returns.{Shows, sound_as}
 use Rattle.lease.proofs.Valid.{valid-carried}

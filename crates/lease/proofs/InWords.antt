@@ -23,7 +23,6 @@ use Rattle.types.proofs.Table.{guarded-passed, guarded-refused}
 use Rattle.tables.specs.Columns.{put_in, takenOut}
 use Rattle.tables.specs.Search.{Boundary, Placed, Spans}
 use Rattle.tables.specs.Slots.{Permutes, upTo, set_aside}
-use Rattle.tables.specs.declared.Place.{Place}
 use Rattle.tables.specs.declared.Place.TheVariants.{Found, Missing}
 use Rattle.tables.specs.declared.counts.Span.{Span}
 use Rattle.tables.proofs.Columns.{put_in_at, put_in_front, taken-out-front}

@@ -1,7 +1,7 @@
 -- `LeaseTable::holds_active` meets its contract.
 -- Assumes nothing.
 use Rattle.lease.proofs.Whole.{filled}
-use Rattle.lease.proofs.Bounds.{in_use, time_at}
+use Rattle.lease.proofs.Bounds.{in_use}
 use Rattle.lease.proofs.Tokens.{owned-used, not_owned, owned, one}
 use Rattle.lease.proofs.LeaseTable.holds_active.Goals as goal
 

@@ -1,7 +1,7 @@
 -- `LeaseTable::reseal_from_to` meets its contract.
 -- Assumes nothing.
 use Rattle.lease.proofs.Whole.{filled}
-use Rattle.lease.proofs.Bounds.{in_use, time_at}
+use Rattle.lease.proofs.Bounds.{in_use}
 use Rattle.lease.proofs.Tokens.{owned-used, not_owned}
 use Rattle.lease.proofs.Questions.{not_resealed, resealed}
 use Rattle.lease.proofs.LeaseTable.reseal_from_to.Goals as goal

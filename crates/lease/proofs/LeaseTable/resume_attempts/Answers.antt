@@ -1,12 +1,10 @@
 -- `LeaseTable::resume_attempts` meets its contract. The loop's invariant: what the pairs from place i on still make of the counts
 -- that are held is what all of them make of those that were carried.
 -- Assumes nothing.
-use Prim.Native.Nat.{ℕ, ◌≤◌, ◌<◌}
-use native.Mathlib.Omega.{arith}
-use mathlib.Core.Path.{◌≡◌, refl, sym, ap, subst, ◌∙◌}
+use Prim.Native.Nat.{ℕ}
+use mathlib.Core.Path.{◌≡◌, sym, ap, subst, ◌∙◌}
 use mathlib.Core.List.{List}
 use mathlib.Core.Option.{Option, some}
-use lib.ListN.{length, drop}
 use Rattle.types.specs.Keyed.{Entry}
 use Rattle.types.specs.Table.{Answer}
 use Rattle.types.specs.Lists.{entries_of}

@@ -8,7 +8,7 @@ use mathlib.Core.List.{List}
 use lib.ListN.{get_or, set}
 use Rattle.tables.proofs.Columns.{taken-out-front}
 use Rattle.lease.specs.Parts.{removing}
-use Rattle.lease.proofs.Bounds.{in_use, next_place, count_in_memory, count_at, last-place, some_left, up_one, up_to, within}
+use Rattle.lease.proofs.Bounds.{next_place, some_left, up_one, up_to, within}
 use Rattle.lease.proofs.Tokens.{acked}
 use Rattle.lease.proofs.in_place.ack_at.Goals as goal
 

@@ -12,7 +12,6 @@ use Rattle.lease.specs.State.{nil, stored_in, leases_in}
 use Rattle.lease.specs.Operations.{lease}
 use Rattle.lease.specs.Helpers.{regranting}
 use Rattle.lease.specs.declared.LeaseTable.{LeaseTable}
-use Rattle.lease.proofs.Bounds.{time_at, count_at}
 use Rattle.lease.proofs.Leases.{column-at, column-set}
 use Rattle.lease.proofs.Slots.{leased, stored_at, lease-at}
 use Rattle.lease.proofs.Claims.{claim_in_flight, claim_exhausted, claimed, count-again, granted-again}

@@ -14,7 +14,7 @@ use Rattle.lease.specs.State.{stored_in}
 use Rattle.lease.specs.Operations.{lease}
 use Rattle.lease.specs.Parts.{gathered}
 use Rattle.lease.specs.declared.LeaseTable.{LeaseTable}
-use Rattle.lease.proofs.Bounds.{one_more, part-within, within, time_at, count_at}
+use Rattle.lease.proofs.Bounds.{one_more, part-within, within}
 use Rattle.lease.proofs.Leases.{column-set}
 use Rattle.lease.proofs.Slots.{Free, free, in_flight_lem, carried-span}
 use Rattle.lease.proofs.Claims.{claim_exhausted, claim-full, claimed, room-first, count-first, granted-first}

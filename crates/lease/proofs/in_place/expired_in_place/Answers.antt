@@ -1,11 +1,11 @@
 -- `expired_in_place` meets its contract, on every table that has the parts that it is lent. The loop's invariant: the offsets of expired
 -- leases before i are listed.
 -- Assumes nothing.
-use Prim.Native.Nat.{◌-◌, ◌≤◌}
+use Prim.Native.Nat.{◌≤◌}
 use native.Mathlib.Omega.{arith}
 use Rattle.types.specs.Limits.{LEASES}
-use Rattle.lease.proofs.Bounds.{in_use, next_place, offset_in_memory, time_at}
-use Rattle.lease.proofs.Lists.{Listing, listing_none, listing-expired, listing-running, expired-listed}
+use Rattle.lease.proofs.Bounds.{in_use}
+use Rattle.lease.proofs.Lists.{listing_none, listing-expired, listing-running, expired-listed}
 use Rattle.lease.proofs.in_place.expired_in_place.Goals as goal
 use Rattle.lease.proofs.in_place.expired_in_place.Goals.{At-loop-i, then-deadlines-slot, else-deadlines-slot}
 
@@ -26,9 +26,9 @@ loop-i-preserved c =
     let l = c.loop-i in
     let a = c.args in
     elim c.if-deadlines-slot.branch [
-      then-deadlines-slot w ↦
+      | then-deadlines-slot w ↦
           rw (w.listed-is, w.n-is) (listing-expired a.len a.now a.offsets.now a.slots.now a.deadlines.now l.invariant c.loop-i-test.true c.requires (rw c.slot_at-slot.ensures.0 at w.if-deadlines-slot.true))
-    | else-deadlines-slot w ↦
+      | else-deadlines-slot w ↦
           rw (w.listed-is, w.n-is) (listing-running a.len a.now a.offsets.now a.slots.now a.deadlines.now l.invariant c.loop-i-test.true (rw c.slot_at-slot.ensures.0 at w.if-deadlines-slot.false))
     ]
 

@@ -3,7 +3,6 @@
 use native.Mathlib.Omega.{arith}
 use Rattle.lease.specs.Parts.{counting}
 use Rattle.lease.specs.declared.LeaseTable.{LeaseTable}
-use Rattle.lease.proofs.Bounds.{count_at}
 use Rattle.lease.proofs.Tokens.{owned-used, not_owned, owned, one}
 use Rattle.lease.proofs.in_place.hold_in_place.Goals as goal
 use Rattle.lease.proofs.in_place.hold_in_place.Goals.{Start}

@@ -7,7 +7,6 @@ use Rattle.lease.specs.Layout.{view}
 use Rattle.lease.specs.declared.Lease.{Lease}
 use Rattle.lease.proofs.Passed.{claim-passed}
 use Rattle.lease.proofs.InWords.{in_use, again-answers}
-use borrow.Author.Rules.{rules}
 use Rattle.lease.proofs.in_words.grant_again.Goals as goal
 use Rattle.lease.proofs.in_words.grant_again.Goals.{Start}
 

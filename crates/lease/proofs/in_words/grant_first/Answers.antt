@@ -7,7 +7,6 @@ use Rattle.lease.specs.Layout.{table_in}
 use Rattle.lease.specs.declared.LeaseTable.{LeaseTable}
 use Rattle.lease.proofs.Slots.{free}
 use Rattle.lease.proofs.InWords.{whole, room-left, first_fits, generation-left, first-answers}
-use borrow.Author.Rules.{rules}
 use Rattle.lease.proofs.in_words.grant_first.Goals as goal
 use Rattle.lease.proofs.in_words.grant_first.Goals.{Start}
 

@@ -1,7 +1,6 @@
 -- `note_attempts_flushed` meets its contract. Assumes nothing.
 use mathlib.Core.Path.{◌∙◌}
 use Rattle.lease.proofs.InWords.{flush_answers}
-use borrow.Author.Rules.{rules}
 use Rattle.lease.proofs.in_words.note_attempts_flushed.Goals as goal
 
 pub returns : goal.returns

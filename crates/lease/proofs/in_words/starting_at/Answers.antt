@@ -5,7 +5,6 @@ use mathlib.Core.Path.{ap, ◌∙◌}
 use lib.ListN.{replicate, length-set}
 use Rattle.types.specs.Limits.{MAX}
 use Rattle.lease.proofs.InWords.{started}
-use borrow.Author.Rules.{rules}
 use Rattle.lease.proofs.in_words.starting_at.Goals as goal
 use Rattle.lease.proofs.in_words.starting_at.Goals.{Start}
 

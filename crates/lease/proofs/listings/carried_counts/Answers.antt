@@ -1,8 +1,8 @@
 -- `carried_counts` meets its contract. The loop's invariant: the first i places hold the first i offsets
 -- and counts. Assumes nothing.
-use Prim.Native.Nat.{ℕ, ◌+◌, ◌-◌, ◌<◌}
+use Prim.Native.Nat.{ℕ, ◌+◌, ◌<◌}
 use native.Mathlib.Omega.{arith}
-use mathlib.Core.Path.{◌≡◌, refl, sym, ap, subst}
+use mathlib.Core.Path.{◌≡◌, sym, ap, subst}
 use mathlib.Core.List.{List}
 use mathlib.Core.Option.{some}
 use lib.ListN.{take, set, replicate}
@@ -15,7 +15,6 @@ use Rattle.lease.specs.State.{Counted}
 use Rattle.lease.specs.Layout.{CARRIED-LEN, CARRIED-OFFSETS, CARRIED-COUNTS, table_in, view}
 use Rattle.lease.proofs.Bounds.{within}
 use Rattle.lease.proofs.InWords.{whole, carried_narrow}
-use borrow.Author.Rules.{rules}
 use Rattle.lease.proofs.listings.carried_counts.Goals as goal
 
 abbrev zeros : List ℕ

@@ -1,8 +1,8 @@
 -- `lease_counts` meets its contract. The loop's invariant: the first i places hold the first i offsets and
 -- counts. Assumes nothing.
-use Prim.Native.Nat.{ℕ, ◌+◌, ◌-◌, ◌<◌}
+use Prim.Native.Nat.{ℕ, ◌+◌, ◌<◌}
 use native.Mathlib.Omega.{arith}
-use mathlib.Core.Path.{◌≡◌, refl, sym, ap, subst, ◌∙◌}
+use mathlib.Core.Path.{◌≡◌, sym, ap, subst, ◌∙◌}
 use mathlib.Core.List.{List}
 use lib.ListN.{get_or, set, replicate}
 use Rattle.types.specs.Limits.{LEASES}
@@ -16,7 +16,6 @@ use Rattle.lease.specs.declared.Lease.{Lease}
 use Rattle.lease.proofs.Bounds.{within}
 use Rattle.lease.proofs.Lists.{counts-listed, count_at}
 use Rattle.lease.proofs.InWords.{whole}
-use borrow.Author.Rules.{rules}
 use Rattle.lease.proofs.listings.lease_counts.Goals as goal
 
 abbrev zeros : List ℕ

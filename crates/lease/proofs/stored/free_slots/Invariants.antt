@@ -1,6 +1,6 @@
 -- `free_slots` meets its contract. The loop's invariant: the first i slots are stored. Assumes nothing.
 use mathlib.Core.Path.{◌≡◌}
-use lib.ListN.{length, take}
+use lib.ListN.{take}
 use Rattle.tables.specs.Slots.{upTo}
 use Rattle.lease.proofs.stored.free_slots.Given as goal
 

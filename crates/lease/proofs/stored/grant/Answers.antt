@@ -1,11 +1,8 @@
 -- `grant` meets its contract. Assumes nothing.
-use native.Mathlib.Omega.{arith}
 use mathlib.Core.Path.{refl, ap, ◌∙◌}
-use lib.ListN.{length-set}
 use Rattle.lease.specs.Operations.{deadline_from}
 use Rattle.lease.specs.declared.LeaseConfig.{LeaseConfig}
 use Rattle.lease.proofs.Stores.{grant-stored}
-use borrow.Author.Rules.{rules}
 use Rattle.lease.proofs.stored.grant.Goals as goal
 
 pub returns : goal.returns

@@ -1,9 +1,9 @@
 -- `put_counts` meets its contract. The loop's invariant: the first i counts are stored. Assumes nothing.
-use Prim.Native.Nat.{ℕ, ◌+◌, ◌-◌, ◌≤◌}
+use Prim.Native.Nat.{ℕ, ◌+◌}
 use native.Mathlib.Omega.{arith}
 use mathlib.Core.Path.{◌≡◌, sym, ap, subst, ◌∙◌}
 use mathlib.Core.List.{List, ◌++◌}
-use lib.ListN.{length, take, drop, set, take-append-drop}
+use lib.ListN.{take, drop, set, take-append-drop}
 use Rattle.types.proofs.Loops.{Filling, filling, filling-more}
 use Rattle.lease.proofs.stored.put_counts.Goals as goal
 

@@ -1,8 +1,5 @@
 -- `put_lease` meets its contract. Assumes nothing.
-use native.Mathlib.Omega.{arith}
-use lib.ListN.{length-set}
 use Rattle.lease.proofs.Stores.{stored-lease}
-use borrow.Author.Rules.{rules}
 use Rattle.lease.proofs.stored.put_lease.Goals as goal
 
 pub returns : goal.returns

@@ -1,7 +1,7 @@
 -- `shift` meets its contract. The loop's invariant: the times before the place are forward.
 use Prim.Native.Nat.{ℕ, ◌+◌}
 use native.Mathlib.Omega.{arith}
-use mathlib.Core.Path.{◌≡◌, sym, ap, subst, ◌∙◌}
+use mathlib.Core.Path.{sym, ap, subst, ◌∙◌}
 use mathlib.Core.List.{map}
 use lib.ListN.{length, set}
 use lib.Seq.{take_all}

@@ -1,5 +1,4 @@
 -- `shift` meets its contract. The loop's invariant: the times before the place are forward.
-use Prim.Native.Nat.{ℕ}
 use lib.ListN.{length}
 use Rattle.types.proofs.Loops.{Mapping}
 use Rattle.lease.specs.Helpers.{later_by}
