@@ -53,12 +53,12 @@ module _ (h : Option Week) (size : ℕ) where
   abbrev rows : List Row
   rows = hours_rows h ++ (bad_area size ⇒ BadArea ∷ [])
 
-  pub hours-refused : (r : Refusal) → some r ≡ first (hours_rows h) → some r ≡ first rows
-  hours-refused r e = sym (first-met-before (hours_rows h) (bad_area size ⇒ BadArea ∷ []) r (sym e))
+  pub hours-refused : (r : Refusal) → refused r ≡ checked (hours_rows h) (done (tt {0})) → some r ≡ first rows
+  hours-refused r e = sym (first-met-before (hours_rows h) (bad_area size ⇒ BadArea ∷ []) r (first-refused (hours_rows h) (done (tt {0})) r (sym e)))
 
-  module _ (e : none ≡ first (hours_rows h)) where
+  module _ (e : done (tt {0}) ≡ checked (hours_rows h) (done (tt {0}))) where
     area-tested : first rows ≡ first (bad_area size ⇒ BadArea ∷ [])
-    area-tested = first_none_before (hours_rows h) (bad_area size ⇒ BadArea ∷ []) (sym e)
+    area-tested = first_none_before (hours_rows h) (bad_area size ⇒ BadArea ∷ []) (first-done (hours_rows h) (tt {0}) (sym e))
 
     pub area-refused : bad_area size ≡ true → some BadArea ≡ first rows
     area-refused t = sym (area-tested ∙ rw t)
@@ -94,7 +94,7 @@ module _ (s : Configuration) (size : ℕ) (full : length s.settings.delivery.bac
     pub settings-sound : (d : Settings) → d ≡ s.settings → SoundSettings d
     settings-sound d e = record { delivery = record { few = rw e few-steps } }
 
-  pub started-fresh : (a : StartAnswer) (c : Consumer) → start_fault a ≡ first (start_table (configuration_of s) size) → FreshIs s size c
+  pub started-fresh : (a : std.Result (Unit {0}) code.Refusal) (c : Consumer) → start_fault a ≡ first (start_table (configuration_of s) size) → FreshIs s size c
       → StartedIs s size (start (configuration_of s) size) (record { answer = a; consumer = c })
   unfolding start
   started-fresh a c e i = go (first (start_table (configuration_of s) size)) refl
