@@ -13,7 +13,7 @@ use Rattle.types.specs.Limits.{LEASES, MAX}
 use Rattle.types.specs.Refusal.{Result, refused, done}
 use Rattle.types.specs.Refused.{refusal_of, result_of, option_of}
 use Rattle.types.specs.declared.refusals.Refusal as code
-use Rattle.types.specs.declared.refusals.Refusal.TheVariants as code
+use Rattle.types.specs.declared.refusals.Refusal.TheVariants.{Damaged}
 use Rattle.types.specs.Table.{first, Passed, checked}
 use Rattle.types.proofs.Table.{first_none}
 use Rattle.tables.specs.Slots.{Permutes}
@@ -92,17 +92,17 @@ module _ (a : List ℕ) where
     abbrev right : state.Configuration → Result State
     right k = from_walk k a (done (stop_of s))
 
-    pub unfit-resumed : unfit ≡ true → (p : Columns) → ReadIs right (length a) (Err (code.Damaged s.block)) p p
+    pub unfit-resumed : unfit ≡ true → (p : Columns) → ReadIs right (length a) (Err (Damaged s.block)) p p
     unfolding from_walk
-    unfit-resumed t p = refused-read right (length a) (code.Damaged s.block) p (λ c. rw (sym there ∙ t))
+    unfit-resumed t p = refused-read right (length a) (Damaged s.block) p (λ c. rw (sym there ∙ t))
 
     module _ (fits : unfit ≡ false) (hi : ℕ) (whole : hi ≡ limit a) (found : Bool) (is : found ≡ header_behind a hi s.block) where
       behind-is : header_behind a (limit a) s.block ≡ found
       behind-is = rw (← whole) (sym is)
 
-      pub worn-resumed : found ≡ true → (p : Columns) → ReadIs right (length a) (Err (code.Damaged s.block)) p p
+      pub worn-resumed : found ≡ true → (p : Columns) → ReadIs right (length a) (Err (Damaged s.block)) p p
       unfolding from_walk
-      worn-resumed t p = refused-read right (length a) (code.Damaged s.block) p (λ c. rw (sym there ∙ fits, behind-is, t))
+      worn-resumed t p = refused-read right (length a) (Damaged s.block) p (λ c. rw (sym there ∙ fits, behind-is, t))
 
       pub last-resumed : found ≡ false → (r : std.Result RestartedAt code.Refusal) (b b' : Columns)
           → ReadIs (λ c. last_group c a (option_of (λ n. n) s.last) (next_group_at s.number s.block)) (length a) r b b' → ReadIs right (length a) r b b'

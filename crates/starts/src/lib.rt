@@ -109,7 +109,7 @@ fn resumed_table(
     LeaseTable {
         config: config,
         offsets: [0; LEASES],
-        slots: tables::slots(),
+        slots: tables::all_slots(),
         generations: [0; LEASES],
         attempt_starts: [0; LEASES],
         deadlines: [0; LEASES],
