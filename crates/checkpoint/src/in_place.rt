@@ -16,7 +16,6 @@ use consumer::{halves, rights};
 use cursor::AckCursor;
 use journal::{Block, Header};
 use types::limits::{CARRIED, LEASES, MAX32, RANGES, WORKERS};
-use types::numbers;
 use types::refusals::Refusal;
 
 // What a begin answers, and the numbers of the record that it begins.
@@ -43,7 +42,7 @@ pub struct SteppedAt {
 fn new_ceiling(next: u64) -> u64
     ensures { result ≡ sat64 next 4096 }
 {
-    numbers::saturating_add(next, 4096)
+    next.saturating_add(4096)
 }
 
 // Bodies for the two snapshots of a group.
@@ -173,7 +172,7 @@ fn begin_permitted<'a>(
     }
     let front = AckCursor::snapshot_len(runs);
     let behind = attempt::snapshot_len(len + carried_len);
-    cursor::in_place::encode_in_place(committed, starts, ends, runs, payload, 0);
+    let _ = cursor::in_place::encode_in_place(committed, starts, ends, runs, payload, 0);
     put_counts(
         len,
         carried_len,
@@ -253,7 +252,7 @@ fn put_block(area: &mut [u8], at: usize, block: Block, payload: &[u8], total: us
     requires { (total ≤ length payload.now) × (outside (length area.old) at ≡ false) }
     ensures { area.new ≡ write_at area.old at (block_of block (take total payload.now)) }
 {
-    journal::write_block(area, at, block, &payload[..total]);
+    let _ = journal::write_block(area, at, block, &payload[..total]);
 }
 
 // What `Writing::step` does to the parts of a record: the next block write, and no other.

@@ -16,7 +16,6 @@ use consumer_words::steps::permission_of;
 use cursor::snapshots;
 use lease::layout::{CARRIED_LEN, LEN, NEXT, REDELIVERIES};
 use types::limits::MAX32;
-use types::numbers;
 use types::refusals::Refusal;
 
 // Takes a consumer into a record of the group to be written, and answers how many block writes that takes: both snapshots go into the
@@ -61,7 +60,7 @@ fn encode_both(words: &[u64], payload: &mut [u8; 3606]) -> Lengths
     let count = words[TABLE + LEN] as usize + words[TABLE + CARRIED_LEN] as usize;
     let attempts = attempt::snapshot_len(count);
     let cursor = snapshots::snapshot_len(&words[CURSOR..TABLE]);
-    snapshots::encode_snapshot(&words[CURSOR..TABLE], payload, 0);
+    let _ = snapshots::encode_snapshot(&words[CURSOR..TABLE], payload, 0);
     put_counts(&words[TABLE..CEILING], payload, cursor);
     Lengths { cursor, attempts }
 }
@@ -133,7 +132,7 @@ fn put(
 {
     words[WRITTEN] = written as u64;
     words[CEILING] = ceiling;
-    words[TABLE + REDELIVERIES] = numbers::wide(redeliveries);
+    words[TABLE + REDELIVERIES] = u64::from(redeliveries);
     words[NEXT_NUMBER] = number;
     words[NEXT_BLOCK] = block as u64;
 }

@@ -32,7 +32,7 @@ pub fn claim(words: &mut [u64], worker: u64, offset: Offset, now: u64) -> Result
         offset,
         now,
     );
-    Ok(steps::handed_out(limit, grant))
+    consumer::steps::handed_out(limit, Ok(grant))
 }
 
 // Done: the lease goes and the offset is settled: 38, 39, 24, 40, 29. The cursor, which has to have room, is asked before the lease goes.

@@ -22,7 +22,7 @@ use consumer::views;
 use consumer::views::{Holding, Standing, View};
 use cursor::layout::COMMITTED;
 use lease::Lease;
-use types::{Offset, numbers};
+use types::Offset;
 
 // The offset below which all are settled.
 pub fn committed(words: &[u64]) -> Offset
@@ -98,7 +98,7 @@ pub fn is_at_threshold(words: &[u64]) -> bool
     ensures { result ≡ at_threshold (view words.now) }
 {
     let count = lease::reads::redeliveries_since_flush(&words[TABLE..CEILING]);
-    words[THRESHOLD] <= numbers::wide(count)
+    words[THRESHOLD] <= u64::from(count)
 }
 
 // The blocks that are left in the half in use.

@@ -1,17 +1,15 @@
-// The tests of the calls, each of which looks at a consumer's words: the worker's rights, the claim's own, the token's; and what a grant
-// of the lease table becomes.
-ghost use Rattle.std.specs.Prelude.{◌≡◌, length, Ok};
+// The tests of the calls, each of which looks at a consumer's words: the worker's rights, the claim's own, the token's; and the delay of a
+// nack.
+ghost use Rattle.std.specs.Prelude.{◌≡◌, length};
 ghost use Rattle.types.specs.Limits.{WORKERS};
-ghost use Rattle.types.specs.Refusal.{done};
 ghost use Rattle.types.specs.Table.{first};
 ghost use Rattle.words.specs.Columns.{column};
 ghost use Rattle.delivery.specs.Config.{delay_of};
 ghost use Rattle.lease.specs.Layout as lease;
-ghost use Rattle.lease.specs.InWords.{grant_in, PlacedIn};
+ghost use Rattle.lease.specs.InWords.{PlacedIn};
 ghost use Rattle.consumer.specs.Rights.{worker_rows};
 ghost use Rattle.consumer.specs.Calls.{claim_rows, claim_table, is_full};
-ghost use Rattle.consumer.specs.Parts.{handed_out};
-ghost use Rattle.consumer.specs.View.{claim_of, permission_of};
+ghost use Rattle.consumer.specs.View.{permission_of};
 ghost use Rattle.consumer_words.specs.Layout.{WORDS, RIGHTS, hours_in, view, Sound};
 ghost use Rattle.consumer_words.specs.InWords.{Tests, Allows, Delays};
 
@@ -19,11 +17,10 @@ use crate::layout::{
     BACKOFF_LEN, BACKOFFS, CEILING, DAYS, HOURS_GIVEN, RIGHTS, SHIFT, TABLE, WORDS,
 };
 use crate::reads;
-use consumer::calls::HandOut;
 use consumer::rights::CLAIM;
 use consumer::steps::HeldAt;
 use hours::Hours;
-use lease::{Grant, LeaseToken};
+use lease::LeaseToken;
 use tables::Place;
 use types::Offset;
 use types::limits::{CARRIED, MAX, WORKERS};
@@ -124,17 +121,6 @@ fn is_full(table: &[u64], place: Place, offset: Offset) -> bool
     lease::reads::carried_count(table, offset).is_none()
 }
 
-// What a claim that is granted answers: a count above the limit is for the dead letters.
-pub(crate) fn handed_out(max_deliver: u32, grant: Grant) -> HandOut
-    ensures { claim_of (Ok result) ≡ handed_out max_deliver (done (grant_in grant)) }
-{
-    HandOut {
-        token: grant.token,
-        deliveries: grant.deliveries,
-        disposition: delivery::disposition_of(max_deliver, grant.deliveries),
-    }
-}
-
 // What stands in front of a call with a token that needs a bit of the rights: 38, 39, 24, 40. A token works for the worker who claimed its
 // lease.
 pub(crate) fn token_test(
@@ -166,14 +152,7 @@ pub(crate) fn nack_delay(words: &[u64], attempt: u32, now: u64, delay: Option<u6
     ensures { Delays words.now attempt now (delay_of delay) result }
 {
     let config = lease::reads::config(&words[TABLE..CEILING]);
-    let len = words[BACKOFF_LEN] as usize;
-    let capped_nanos = delivery::nack_delay_in_place(
-        &words[BACKOFFS..RIGHTS],
-        len,
-        attempt,
-        delay,
-        config.hard_cap_nanos,
-    );
-    let hours = hours_of(words);
-    consumer::steps::delay_in_hours(hours, now, capped_nanos)
+    let backoffs = &words[BACKOFFS..BACKOFFS + words[BACKOFF_LEN] as usize];
+    let capped_nanos = delivery::nack_delay(backoffs, attempt, delay, config.hard_cap_nanos);
+    consumer::steps::delay_in_hours(hours_of(words), now, capped_nanos)
 }

@@ -62,7 +62,7 @@ fn cut_torn(machine: Machine, area: &mut [u8], bytes: &[u8]) -> Failed
         };
     }
     let wrote = machine.writing.step(area).answer.unwrap();
-    raw::write_bytes(area, 512 * wrote.block, bytes);
+    let _ = raw::write_bytes(area, 512 * wrote.block, bytes);
     Failed {
         answer: Some(false),
         machine: switched_off(machine),

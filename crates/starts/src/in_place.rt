@@ -9,25 +9,25 @@ ghost use Rattle.cursor.specs.View as cursors;
 ghost use Rattle.cursor.specs.View.{ack_cursor};
 ghost use Rattle.cursor.specs.Snapshot.{decode_cursor};
 ghost use Rattle.attempt.specs.Snapshot.{decode_attempts};
-ghost use Rattle.journal.specs.Answers.{last_of, walked_of};
+ghost use Rattle.types.specs.Refusal.{done};
+ghost use Rattle.types.specs.Refused.{option_of};
+ghost use Rattle.journal.specs.Answers.{stop_of};
 ghost use Rattle.consumer.specs.State as state;
 ghost use Rattle.starts.specs.Restart.{is_dropped, unsettled_counts, from_snapshots, read_group, limit, unfit_at, last_group, from_walk};
-ghost use Rattle.starts.specs.Starting.{next_group_of, Lies, LastLies, WalkedIs};
-ghost use Rattle.starts.specs.Parts.{fresh_by, columns, Long, ReadIs, RestartedIn, ImportedIn};
+ghost use Rattle.starts.specs.Starting.{next_group_of, Lies, LastLies, StopIs};
+ghost use Rattle.starts.specs.Parts.{fresh_numbers, columns, Long, ReadIs, RestartedIn, ImportedIn};
 
-use crate::{StartAnswer, check_start, origin};
-use attempt::Decode;
+use crate::{check_start, origin};
 use consumer::{Configuration, NextGroup, halves};
-use cursor::Decode as Snapshot;
 use cursor::columns::{check_snapshot, read_column};
-use journal::{LastGroup, Walked};
+use journal::Stop;
 use types::limits::{CARRIED, LEASES, PAIRS, RANGES};
+use types::refusals::Refusal;
 use types::{Generation, Pair};
 
-// What a restart or an import answers, and the numbers of the consumer that goes on. Beside a refusal they are a fresh consumer's.
+// The numbers of the consumer that goes on after a restart or an import.
 #[derive(Clone, Copy)]
 pub struct RestartedAt {
-    pub answer: StartAnswer,
     pub committed: u64,
     pub runs: usize,
     pub carried_len: usize,
@@ -44,21 +44,18 @@ pub fn restart_in_place(
     ends: &mut [u64; RANGES],
     carried_offsets: &mut [u64; CARRIED],
     carried_counts: &mut [u32; CARRIED],
-) -> RestartedAt
+) -> Result<RestartedAt, Refusal>
     requires { Long (columns starts.old ends.old carried_offsets.old carried_counts.old) }
     ensures { RestartedIn configuration area.now result (columns starts.old ends.old carried_offsets.old carried_counts.old) (columns starts.new ends.new carried_offsets.new carried_counts.new) }
 {
-    let answer = check_start(configuration, area.len());
-    let StartAnswer::Started = answer else {
-        return fresh_numbers(answer);
-    };
+    check_start(configuration, area.len())?;
     let from = origin(area);
     let hi = from.block + halves::half_blocks(area.len());
-    let walked = journal::walk(area, hi, from.number, from.block);
+    let stop = journal::walk(area, hi, from.number, from.block)?;
     resume_from(
         area,
         hi,
-        walked,
+        stop,
         starts,
         ends,
         carried_offsets,
@@ -77,14 +74,11 @@ pub fn import_in_place<'a>(
     ends: &mut [u64; RANGES],
     carried_offsets: &mut [u64; CARRIED],
     carried_counts: &mut [u32; CARRIED],
-) -> RestartedAt
+) -> Result<RestartedAt, Refusal>
     requires { Long (columns starts.old ends.old carried_offsets.old carried_counts.old) }
     ensures { ImportedIn configuration area_len first.0 cursor.now attempts.now result (columns starts.old ends.old carried_offsets.old carried_counts.old) (columns starts.new ends.new carried_offsets.new carried_counts.new) }
 {
-    let answer = check_start(configuration, area_len);
-    let StartAnswer::Started = answer else {
-        return fresh_numbers(answer);
-    };
+    check_start(configuration, area_len)?;
     let next = NextGroup {
         number: 1,
         block: 0,
@@ -105,15 +99,14 @@ pub fn import_in_place<'a>(
 pub fn free_slots(slots: &mut [u32; LEASES])
     ensures { Permutes LEASES slots.new }
 {
-    *slots = tables::slots_64();
+    *slots = tables::slots();
 }
 
-// An answer with the numbers of a fresh consumer.
-fn fresh_numbers(answer: StartAnswer) -> RestartedAt
-    ensures { result ≡ fresh_by answer }
+// The numbers of a fresh consumer.
+fn fresh_numbers() -> RestartedAt
+    ensures { result ≡ fresh_numbers }
 {
     RestartedAt {
-        answer: answer,
         committed: 0,
         runs: 0,
         carried_len: 0,
@@ -137,70 +130,54 @@ fn unfit_at(area: &[u8], hi: usize, number: u64, block: usize) -> bool
 }
 
 // The last group that a walk over the half in use met, or a fresh consumer where there is none: 5 to 19. A header that doesn't fit
-// there, where the walk ended, is 5, and so is a block of kind 1 with a right check behind that place. The walk answers no 4, since
-// the area's length was tested before.
+// there, where the walk ended, is 5, and so is a block of kind 1 with a right check behind that place.
 fn resume_from(
     area: &[u8],
     hi: usize,
-    walked: Walked,
+    stop: Stop,
     starts: &mut [u64; RANGES],
     ends: &mut [u64; RANGES],
     carried_offsets: &mut [u64; CARRIED],
     carried_counts: &mut [u32; CARRIED],
-) -> RestartedAt
-    requires { WalkedIs area.now walked × (hi ≡ limit area.now) × Long (columns starts.old ends.old carried_offsets.old carried_counts.old) }
-    ensures { ReadIs (λ (k : state.Configuration). from_walk k area.now (walked_of walked)) (length area.now) result (columns starts.old ends.old carried_offsets.old carried_counts.old) (columns starts.new ends.new carried_offsets.new carried_counts.new) }
+) -> Result<RestartedAt, Refusal>
+    requires { StopIs area.now stop × (hi ≡ limit area.now) × Long (columns starts.old ends.old carried_offsets.old carried_counts.old) }
+    ensures { ReadIs (λ (k : state.Configuration). from_walk k area.now (done (stop_of stop))) (length area.now) result (columns starts.old ends.old carried_offsets.old carried_counts.old) (columns starts.new ends.new carried_offsets.new carried_counts.new) }
 {
-    match walked {
-        Walked::Stopped {
-            last,
-            number,
-            block,
-        } => {
-            if unfit_at(area, hi, number, block) {
-                return fresh_numbers(StartAnswer::Damaged { block: block });
-            }
-            if journal::header_behind(area, hi, block) {
-                return fresh_numbers(StartAnswer::Damaged { block: block });
-            }
-            let next = NextGroup {
-                number: number,
-                block: block,
-            };
-            return read_last(
-                area,
-                last,
-                next,
-                starts,
-                ends,
-                carried_offsets,
-                carried_counts,
-            );
-        }
-        Walked::BadArea => {
-            return fresh_numbers(StartAnswer::BadArea);
-        }
-        Walked::Damaged(body) => {
-            return fresh_numbers(StartAnswer::Damaged { block: body });
-        }
+    let number = stop.number;
+    let block = stop.block;
+    if unfit_at(area, hi, number, block) {
+        return Err(Refusal::Damaged { block });
     }
+    if journal::header_behind(area, hi, block) {
+        return Err(Refusal::Damaged { block });
+    }
+    let next = NextGroup { number, block };
+    read_last(
+        area,
+        stop.last,
+        next,
+        starts,
+        ends,
+        carried_offsets,
+        carried_counts,
+    )
 }
 
 // The last group of a walk, or a fresh consumer where there is none: 6 to 19.
 fn read_last(
     area: &[u8],
-    last: LastGroup,
+    last: Option<usize>,
     next: NextGroup,
     starts: &mut [u64; RANGES],
     ends: &mut [u64; RANGES],
     carried_offsets: &mut [u64; CARRIED],
     carried_counts: &mut [u32; CARRIED],
-) -> RestartedAt
+) -> Result<RestartedAt, Refusal>
     requires { LastLies area.now last × Long (columns starts.old ends.old carried_offsets.old carried_counts.old) }
-    ensures { ReadIs (λ (k : state.Configuration). last_group k area.now (last_of last) (next_group_of next)) (length area.now) result (columns starts.old ends.old carried_offsets.old carried_counts.old) (columns starts.new ends.new carried_offsets.new carried_counts.new) }
+    ensures { ReadIs (λ (k : state.Configuration). last_group k area.now (option_of (λ n. n) last) (next_group_of next)) (length area.now) result (columns starts.old ends.old carried_offsets.old carried_counts.old) (columns starts.new ends.new carried_offsets.new carried_counts.new) }
 {
     match last {
-        LastGroup::At(at) => {
+        Some(at) => {
             return read_group(
                 area,
                 at,
@@ -211,8 +188,8 @@ fn read_last(
                 carried_counts,
             );
         }
-        LastGroup::None => {
-            return fresh_numbers(StartAnswer::Started);
+        None => {
+            return Ok(fresh_numbers());
         }
     }
 }
@@ -226,7 +203,7 @@ fn read_group(
     ends: &mut [u64; RANGES],
     carried_offsets: &mut [u64; CARRIED],
     carried_counts: &mut [u32; CARRIED],
-) -> RestartedAt
+) -> Result<RestartedAt, Refusal>
     requires { Lies area.now at × Long (columns starts.old ends.old carried_offsets.old carried_counts.old) }
     ensures { ReadIs (λ (k : state.Configuration). read_group k area.now at (next_group_of next)) (length area.now) result (columns starts.old ends.old carried_offsets.old carried_counts.old) (columns starts.new ends.new carried_offsets.new carried_counts.new) }
 {
@@ -234,7 +211,7 @@ fn read_group(
     let to = from + 512;
     let header = journal::read_header(&area[from..to]);
     let mut payload = [0u8; 3606];
-    journal::read_payload(area, at, &mut payload);
+    let _ = journal::read_payload(area, at, &mut payload);
     let middle = header.cursor_len as usize;
     let end = middle + header.attempt_len as usize;
     let ceiling = header.ceiling;
@@ -262,7 +239,7 @@ fn read_both(
     ends: &mut [u64; RANGES],
     carried_offsets: &mut [u64; CARRIED],
     carried_counts: &mut [u32; CARRIED],
-) -> RestartedAt
+) -> Result<RestartedAt, Refusal>
     requires { (middle ≤ end) × (end ≤ length bytes.now) × Long (columns starts.old ends.old carried_offsets.old carried_counts.old) }
     ensures { (size : ℕ) → ReadIs (λ (k : state.Configuration). from_snapshots k size (decode_cursor (take middle bytes.now)) (decode_attempts (take (end - middle) (drop middle bytes.now))) ceiling (next_group_of next)) size result (columns starts.old ends.old carried_offsets.old carried_counts.old) (columns starts.new ends.new carried_offsets.new carried_counts.new) }
 {
@@ -288,43 +265,35 @@ fn read_snapshots<'a>(
     ends: &mut [u64; RANGES],
     carried_offsets: &mut [u64; CARRIED],
     carried_counts: &mut [u32; CARRIED],
-) -> RestartedAt
+) -> Result<RestartedAt, Refusal>
     requires { Long (columns starts.old ends.old carried_offsets.old carried_counts.old) }
     ensures { (size : ℕ) → ReadIs (λ (k : state.Configuration). from_snapshots k size (decode_cursor cursor_bytes.now) (decode_attempts attempt_bytes.now) ceiling (next_group_of next)) size result (columns starts.old ends.old carried_offsets.old carried_counts.old) (columns starts.new ends.new carried_offsets.new carried_counts.new) }
 {
-    let checked = check_snapshot(cursor_bytes);
-    let outcome = checked.outcome;
-    if let Snapshot::Refused(error) = outcome {
-        return fresh_numbers(StartAnswer::Cursor(error));
-    }
-    let decoded = attempt::decode_pairs(attempt_bytes);
-    let pairs = decoded.outcome;
-    if let Decode::Refused(error) = pairs {
-        return fresh_numbers(StartAnswer::Attempts(error));
-    }
-    let list = decoded.pairs;
-    let committed = checked.committed;
-    let runs = checked.runs;
+    let figures = check_snapshot(cursor_bytes)?;
+    let decoded = attempt::decode_pairs(attempt_bytes)?;
+    let committed = figures.committed;
+    let runs = figures.runs;
     read_column(cursor_bytes, 9, runs, starts);
     read_column(cursor_bytes, 17, runs, ends);
-    RestartedAt {
-        answer: StartAnswer::Started,
+    let list = decoded.pairs;
+    let carried_len = carry(
+        committed,
+        starts,
+        ends,
+        runs,
+        list,
+        decoded.count,
+        carried_offsets,
+        carried_counts,
+    );
+    Ok(RestartedAt {
         committed,
         runs,
-        carried_len: carry(
-            committed,
-            starts,
-            ends,
-            runs,
-            list,
-            decoded.count,
-            carried_offsets,
-            carried_counts,
-        ),
-        ceiling: ceiling,
+        carried_len,
+        ceiling,
         number: next.number,
         block: next.block,
-    }
+    })
 }
 
 // Whether a count is carried: it isn't zero, and its offset isn't settled.
@@ -359,15 +328,13 @@ fn carry<'a>(
     ensures { (result ≤ 128) × (entries (take result offsets.new) (take result counts.new) ≡ unsettled_counts (cursors.view (ack_cursor committed starts.now ends.now runs)) (entries_of (take count pairs))) }
 {
     let mut len: usize = 0;
-    let mut i: usize = 0;
-    while i < count {
+    for i in 0..count {
         let pair = pairs[i];
         if is_carried(committed, starts, ends, runs, pair) {
             offsets[len] = pair.offset;
             counts[len] = pair.attempt;
             len += 1;
         }
-        i += 1;
     }
     len
 }

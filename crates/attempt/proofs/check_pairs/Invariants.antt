@@ -17,6 +17,3 @@ abbrev pub invariant-loop-i : goal.invariant-loop-i
 invariant-loop-i l =
     checked (order_after l.prev (read_pairs (apart l.version) l.count (l.count - l.i) l.i l.input) ++ limit_table (pairs_as l.version l.count l.input)) (done l.count)
     ≡ checked (pairs_table (pairs_as l.version l.count l.input)) (done l.count)
-
-abbrev pub decreases-loop-i : goal.decreases-loop-i
-decreases-loop-i l = l.count - l.i

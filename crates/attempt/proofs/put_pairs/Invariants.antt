@@ -15,6 +15,3 @@ invariant-loop-i l =
     × (length l.out ≡ length l.initial.out)
     × (put_from (apart l.version) l.count l.at l.i (drop l.i (entries l.offsets l.attempts)) l.out
     ≡ put_from (apart l.version) l.count l.at 0 (entries l.offsets l.attempts) l.initial.out)
-
-abbrev pub decreases-loop-i : goal.decreases-loop-i
-decreases-loop-i l = l.count - l.i

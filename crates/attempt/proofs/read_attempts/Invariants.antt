@@ -14,6 +14,3 @@ use Rattle.attempt.proofs.read_attempts.Given as goal
 
 abbrev pub invariant-loop-i : goal.invariant-loop-i
 invariant-loop-i l = (l.version ≡ get_or l.input 0 0) × Filling (attempts_of (pairs_of l.n l.input)) l.initial.attempts l.attempts l.n l.i
-
-abbrev pub decreases-loop-i : goal.decreases-loop-i
-decreases-loop-i l = l.n - l.i

@@ -20,6 +20,3 @@ invariant-loop-i l =
     × (length l.offsets ≡ 128)
     × (length l.attempts ≡ 128)
     × (entries (take l.i l.offsets) (take l.i l.attempts) ≡ entries_of (take l.i l.pairs))
-
-abbrev pub decreases-loop-i : goal.decreases-loop-i
-decreases-loop-i l = l.count - l.i

@@ -8,6 +8,3 @@ use Rattle.journal.proofs.bodies_at.Given as goal
 
 abbrev pub invariant-loop-j : goal.invariant-loop-j
 invariant-loop-j l = Scanned l.area l.number l.at l.bodies l.total l.j
-
-abbrev pub decreases-loop-j : goal.decreases-loop-j
-decreases-loop-j l = l.bodies + 1 - l.j
