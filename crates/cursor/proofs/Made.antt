@@ -1,12 +1,14 @@
 -- Words that are made anew: from a committed offset, from the ranges of two columns, from a snapshot. Assumes nothing.
-use Prim.Native.Nat.{ℕ, suc, ◌+◌, ◌≤◌, min}
+use Prim.Native.Nat.{ℕ, zero, suc, ◌+◌, ◌≤◌, ◌<◌, min}
 use native.Mathlib.Omega.{arith}
 use mathlib.Core.Path.{◌≡◌, refl, sym, ap, subst, ◌∙◌}
-use mathlib.Core.List.{List, [], ◌∷◌, ◌++◌}
+use mathlib.Core.List.{List, [], ◌∷◌, ◌++◌, map}
 use Rattle.std.specs.Prelude.{Ok, Err}
 use mathlib.Core.Option.{none, some}
 use lib.ListN.{length, take, drop, get_or, set, length-set}
-use lib.Seq.{paste, take-paste}
+use lib.Seq.{paste, take_all, take-paste}
+use Rattle.std.proofs.lemmas.List.{length-map}
+use Rattle.types.proofs.Loops.{Filling, filling-more}
 use borrow.Rule.Slice.PartMut.{put_mid}
 use Rattle.types.specs.Limits.{MAX, RANGES}
 use Rattle.types.specs.Refusal.{done}
@@ -15,19 +17,19 @@ use Rattle.types.specs.Zipped.{zipped}
 use Rattle.types.proofs.Table.{first_none}
 use Rattle.types.proofs.Zipped.{zipped-take}
 use Rattle.raw.specs.Bytes.{IsBytes}
-use Rattle.cursor.specs.Ranges.{range}
+use Rattle.cursor.specs.Ranges.{range, EndsFit}
 use Rattle.cursor.specs.Cursor.{cursor, Valid, resume_table, resume, resume_with_ahead}
 use Rattle.cursor.specs.Snapshot.{column_from, decode_cursor}
 use Rattle.cursor.specs.View.{ack_cursor}
 use Rattle.cursor.specs.View as cursors
-use Rattle.cursor.specs.Answers.{ranges_error, snapshot_error, CheckedIs}
+use Rattle.cursor.specs.Answers.{ranges_error, snapshot_error, ResumedIs, CheckedIs}
 use Rattle.cursor.specs.Layout.{COMMITTED, RUNS, STARTS, ENDS, WORDS, cursor_in, view}
 use Rattle.cursor.specs.Words.{Becomes, Makes}
 use Rattle.cursor.specs.declared.AckCursor.{AckCursor}
+use Rattle.cursor.specs.declared.Range.{Range}
 use Rattle.cursor.specs.declared.AckCursorError.{AckCursorError}
 use Rattle.cursor.specs.declared.SnapshotError.{SnapshotError}
 use Rattle.cursor.specs.declared.columns.Figures.{Figures}
-use Rattle.cursor.proofs.Ranges.{EndsFit}
 use Rattle.cursor.proofs.Snapshot.{passed-few, passed-valid, resume-back}
 use Rattle.cursor.proofs.Walking.{columns-size, columns-all, checked-cursor, columns-restored}
 use Rattle.cursor.proofs.Words.{stored, stored-numbers, stored_is, stored-long}
@@ -46,10 +48,53 @@ becomes-empty w l n h =
     }
 
 -- ## the ranges of two columns
-columns-fit : (xs ys : List ℕ) → ((i : ℕ) → get_or ys i 0 ≤ MAX) → EndsFit (zipped range xs ys)
+pub columns-fit : (xs ys : List ℕ) → ((i : ℕ) → get_or ys i 0 ≤ MAX) → EndsFit (zipped range xs ys)
 columns-fit [] ys h = tt
 columns-fit (x ∷ xs) [] h = tt
 columns-fit (x ∷ xs) (y ∷ ys) h = (h 0, columns-fit xs ys (λ i. h (suc i)))
+
+-- ranges that were tested, and the cursor of them
+pub resume_refused : (n : ℕ) (all : List Range) (e : AckCursorError) → some (ranges_error e) ≡ first (resume_table n all) → ResumedIs n all (Err e)
+unfolding resume_with_ahead
+resume_refused n all e f = record { is = rw (← f); sound = tt }
+
+pub resumed : (n : ℕ) (all : List Range) (c : AckCursor) → n ≤ MAX → EndsFit all → none ≡ first (resume_table n all) → c.runs ≡ length all → cursors.view c ≡ cursor n all → ResumedIs n all (Ok c)
+resumed n all c m fits f size is =
+    let passed = first_none (resume_table n all) (sym f) in
+    let v = passed-valid n all m fits passed in
+    record {
+      is = ap done is ∙ sym (resume-back n all v);
+      sound = record { few = omega (arith, passed-few n all passed); valid = subst Valid (sym is) v };
+    }
+
+-- each end that was read is a u64
+pub ends-read : (l : List Range) → ((k : ℕ) → k < length l → (get_or l k (range 0 0)).end ≤ MAX) → EndsFit l
+ends-read [] h = tt
+ends-read (r ∷ l) h = (h 0 (omega arith), ends-read l (λ k b. h (suc k) (omega arith)))
+
+-- a field of each, in a column: one more
+field-at : (f : Range → ℕ) (l : List Range) (i : ℕ) → i < length l → get_or (map f l) i 0 ≡ f (get_or l i (range 0 0))
+field-at f [] i h = absurd (omega arith)
+field-at f (r ∷ l) zero h = refl
+field-at f (r ∷ l) (suc i) h = field-at f l i (omega arith)
+
+pub field-put : (f : Range → ℕ) (all : List Range) {start out : List ℕ} {i : ℕ} → i < length all → Filling (map f all) start out (length all) i
+    → Filling (map f all) start (set out i (f (get_or all i (range 0 0)))) (length all) (i + 1)
+field-put f all {start} {out} {i} h w = rw (← field-at f all i h) (filling-more 0 (omega (arith, length-map all f)) h w)
+
+-- ranges in columns of their own
+columns-of : (l : List Range) → zipped range (map (λ (r : Range). r.start) l) (map (λ (r : Range). r.end) l) ≡ l
+columns-of [] = refl
+columns-of (r ∷ l) = ap (λ (x : List Range). r ∷ x) (columns-of l)
+
+pub ranges-put : (n : ℕ) (all : List Range) {s e a b : List ℕ} {i : ℕ} → length all ≤ i
+    → Filling (map (λ (r : Range). r.start) all) a s (length all) i → Filling (map (λ (r : Range). r.end) all) b e (length all) i
+    → cursors.view (ack_cursor n s e (length all)) ≡ cursor n all
+ranges-put n all {s} {e} {a} {b} {i} h p q =
+    let is : i ≡ length all = omega (arith, p.inside) in
+    let front = rw (is, take_all (length all) (map (λ (r : Range). r.start) all) (omega (arith, length-map all (λ (r : Range). r.start)))) at p.done in
+    let front' = rw (is, take_all (length all) (map (λ (r : Range). r.end) all) (omega (arith, length-map all (λ (r : Range). r.end)))) at q.done in
+    rw (front, front', columns-of all)
 
 pub resume-kept : (w : List ℕ) (n : ℕ) (xs ys : List ℕ) (e : AckCursorError) → some (ranges_error e) ≡ first (resume_table n (zipped range xs ys))
     → Makes (some (ranges_error e)) w w (resume_with_ahead n (zipped range xs ys))

@@ -21,11 +21,6 @@ abbrev pub last_end : ℕ → List Range → ℕ
 last_end n [] = n
 last_end n (r ∷ rs) = last_end r.end rs
 
--- each end is a u64
-abbrev pub EndsFit : List Range → Type 0
-EndsFit [] = Unit {0}
-EndsFit (r ∷ rs) = (r.end ≤ MAX) × EndsFit rs
-
 -- a test of an offset that lies at a bound or on one of its sides
 abbrev within : ℕ → ℕ → ℕ → Bool
 within start end o = leb start o && ltb o end

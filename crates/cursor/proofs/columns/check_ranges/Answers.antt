@@ -18,11 +18,11 @@ here c = rw (c.read_u64-start.ensures, c.read_u64-end.ensures) (read-at c.loop-i
 pub returns-in_err-check_range : goal.returns-in_err-check_range
 returns-in_err-check_range c =
     rw (err_is c.from_residual.result c.in_err-check_range.field-0.0 c.from_residual.ensures.1)
-    (walked-fault c.loop-i.invariant _ (omega (arith, length-read c.args.runs 9 c.args.input.now)) (here (goal.at.returns-in_err-check_range c).After-read_u64-end) _ c.in_err-check_range.ensures)
+    (walked-fault c.loop-i.invariant _ (omega (arith, length-read c.args.runs 9 c.args.input.now)) (here (goal.at.returns-in_err-check_range c).After-read_u64-end) _ c.in_err-check_range.ensures.fault)
 
 pub loop-i-preserved : goal.loop-i-preserved
 loop-i-preserved c =
-    walked-more c.loop-i.invariant _ (omega (arith, length-read c.args.runs 9 c.args.input.now)) (here (goal.at.loop-i-preserved c).After-read_u64-end) c.in_ok-check_range.ensures
+    walked-more c.loop-i.invariant _ (omega (arith, length-read c.args.runs 9 c.args.input.now)) (here (goal.at.loop-i-preserved c).After-read_u64-end) c.in_ok-check_range.ensures.fault
 
 pub returns-then-runs-gt-RANGES : goal.returns-then-runs-gt-RANGES
 returns-then-runs-gt-RANGES c =
