@@ -1,83 +1,22 @@
--- The loops of this crate over plain values. One that writes goes upwards: the bytes that are left, stored from the next
--- place on, give what all of them gave at the start. The one that reads goes downwards: what it has is the number in the
--- bytes from its place up to where it began. Assumes nothing.
-use Prim.Native.Nat.{ℕ, suc, ◌+◌, ◌-◌, ◌*◌, ◌/◌, ◌%◌, ◌^◌, ◌<◌, ◌≤◌, min}
+-- The loop that reads, over plain values. It goes downwards: what it has is the number in the bytes from its place up to where it
+-- began. Assumes nothing.
+use Prim.Native.Nat.{ℕ, suc, ◌+◌, ◌-◌, ◌*◌, ◌^◌, ◌<◌, ◌≤◌, min}
 use native.Mathlib.Omega.{arith}
 use native.Mathlib.Numerals.{add-one}
-use native.Mathlib.Nat.{add-zero, pow-succ', one-le-pow, pow-le-pow_right}
+use native.Mathlib.Nat.{pow-succ', one-le-pow, pow-le-pow_right}
 use native.Mathlib.Decide.{dec_lt}
-use mathlib.Core.Path.{◌≡◌, refl, sym, ◌∙◌}
-use mathlib.Core.Bool.{Bool, true, false}
-use mathlib.Core.List.{List, [], ◌∷◌}
+use mathlib.Core.Path.{◌≡◌, sym, ◌∙◌}
+use mathlib.Core.List.{List, ◌∷◌}
 use mir.Syntax.{w8}
 use mir.Val.{Fits}
-use lib.Dec.{ltb}
-use lib.ListN.{length, drop, get_or, set, length-set, length-drop}
-use lib.Seq.{sets, drop-cons, take_all}
-use borrow.Author.Tests.{ltb-true, ltb-false}
-use Rattle.types.specs.Refusal.{refused, done}
-use Rattle.types.specs.Refusal as refusal
-use Rattle.types.specs.Table.{answer}
-use Rattle.raw.specs.Bytes.{le, number_at, ReadIs, write}
-use Rattle.raw.proofs.Bytes.{number_past, overwrite-sets, write-room, write-short}
+use lib.ListN.{length, drop, get_or, length-drop}
+use lib.Seq.{drop-cons, take_all}
+use Rattle.raw.specs.Bytes.{number_at, ReadIs}
+use Rattle.raw.proofs.Bytes.{number_past}
 
--- ## writing
--- `new`, of n bytes, is being written into `before` from pos on: `bs` has the first i of them, and `left` is left
-pub record Storing (before : List ℕ) (pos n : ℕ) (new bs : List ℕ) (i : ℕ) (left : List ℕ) : Type 0 where
-  pub size : length new ≡ n
-  pub room : pos + n ≤ length before
-  pub same : length bs ≡ length before
-  pub rest : sets bs (pos + i) left ≡ sets before pos new
-
-module _ (before : List ℕ) (pos n : ℕ) (new : List ℕ) where
-  module _ (size : length new ≡ n) {short : Bool} (tested : short ≡ ltb (length before) (pos + n)) where
-    pub refused-short : short ≡ true → answer (refused refusal.OutTooShort) before ≡ write pos new before
-    refused-short t =
-        let h : length before < pos + n = ltb-true (length before) (pos + n) (sym tested ∙ t) in
-        sym (write-short pos new before (omega arith))
-
-    pub storing_none : short ≡ false → Storing before pos n new before 0 new
-    storing_none t =
-        record {
-          size = size;
-          room = ltb-false (length before) (pos + n) (sym tested ∙ t);
-          same = refl;
-          rest = rw add-zero;
-        }
-
-  module _ (bs : List ℕ) (i : ℕ) (left : List ℕ) (s : Storing before pos n new bs i left) where
-    pub storing-more : (b : ℕ) (more : List ℕ) → left ≡ b ∷ more
-        → Storing before pos n new (set bs (pos + i) b) (i + 1) more
-    storing-more b more e =
-        let next : pos + (i + 1) ≡ suc (pos + i) = omega arith in
-        record {
-          size = s.size;
-          room = s.room;
-          same = length-set bs (pos + i) b ∙ s.same;
-          rest = rw next (rw e at s.rest);
-        }
-
-    pub stored : left ≡ [] → answer (done (pos + n)) bs ≡ write pos new before
-    stored e =
-        let room : pos + length new ≤ length before = omega arith in
-        let all : bs ≡ sets before pos new = rw e at s.rest in
-        rw (write-room pos new before room, overwrite-sets pos new before room, all, s.size)
-
--- the next of the bytes that are left, and the end of them: of a number, and of a list
-pub le_next : (k i n : ℕ) → i < k → le (k - i) n ≡ n % 256 ∷ le (k - (i + 1)) (n / 256)
-le_next k i n h =
-    let e : k - i ≡ suc (k - (i + 1)) = omega arith in
-    rw e
-
-pub le-end : (k i n : ℕ) → k ≤ i → le (k - i) n ≡ []
-le-end k i n h =
-    let e : k - i ≡ 0 = omega arith in
-    rw e
-
-pub drop-next : (i : ℕ) (bs : List ℕ) → i < length bs → drop i bs ≡ get_or bs i 0 ∷ drop (i + 1) bs
+drop-next : (i : ℕ) (bs : List ℕ) → i < length bs → drop i bs ≡ get_or bs i 0 ∷ drop (i + 1) bs
 drop-next i bs h = rw (add-one, drop-cons bs i 0)
 
--- ## reading
 module _ (bs : List ℕ) where
   pub read_past : (k pos : ℕ) → length bs ≤ pos → ReadIs k pos bs 0
   read_past k pos h =
