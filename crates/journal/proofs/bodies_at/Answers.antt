@@ -14,7 +14,7 @@ used_in-used-requires c = c.requires.0
 pub returns-then-not-is_sound_body : goal.returns-then-not-is_sound_body
 returns-then-not-is_sound_body c =
     scan_unsound _ _ _ _ _ _ c.loop-j.invariant _ _
-    c.loop-j-test.true
+    (omega arith)
     c.used_in-used.ensures
     c.is_sound_body.ensures
     c.if-not-is_sound_body.true
@@ -22,10 +22,10 @@ returns-then-not-is_sound_body c =
 pub loop-j-preserved : goal.loop-j-preserved
 loop-j-preserved c =
     scan_more _ _ _ _ _ _ c.loop-j.invariant _ _
-    c.loop-j-test.true
+    (omega arith)
     c.used_in-used.ensures
     c.is_sound_body.ensures
     c.if-not-is_sound_body.false
 
 pub returns : goal.returns
-returns c = scan_all _ _ _ _ _ _ c.loop-j.invariant c.loop-j-test.false
+returns c = scan_all _ _ _ _ _ _ c.loop-j.invariant (omega arith)

@@ -19,7 +19,7 @@ use Rattle.sectors.proofs.Forms.{
   other_length,
   all_right,
   same_bytes,
-  same-sound,
+  same-layout,
 }
 use Rattle.sectors.proofs.form_of.Goals as goal
 use Rattle.sectors.proofs.form_of.Goals.{After-file_bytes-whole, Else-not-is_sealed, Else-read_u64-ne-MAGIC, Else-size-ne4096, Else-version-ne1, Else-wrong_blocks, Else-wrong_journals, Start}
@@ -108,7 +108,7 @@ returns-then-bytes-whole c =
 
 pub returns : goal.returns
 returns c =
-    same-sound (blocks_are (goal.at.returns c).After-file_bytes-whole) (journals_are (goal.at.returns c).After-file_bytes-whole)
+    same-layout (blocks_are (goal.at.returns c).After-file_bytes-whole) (journals_are (goal.at.returns c).After-file_bytes-whole)
     ∙ all_right c.args.sector.now c.args.bytes (magic-is (goal.at.returns c).Else-read_u64-ne-MAGIC) (version-is (goal.at.returns c).Else-version-ne1) (size_is (goal.at.returns c).Else-size-ne4096)
     (rw (blocks_are (goal.at.returns c).After-file_bytes-whole) at (blocks-right (goal.at.returns c).Else-wrong_blocks))
     (rw (journals_are (goal.at.returns c).After-file_bytes-whole) at (journals-right (goal.at.returns c).Else-wrong_journals))
