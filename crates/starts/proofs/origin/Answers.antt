@@ -1,9 +1,8 @@
 -- `origin` meets its contract: the choice between the openings of both halves. Assumes nothing.
-use Prim.Native.Nat.{ℕ, ◌≤◌, ◌<◌}
+use Prim.Native.Nat.{ℕ}
 use native.Mathlib.Omega.{arith}
-use mathlib.Core.Path.{◌≡◌, sym, ◌∙◌}
+use mathlib.Core.Path.{◌≡◌}
 use lib.ListN.{length}
-use borrow.Author.Rules.{rules}
 use Rattle.std.specs.Prelude.{Some, None}
 use Rattle.std.specs.Prelude as std
 use Rattle.consumer.specs.State.{half_blocks}
@@ -39,9 +38,9 @@ returns-in-Some-None c =
 pub returns-then-a-b : goal.returns-then-a-b
 returns-then-a-b c =
     at-second c.args.area.now _ _ c.opened_by-first.ensures (second (goal.at.returns-then-a-b c).After-opened_by-second) _ _
-    c.in-Some-Some.is-1 c.half_blocks-middle.ensures (λ k q. omega (arith, same c.in-Some-Some.is-0 q, c.if-a-b.true))
+    c.in-Some-Some.is-1 c.half_blocks-middle.ensures (λ k q. let e : c.in-Some-Some.a ≡ k = same c.in-Some-Some.is-0 q in omega arith)
 
 pub returns-else-a-b : goal.returns-else-a-b
 returns-else-a-b c =
     at-first c.args.area.now _ _ c.opened_by-first.ensures (second (goal.at.returns-else-a-b c).After-opened_by-second) _
-    c.in-Some-Some.is-0 (λ n q. omega (arith, same c.in-Some-Some.is-1 q, c.if-a-b.false))
+    c.in-Some-Some.is-0 (λ n q. let e : c.in-Some-Some.b ≡ n = same c.in-Some-Some.is-1 q in omega arith)
