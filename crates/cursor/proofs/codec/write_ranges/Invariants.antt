@@ -18,6 +18,3 @@ invariant-loop-i l =
     × (l.pos ≡ l.at + 16 * l.i)
     × (length l.out ≡ length l.initial.out)
     × (overwrite l.pos (ranges_bytes (drop l.i (zipped range (take l.n l.starts) (take l.n l.ends)))) l.out ≡ overwrite l.at (ranges_bytes (zipped range (take l.n l.starts) (take l.n l.ends))) l.initial.out)
-
-abbrev pub decreases-loop-i : goal.decreases-loop-i
-decreases-loop-i l = l.n - l.i

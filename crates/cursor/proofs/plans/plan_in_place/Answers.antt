@@ -14,8 +14,8 @@ returns-then-offsets-out c =
 
 pub returns-in-At : goal.returns-in-At
 returns-in-At c =
-    plan-falling (view (ack_cursor c.args.committed c.args.starts.now c.args.ends.now c.args.runs)) c.args.offsets.now c.args.out.now c.if-offsets-out.false _ (sym (ap fall_of c.in-At.is) ∙ c.first_fall-fall.ensures)
+    plan-falling (view (ack_cursor c.args.committed c.args.starts.now c.args.ends.now c.args.runs)) c.args.offsets.now c.args.out.now c.if-offsets-out.false _ (sym (ap fall_of c.in-Some.is) ∙ c.first_fall-fall.ensures)
 
 pub returns-in-None : goal.returns-in-None
 returns-in-None c =
-    plan-answered (view (ack_cursor c.args.committed c.args.starts.now c.args.ends.now c.args.runs)) c.args.offsets.now c.args.out.now c.if-offsets-out.false c.requires.sound.valid (sym (ap fall_of c.in-None.is) ∙ c.first_fall-fall.ensures) _ _ c.answer_all.ensures.0 c.answer_all.ensures.1
+    plan-answered (view (ack_cursor c.args.committed c.args.starts.now c.args.ends.now c.args.runs)) c.args.offsets.now c.args.out.now c.if-offsets-out.false c.requires.sound.valid (sym (ap fall_of c.in_default.is) ∙ c.first_fall-fall.ensures) _ _ c.answer_all.ensures.0 c.answer_all.ensures.1

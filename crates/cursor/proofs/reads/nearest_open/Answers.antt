@@ -9,4 +9,4 @@ use Rattle.cursor.proofs.reads.nearest_open.Goals as goal
 
 pub returns : goal.returns
 returns c =
-    ap offset (c.larger.ensures ∙ found_nearest (cursor_in c.args.cursor.now) (whole c.requires) c.args.from.0 c.place_of-at.result c.end_before.result c.place_of-at.ensures.0 c.end_before.ensures)
+    ap offset (c.max.ensures ∙ found_nearest (cursor_in c.args.cursor.now) (whole c.requires) c.args.from.0 c.place_of-at.result c.end_before.result c.place_of-at.ensures.0 c.end_before.ensures)

@@ -38,11 +38,11 @@ returns-in_default c =
 
 pub copy-requires : goal.copy-requires
 copy-requires c =
-    (omega (arith, few c.args.committed.0 c.args.starts.now c.args.ends.now c.in-Resumed.is c.check_columns-checked.ensures c.shorter-runs.ensures, column-long STARTS c.args.cursor.now c.requires (omega arith)), omega (arith, c.shorter-runs.ensures))
+    (omega (arith, few c.args.committed.0 c.args.starts.now c.args.ends.now c.in-Resumed.is c.check_columns-checked.ensures c.min-runs.ensures, column-long STARTS c.args.cursor.now c.requires (omega arith)), omega (arith, c.min-runs.ensures))
 
 pub copy-requires-2 : goal.copy-requires-2
 copy-requires-2 c =
-    (omega (arith, few c.args.committed.0 c.args.starts.now c.args.ends.now c.in-Resumed.is c.check_columns-checked.ensures c.shorter-runs.ensures, ends-long c.args.cursor.now c.requires c.copy.new.column c.copy.auto.column), omega (arith, c.shorter-runs.ensures))
+    (omega (arith, few c.args.committed.0 c.args.starts.now c.args.ends.now c.in-Resumed.is c.check_columns-checked.ensures c.min-runs.ensures, ends-long c.args.cursor.now c.requires c.copy.new.column c.copy.auto.column), omega (arith, c.min-runs.ensures))
 
 pub bounds-cursor-1 : goal.bounds-cursor-1
 bounds-cursor-1 c =
@@ -50,10 +50,10 @@ bounds-cursor-1 c =
 
 pub shape_of-cursor : goal.shape_of-cursor
 shape_of-cursor c =
-    stored-long c.args.cursor.now c.requires c.copy.new.column c.copy.auto.column c.copy-2.new.column c.copy-2.auto.column c.args.committed.0 c.shorter-runs.result ∙ sym c.requires
+    stored-long c.args.cursor.now c.requires c.copy.new.column c.copy.auto.column c.copy-2.new.column c.copy-2.auto.column c.args.committed.0 c.min-runs.result ∙ sym c.requires
 
 pub returns : goal.returns
 returns c =
     resume-made c.args.cursor.now c.requires c.copy.new.column c.copy.auto.column c.copy-2.new.column c.copy-2.auto.column
-    c.check_columns-checked.result c.in-Resumed.is c.args.committed.0 c.args.starts.now c.args.ends.now (faultless c.in-Resumed.is c.check_columns-checked.ensures) c.shorter-runs.result c.shorter-runs.ensures (omega arith) (λ i. omega (arith, c.type_inv.ends i))
+    c.check_columns-checked.result c.in-Resumed.is c.args.committed.0 c.args.starts.now c.args.ends.now (faultless c.in-Resumed.is c.check_columns-checked.ensures) c.min-runs.result c.min-runs.ensures (omega arith) (λ i. omega (arith, c.type_inv.ends i))
     c.copy.ensures c.copy-2.ensures
