@@ -99,7 +99,7 @@ pub fn import_in_place<'a>(
 pub fn free_slots(slots: &mut [u32; LEASES])
     ensures { Permutes LEASES slots.new }
 {
-    *slots = tables::slots();
+    *slots = tables::all_slots();
 }
 
 // The numbers of a fresh consumer.

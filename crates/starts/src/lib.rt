@@ -109,7 +109,7 @@ fn resumed_table(
     LeaseTable {
         config: config,
         offsets: [0; LEASES],
-        slots: tables::slots(),
+        slots: tables::all_slots(),
         generations: [0; LEASES],
         attempt_starts: [0; LEASES],
         deadlines: [0; LEASES],
@@ -222,22 +222,28 @@ pub fn origin(area: &[u8]) -> NextGroup
     let first = opened_by(area, 0);
     let second = opened_by(area, middle);
     match (first, second) {
-        (Some(a), Some(b)) if a < b => NextGroup {
-            number: b,
-            block: middle,
-        },
-        (None, Some(b)) => NextGroup {
-            number: b,
-            block: middle,
-        },
-        (Some(a), _) => NextGroup {
-            number: a,
-            block: 0,
-        },
         (None, None) => NextGroup {
             number: 1,
             block: 0,
         },
+        (Some(number), None) => NextGroup { number, block: 0 },
+        (None, Some(number)) => NextGroup {
+            number,
+            block: middle,
+        },
+        (Some(a), Some(b)) => {
+            if a < b {
+                NextGroup {
+                    number: b,
+                    block: middle,
+                }
+            } else {
+                NextGroup {
+                    number: a,
+                    block: 0,
+                }
+            }
+        }
     }
 }
 

@@ -24,6 +24,3 @@ invariant-loop-i l =
     (length l.offsets ≡ 128) ×
     (length l.counts ≡ 128) ×
     (entries (take l.len l.offsets) (take l.len l.counts) ++ unsettled_counts k (entries_of (drop l.i (take l.count l.pairs))) ≡ unsettled_counts k (entries_of (take l.count l.pairs)))
-
-abbrev pub decreases-loop-i : goal.decreases-loop-i
-decreases-loop-i l = l.count - l.i
