@@ -9,5 +9,5 @@ use Rattle.checkpoint.proofs.counts.Columns.put.Goals as goal
 pub returns : goal.returns
 returns g c =
     let a = c.args in
-    pairs-encoded (merge (leased g.T.Number.value a.self) (carried g.T.Number.value a.self)) (a.self.len + a.self.carried_len) a.at a.out.now
+    pairs-encoded (merge (leased g.T.Number.numbers a.self) (carried g.T.Number.numbers a.self)) (a.self.len + a.self.carried_len) a.at a.out.now
     c.open_v2.new.out c.put_pairs.new.out _ (listed-length c.requires.0.listed) c.requires.1 c.requires.2 c.open_v2.ensures c.put_pairs.ensures c.seal_v2.ensures

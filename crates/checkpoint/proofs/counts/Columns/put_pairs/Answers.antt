@@ -24,7 +24,7 @@ loop-k-preserved g c =
       counts = omega (arith, is.right, counts-left p l.i l.j, l.invariant.counts);
       taken = omega (arith, is.one, l.invariant.taken);
       long = c.put_v2.auto.out ∙ l.invariant.long;
-      left = rw (← drop-drop r.left l.i (leased g.T.Number.value a.self), ← drop-drop r.right l.j (carried g.T.Number.value a.self)) (more ∙ l.invariant.left);
+      left = rw (← drop-drop r.left l.i (leased g.T.Number.numbers a.self), ← drop-drop r.right l.j (carried g.T.Number.numbers a.self)) (more ∙ l.invariant.left);
     }
 
 pub returns : goal.returns
@@ -32,8 +32,8 @@ returns g c =
     let l = c.loop-k in
     let a = c.args in
     let p = c.requires.0.listed in
-    let ours = leased g.T.Number.value a.self in
-    let theirs = carried g.T.Number.value a.self in
+    let ours = leased g.T.Number.numbers a.self in
+    let theirs = carried g.T.Number.numbers a.self in
     let none = none_left p l.i l.j (omega (arith, l.invariant.taken, l.invariant.leases, l.invariant.counts, c.loop-k-test.false)) (omega (arith, l.invariant.taken, l.invariant.leases, l.invariant.counts, c.loop-k-test.false)) in
     let written : putting (a.self.len + a.self.carried_len) a.at l.k (merge (drop l.i ours) (drop l.j theirs)) l.out ≡ l.out = rw none in
     sym written ∙ l.invariant.left ∙ putting-all (a.self.len + a.self.carried_len) a.at (merge ours theirs) a.out.now (listed-length p) c.requires.1

@@ -8,8 +8,8 @@ use Rattle.checkpoint.proofs.counts.Columns.put_pairs.Given as goal
 
 abbrev pub invariant-loop-k : goal.invariant-loop-k
 invariant-loop-k g l =
-    let ours = leased g.T.Number.value l.self in
-    let theirs = carried g.T.Number.value l.self in
+    let ours = leased g.T.Number.numbers l.self in
+    let theirs = carried g.T.Number.numbers l.self in
     record {
       leases : l.i ≤ l.self.len;
       counts : l.j ≤ l.self.carried_len;
