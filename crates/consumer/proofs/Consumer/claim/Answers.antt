@@ -1,10 +1,6 @@
 -- `Consumer::claim` meets its contract: the parts of a consumer, lent to `claim_in_place`, are that consumer. Assumes nothing.
-use mathlib.Core.Path.{sym, subst}
 use borrow.Author.Rules.{rules}
-use Rattle.consumer.specs.Calls.{claim}
 use Rattle.consumer.specs.Parts.{Whole}
-use Rattle.consumer.specs.View.{view, Answers, claim_of}
-use Rattle.consumer.specs.declared.Consumer.{Consumer}
 use Rattle.consumer.proofs.Arrays.{table-full, cursor-whole}
 use Rattle.consumer.proofs.CallsReturns.{table-whole}
 use Rattle.consumer.proofs.Consumer.claim.Goals as goal
@@ -18,6 +14,4 @@ claim_in_place-done-requires c =
     (cursor-whole c.args.self.cursor _ c.well_formed.0.1.1.0 c.requires.cursor, table-whole (whole (goal.at.claim_in_place-done-requires c).Start))
 
 pub returns : goal.returns
-returns c =
-    let x = c.args.self in
-    subst (λ (y : Consumer). Answers (claim_of c.claim_in_place-done.result.answer) x y (claim (view x) c.args.worker c.args.offset.0 c.args.now)) (sym c.with_table.ensures) (c.claim_in_place-done.ensures x (whole (goal.at.returns c).Start))
+returns c = c.claim_in_place-done.ensures c.args.self (whole (goal.at.returns c).Start)
