@@ -3,6 +3,7 @@
 ghost use Rattle.std.specs.Prelude.{◌+◌, ◌*◌, ◌<◌, ◌≤◌, ◌≡◌, ℕ, true, List, length, drop, get_or};
 ghost use Rattle.types.specs.Refusal.{done};
 ghost use Rattle.types.specs.Table.{answer};
+ghost use Rattle.types.specs.Limits.{MAX32};
 ghost use Rattle.tables.specs.Merge.{merge};
 ghost use Rattle.raw.specs.Bytes.{overwrite};
 ghost use Rattle.attempt.specs.Snapshot.{pairs_bytes, encode_into2};
@@ -11,29 +12,37 @@ ghost use Rattle.checkpoint.specs.Counts.{counts_of, leased, carried, next_count
 use attempt::pairs;
 use types::limits::LEASES;
 
-// The type of the numbers in a column: 32 bits in an array of their own, or 64 among the words of a table.
+// What a column of numbers of 32 bits is made of: a `u32` for each in an array of their own, or a `u64` among the words of a table.
 pub trait Number: Copy {
     ghost numbers: { List Self → List ℕ };
 
+    // That none of them is longer.
+    ghost narrow: { List Self → Type 0 };
+
     // The number at a place.
-    fn at(column: &[Self], i: usize) -> u64
-        requires { i < length (numbers column.now) }
+    fn at(column: &[Self], i: usize) -> u32
+        requires narrow { narrow column.now }
+        requires within { i < length (numbers column.now) }
         ensures { result ≡ get_or (numbers column.now) i 0 };
 }
 
 impl Number for u32 {
     ghost numbers = { λ column. column };
 
-    fn at(column: &[u32], i: usize) -> u64 {
-        u64::from(column[i])
+    ghost narrow = { λ column. Unit {0} };
+
+    fn at(column: &[u32], i: usize) -> u32 {
+        column[i]
     }
 }
 
 impl Number for u64 {
     ghost numbers = { λ column. column };
 
-    fn at(column: &[u64], i: usize) -> u64 {
-        column[i]
+    ghost narrow = { λ column. (i : ℕ) → get_or column i 0 ≤ MAX32 };
+
+    fn at(column: &[u64], i: usize) -> u32 {
+        column[i] as u32
     }
 }
 
@@ -62,13 +71,13 @@ pub struct NextCount {
 impl<'a, T: Number> Columns<'a, T> {
     // The count of lease i.
     fn leased(self, i: usize) -> NextCount
-        requires { Storable T.numbers self × (i < self.len) }
+        requires { Storable T.numbers T.narrow self × (i < self.len) }
         ensures { result ≡ next_count (get_or self.entry.offsets.now i 0) (get_or (counts_of T.numbers self.entry) i 0) 1 0 }
     {
         let slot = T::at(self.slots, i) as usize % LEASES;
         NextCount {
             offset: self.offsets[i],
-            attempt: T::at(self.deliveries, slot) as u32,
+            attempt: T::at(self.deliveries, slot),
             left: 1,
             right: 0,
         }
@@ -76,12 +85,12 @@ impl<'a, T: Number> Columns<'a, T> {
 
     // The carried count j.
     fn carried(self, j: usize) -> NextCount
-        requires { Storable T.numbers self × (j < self.carried_len) }
+        requires { Storable T.numbers T.narrow self × (j < self.carried_len) }
         ensures { result ≡ next_count (get_or self.entry.carried_offsets.now j 0) (get_or (T.numbers self.entry.carried_counts.now) j 0) 0 1 }
     {
         NextCount {
             offset: self.carried_offsets[j],
-            attempt: T::at(self.carried_counts, j) as u32,
+            attempt: T::at(self.carried_counts, j),
             left: 0,
             right: 1,
         }
@@ -89,7 +98,7 @@ impl<'a, T: Number> Columns<'a, T> {
 
     // The lower of lease i and carried count j, where one of them is there.
     fn next(self, i: usize, j: usize) -> NextCount
-        requires { Storable T.numbers self × (i ≤ self.len) × (j ≤ self.carried_len) × (i + j < self.len + self.carried_len) }
+        requires { Storable T.numbers T.narrow self × (i ≤ self.len) × (j ≤ self.carried_len) × (i + j < self.len + self.carried_len) }
         ensures { NextIs (drop i (leased T.numbers self.entry)) (drop j (carried T.numbers self.entry)) result }
     {
         if self.len <= i {
@@ -106,7 +115,7 @@ impl<'a, T: Number> Columns<'a, T> {
 
     // Writes the pairs of a snapshot that begins at a position.
     fn put_pairs(self, out: &mut [u8], at: usize)
-        requires { Storable T.numbers self × (at + (5 + 12 * (self.len + self.carried_len)) ≤ length out.old) }
+        requires { Storable T.numbers T.narrow self × (at + (5 + 12 * (self.len + self.carried_len)) ≤ length out.old) }
         ensures { out.new ≡ overwrite (at + 5) (pairs_bytes true (merge (leased T.numbers self.entry) (carried T.numbers self.entry))) out.old }
     {
         let count = self.len + self.carried_len;
@@ -122,7 +131,7 @@ impl<'a, T: Number> Columns<'a, T> {
 
     // Writes their snapshot, in version 2, from a position on.
     pub fn put(self, out: &mut [u8], at: usize)
-        requires { Storable T.numbers self × (self.len + self.carried_len ≤ 128) × (at + (9 + 12 * (self.len + self.carried_len)) ≤ length out.old) }
+        requires { Storable T.numbers T.narrow self × (self.len + self.carried_len ≤ 128) × (at + (9 + 12 * (self.len + self.carried_len)) ≤ length out.old) }
         ensures { answer (done (at + (9 + 12 * (self.entry.len + self.entry.carried_len)))) out.new ≡ encode_into2 (merge (leased T.numbers self.entry) (carried T.numbers self.entry)) at out.old }
     {
         let count = self.len + self.carried_len;

@@ -118,7 +118,7 @@ pub fn begin_permitted<'a, T: Number>(
     payload: &mut [u8; 3606],
 ) -> Result<BegunAt, Refusal>
     requires parts { Beginnable (fitting (ack_cursor committed starts.now ends.now runs) (counting T.numbers counts) number block area_len) payload.old }
-    requires narrow { Narrow T.numbers counts }
+    requires narrow { Narrow T.narrow counts }
     ensures { PermittedIn result (fitting (ack_cursor committed starts.now ends.now runs) (counting T.numbers counts.entry) number block area_len) payload.old payload.new }
 {
     if (MAX32 as u64) < number {
