@@ -9,7 +9,7 @@ ghost use Rattle.types.specs.Limits.{MAX};
 ghost use Rattle.types.specs.Identifiers.{offset};
 ghost use Rattle.types.specs.Refusal.{done};
 ghost use Rattle.types.specs.Refused.{refusal_of, as_is};
-ghost use Rattle.types.specs.Lists.{listed, roomFor};
+ghost use Rattle.types.specs.Lists.{listed};
 ghost use Rattle.types.specs.Table.{answer, first};
 ghost use Rattle.types.specs.Zipped.{zipped};
 ghost use Rattle.cursor.specs.Ranges.{range, EndsFit, offsets};
@@ -23,7 +23,7 @@ use crate::columns::check_columns;
 use crate::in_place::{apply, is_acked_in_place, plan_ack, plan_commit};
 use types::limits::RANGES;
 use types::refusals::Refusal;
-use types::{Offset, lent};
+use types::Offset;
 
 // `encode_snapshot` and `decode_snapshot`; the same over lent columns.
 mod codec;
@@ -143,19 +143,20 @@ impl From<SnapshotError> for Refusal {
     }
 }
 
+impl Default for AckCursor {
+    fn default() -> AckCursor
+        ensures { Fresh 0 result }
+    {
+        AckCursor::new()
+    }
+}
+
 impl AckCursor {
     // A cursor at offset zero with nothing acked.
     pub fn new() -> AckCursor
         ensures { Fresh 0 result }
     {
         AckCursor::resume(Offset::ZERO)
-    }
-
-    // The same.
-    pub fn default() -> AckCursor
-        ensures { Fresh 0 result }
-    {
-        AckCursor::new()
     }
 
     // A cursor at a committed offset with nothing acked ahead of it.
@@ -219,11 +220,14 @@ impl AckCursor {
         requires { Sound self }
         ensures { answer (as_is result) out.new ≡ listed (view self).ahead out.old }
     {
-        let n = self.room_for(out.len())?;
-        for i in 0..n {
+        let runs = self.runs;
+        if out.len() < runs {
+            return Err(Refusal::OutTooShort);
+        }
+        for i in 0..runs {
             out[i] = self.range_at(i);
         }
-        Ok(n)
+        Ok(runs)
     }
 
     // The offset below which all are acked.
@@ -326,14 +330,6 @@ impl AckCursor {
             cursor: self,
             advanced: moved.advanced,
         }
-    }
-
-    // Whether the ranges fit into a list of this length.
-    fn room_for(self, len: usize) -> Result<usize, Refusal>
-        requires { Sound self }
-        ensures { as_is result ≡ roomFor (length (view self).ahead) len }
-    {
-        lent::room_for(self.runs, RANGES, len)
     }
 
     // The range at a place.

@@ -6,4 +6,4 @@ use Rattle.cursor.specs.View.{view}
 use Rattle.cursor.proofs.AckCursor.ahead_ranges.Given as goal
 
 abbrev pub invariant-loop-i : goal.invariant-loop-i
-invariant-loop-i l = Written (view l.self).ahead l.initial.out l.n l.i l.out
+invariant-loop-i l = Written (view l.self).ahead l.initial.out l.runs l.i l.out
