@@ -9,6 +9,7 @@ use lib.ListN.{length, length-append, length-take, length-replicate}
 use lib.Dec.{ltb}
 use borrow.Author.Tests.{lt-ltb, le-ltb, eq-eqb, ne_eqb}
 use Rattle.types.specs.Limits.{STEPS}
+use Rattle.std.specs.Prelude.{Ok, Err}
 use Rattle.std.specs.Prelude as std
 use Rattle.types.specs.declared.refusals.Refusal as code
 use Rattle.types.specs.Refusal.{Refusal, Result, refused, done, UnlimitedDeliverNotAllowed, TooManySteps, ZeroThreshold, BadArea}
@@ -108,17 +109,17 @@ module _ (s : Configuration) (size : ℕ) (full : length s.settings.delivery.bac
   pub started-fresh : (a : std.Result (Unit {0}) code.Refusal) (c : Consumer) → start_fault a ≡ first (start_table (configuration_of s) size) → FreshIs s size c
       → StartedIs s size (start (configuration_of s) size) (record { answer = a; consumer = c })
   unfolding start
-  started-fresh a c e i = go (first (start_table (configuration_of s) size)) refl
+  started-fresh a c e i = go a e
     where
-      go : (o : Option Refusal) → first (start_table (configuration_of s) size) ≡ o
-          → StartedIs s size (checked (start_table (configuration_of s) size) (done (fresh (configuration_of s) size))) (record { answer = a; consumer = c })
-      go (some r) q = record { is = rw (e, q); beside = rw q i.is }
-      go none q =
-          let p = first_none (start_table (configuration_of s) size) q in
+      go : (d : std.Result (Unit {0}) code.Refusal) → start_fault d ≡ first (start_table (configuration_of s) size)
+          → StartedIs s size (checked (start_table (configuration_of s) size) (done (fresh (configuration_of s) size))) (record { answer = d; consumer = c })
+      go (Err r) q = record { is = rw (← q); beside = rw (← q) i.is }
+      go (Ok x) q =
+          let p = first_none (start_table (configuration_of s) size) (sym q) in
           record {
-            is = rw (e, q) (ap done (i.is ∙ ap (λ (k : state.Configuration). fresh k size) (sym (same-configuration p))));
+            is = rw (← q) (ap done (i.is ∙ ap (λ (k : state.Configuration). fresh k size) (sym (same-configuration p))));
             beside =
-                rw q
+                rw (← q)
                 (record {
                   cursor = i.cursor;
                   table = i.table;

@@ -1,6 +1,5 @@
 -- `check_hours` meets its contract: the hours' own tests, then the area's. Assumes nothing.
 use mathlib.Core.Path.{sym, ◌∙◌}
-use borrow.Author.Rules.{rules}
 use Rattle.std.proofs.lemmas.Result.{err_from_is_err_and}
 use Rattle.hours.specs.View.{view}
 use Rattle.starts.proofs.Starting.{hours-refused, area-refused, accepted}

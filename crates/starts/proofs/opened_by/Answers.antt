@@ -1,7 +1,6 @@
 -- `opened_by` meets its contract: a part that is no block opens nothing, and a block is tested under its own number. Assumes
 -- nothing.
 use mathlib.Core.Path.{◌∙◌}
-use borrow.Author.Rules.{rules}
 use Rattle.starts.proofs.Halves.{opens-short, opens-tested, opens-found}
 use Rattle.starts.proofs.opened_by.Goals as goal
 

@@ -12,4 +12,4 @@ returns c =
     -- what the types of the configuration say
     let full : length c.args.configuration.settings.delivery.backoff_nanos ≡ 16 = search rules in
     let fits : Fits (configuration_of c.args.configuration).settings = record { limit-fits = search rules; threshold-fits = search rules } in
-    started-fresh c.args.configuration c.args.area_len full fits _ _ c.check_start.ensures c.fresh.ensures
+    started-fresh c.args.configuration c.args.area_len full fits _ _ c.check_start-answer.ensures c.fresh-consumer.ensures

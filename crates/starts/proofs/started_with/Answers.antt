@@ -1,6 +1,5 @@
 -- `started_with` meets its contract: a refusal beside a fresh consumer, or the consumer of the parts that were read. Assumes nothing.
 use Rattle.starts.proofs.Restarting.{refused-value, resumed-value}
-use borrow.Author.Rules.{rules}
 use Rattle.starts.proofs.started_with.Goals as goal
 
 pub returns-in-Ok : goal.returns-in-Ok

@@ -1,6 +1,5 @@
 -- `read_last` meets its contract: the last group is read, or there is none. Assumes nothing.
 use Rattle.starts.proofs.Restarting.{last-there, last-read, none_read}
-use borrow.Author.Rules.{rules}
 use Rattle.starts.proofs.in_place.read_last.Goals as goal
 
 pub read_group-requires : goal.read_group-requires

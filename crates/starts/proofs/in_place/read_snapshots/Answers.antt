@@ -1,15 +1,12 @@
 -- `read_snapshots` meets its contract: the test of the cursor's snapshot, then the attempts, then the parts of both. Assumes nothing.
 use native.Mathlib.Omega.{arith}
-use Prim.Native.Nat.{ℕ, ◌≤◌}
-use mathlib.Core.Path.{◌≡◌, sym, ap, ◌∙◌}
+use mathlib.Core.Path.{sym, ap, ◌∙◌}
 use Rattle.std.proofs.lemmas.Result.{err_from_is_err_and}
-use mathlib.Core.List.{List, ◌++◌}
 use Rattle.types.specs.Refusal.{refused}
 use Rattle.raw.proofs.Bytes.{bytes-known}
 use Rattle.cursor.proofs.Walking.{checked-few, columns-restored}
 use Rattle.attempt.proofs.Codec.{decoded-refused, decoded-read}
 use Rattle.starts.proofs.Resuming.{cursor-said, cursor-held, cursor-refused, attempts-refused, both_read, column-long}
-use borrow.Author.Rules.{rules}
 use Rattle.starts.proofs.in_place.read_snapshots.Goals as goal
 
 pub returns-in_err-figures : goal.returns-in_err-figures

@@ -6,9 +6,9 @@ use mathlib.Core.Path.{◌≡◌, ap}
 use lib.ListN.{length}
 use Rattle.std.proofs.lemmas.Result.{err_from_is_err_and}
 use Rattle.raw.proofs.Bytes.{bytes-known}
-use Rattle.consumer.specs.State.{NextGroup, half_blocks}
+use Rattle.consumer.specs.State.{NextGroup}
 use Rattle.consumer.specs.Valid.{Fits}
-use Rattle.starts.specs.Restart.{origin, limit}
+use Rattle.starts.specs.Restart.{limit}
 use Rattle.starts.specs.Starting.{configuration_of}
 use Rattle.starts.proofs.Halves.{limit-within}
 use Rattle.starts.proofs.Restarting.{restart-refused, walk-refused, walk-stopped, restarted}

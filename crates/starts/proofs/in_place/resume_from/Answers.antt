@@ -1,7 +1,6 @@
 -- `resume_from` meets its contract: where the walk ended, what stands there and behind it is tested, and the last
 -- group lies in the area. Assumes nothing.
 use Rattle.starts.proofs.Restarting.{stopped-lies, unfit-resumed, worn-resumed, last-resumed}
-use borrow.Author.Rules.{rules}
 use Rattle.starts.proofs.in_place.resume_from.Goals as goal
 
 pub returns-then-unfit_at : goal.returns-then-unfit_at
