@@ -4,14 +4,14 @@ use Prim.Native.Nat.{ℕ, zero, suc, ◌+◌, ◌-◌, ◌*◌, ◌/◌, ◌≤�
 use native.Mathlib.Omega.{arith}
 use native.Mathlib.Nat.{suc_inj, le_of_suc-le-suc}
 use mathlib.Core.Path.{◌≡◌, refl, sym, ap, subst, ◌∙◌}
-use mathlib.Core.Bool.{Bool, true, false, cond, not, ◌&&◌, ◌||◌, and-false, or-true, true≢false}
+use mathlib.Core.Bool.{Bool, true, false, cond, not, ◌&&◌, ◌||◌, and-false, true≢false}
 use mathlib.Core.List.{List, [], ◌∷◌}
 use lib.Dec.{ltb, leb}
 use lib.ListN.{length, take, drop, get_or, set, take-append-drop}
 use lib.Seq.{take-length}
 use borrow.Author.Tests.{ltb-true, ltb-false, leb-true, leb-false, lt-ltb, le-ltb, le-leb, lt-leb}
 use Rattle.types.specs.Refusal.{Result, refused, done, BoundsReversed, OutTooShort}
-use Rattle.types.specs.Table.{Answer, answer, checked}
+use Rattle.types.specs.Table.{answer}
 use Rattle.types.specs.Lists.{listed}
 use Rattle.types.specs.Zipped.{zipped}
 use Rattle.types.specs.Sorted.{upTo}
@@ -22,7 +22,7 @@ use Rattle.cursor.specs.Ranges.{range, Above, inside}
 use Rattle.cursor.specs.Cursor.{Cursor, cursor, Valid, settled}
 use Rattle.cursor.specs.View.{view, Whole}
 use Rattle.cursor.specs.Place.{rangeAt}
-use Rattle.cursor.specs.Unsettled.{open_in, Apart, AreStretches, IsNearest, in_front, left_by, stretches, beyond, nearest_open, bounds, bounds_table, filled, open_between, open_numbers}
+use Rattle.cursor.specs.Unsettled.{open_in, Apart, AreStretches, IsNearest, in_front, left_by, stretches, beyond, nearest_open, bounds, filled, open_between, open_numbers}
 use Rattle.cursor.specs.declared.Range.{Range}
 use Rattle.cursor.specs.declared.AckCursor.{AckCursor}
 use Rattle.cursor.proofs.Ranges.{inside-above}

@@ -1,7 +1,7 @@
 -- The reverse of what is settled: the unsettled stretches between two numbers, and the nearest unsettled offset; what each is, and
 -- how it is found in the ranges.
 -- SPEC.md, "Open offsets".
-use Rattle.std.specs.Prelude.{ℕ, suc, ◌/◌, ◌≤◌, ◌<◌, min, max, ◌≡◌, Bool, true, false, cond, not, ◌&&◌, List, [], ◌∷◌, ◌++◌, ltb, leb, length, take, drop}
+use Rattle.std.specs.Prelude.{ℕ, suc, ◌/◌, ◌≤◌, ◌<◌, min, max, ◌≡◌, Bool, true, false, cond, not, ◌&&◌, List, [], ◌∷◌, ◌++◌, ltb, leb, length, drop}
 use Rattle.types.specs.Refusal.{done, BoundsReversed, OutTooShort}
 use Rattle.types.specs.Table.{Row, ◌⇒◌, Answer, answer, guarded}
 use Rattle.cursor.specs.Ranges.{range, inside}

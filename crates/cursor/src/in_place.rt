@@ -15,8 +15,8 @@ ghost use Rattle.cursor.specs.Place.{Spotted};
 ghost use Rattle.cursor.specs.Edits.{edited, ack_plan, stretch_plan, join_plan, AckPlanned, CommitPlanned};
 ghost use Rattle.cursor.specs.Snapshot.{encode_cursor};
 
-use crate::columns::encode_columns;
 use crate::BoundedAck;
+use crate::columns::encode_columns;
 use types::limits::{MAX, RANGES};
 use types::refusals::Refusal;
 

@@ -21,9 +21,9 @@ ghost use Rattle.cursor.specs.declared.SnapshotError.TheVariants.{Ranges};
 
 use crate::columns::check_columns;
 use crate::in_place::{apply, is_acked_in_place, plan_ack, plan_commit};
+use types::Offset;
 use types::limits::RANGES;
 use types::refusals::Refusal;
-use types::Offset;
 
 // `encode_snapshot` and `decode_snapshot`; the same over lent columns.
 mod codec;
@@ -174,7 +174,10 @@ impl AckCursor {
     // A cursor at a committed offset with ranges ahead of it, of which there may be any number. Refused range by range: an
     // empty one (10), one not above the end before it (11); then over 128 ranges (12). A caller whose ranges are refused can still
     // `resume` at committed: what was acked ahead of it comes again.
-    pub fn resume_with_ahead(committed: Offset, ahead: &[Range]) -> Result<AckCursor, AckCursorError>
+    pub fn resume_with_ahead(
+        committed: Offset,
+        ahead: &[Range],
+    ) -> Result<AckCursor, AckCursorError>
         ensures { ResumedIs committed.0 ahead.now result }
     {
         check_ahead(committed.0, ahead)?;

@@ -12,8 +12,8 @@ ghost use Rattle.cursor.specs.Unsettled.{stretches, nearest_open, open_between, 
 
 use crate::in_place::{end_before, partition_point};
 use crate::{AckCursor, Range};
-use types::refusals::Refusal;
 use types::Offset;
+use types::refusals::Refusal;
 
 // Where the stretches begin, and how many they are.
 #[derive(Clone, Copy)]

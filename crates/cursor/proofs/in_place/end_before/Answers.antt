@@ -1,5 +1,4 @@
 -- `end_before` meets its contract. Assumes nothing.
-use borrow.Author.Rules.{rules}
 use Rattle.types.proofs.Zipped.{get_d_behind}
 use Rattle.cursor.proofs.in_place.end_before.Goals as goal
 

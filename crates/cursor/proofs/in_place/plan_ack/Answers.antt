@@ -2,12 +2,10 @@
 use Prim.Native.Nat.{ℕ, ◌≤◌}
 use native.Mathlib.Omega.{arith}
 use mathlib.Core.Path.{◌≡◌, subst}
-use borrow.Author.Rules.{rules}
 use Rattle.types.specs.Limits.{MAX}
 use Rattle.cursor.specs.Cursor.{Cursor}
 use Rattle.cursor.specs.View.{ack_cursor, view}
 use Rattle.cursor.specs.Place.{Spotted}
-use Rattle.cursor.specs.declared.AckCursor.{AckCursor}
 use Rattle.cursor.specs.declared.in_place.Spot.{Spot}
 use Rattle.cursor.proofs.Search.{runs-is}
 use Rattle.cursor.proofs.Answers.{not_last}

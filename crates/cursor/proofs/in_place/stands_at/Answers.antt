@@ -1,5 +1,4 @@
 -- `stands_at` meets its contract. Assumes nothing.
-use borrow.Author.Rules.{rules}
 use borrow.Author.Tests.{lt-ltb, le-ltb}
 use Rattle.cursor.proofs.in_place.stands_at.Goals as goal
 

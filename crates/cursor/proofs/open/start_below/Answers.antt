@@ -4,7 +4,6 @@ use native.Mathlib.Omega.{arith}
 use mathlib.Core.Path.{◌≡◌, ◌∙◌}
 use lib.ListN.{take, get_or}
 use lib.Seq.{length-take-le, get_or-take}
-use borrow.Author.Rules.{rules}
 use Rattle.cursor.proofs.Unsettled.{get_d_in, get_d_past}
 use Rattle.cursor.proofs.open.start_below.Goals as goal
 use Rattle.cursor.proofs.open.start_below.Goals.{Start}
