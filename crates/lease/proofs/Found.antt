@@ -16,13 +16,6 @@ use Rattle.lease.specs.declared.Lease.{Lease}
 use Rattle.lease.specs.declared.in_place.Held.{Held}
 
 -- ## a lease
-module _ (x : Option Lease) {r : std.Option Lease} (p : lease_in r ≡ x) where
-  pub found-lease : {l : Lease} → r ≡ Some l → x ≡ some l
-  found-lease e = sym p ∙ ap lease_in e
-
-  pub found_none : r ≡ None → x ≡ none
-  found_none e = sym p ∙ ap lease_in e
-
 -- its four values are what the question answers
 pub told-lease : (r : std.Option Lease) {x : Option Lease} → lease_in r ≡ x → lease_at r ≡ done (lease_values x)
 told-lease r p = ap (λ (y : Option Lease). done (lease_values y)) p
