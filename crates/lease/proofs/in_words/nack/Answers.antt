@@ -3,7 +3,7 @@ use Rattle.std.proofs.Common.{◌≡◌, sym, ◌∙◌, subst, arith}
 use Rattle.std.proofs.lemmas.Result.{err_from_is_err_and}
 use Rattle.types.specs.declared.refusals.Refusal.TheVariants as refusal
 use Rattle.lease.specs.InWords.{OwnedIn}
-use Rattle.lease.proofs.InWords.{owned-low, nack-refused, nack_exhausted}
+use Rattle.lease.proofs.InWords.{nack-refused, nack_exhausted}
 use Rattle.lease.proofs.in_words.nack.Goals as goal
 
 pub returns-in_err-at : goal.returns-in_err-at
@@ -15,10 +15,6 @@ returns-in_err-at c =
 pub returns-then-is_exhausted : goal.returns-then-is_exhausted
 returns-then-is_exhausted c =
     nack_exhausted c.requires c.args.token.offset.0 c.args.token.generation.0 (subst (OwnedIn c.args.token.offset.0 c.args.token.generation.0 c.args.table.now) c.in_ok-at.ensures.ok_part c.owned.ensures) c.args.now c.args.delay_nanos (sym c.is_exhausted.ensures ∙ c.if-is_exhausted.true)
-
-pub requeue_at-deadline-requires : goal.requeue_at-deadline-requires
-requeue_at-deadline-requires c =
-    (c.requires, owned-low c.requires c.args.token.offset.0 c.args.token.generation.0 c.owned.ensures c.in_ok-at.ensures.ok_part, sym c.is_exhausted.ensures ∙ c.if-is_exhausted.false)
 
 pub returns : goal.returns
 returns c = c.requeue_at-deadline.ensures c.args.token.offset.0 c.args.token.generation.0 (subst (OwnedIn c.args.token.offset.0 c.args.token.generation.0 c.args.table.now) c.in_ok-at.ensures.ok_part c.owned.ensures)
