@@ -2,11 +2,15 @@
 -- Assumes nothing.
 use Prim.Native.Nat.{ℕ, ◌≤◌, ◌<◌}
 use mathlib.Core.Path.{◌≡◌, refl, sym, ap, ◌∙◌}
-use mathlib.Core.Bool.{Bool, true, false}
+use mathlib.Core.Bool.{Bool, true, false, true≢false}
 use mathlib.Core.Option.{none, some}
 use lib.Dec.{ltb}
 use borrow.Author.Tests.{le-leb, lt-leb, ltb-true, ltb-false}
-use Rattle.std.specs.Prelude.{Ok}
+use Rattle.std.specs.Prelude.{Ok, Err}
+use Rattle.std.specs.Result.{result_unwrap_or}
+use Rattle.std.specs.Prelude as std
+use Rattle.types.specs.Refused.{as_is}
+use Rattle.types.specs.declared.refusals.Refusal as code_refusal
 use Rattle.types.specs.Limits.{MAX}
 use Rattle.types.specs.Refusal.{Refusal, Result, refused, done}
 use Rattle.types.specs.Table.{first, Answer, answer, guarded}
@@ -53,6 +57,18 @@ module _ (s : State) (w bound : ℕ) where
         split (ltb s.cursor.committed bound)
         (λ e. rw e (is_open (ltb-true s.cursor.committed bound e)))
         (λ e. rw e (is_unchanged (ltb-false s.cursor.committed bound e)))
+
+  -- what the test answers, by whether it is met
+  module _ (right : Answer Bool State) where
+    pub is_answered : (r : std.Result Bool code_refusal.Refusal) → result_unwrap_or r false ≡ false → decided r s bound ≡ right → answer (as_is r) s ≡ right
+    is_answered (Ok false) h e = e
+    is_answered (Ok true) h e = absurd (true≢false h)
+    is_answered (Err r) h e = e
+
+    pub takes_effect : (r : std.Result Bool code_refusal.Refusal) → result_unwrap_or r false ≡ true → decided r s bound ≡ right → answer (done true) (with_committed s bound) ≡ right
+    takes_effect (Ok true) h e = e
+    takes_effect (Ok false) h e = absurd (true≢false (sym h))
+    takes_effect (Err r) h e = absurd (true≢false (sym h))
 
 -- ## the answer
 -- whatever is answered, the very struct may be given back

@@ -3,12 +3,14 @@ use Prim.Native.Nat.{ℕ}
 use mathlib.Core.Path.{◌≡◌, refl, sym, ap, ◌∙◌}
 use mathlib.Core.List.{List, ◌∷◌}
 use mathlib.Core.Option.{Option, none, some}
-use lib.ListN.{length}
+use lib.ListN.{length, get_or, length-map, get_or-map}
 use Rattle.std.specs.Prelude.{Ok, Err}
 use Rattle.std.specs.Prelude as std
 use Rattle.types.specs.Refusal.{Refusal, Result, refused, done}
 use Rattle.types.specs.Refused.{refusal_of, as_is}
 use Rattle.types.specs.declared.refusals.Refusal as code_refusal
+use Rattle.types.specs.Lists.{numbers_of}
+use Rattle.types.specs.declared.Offset.{Offset}
 use Rattle.types.specs.Table.{first, Answer, answer, unless, unless_kept}
 use Rattle.cursor.specs.Plan.{plan_table, looks, plan_bytes, plan}
 use Rattle.consumer.specs.State.{State}
@@ -53,3 +55,10 @@ module _ (s : State) (w : ℕ) (os out : List ℕ) where
   pub plan-permitted : none ≡ first (call_rows s w looking) → (out' : List ℕ) (r : std.Result ℕ code_refusal.Refusal) → answer (as_is r) out' ≡ plan s.cursor os out
       → Plans (look s w (Plan os (length out))) out r out'
   plan-permitted e out' r h = let met : first (call_rows s w looking) ≡ none = sym e in rw met (plan-replied out' r h)
+
+-- ## the lent list of offsets
+pub numbers-long : (ps : List Offset) → length (numbers_of ps) ≡ length ps
+numbers-long ps = length-map ps (λ (p : Offset). p.0)
+
+pub number-at : (ps : List Offset) (i : ℕ) (d : Offset) → get_or (numbers_of ps) i d.0 ≡ (get_or ps i d).0
+number-at ps i d = get_or-map (λ (p : Offset). p.0) ps i d

@@ -15,7 +15,6 @@ ghost use Rattle.cursor.specs.Answers.{resume_fault, CheckedIs};
 use crate::codec::{RANGE_LEN, check_frame, write_body};
 use crate::{AckCursor, AckCursorError, SnapshotError, check_range};
 use types::limits::RANGES;
-use types::numbers::shorter;
 use types::refusals::Refusal;
 
 // What stands before the ranges of a snapshot, and how many they are.
@@ -67,10 +66,14 @@ pub fn read_column(input: &[u8], from: usize, count: usize, column: &mut [u64])
 
 // Whether the ranges of two columns, one for each place that both have, may stand ahead of committed: as `resume_with_columns`
 // tests them.
-pub fn check_columns<'a>(committed: u64, starts: &'a [u64], ends: &'a [u64]) -> Result<(), AckCursorError>
+pub fn check_columns<'a>(
+    committed: u64,
+    starts: &'a [u64],
+    ends: &'a [u64],
+) -> Result<(), AckCursorError>
     ensures { resume_fault result ≡ first (resume_table committed (zipped range starts.now ends.now)) }
 {
-    let n = shorter(starts.len(), ends.len());
+    let n = starts.len().min(ends.len());
     let mut last = committed;
     for i in 0..n {
         let end = ends[i];

@@ -17,22 +17,7 @@ use Rattle.raw.proofs.Bytes.{bytes_take, bytes_drop, number_lt}
 use Rattle.journal.specs.Area.{bad_length, blocks, block_at}
 use Rattle.journal.specs.Blocks.{Counted, used_in, body_count, cursor_length, attempt_length}
 use Rattle.journal.specs.Sound.{has_header_kind, sound_header, sound_body}
-use Rattle.journal.specs.Walks.{
-  first_unsound,
-  Found,
-  nothing,
-  unsound,
-  group,
-  or_unsound,
-  group_at,
-  Stop,
-  stop,
-  damaged,
-  after,
-  walk_from,
-  walk,
-  header_behind,
-}
+use Rattle.journal.specs.Walks.{first_unsound, Found, nothing, unsound, group, or_unsound, group_at, Stop, stop, after, walk_from, walk, header_behind}
 use Rattle.journal.specs.Answers.{turn_of, walk_in}
 use Rattle.journal.proofs.Area.{part_at, part-is}
 use Rattle.journal.proofs.Sound.{Header, header-says, well_formed_counted, no_kind}

@@ -174,15 +174,15 @@ module _ (c : Consumer) (w : ℕ) (q : Question) (out : List ℕ) (p : std.Resul
   look-answered u e r out' h = let met : first (call_rows (view c) w looking) ≡ none = sym says ∙ ap permission_of e in rw met h
 
 -- ## calls
+-- a call that settles an offset
+module _ {c c' : Consumer} {w o g : ℕ} {out : List ℕ} {r : std.Result (Unit {0}) code_refusal.Refusal} (h : Answers (settle_of r) c c' (calls.ack (view c) w o g)) where
+  pub acked-asked : AskedIs c w (ack o g) out (record { answer = answers.Acked r; consumer = c' }) out
+  acked-asked = record { is = λ a. ap (answered_as a (acked o g)) h.is; sound = h.sound; kept = h.kept; lists = λ a. refl }
+
+  pub termed-asked : AskedIs c w (term o g) out (record { answer = answers.Termed r; consumer = c' }) out
+  termed-asked = record { is = λ a. ap (answered_as a (termed o g)) h.is; sound = h.sound; kept = h.kept; lists = λ a. refl }
+
 module _ {c : Consumer} {out out' : List ℕ} where
-  -- a call that settles an offset
-  module _ {w o g : ℕ} {r : std.Result (Unit {0}) code_refusal.Refusal} {c' : Consumer} (h : Answers (settle_of r) c c' (calls.ack (view c) w o g)) where
-    pub acked-asked : AskedIs c w (ack o g) out (record { answer = answers.Acked r; consumer = c' }) out
-    acked-asked = record { is = λ a. ap (answered_as a (acked o g)) h.is; sound = h.sound; kept = h.kept; lists = λ a. refl }
-
-    pub termed-asked : AskedIs c w (term o g) out (record { answer = answers.Termed r; consumer = c' }) out
-    termed-asked = record { is = λ a. ap (answered_as a (termed o g)) h.is; sound = h.sound; kept = h.kept; lists = λ a. refl }
-
   pub looked-asked : {w : ℕ} {q : Question} {r : std.Result Reply code_refusal.Refusal} → Sound c → LookedIs (questions.look (view c) w q) q out r out' → AskedIs c w (look q) out (record { answer = answers.Looked r; consumer = c }) out'
   looked-asked {w} {q} {r} ok h =
       record {

@@ -1,21 +1,20 @@
 -- What sector 0 says, test by test, from the comparisons that the code makes; that what is laid down is read back; and what is right of
 -- a file that is sound. Assumes nothing.
-use Prim.Native.Nat.{ℕ, ◌+◌, ◌*◌, ◌/◌, ◌%◌, ◌^◌, ◌≤◌, ◌<◌}
+use Prim.Native.Nat.{ℕ, ◌*◌, ◌/◌, ◌%◌, ◌≤◌}
 use native.Mathlib.Omega.{arith}
-use mathlib.Core.Path.{◌≡◌, refl, sym, ap, ◌∙◌}
-use mathlib.Core.Bool.{Bool, true, false, cond, not, ◌||◌}
+use mathlib.Core.Path.{◌≡◌, refl, ap}
+use mathlib.Core.Bool.{true, false, cond, not, ◌||◌}
 use mathlib.Core.List.{List, ◌++◌}
 use Rattle.std.specs.Prelude.{Result, Ok, Err}
 use lib.Dec.{ltb, eqb}
-use lib.ListN.{length, take, replicate}
+use lib.ListN.{take, replicate}
 use lib.Seq.{take_at}
-use borrow.Author.Tests.{eq-eqb, ne_eqb, eqb-true, eqb-false, ltb-false, lt-ltb, le-ltb, not-false}
+use borrow.Author.Tests.{eq-eqb, ne_eqb, eqb-true, ltb-false, le-ltb, not-false}
 use Rattle.types.proofs.Cases.{split, neither}
 use Rattle.raw.specs.Bytes.{le, unle, number_at}
 use Rattle.raw.proofs.Bytes.{unle-le}
 use Rattle.crc.specs.Seal.{sealed, is_sealed}
 use Rattle.crc.proofs.Seal.{length-sealed, sealed_ok}
-use Rattle.journal.specs.Area.{bad_length}
 use Rattle.consumer.specs.State.{bad_area}
 use Rattle.sectors.specs.File.{
   SECTOR,

@@ -1,8 +1,7 @@
 -- `journal::bodies_at` meets its contract. The invariant: the bodies before j are sound, so the first unsound one of
 -- all is the first of those that are left. Assumes nothing.
-use Prim.Native.Nat.{◌+◌, ◌-◌}
 use native.Mathlib.Omega.{arith}
-use Rattle.journal.proofs.Walker.{Scanned, scan_none, scan_more, scan_unsound, scan_all}
+use Rattle.journal.proofs.Walker.{scan_none, scan_more, scan_unsound, scan_all}
 use Rattle.journal.proofs.bodies_at.Goals as goal
 
 pub loop-j-init : goal.loop-j-init

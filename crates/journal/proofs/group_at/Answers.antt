@@ -2,7 +2,6 @@
 -- bodies. Assumes nothing.
 use Rattle.std.proofs.lemmas.Result.{err_from_is_err_and}
 use native.Mathlib.Omega.{arith}
-use borrow.Author.Rules.{rules}
 use Rattle.journal.proofs.Walker.{turn-nothing, turn-counted, turn-bodies}
 use Rattle.journal.proofs.group_at.Goals as goal
 

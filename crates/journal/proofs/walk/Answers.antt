@@ -1,10 +1,8 @@
 -- `journal::walk` meets its contract. The invariant: the walk from where the loop stands, behind the last group
 -- found, answers what the whole walk answers. Assumes nothing.
-use Prim.Native.Nat.{ℕ}
 use native.Mathlib.Omega.{arith}
 use mathlib.Core.Path.{◌≡◌, sym, ◌∙◌}
 use mathlib.Core.Bool.{false}
-use borrow.Author.Rules.{rules}
 use lib.ListN.{length}
 use Rattle.std.proofs.lemmas.Result.{err_from_is_err_and}
 use Rattle.types.specs.Refusal.{Result}

@@ -1,16 +1,8 @@
 -- `journal::walk` meets its contract. The invariant: the walk from where the loop stands, behind the last group
 -- found, answers what the whole walk answers. Assumes nothing.
-use Prim.Native.Nat.{ℕ, ◌-◌}
-use native.Mathlib.Omega.{arith}
-use mathlib.Core.Path.{◌≡◌, refl, sym, ap, ◌∙◌}
-use mathlib.Core.Bool.{false}
-use mathlib.Core.List.{List}
-use borrow.Author.Rules.{rules}
-use lib.ListN.{length}
-use Rattle.types.specs.Refusal.{Result}
-use Rattle.raw.proofs.Bytes.{bytes-known}
-use Rattle.journal.specs.Area.{bad_length}
-use Rattle.journal.specs.Walks.{group, group_at, Stop, walk_from, walk}
+use Prim.Native.Nat.{◌-◌}
+use mathlib.Core.Path.{◌≡◌}
+use Rattle.journal.specs.Walks.{walk_from, walk}
 use Rattle.types.specs.Refused.{option_of}
 use Rattle.journal.proofs.walk.Given as goal
 

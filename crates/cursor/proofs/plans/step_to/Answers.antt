@@ -1,10 +1,8 @@
 -- `step_to` meets its contract. The loop's invariant: the offset came from `at` to `to` with so many looks. Assumes nothing.
-use Prim.Native.Nat.{◌-◌}
 use native.Mathlib.Omega.{arith}
 use mathlib.Core.Path.{refl}
 use borrow.Author.Tests.{le-leb, lt-leb}
-use Rattle.cursor.specs.View.{ack_cursor, Whole}
-use Rattle.cursor.specs.declared.AckCursor.{AckCursor}
+use Rattle.cursor.specs.View.{ack_cursor}
 use Rattle.cursor.proofs.Plan.{Stepping, stepping_next, step-below, step-on, step-over}
 use Rattle.cursor.proofs.plans.step_to.Goals as goal
 use Rattle.cursor.proofs.plans.step_to.Goals.{At-loop-to, Start}
@@ -42,9 +40,6 @@ returns-then-starts-to c =
 pub returns-else-starts-to : goal.returns-else-starts-to
 returns-else-starts-to c =
     step-on (ack_cursor c.args.committed c.args.starts.now c.args.ends.now c.args.runs) c.requires c.args.at c.args.offset c.loop-to.to c.loop-to.looks (walking (goal.at.returns-else-starts-to c).At-loop-to) c.if-offset-committed.false _ refl (omega arith) c.if-offset-ends.true refl (rw (lt-leb _ c.args.offset c.if-starts-to.false))
-
-pub overflow_add-to : goal.overflow_add-to
-overflow_add-to c = omega (arith, c.requires.sound.few)
 
 pub loop-to-preserved : goal.loop-to-preserved
 loop-to-preserved c =
