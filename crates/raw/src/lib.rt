@@ -101,19 +101,19 @@ pub fn write_bytes(buf: &mut [u8], pos: usize, bytes: &[u8]) -> Result<usize, Re
 pub fn write_u16(buf: &mut [u8], pos: usize, x: u16) -> Result<usize, Refusal>
     ensures { answer (as_is result) buf.new ≡ write pos (le 2 x) buf.old }
 {
-    write_bytes(buf, pos, &x.to_le_bytes())
+    write_bytes(buf, pos, &u16::to_le_bytes(x))
 }
 
 pub fn write_u32(buf: &mut [u8], pos: usize, x: u32) -> Result<usize, Refusal>
     ensures { answer (as_is result) buf.new ≡ write pos (le 4 x) buf.old }
 {
-    write_bytes(buf, pos, &x.to_le_bytes())
+    write_bytes(buf, pos, &u32::to_le_bytes(x))
 }
 
 pub fn write_u64(buf: &mut [u8], pos: usize, x: u64) -> Result<usize, Refusal>
     ensures { answer (as_is result) buf.new ≡ write pos (le 8 x) buf.old }
 {
-    write_bytes(buf, pos, &x.to_le_bytes())
+    write_bytes(buf, pos, &u64::to_le_bytes(x))
 }
 
 // Whether every byte is 0.
