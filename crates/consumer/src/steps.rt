@@ -179,7 +179,7 @@ pub fn handed_out(max_deliver: u32, outcome: Result<Grant, Refusal>) -> Result<H
 }
 
 // The lease that a token owns: how often it was handed out, and its place.
-#[derive(Clone, Copy)]
+#[derive(Clone, Copy, Debug, PartialEq, Eq)]
 pub struct HeldAt {
     pub deliveries: u32,
     pub at: usize,
