@@ -25,8 +25,7 @@ few c = passed-few c.args.committed.0 c.args.ahead.now (first_none (resume_table
 pub loop-i-init : goal.loop-i-init
 loop-i-init c =
     let h = few (goal.at.loop-i-init c).In_ok-check_ahead in
-    let new = c.resume-cursor.ensures.literal in
-    (
+    let new = c.resume-cursor.ensures.literal in (
       filling _ _ _ (omega (arith, h, ap (λ (g : AckCursor). length g.starts) new)),
       filling _ _ _ (omega (arith, h, ap (λ (g : AckCursor). length g.ends) new)),
       ap (λ (g : AckCursor). g.committed) new,
