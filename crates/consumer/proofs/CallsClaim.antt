@@ -2,9 +2,9 @@
 -- Assumes nothing.
 use Prim.Native.Nat.{ℕ, ◌+◌, ◌≤◌, ◌<◌}
 use mathlib.Core.Path.{◌≡◌, refl, sym, ap, ◌∙◌}
-use mathlib.Core.Bool.{Bool, true, false, not, ◌&&◌, true≢false}
+use mathlib.Core.Bool.{Bool, true, false, not, cond, ◌&&◌, true≢false}
 use mathlib.Core.List.{List}
-use mathlib.Core.Option.{Option, none, some}
+use mathlib.Core.Option.{Option, none, some, none-ne-some}
 use lib.Dec.{leb}
 use lib.ListN.{length}
 use borrow.Author.Tests.{eq-eqb, ne_eqb, le-leb, lt-leb}
@@ -90,6 +90,15 @@ blocked b false e h = absurd (true≢false (sym h ∙ ap not e))
 pub unblocked : (b x : Bool) → b ≡ not x → not b ≡ false → x ≡ false
 unblocked b false e h = refl
 unblocked b true e h = absurd (true≢false (sym (ap not e) ∙ h))
+
+-- whether it is open, by when it opens next
+pub open-now : (open_now : Bool) (opening : ℕ) → none ≡ cond open_now none (some opening) → open_now ≡ true
+open-now true opening e = refl
+open-now false opening e = absurd (none-ne-some opening e)
+
+pub opens-later : (open_now : Bool) (opening clock : ℕ) → some clock ≡ cond open_now none (some opening) → (open_now ≡ false) × (clock ≡ opening)
+opens-later true opening clock e = absurd (none-ne-some clock (sym e))
+opens-later false opening clock e = (refl, cc)
 
 module _ (s : State) (o now : ℕ) where
   -- the claim is refused so

@@ -8,9 +8,9 @@ use Rattle.consumer.proofs.Consumer.ack.Goals.{Start}
 whole : (s : Start) → Whole s.args.self
 whole s = record { full = table-full s.args.self.table _ s.well_formed.0.1.1.1.0; sound = s.requires }
 
-pub settle_in_place-done-requires : goal.settle_in_place-done-requires
-settle_in_place-done-requires c =
+pub settle_in_place-settled-requires : goal.settle_in_place-settled-requires
+settle_in_place-settled-requires c =
     (cursor-whole c.args.self.cursor _ c.well_formed.0.1.1.0 c.requires.cursor, c.requires.table.len)
 
 pub returns : goal.returns
-returns c = c.settle_in_place-done.ensures c.args.self (whole (goal.at.returns c).Start)
+returns c = c.settle_in_place-settled.ensures c.args.self (whole (goal.at.returns c).Start)

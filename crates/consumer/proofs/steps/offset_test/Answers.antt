@@ -4,7 +4,6 @@ use native.Mathlib.Omega.{arith}
 use mathlib.Core.Path.{◌≡◌, sym, ap, ◌∙◌}
 use mathlib.Core.Bool.{Bool, true, false, not}
 use lib.ListN.{take}
-use borrow.Author.Rules.{rules}
 use Rattle.std.specs.Prelude.{None}
 use Rattle.std.specs.Prelude as std
 use Rattle.tables.specs.Search.{Placed}
@@ -13,7 +12,6 @@ use Rattle.cursor.specs.View.{ack_cursor}
 use Rattle.hours.specs.Hours.{isOpen}
 use Rattle.hours.specs.View.{opening_of, closed_until}
 use Rattle.hours.specs.View as hours
-use Rattle.hours.proofs.View.{is_open_now, is_open_later, opening-is-later}
 use Rattle.lease.specs.Operations.{lease_of, running}
 use Rattle.lease.specs.Parts.{HoldsAt, due}
 use Rattle.lease.specs.Rest.{is_claimable}
@@ -23,7 +21,7 @@ use Rattle.consumer.specs.Parts.{Whole, testing}
 use Rattle.consumer.specs.View.{view}
 use Rattle.consumer.specs.declared.Consumer.{Consumer}
 use Rattle.consumer.proofs.CallsReturns.{table-whole}
-use Rattle.consumer.proofs.CallsClaim.{blocked, unblocked, is-last, is-settled, is-closed, is-running, is_exhausted, is-at-ceiling, is-at-threshold, is-full, is_open}
+use Rattle.consumer.proofs.CallsClaim.{open-now, opens-later, blocked, unblocked, is-last, is-settled, is-closed, is-running, is_exhausted, is-at-ceiling, is-at-threshold, is-full, is_open}
 use Rattle.consumer.proofs.steps.offset_test.Goals as goal
 use Rattle.consumer.proofs.steps.offset_test.Goals.{Start}
 
@@ -40,7 +38,7 @@ shown s c = view (made s c)
 -- it is open
 in-hours : (s : Start) (x : Consumer) (r : std.Option ℕ) → opening_of r ≡ closed_until (hours.view s.args.hours) s.args.now → r ≡ None
     → isOpen (shown s x).settings.hours s.args.now ≡ true
-in-hours s x r e n = sym (is_open_now (hours.view s.args.hours) s.args.now (sym (ap opening_of n) ∙ e))
+in-hours s x r e n = open-now (isOpen (hours.view s.args.hours) s.args.now) _ (sym (ap opening_of n) ∙ e)
 
 -- no lease keeps it
 not-running : (s : Start) (x : Consumer) → Whole (made s x) → (place : Place) → Placed s.args.offset (take s.args.len s.args.offsets.now) place
@@ -63,9 +61,8 @@ pub returns-in-Some : goal.returns-in-Some
 returns-in-Some c = (
   λ x w.
       let s = (goal.at.returns-in-Some c).Start in
-      let e = sym (ap opening_of c.in-Some.is) ∙ c.at.ensures in
-      is-closed (shown s x) c.args.offset c.args.now c.if-offset-eq-MAX.false (sym c.is_acked_in_place.ensures ∙ c.if-is_acked_in_place.false)
-      (sym (is_open_later (hours.view c.args.hours) c.args.now c.in-Some.opening e)) c.in-Some.opening (opening-is-later (hours.view c.args.hours) c.args.now c.in-Some.opening e),
+      let e = opens-later (isOpen (hours.view c.args.hours) c.args.now) _ c.in-Some.opening (sym (ap opening_of c.in-Some.is) ∙ c.at.ensures) in
+      is-closed (shown s x) c.args.offset c.args.now c.if-offset-eq-MAX.false (sym c.is_acked_in_place.ensures ∙ c.if-is_acked_in_place.false) e.0 c.in-Some.opening e.1,
   tt,
 )
 
