@@ -13,11 +13,6 @@ use Rattle.types.proofs.Loops.{Filling, filling-more}
 use Rattle.attempt.specs.Snapshot.{read_pair, read_pairs}
 use Rattle.attempt.proofs.Snapshot.{length-read}
 
--- no bytes name version 0
-pub no-version : (b : List ℕ) → length b ≡ 0 → 0 ≡ get_or b 0 0
-no-version [] h = refl
-no-version (x ∷ b) h = absurd (omega arith)
-
 module _ (split : Bool) (n : ℕ) (b : List ℕ) where
   pair-at : (k i j : ℕ) → j < k → get_or (read_pairs split n k i b) j (entry 0 0) ≡ read_pair split n (i + j) b
   pair-at zero i j h = absurd (omega arith)

@@ -437,10 +437,10 @@ pub fn encode_attempt_snapshot_v2(
 pub fn decode_attempt_snapshot(input: &[u8], pairs: &mut [Pair]) -> Result<usize, Refusal>
     ensures { answer (as_is result) (entries_of pairs.new) ≡ decode_into input.now (entries_of pairs.old) }
 {
-    let count = check(input)?;
-    if pairs.len() < count {
+    let n = check(input)?;
+    if pairs.len() < n {
         return Err(Refusal::OutTooShort);
     }
-    fill_pairs(input, pairs, count);
-    Ok(count)
+    fill_pairs(input, pairs, n);
+    Ok(n)
 }

@@ -9,8 +9,10 @@ use mathlib.Core.List.{List}
 use lib.Dec.{leb}
 use lib.ListN.{length, take, length-take}
 use borrow.Author.Tests.{eq-eqb, ne_eqb, le-leb, lt-leb, leb-true, leb-false}
+use Rattle.std.specs.Prelude.{Ok, Err}
 use Rattle.types.specs.Limits.{MAX32}
 use Rattle.types.specs.Refusal.{Result}
+use Rattle.types.specs.declared.refusals.Refusal.TheVariants.{BadArea}
 use Rattle.types.specs.Table.{Answer, answer}
 use Rattle.types.proofs.Cases.{split}
 use Rattle.journal.specs.Area.{outside, write_at}
@@ -30,7 +32,6 @@ use Rattle.checkpoint.specs.Parts.{Parts, parts, with_parts, PlaceIs, NextIs, he
 use Rattle.checkpoint.specs.declared.in_place.Place.{Place}
 use Rattle.checkpoint.specs.declared.in_place.NextWrite.{NextWrite}
 use Rattle.checkpoint.specs.declared.Writing.{Writing}
-use Rattle.checkpoint.specs.declared.StepAnswer.TheVariants.{Wrote, Finished, BadArea}
 use Rattle.checkpoint.proofs.Payload.{payload-fits}
 use Rattle.checkpoint.proofs.Places.{state-room, header-next, next-inside}
 use Rattle.checkpoint.proofs.Valid.{flushed-valid}
@@ -97,7 +98,7 @@ module _ (p : Parts) (within : Writing) (s : SoundWriting (with_parts p within))
   abbrev st : State
   st = view w.consumer
 
-  pub step-refused : (length a ≡ p.areaLen → ⊥) → SteppedIs w a (record { answer = BadArea; writing = w }) a
+  pub step-refused : (length a ≡ p.areaLen → ⊥) → SteppedIs w a (record { answer = Err BadArea; writing = w }) a
   unfolding step
   step-refused n = record { is = rw (ne_eqb (length a) p.areaLen n); sound = s; kept = refl }
 
@@ -153,7 +154,7 @@ module _ (p : Parts) (within : Writing) (s : SoundWriting (with_parts p within))
 
     pub step-going : (i : ℕ) (b after : List ℕ) → is_last (view_writing w) ≡ false → i ≡ next_place (view_writing w)
         → b ≡ next_block (view_writing w)
-        → after ≡ write_at a i b → SteppedIs w a (record { answer = Wrote i; writing = moved }) after
+        → after ≡ write_at a i b → SteppedIs w a (record { answer = Ok (record { block = i; finished = false }); writing = moved }) after
     unfolding step
     step-going i b after t i-is b-is e =
         record {
@@ -195,7 +196,7 @@ module _ (p : Parts) (within : Writing) (s : SoundWriting (with_parts p within))
           }
 
       pub step-last : (b after : List ℕ) → b ≡ next_block (view_writing w) → after ≡ write_at a i b
-          → SteppedIs w a (record { answer = Finished i; writing = last }) after
+          → SteppedIs w a (record { answer = Ok (record { block = i; finished = true }); writing = last }) after
       unfolding step
       step-last b after b-is e =
           record {

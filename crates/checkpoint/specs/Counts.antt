@@ -5,8 +5,9 @@ use Rattle.std.proofs.Math.Option.{some}
 use Rattle.types.specs.Limits.{LEASES, CARRIED}
 use Rattle.types.specs.Keyed.{Entry, entry, entries, lookup}
 use Rattle.tables.specs.Merge.{merge}
-use Rattle.tables.specs.Slots.{Permutes}
+use Rattle.tables.specs.Slots.{Permutes, through}
 use Rattle.checkpoint.specs.declared.counts.NextCount.{NextCount}
+use Rattle.checkpoint.specs.declared.counts.Columns.{Columns}
 
 -- the first n places of two columns
 abbrev pub counted : ℕ → List ℕ → List ℕ → List (Entry ℕ)
@@ -41,3 +42,28 @@ pub record NextIs (k l : List (Entry ℕ)) (r : NextCount) : Type 0 where
   pub one : r.left + r.right ≡ 1
   pub left : r.left ≤ length k
   pub right : r.right ≤ length l
+
+-- ## columns of a type of numbers
+module _ {T : Type 0} (numbers : List T → List ℕ) where
+  -- the leases' counts, by place
+  abbrev pub counts_of : Columns T → List ℕ
+  counts_of c = through 0 (numbers c.slots.now) (numbers c.deliveries.now)
+
+  abbrev pub leased : Columns T → List (Entry ℕ)
+  leased c = counted c.len c.offsets.now (counts_of c)
+
+  abbrev pub carried : Columns T → List (Entry ℕ)
+  carried c = counted c.carried_len c.carried_offsets.now (numbers c.carried_counts.now)
+
+-- columns whose numbers are of 32 bits, in the words of their type
+pub record Narrow {T : Type 0} (narrow : List T → Type 0) (c : Columns T) : Type 0 where
+  pub slots : narrow c.slots.now
+  pub leased : narrow c.deliveries.now
+  pub carried : narrow c.carried_counts.now
+
+-- what is lent
+pub record Storable {T : Type 0} (numbers : List T → List ℕ) (short : List T → Type 0) (c : Columns T) : Type 0 where
+  pub listed : Listed c.len c.carried_len c.offsets.now (counts_of numbers c) c.carried_offsets.now (numbers c.carried_counts.now)
+  pub slotted : Slotted (numbers c.slots.now)
+  pub counts : length (numbers c.deliveries.now) ≡ LEASES
+  pub narrow : Narrow short c

@@ -11,6 +11,8 @@ ghost use Rattle.checkpoint.specs.Parts.{unbegun, BegunAs};
 pub mod counts;
 pub mod in_place;
 
+use crate::counts::Columns;
+use crate::in_place::StepNumbers;
 use consumer::Consumer;
 use types::refusals::Refusal;
 
@@ -56,14 +58,19 @@ pub fn begin(consumer: Consumer, worker: u64) -> Begun
     ensures { BegunAs result.answer worker (unbegun consumer) result.writing }
 {
     let mut payload = [0u8; 3606];
+    let counts = Columns {
+        len: consumer.table.len,
+        carried_len: consumer.table.carried_len,
+        offsets: &consumer.table.offsets,
+        slots: &consumer.table.slots,
+        deliveries: &consumer.table.deliveries,
+        carried_offsets: &consumer.table.carried_offsets,
+        carried_counts: &consumer.table.carried_counts,
+    };
     let begun = in_place::begin_in_place(
-        0,
-        0,
-        0,
         consumer.cursor.committed,
         consumer.cursor.runs,
-        consumer.table.len,
-        consumer.table.carried_len,
+        counts,
         consumer.next.number,
         consumer.next.block,
         consumer.area_len,
@@ -71,22 +78,27 @@ pub fn begin(consumer: Consumer, worker: u64) -> Begun
         &consumer.settings.rights,
         &consumer.cursor.starts,
         &consumer.cursor.ends,
-        &consumer.table.offsets,
-        &consumer.table.slots,
-        &consumer.table.deliveries,
-        &consumer.table.carried_offsets,
-        &consumer.table.carried_counts,
         &mut payload,
     );
-    let answer = begun.answer;
-    Begun {
-        answer: answer,
-        writing: Writing {
-            consumer: consumer,
-            written: begun.written,
-            payload: payload,
-            cursor_len: begun.cursor_len,
-            attempt_len: begun.attempt_len,
+    let mut writing = Writing {
+        consumer,
+        written: 0,
+        payload,
+        cursor_len: 0,
+        attempt_len: 0,
+    };
+    match begun {
+        Ok(begun) => {
+            writing.cursor_len = begun.cursor_len;
+            writing.attempt_len = begun.attempt_len;
+            Begun {
+                answer: Ok(begun.writes),
+                writing,
+            }
+        }
+        Err(refusal) => Begun {
+            answer: Err(refusal),
+            writing,
         },
     }
 }
@@ -98,28 +110,39 @@ impl Writing {
         requires { SoundWriting self }
         ensures { SteppedIs self area.old result area.new }
     {
-        let after = in_place::step_in_place(
-            self.written,
+        let numbers = StepNumbers {
+            written: self.written,
+            ceiling: self.consumer.ceiling.0,
+            redeliveries: self.consumer.table.redeliveries_since_flush,
+            number: self.consumer.next.number,
+            block: self.consumer.next.block,
+        };
+        let stepped = in_place::step_in_place(
+            numbers,
             self.cursor_len,
             self.attempt_len,
             self.consumer.area_len,
             self.consumer.table.next_generation.0,
-            self.consumer.ceiling.0,
-            self.consumer.table.redeliveries_since_flush,
-            self.consumer.next.number,
-            self.consumer.next.block,
             &self.payload,
             area,
         );
-        self.written = after.written;
-        self.consumer.ceiling.0 = after.ceiling;
-        self.consumer.table.redeliveries_since_flush = after.redeliveries;
-        self.consumer.next.number = after.number;
-        self.consumer.next.block = after.block;
-        let answer = after.answer;
-        Stepped {
-            answer: answer,
-            writing: self,
+        match stepped {
+            Ok(stepped) => {
+                let after = stepped.numbers;
+                self.written = after.written;
+                self.consumer.ceiling.0 = after.ceiling;
+                self.consumer.table.redeliveries_since_flush = after.redeliveries;
+                self.consumer.next.number = after.number;
+                self.consumer.next.block = after.block;
+                Stepped {
+                    answer: Ok(stepped.wrote),
+                    writing: self,
+                }
+            }
+            Err(refusal) => Stepped {
+                answer: Err(refusal),
+                writing: self,
+            },
         }
     }
 

@@ -2,14 +2,13 @@
 -- SPEC.md, "Checkpoint".
 use Rattle.std.specs.Prelude.{◌≡◌, List, ℕ, ◌+◌, Bool, true, false, cond, set, Ok, Err}
 use Rattle.std.specs.Prelude as std
-use Rattle.types.specs.Table.{answer, Kept, Passed}
+use Rattle.types.specs.Table.{answer, Kept}
 use Rattle.types.specs.declared.refusals.Refusal.{Refusal}
-use Rattle.consumer.specs.Rights.{checkpointing}
-use Rattle.consumer.specs.Calls.{call_rows}
 use Rattle.checkpoint.specs.Checkpoint.{Left, going, finished, lent, writes, begin, step}
 use Rattle.checkpoint.specs.Writing.{begin_of, step_of, is_finished}
 use Rattle.checkpoint.specs.declared.Wrote.{Wrote}
-use Rattle.lease.specs.Layout.{REDELIVERIES}
+use Rattle.checkpoint.specs.declared.counts.Columns.{Columns}
+use Rattle.lease.specs.Layout.{REDELIVERIES, table_in}
 use Rattle.consumer_words.specs.Layout.{TABLE, CEILING, NEXT-NUMBER, NEXT-BLOCK, consumer_in, view}
 use Rattle.checkpoint_words.specs.Layout.{WRITTEN, writing_in, view_writing, Sound, SoundWriting}
 
@@ -27,9 +26,15 @@ pub record Begins (r : std.Result ℕ Refusal) (worker : ℕ) (w p w' p' : List 
   pub kept : Kept (begin_of r (writing_in w' p')) w w'
   pub payload-kept : Kept (begin_of r (writing_in w' p')) p p'
 
--- the same for every worker who may
-abbrev pub Permitted : std.Result ℕ Refusal → (w p w' p' : List ℕ) → Type 0
-Permitted r w p w' p' = (worker : ℕ) → Passed (call_rows (view w) worker checkpointing) → Begins r worker w p w' p'
+-- the columns of a lease table's words that have its counts
+pub record Counts (t : List ℕ) (r : Columns ℕ) : Type 0 where
+  pub len : r.len ≡ (table_in t).len
+  pub carried-len : r.carried_len ≡ (table_in t).carried_len
+  pub offsets : r.offsets.now ≡ (table_in t).offsets
+  pub slots : r.slots.now ≡ (table_in t).slots
+  pub deliveries : r.deliveries.now ≡ (table_in t).deliveries
+  pub carried-offsets : r.carried_offsets.now ≡ (table_in t).carried_offsets
+  pub carried-counts : r.carried_counts.now ≡ (table_in t).carried_counts
 
 -- ## step
 -- what is left: after the last write the consumer, else the record

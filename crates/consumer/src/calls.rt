@@ -34,7 +34,7 @@ impl Consumer {
         ensures { Answers (claim_of result.answer) self result.consumer (claim (view self) worker offset.0 now) }
     {
         let mut table = self.table;
-        let done = in_place::claim_in_place(
+        let claimed = in_place::claim_in_place(
             table.config,
             self.settings.hours,
             self.ceiling.0,
@@ -62,12 +62,12 @@ impl Consumer {
             &mut table.carried_offsets,
             &mut table.carried_counts,
         );
-        table.len = done.len;
-        table.carried_len = done.carried_len;
-        table.next_generation.0 = done.next_generation;
-        table.redeliveries_since_flush = done.redeliveries;
+        table.len = claimed.len;
+        table.carried_len = claimed.carried_len;
+        table.next_generation.0 = claimed.next_generation;
+        table.redeliveries_since_flush = claimed.redeliveries;
         Answered {
-            answer: done.answer,
+            answer: claimed.answer,
             consumer: Consumer { table, ..self },
         }
     }
@@ -79,7 +79,7 @@ impl Consumer {
     {
         let mut cursor = self.cursor;
         let mut table = self.table;
-        let done = in_place::settle_in_place(
+        let settled = in_place::settle_in_place(
             cursor.committed,
             cursor.runs,
             table.len,
@@ -95,11 +95,11 @@ impl Consumer {
             &table.deliveries,
             &table.workers,
         );
-        cursor.committed = done.committed;
-        cursor.runs = done.runs;
-        table.len = done.len;
+        cursor.committed = settled.committed;
+        cursor.runs = settled.runs;
+        table.len = settled.len;
         Answered {
-            answer: done.answer,
+            answer: settled.answer,
             consumer: Consumer {
                 cursor,
                 table,
@@ -130,7 +130,7 @@ impl Consumer {
         ensures { Answers (nack_of result.answer) self result.consumer (nack (view self) worker token.offset.0 token.generation.0 now (delay_of delay)) }
     {
         let mut table = self.table;
-        let done = in_place::nack_in_place(
+        let nacked = in_place::nack_in_place(
             table.config,
             self.settings.hours,
             self.ceiling.0,
@@ -151,9 +151,9 @@ impl Consumer {
             &table.deliveries,
             &table.workers,
         );
-        table.next_generation.0 = done.next_generation;
+        table.next_generation.0 = nacked.next_generation;
         Answered {
-            answer: done.answer,
+            answer: nacked.answer,
             consumer: Consumer { table, ..self },
         }
     }
@@ -200,7 +200,7 @@ impl Consumer {
     {
         let mut cursor = self.cursor;
         let mut table = self.table;
-        let left = in_place::commit_in_place(
+        let committed = in_place::commit_in_place(
             cursor.committed,
             cursor.runs,
             table.len,
@@ -215,12 +215,12 @@ impl Consumer {
             &mut table.carried_offsets,
             &mut table.carried_counts,
         );
-        cursor.committed = left.committed;
-        cursor.runs = left.runs;
-        table.len = left.len;
-        table.carried_len = left.carried_len;
+        cursor.committed = committed.committed;
+        cursor.runs = committed.runs;
+        table.len = committed.len;
+        table.carried_len = committed.carried_len;
         Answered {
-            answer: left.answer,
+            answer: committed.answer,
             consumer: Consumer {
                 cursor,
                 table,

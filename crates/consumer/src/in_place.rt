@@ -371,7 +371,7 @@ pub fn commit_in_place<'a>(
         (λ s. commit s worker bound) }
 {
     let test = steps::commit_test(committed, worker, bound, rights);
-    let Ok(true) = test else {
+    if !test.unwrap_or(false) {
         return CommittedAt {
             answer: test,
             committed,
@@ -379,7 +379,7 @@ pub fn commit_in_place<'a>(
             len,
             carried_len,
         };
-    };
+    }
     let moved = cursor::in_place::commit_in_place(committed, starts, ends, runs, bound);
     let released = lease::in_place::release_below_in_place(
         len,

@@ -2,7 +2,9 @@
 ghost use Rattle.std.specs.Prelude.{◌≡◌, length};
 ghost use Rattle.cursor.specs.View.{ack_cursor};
 ghost use Rattle.cursor.specs.View as cursor;
-ghost use Rattle.cursor.specs.Plan.{looks, bytes_from, pair_rows, fall_of};
+ghost use Rattle.cursor.specs.Plan.{looks, bytes_from, pair_rows};
+ghost use Rattle.types.specs.Refusal.{Falling};
+ghost use Rattle.types.specs.Refused.{option_of};
 ghost use Rattle.types.specs.Table.{first};
 ghost use Rattle.types.specs.Lists.{numbers_of};
 ghost use Rattle.consumer.specs.Questions.{Plan, look};
@@ -28,8 +30,7 @@ impl Consumer {
         if offsets.len() != out.len() {
             return Err(Refusal::UnequalLengths);
         }
-        let fall = first_fall(offsets);
-        if let Some(place) = fall {
+        if let Some(place) = first_fall(offsets) {
             return Err(Refusal::Falling { place });
         }
         Ok(self.answer_all(offsets, out))
@@ -85,7 +86,7 @@ impl Consumer {
 
 // The place, from 0, of the first offset that is below the one before it.
 fn first_fall(offsets: &[Offset]) -> Option<usize>
-    ensures { fall_of result ≡ first (pair_rows (numbers_of offsets.now)) }
+    ensures { option_of Falling result ≡ first (pair_rows (numbers_of offsets.now)) }
 {
     let mut before = 0;
     for i in 0..offsets.len() {

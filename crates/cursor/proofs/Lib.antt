@@ -7,7 +7,6 @@ pub mod Answers
 pub mod Snapshot
 pub mod Reading
 pub mod Writing
-pub mod Taking
 pub mod Walking
 pub mod Edits
 pub mod Unsettled

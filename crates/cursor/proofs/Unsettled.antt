@@ -405,12 +405,12 @@ module _ (c : Cursor) (a b : ℕ) (out : List ℕ) where
     numbers-put n after e k f =
         rw (le-ltb b a h, le-ltb (length out / 2) (length (stretches c a b)) (omega arith), all-put (stretches c a b) out after (rw e at f), e, bounds-length (stretches c a b))
 
--- a list that is empty where the bounds are reversed is listed with nothing written, so that 32 can be answered after it
-pub records_put : (c : Cursor) (a b : ℕ) (out after : List Range) (x y : Result ℕ) → answer x after ≡ listed (stretches c a b) out → y ≡ checked (bounds_table a b) x → answer y after ≡ open_between c a b out
-unfolding open_between
-records_put c a b out after x y e f =
-    split (ltb b a)
-    (λ t. let none = stretches_none c a b (omega (arith, ltb-true b a t)) in
-    let kept : after ≡ out = ap (λ (z : Answer ℕ (List Range)). z.state) (rw (none, le-ltb (length out) 0 (omega arith)) at e) in
-    rw t (rw kept (ap (λ (z : Result ℕ). answer z out) (rw t at f))))
-    (λ t. rw t (ap (λ (z : Result ℕ). answer z after) (rw t at f) ∙ e))
+-- the same as records
+module _ (c : Cursor) (a b : ℕ) (out : List Range) where
+  pub records_reversed : b < a → answer (refused BoundsReversed) out ≡ open_between c a b out
+  unfolding open_between
+  records_reversed h = rw (lt-ltb b a h)
+
+  pub records_put : a ≤ b → (after : List Range) (x : Result ℕ) → answer x after ≡ listed (stretches c a b) out → answer x after ≡ open_between c a b out
+  unfolding open_between
+  records_put h after x e = rw (le-ltb b a h) e

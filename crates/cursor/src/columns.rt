@@ -15,7 +15,6 @@ ghost use Rattle.cursor.specs.Answers.{resume_fault, CheckedIs};
 use crate::codec::{RANGE_LEN, check_frame, write_body};
 use crate::{AckCursor, AckCursorError, SnapshotError, check_range};
 use types::limits::RANGES;
-use types::numbers::shorter;
 use types::refusals::Refusal;
 
 // What stands before the ranges of a snapshot, and how many they are.
@@ -70,7 +69,7 @@ pub fn read_column(input: &[u8], from: usize, count: usize, column: &mut [u64])
 pub fn check_columns<'a>(committed: u64, starts: &'a [u64], ends: &'a [u64]) -> Result<(), AckCursorError>
     ensures { resume_fault result ≡ first (resume_table committed (zipped range starts.now ends.now)) }
 {
-    let n = shorter(starts.len(), ends.len());
+    let n = starts.len().min(ends.len());
     let mut last = committed;
     for i in 0..n {
         let end = ends[i];

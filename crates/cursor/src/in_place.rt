@@ -18,7 +18,6 @@ ghost use Rattle.cursor.specs.Snapshot.{encode_cursor};
 use crate::columns::encode_columns;
 use crate::BoundedAck;
 use types::limits::{MAX, RANGES};
-use types::numbers::larger;
 use types::refusals::Refusal;
 
 // What an ack answers, beside the columns.
@@ -274,7 +273,7 @@ pub(crate) fn plan_commit<'a>(
     CommitPlan {
         moved: Moved {
             advanced: true,
-            committed: larger(bound, end),
+            committed: bound.max(end),
             runs: runs - k,
         },
         both: Edit::Remove { from: 0, to: k },

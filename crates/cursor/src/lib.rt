@@ -4,14 +4,15 @@
 // and comes back; nothing is kept elsewhere, and an ack or a commit shifts its ranges within its own columns.
 #![tactic(auto)]
 
-ghost use Rattle.std.specs.Prelude.{◌≡◌, ◌<◌, length};
+ghost use Rattle.std.specs.Prelude.{◌≡◌, ◌<◌, ◌≤◌, length, IfOk};
+ghost use Rattle.types.specs.Limits.{MAX};
 ghost use Rattle.types.specs.Identifiers.{offset};
 ghost use Rattle.types.specs.Refusal.{done};
 ghost use Rattle.types.specs.Refused.{refusal_of, as_is};
 ghost use Rattle.types.specs.Lists.{listed, roomFor};
 ghost use Rattle.types.specs.Table.{answer, first};
 ghost use Rattle.types.specs.Zipped.{zipped};
-ghost use Rattle.cursor.specs.Ranges.{range, offsets};
+ghost use Rattle.cursor.specs.Ranges.{range, EndsFit, offsets};
 ghost use Rattle.cursor.specs.Cursor.{settled, ackBounded, commit_up_to, range_table, resume_table};
 ghost use Rattle.cursor.specs.View.{view, Sound, Fresh};
 ghost use Rattle.cursor.specs.Answers.{ack_of, ranges_error, snapshot_error, Updated, resume_fault, ResumedIs};
@@ -21,7 +22,6 @@ ghost use Rattle.cursor.specs.declared.SnapshotError.TheVariants.{Ranges};
 use crate::columns::check_columns;
 use crate::in_place::{apply, is_acked_in_place, plan_ack, plan_commit};
 use types::limits::RANGES;
-use types::numbers::shorter;
 use types::refusals::Refusal;
 use types::{Offset, lent};
 
@@ -200,7 +200,7 @@ impl AckCursor {
         ensures { ResumedIs committed.0 (zipped range starts.now ends.now) result }
     {
         check_columns(committed.0, starts, ends)?;
-        let runs = shorter(starts.len(), ends.len());
+        let runs = starts.len().min(ends.len());
         let mut own_starts = [0; RANGES];
         let mut own_ends = [0; RANGES];
         tables::copy(&mut own_starts, 0, starts, runs);
@@ -219,12 +219,11 @@ impl AckCursor {
         requires { Sound self }
         ensures { answer (as_is result) out.new ≡ listed (view self).ahead out.old }
     {
-        let outcome = self.room_for(out.len());
-        let n = lent::count_of(outcome);
+        let n = self.room_for(out.len())?;
         for i in 0..n {
             out[i] = self.range_at(i);
         }
-        outcome
+        Ok(n)
     }
 
     // The offset below which all are acked.
@@ -351,7 +350,8 @@ impl AckCursor {
 
 // Whether ranges may stand ahead of committed: all of them are tested before their number is.
 fn check_ahead(committed: u64, ahead: &[Range]) -> Result<(), AckCursorError>
-    ensures { resume_fault result ≡ first (resume_table committed ahead.now) }
+    ensures fault { resume_fault result ≡ first (resume_table committed ahead.now) }
+    ensures fits { IfOk result (λ x. EndsFit ahead.now) }
 {
     let mut last = committed;
     for range in ahead {
@@ -366,7 +366,8 @@ fn check_ahead(committed: u64, ahead: &[Range]) -> Result<(), AckCursorError>
 
 // Whether a range may stand behind an end.
 fn check_range(prev_end: u64, start: u64, end: u64) -> Result<(), AckCursorError>
-    ensures { resume_fault result ≡ first (range_table prev_end (range start end)) }
+    ensures fault { resume_fault result ≡ first (range_table prev_end (range start end)) }
+    ensures fits { end ≤ MAX }
 {
     if end <= start {
         return Err(AckCursorError::EmptyRange { start, end });

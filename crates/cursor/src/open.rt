@@ -15,7 +15,6 @@ ghost use Rattle.cursor.specs.Unsettled.{stretches, nearest_open, open_between, 
 use crate::in_place::{end_before, partition_point};
 use crate::{AckCursor, Range};
 use types::limits::RANGES;
-use types::numbers::larger;
 use types::refusals::Refusal;
 use types::{Offset, lent};
 
@@ -156,7 +155,7 @@ pub fn nearest_in_place<'a>(
     ensures { result ≡ nearest_open (view (ack_cursor committed starts.now ends.now runs)) offset }
 {
     let i = partition_point(starts, runs, offset);
-    larger(offset, end_before(committed, ends, i))
+    offset.max(end_before(committed, ends, i))
 }
 
 // Finds the stretches within [a, b): the first is the one before the first range that starts above a; the last is before the first range
@@ -200,7 +199,7 @@ fn stretch_at<'a>(
     ensures { result ≡ range (max a (get_or (committed ∷ ends.now) at 0)) (min b (get_or (take runs starts.now) at b)) }
 {
     Range {
-        start: larger(a, end_before(committed, ends, at)),
+        start: a.max(end_before(committed, ends, at)),
         end: start_below(starts, runs, at, b),
     }
 }

@@ -55,14 +55,12 @@ pub fn plan_in_place<'a>(
 fn first_fall(offsets: &[u64]) -> Option<usize>
     ensures { option_of Falling result ≡ first (pair_rows offsets.now) }
 {
-    let n = offsets.len();
     let mut before: u64 = 0;
-    for i in 0..n {
-        let offset = offsets[i];
-        if offset < before {
+    for (i, offset) in offsets.iter().enumerate() {
+        if *offset < before {
             return Some(i);
         }
-        before = offset;
+        before = *offset;
     }
     None
 }

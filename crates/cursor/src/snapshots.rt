@@ -15,7 +15,6 @@ use crate::columns::{check_columns, check_snapshot, encode_columns, read_column}
 use crate::layout::{COMMITTED, ENDS, RUNS, STARTS, WORDS};
 use crate::{AckCursor, AckCursorError, SnapshotError, reads};
 use types::Offset;
-use types::numbers::shorter;
 use types::refusals::Refusal;
 
 // Makes a cursor of any words: at a committed offset, with nothing acked ahead of it.
@@ -38,7 +37,7 @@ pub fn resume_with_columns<'a>(
     ensures { Makes (resume_fault result) cursor.old cursor.new (resume_with_ahead committed.0 (zipped range starts.now ends.now)) }
 {
     check_columns(committed.0, starts, ends)?;
-    let runs = shorter(starts.len(), ends.len());
+    let runs = starts.len().min(ends.len());
     tables::copy(&mut cursor[STARTS..ENDS], 0, starts, runs);
     tables::copy(&mut cursor[ENDS..WORDS], 0, ends, runs);
     cursor[COMMITTED] = committed.0;

@@ -1,12 +1,11 @@
 -- What the answer of a look-up says of the lease, of the count, and of a token and its holder. Assumes nothing.
 use Prim.Native.Nat.{ℕ}
 use mathlib.Core.Path.{◌≡◌, refl, sym, ap, ◌∙◌}
-use mathlib.Core.List.{List, [], ◌∷◌}
 use Rattle.std.specs.Prelude.{Some, None}
 use Rattle.std.specs.Prelude as std
 use mathlib.Core.Option.{Option, none, some, map, none-ne-some}
 use mathlib.Core.Bool.{true, false, cond}
-use Rattle.types.specs.Refusal.{Result, refused, done, optional}
+use Rattle.types.specs.Refusal.{done}
 use Rattle.types.proofs.Cases.{split}
 use Rattle.lease.specs.State.{Table}
 use Rattle.lease.specs.Operations.{lease_of, owns}

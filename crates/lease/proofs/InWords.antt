@@ -23,7 +23,6 @@ use Rattle.types.proofs.Table.{guarded-passed, guarded-refused}
 use Rattle.tables.specs.Columns.{put_in, takenOut}
 use Rattle.tables.specs.Search.{Boundary, Placed, Spans}
 use Rattle.tables.specs.Slots.{Permutes, upTo, set_aside}
-use Rattle.tables.specs.declared.Place.{Place}
 use Rattle.tables.specs.declared.Place.TheVariants.{Found, Missing}
 use Rattle.tables.specs.declared.counts.Span.{Span}
 use Rattle.tables.proofs.Columns.{put_in_at, put_in_front, taken-out-front}
@@ -55,7 +54,7 @@ use Rattle.lease.proofs.Questions.{run_out}
 use Rattle.lease.proofs.Returns.{Shows, sound_as}
 use Rattle.lease.proofs.Slots.{free, leased, stored_at, in_flight_lem, lease-at, updated, carried, carried-span}
 use Rattle.lease.proofs.Stores.{timed, configured, stored-redeliveries, spliced-slots, start-stored}
-use Rattle.lease.proofs.Tokens.{with_next, owned_at, owned-used, not_owned, owned, one, acked}
+use Rattle.lease.proofs.Tokens.{with_next, owned-used, not_owned, owned, one, acked}
 use Rattle.lease.proofs.Valid.{valid-start, valid-grant, valid-update, valid-requeue, valid-flushed}
 
 -- ## the columns of a table's words are whole
@@ -260,9 +259,9 @@ module _ {w : List ℕ} (ok : Sound w) (at : ℕ) (f : Lease → Lease) where
 -- ## a token
 module _ {w : List ℕ} (ok : Sound w) (o g : ℕ) where
   -- one that owns no lease
-  module _ {r : Option ℕ} (p : OwnedIn o g w r) (e : r ≡ None) where
+  module _ (p : OwnedIn o g w None) where
     pub unowned : owns (lease_of (view w) o) g ≡ false
-    unowned = not_owned (table_in w) (whole ok).full ok.table o g p e
+    unowned = not_owned (table_in w) (whole ok).full ok.table o g p
 
     pub ack-refused : Answers (refused Fenced) w w (ack (view w) o g)
     unfolding ack
@@ -281,7 +280,7 @@ module _ {w : List ℕ} (ok : Sound w) (o g : ℕ) where
 
   pub owned-low : {at : ℕ} {r : Option ℕ} → OwnedIn o g w r → r ≡ Some at → at < word LEN w
   owned-low p e =
-      let t = table_in w in owned-used o g t.len t.offsets t.slots t.generations (owned_at o g (take t.len t.offsets) t.slots t.generations p e)
+      let t = table_in w in owned-used o g t.len t.offsets t.slots t.generations (subst (OwnedIn o g w) e p)
 
   -- one that owns the lease at a place
   module _ {at : ℕ} (p : OwnedIn o g w (Some at)) where
@@ -366,9 +365,9 @@ module _ {w : List ℕ} (ok : Sound w) (o : ℕ) where
       }
 
   module _ (from to : ℕ) where
-    pub not_resealed : {r : Option ℕ} → OwnedIn o from w r → r ≡ None → Tries false w w (reseal_from_to (view w) o from to)
+    pub not_resealed : OwnedIn o from w None → Tries false w w (reseal_from_to (view w) o from to)
     unfolding reseal_from_to
-    not_resealed p e = record { is = rw (unowned ok o from p e); sound = ok; kept = λ _. refl }
+    not_resealed p = record { is = rw (unowned ok o from p); sound = ok; kept = λ _. refl }
 
     pub resealed : {at : ℕ} → OwnedIn o from w (Some at) → (w' : List ℕ) → length w' ≡ WORDS
         → table_in w' ≡ holding at (resealed_as to (held_at at (table_in w))) (table_in w) → Tries true w w' (reseal_from_to (view w) o from to)

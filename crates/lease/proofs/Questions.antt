@@ -21,7 +21,6 @@ use Rattle.lease.specs.State.{Table, Sound, view, leases_of, with_leases}
 use Rattle.lease.specs.Operations.{lease_of, owns, with_deadline}
 use Rattle.lease.specs.Rest.{resealed_as, reseal_from_to, is_expired, defer_redelivery, is_claimable, pending_redelivery_attempt}
 use Rattle.lease.specs.Answers.{Tries}
-use Rattle.lease.specs.Helpers.{Owned}
 use Rattle.lease.specs.Parts.{Full, slot_in, OwnedAt, leasing, timing}
 use Rattle.lease.specs.declared.Lease.{Lease}
 use Rattle.lease.specs.declared.LeaseTable.{LeaseTable}

@@ -21,7 +21,7 @@ use tables::{Place, counts};
 use types::lent::{AttemptCounts, OffsetList};
 use types::limits::{CARRIED, COUNTS, LEASES, MAX};
 use types::refusals::Refusal;
-use types::{Generation, Offset, numbers};
+use types::{Generation, Offset};
 
 // What a claim answers, and the numbers of the table after it.
 #[derive(Clone, Copy)]
@@ -141,7 +141,7 @@ fn claim_again(
             redeliveries,
         };
     }
-    let count = numbers::saturating_next(deliveries[slot]);
+    let count = deliveries[slot].saturating_add(1);
     generations[slot] = generation;
     attempt_starts[slot] = now;
     deadlines[slot] = config.deadline(now, now);
@@ -196,15 +196,15 @@ fn claim_first(
         };
     }
     let prior = counts::count_of(carried_offsets, carried_counts, carried_len, offset);
-    tables::remove_128(carried_offsets, carried_len, prior.from, prior.to);
-    tables::remove_counts_128(carried_counts, carried_len, prior.from, prior.to);
+    tables::remove(carried_offsets, carried_len, prior.from, prior.to);
+    tables::remove(carried_counts, carried_len, prior.from, prior.to);
     let left = carried_len - (prior.to - prior.from);
-    let count = numbers::saturating_next(prior.count);
+    let count = prior.count.saturating_add(1);
     let deadline = config.deadline(now, now);
     let taken = slots[len];
     let free = slot_at(slots, len);
-    tables::insert_64(offsets, len, at, offset);
-    tables::insert_count_64(slots, len, at, taken);
+    tables::insert(offsets, len, at, offset);
+    tables::insert(slots, len, at, taken);
     generations[free] = next;
     attempt_starts[free] = now;
     deadlines[free] = deadline;
@@ -280,8 +280,8 @@ pub fn ack_at(
     let freed = slots[at];
     let next = at + 1;
     let last = len - 1;
-    tables::remove_64(offsets, len, at, next);
-    tables::remove_counts_64(slots, len, at, next);
+    tables::remove(offsets, len, at, next);
+    tables::remove(slots, len, at, next);
     slots[last] = freed;
     last
 }
@@ -335,7 +335,7 @@ pub fn nack_at(
         };
     }
     let slot = slot_at(slots, at);
-    let deadline = numbers::saturating_add(now, delay_nanos);
+    let deadline = now.saturating_add(delay_nanos);
     generations[slot] = next_generation;
     deadlines[slot] = deadline;
     NackedAt {
@@ -368,11 +368,11 @@ pub fn release_below_in_place(
         (λ s. release_below s up_to) }
 {
     let carried = tables::position(carried_offsets, carried_len, up_to);
-    tables::remove_128(carried_offsets, carried_len, 0, carried);
-    tables::remove_counts_128(carried_counts, carried_len, 0, carried);
+    tables::remove(carried_offsets, carried_len, 0, carried);
+    tables::remove(carried_counts, carried_len, 0, carried);
     let first = tables::position(offsets, len, up_to);
-    tables::remove_64(offsets, len, 0, first);
-    tables::set_aside_64(slots, len, first);
+    tables::remove(offsets, len, 0, first);
+    tables::set_aside(slots, len, first);
     ReleasedAt {
         len: len - first,
         carried_len: carried_len - carried,
@@ -384,7 +384,7 @@ pub fn slot_at(slots: &[u32; LEASES], at: usize) -> usize
     requires { at < LEASES }
     ensures { (result ≡ slot_in slots.now at) × (result < LEASES) }
 {
-    numbers::wide(slots[at]) as usize % LEASES
+    slots[at] as usize % LEASES
 }
 
 // The lease at a place of the table.
@@ -538,17 +538,15 @@ pub fn lease_counts_in_place<'a>(
 {
     let mut listed = [0u64; COUNTS];
     let mut attempts = [0u32; COUNTS];
-    let mut i: usize = 0;
-    while i < len {
+    for i in 0..len {
         listed[i] = offsets[i];
         let slot = slot_at(slots, i);
         attempts[i] = deliveries[slot];
-        i += 1;
     }
     AttemptCounts {
         offsets: listed,
-        attempts: attempts,
-        len: len,
+        attempts,
+        len,
     }
 }
 
@@ -582,13 +580,10 @@ pub fn expired_in_place<'a>(
 {
     let mut listed = [0u64; CARRIED];
     let mut n: usize = 0;
-    let mut i: usize = 0;
-    while i < len {
-        let at = i;
-        i += 1;
-        let slot = slot_at(slots, at);
+    for i in 0..len {
+        let slot = slot_at(slots, i);
         if deadlines[slot] <= now {
-            listed[n] = offsets[at];
+            listed[n] = offsets[i];
             n += 1;
         }
     }

@@ -18,7 +18,7 @@ use crate::layout::{
 use crate::{Grant, LeaseConfig, LeaseToken, reads, stored};
 use tables::Place;
 use types::refusals::Refusal;
-use types::{Generation, Offset, numbers};
+use types::{Generation, Offset};
 
 // Claims an offset for a worker: 23, 25, 27.
 pub fn claim(table: &mut [u64], worker: u32, offset: Offset, now: u64) -> Result<Grant, Refusal>
@@ -69,7 +69,7 @@ fn grant_again(table: &mut [u64], at: usize, worker: u32, offset: Offset, now: u
     ensures { Answers (done (grant_in result)) table.old table.new (claim (view table.old) worker offset.0 now) }
 {
     let lease = stored::lease_at(table, at);
-    let count = numbers::saturating_next(lease.deliveries);
+    let count = lease.deliveries.saturating_add(1);
     stored::grant(table, at, worker, offset, count, now)
 }
 
@@ -79,7 +79,7 @@ fn grant_first(table: &mut [u64], at: usize, worker: u32, offset: Offset, now: u
     ensures { Answers (done (grant_in result)) table.old table.new (claim (view table.old) worker offset.0 now) }
 {
     let prior = stored::take_carried(table, offset);
-    let count = numbers::saturating_next(prior);
+    let count = prior.saturating_add(1);
     stored::put_offset(table, at, offset);
     stored::grant(table, at, worker, offset, count, now)
 }
@@ -158,7 +158,7 @@ pub fn requeue_at(table: &mut [u64], at: usize, now: u64, delay_nanos: u64) -> u
     ensures { AnswersOwned at (done result) table.old table.new (λ t o g. nack t o g now delay_nanos) }
 {
     let generation = table[NEXT];
-    let deadline = numbers::saturating_add(now, delay_nanos);
+    let deadline = now.saturating_add(delay_nanos);
     let mut lease = stored::lease_at(table, at);
     lease.generation.0 = generation;
     lease.deadline = deadline;
@@ -205,7 +205,7 @@ pub fn defer_redelivery(table: &mut [u64], offset: Offset, now: u64, delay_nanos
     if now < lease.deadline {
         return false;
     }
-    lease.deadline = numbers::saturating_add(now, delay_nanos);
+    lease.deadline = now.saturating_add(delay_nanos);
     stored::put_lease(table, at, lease);
     true
 }
@@ -234,7 +234,7 @@ pub fn note_attempts_flushed(table: &mut [u64])
     ensures { Becomes table.new (attempts_flushed (view table.old)) }
 {
     let redeliveries = reads::redeliveries_since_flush(table);
-    table[REDELIVERIES] = numbers::wide(redeliveries::after_flush(redeliveries));
+    table[REDELIVERIES] = u64::from(redeliveries::after_flush(redeliveries));
 }
 
 // Makes an empty table of any words, whose first grant takes the given generation. Whoever keeps leases over restarts begins above every
@@ -243,7 +243,7 @@ pub fn starting_at(table: &mut [u64], config: LeaseConfig, generation: Generatio
     requires { length table.old ≡ WORDS }
     ensures { Becomes table.new (starting_at config generation.0) }
 {
-    stored::clear(table);
+    table.fill(0);
     stored::free_slots(&mut table[SLOTS..GENERATIONS]);
     table[NEXT] = generation.0;
     table[VISIBILITY] = config.visibility_nanos;

@@ -25,11 +25,8 @@ impl LeaseTable {
         ensures { Answers (resume_of result.outcome) self result.table (resume_attempts (view self) (entries_of pairs.now)) }
     {
         let mut carried = self.carried_so_far();
-        let n = pairs.len();
-        let mut i: usize = 0;
-        while i < n {
-            carried = counts::carry_pair(carried, pairs[i]);
-            i += 1;
+        for pair in pairs {
+            carried = counts::carry_pair(carried, *pair);
         }
         self.resumed(carried)
     }
@@ -39,8 +36,7 @@ impl LeaseTable {
         requires { Sound self }
         ensures { Answers (resume_of result.outcome) self result.table (resume_attempts (view self) (entry_of pair ∷ [])) }
     {
-        let carried = counts::carry_pair(self.carried_so_far(), pair);
-        self.resumed(carried)
+        self.resume_attempts(&[pair])
     }
 
     // How often each message in flight was handed out, into a lent list. 20 where it doesn't fit.
@@ -76,8 +72,8 @@ impl LeaseTable {
         let offsets = self.carried_offsets;
         let counts = self.carried_counts;
         Carried {
-            offsets: offsets,
-            counts: counts,
+            offsets,
+            counts,
             len: self.carried_len,
             full: false,
         }
@@ -101,7 +97,7 @@ impl LeaseTable {
         table.carried_counts = counts;
         table.carried_len = carried.len;
         Answered {
-            table: table,
+            table,
             outcome: Ok(()),
         }
     }

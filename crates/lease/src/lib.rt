@@ -4,19 +4,17 @@
 // clock: it may stand still or run backwards.
 #![tactic(auto)]
 
-ghost use Rattle.std.specs.Prelude.{◌≡◌, map, length};
-ghost use Rattle.types.specs.Limits.{LEASES};
+ghost use Rattle.std.specs.Prelude.{◌≡◌};
 ghost use Rattle.lease.specs.Config.{nanos, from_millis, default_config};
 ghost use Rattle.lease.specs.State.{Sound, view, starting_at};
 ghost use Rattle.lease.specs.Operations.{claim, ack, extend, nack, cap_from, deadline_from};
 ghost use Rattle.lease.specs.Rest.{attempts_flushed, release_below, reseal_from_to, defer_redelivery, shift_deadlines, in_flight, is_claimable, deliveries, holds_active, pending_redelivery_attempt};
-ghost use Rattle.lease.specs.Helpers.{later_by};
 ghost use Rattle.lease.specs.Answers.{claim_of, ack_of, extend_of, nack_of, attempts_of, Answers, Tries, Becomes};
 
 use tables::Place;
-use types::limits::{CARRIED, LEASES, MAX};
+use types::limits::{CARRIED, LEASES};
 use types::refusals::Refusal;
-use types::{Generation, Offset, numbers};
+use types::{Generation, Offset};
 
 pub mod in_place;
 pub mod in_words;
@@ -68,16 +66,15 @@ impl LeaseConfig {
     fn cap(self, start: u64) -> u64
         ensures { result ≡ cap_from self start }
     {
-        numbers::saturating_add(start, self.hard_cap_nanos)
+        start.saturating_add(self.hard_cap_nanos)
     }
 
     // One visibility window from now, within the cap of an attempt that began at `start`.
     fn deadline(self, start: u64, now: u64) -> u64
         ensures { result ≡ deadline_from self start now }
     {
-        let window = numbers::saturating_add(now, self.visibility_nanos);
-        let cap = self.cap(start);
-        if window <= cap { window } else { cap }
+        let window = now.saturating_add(self.visibility_nanos);
+        window.min(self.cap(start))
     }
 }
 
@@ -166,9 +163,9 @@ impl LeaseTable {
         ensures { Becomes result (starting_at config generation.0) }
     {
         LeaseTable {
-            config: config,
+            config,
             offsets: [0; LEASES],
-            slots: tables::slots_64(),
+            slots: tables::all_slots(),
             generations: [0; LEASES],
             attempt_starts: [0; LEASES],
             deadlines: [0; LEASES],
@@ -526,7 +523,7 @@ impl LeaseTable {
                 outcome: false,
             };
         }
-        deadlines[slot] = numbers::saturating_add(now, delay_nanos);
+        deadlines[slot] = now.saturating_add(delay_nanos);
         self.deadlines = deadlines;
         Answered {
             table: self,
@@ -539,27 +536,15 @@ impl LeaseTable {
         requires { Sound self }
         ensures { Becomes result (shift_deadlines (view self) delta) }
     {
-        shift(&mut self.attempt_starts, delta);
-        shift(&mut self.deadlines, delta);
+        stored::shift(&mut self.attempt_starts, delta);
+        stored::shift(&mut self.deadlines, delta);
         self
     }
-}
-
-// Moves the times of a column forward, those that no lease has too.
-fn shift(times: &mut [u64; LEASES], delta: u64)
-    requires { length times.old ≡ LEASES }
-    ensures { times.new ≡ map (later_by delta) times.old }
-{
-    stored::shift(times, delta);
 }
 
 // Milliseconds in nanoseconds, at most the largest number.
 fn to_nanos(ms: u64) -> u64
     ensures { result ≡ nanos ms }
 {
-    if ms <= 18446744073709 {
-        ms * 1000000
-    } else {
-        MAX
-    }
+    ms.saturating_mul(1000000)
 }

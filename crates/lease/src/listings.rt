@@ -18,7 +18,6 @@ use tables::counts;
 use tables::counts::Carried;
 use types::lent::{AttemptCounts, OffsetList};
 use types::limits::{CARRIED, COUNTS};
-use types::numbers::shorter;
 use types::refusals::Refusal;
 use types::{Pair, lent};
 
@@ -38,13 +37,10 @@ pub fn expired_list(table: &[u64], now: u64) -> OffsetList
     let len = table[LEN] as usize;
     let mut listed = [0u64; CARRIED];
     let mut n: usize = 0;
-    let mut i: usize = 0;
-    while i < len {
-        let at = i;
-        i += 1;
-        let lease = stored::lease_at(table, at);
+    for i in 0..len {
+        let lease = stored::lease_at(table, i);
         if lease.deadline <= now {
-            listed[n] = table[OFFSETS + at];
+            listed[n] = table[OFFSETS + i];
             n += 1;
         }
     }
@@ -62,17 +58,15 @@ pub fn lease_counts(table: &[u64]) -> AttemptCounts
     let len = table[LEN] as usize;
     let mut offsets = [0u64; COUNTS];
     let mut attempts = [0u32; COUNTS];
-    let mut i: usize = 0;
-    while i < len {
+    for i in 0..len {
         let lease = stored::lease_at(table, i);
         offsets[i] = table[OFFSETS + i];
         attempts[i] = lease.deliveries;
-        i += 1;
     }
     AttemptCounts {
-        offsets: offsets,
-        attempts: attempts,
-        len: len,
+        offsets,
+        attempts,
+        len,
     }
 }
 
@@ -88,7 +82,7 @@ pub fn all_attempt_counts(
 {
     let counts = all_counts(table);
     let n = counts.len;
-    if shorter(offsets.len(), attempts.len()) < n {
+    if offsets.len().min(attempts.len()) < n {
         return Err(Refusal::OutTooShort);
     }
     tables::copy(offsets, 0, &counts.offsets, n);
@@ -114,16 +108,14 @@ pub fn carried_counts(table: &[u64]) -> Carried
     let len = table[CARRIED_LEN] as usize;
     let mut offsets = [0u64; CARRIED];
     let mut counts = [0u32; CARRIED];
-    let mut i: usize = 0;
-    while i < len {
+    for i in 0..len {
         offsets[i] = table[CARRIED_OFFSETS + i];
         counts[i] = table[CARRIED_COUNTS + i] as u32;
-        i += 1;
     }
     Carried {
-        offsets: offsets,
-        counts: counts,
-        len: len,
+        offsets,
+        counts,
+        len,
         full: false,
     }
 }
@@ -135,15 +127,12 @@ pub fn resume_attempts(table: &mut [u64], offsets: &[u64], attempts: &[u32]) -> 
     ensures { Answers (resume_of result) table.old table.new (resume_attempts (view table.old) (entries offsets.now attempts.now)) }
 {
     let mut carried = carried_counts(table);
-    let n = shorter(offsets.len(), attempts.len());
-    let mut i: usize = 0;
-    while i < n {
+    for (offset, attempt) in offsets.iter().zip(attempts) {
         let pair = Pair {
-            offset: offsets[i],
-            attempt: attempts[i],
+            offset: *offset,
+            attempt: *attempt,
         };
         carried = counts::carry_pair(carried, pair);
-        i += 1;
     }
     resume_with(table, carried)
 }

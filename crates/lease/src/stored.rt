@@ -15,7 +15,7 @@ use crate::layout::{
 use crate::{Grant, Lease, LeaseConfig, LeaseToken};
 use tables::Place;
 use types::limits::LEASES;
-use types::{Generation, Offset, numbers};
+use types::{Generation, Offset};
 
 // The configuration.
 pub(crate) fn config_of(table: &[u64]) -> LeaseConfig
@@ -60,8 +60,8 @@ pub(crate) fn put_lease(table: &mut [u64], at: usize, lease: Lease)
     table[GENERATIONS + slot] = lease.generation.0;
     table[STARTS + slot] = lease.attempt_start;
     table[DEADLINES + slot] = lease.deadline;
-    table[DELIVERIES + slot] = numbers::wide(lease.deliveries);
-    table[WORKERS + slot] = numbers::wide(lease.worker);
+    table[DELIVERIES + slot] = u64::from(lease.deliveries);
+    table[WORKERS + slot] = u64::from(lease.worker);
 }
 
 // Stores the lease of a grant at a place, under the next generation, which is taken, and counts it where it is a redelivery.
@@ -90,7 +90,7 @@ pub(crate) fn grant(
     };
     put_lease(table, at, lease);
     table[NEXT] = generation + 1;
-    table[REDELIVERIES] = numbers::wide(redeliveries::after_grant(redeliveries, count));
+    table[REDELIVERIES] = u64::from(redeliveries::after_grant(redeliveries, count));
     let token = LeaseToken {
         offset,
         generation: Generation(generation),
@@ -174,11 +174,8 @@ pub(crate) fn release_leases(table: &mut [u64], up_to: Offset)
 pub(crate) fn shift(times: &mut [u64], delta: u64)
     ensures { times.new ≡ map (later_by delta) times.old }
 {
-    let n = times.len();
-    let mut i: usize = 0;
-    while i < n {
-        times[i] = numbers::saturating_add(times[i], delta);
-        i += 1;
+    for time in times.iter_mut() {
+        *time = time.saturating_add(delta);
     }
 }
 
@@ -187,22 +184,8 @@ pub(crate) fn put_counts(column: &mut [u64], counts: &[u32], count: usize)
     requires { (count ≤ length column.old) × (count ≤ length counts.now) }
     ensures { column.new ≡ take count counts.now ++ drop count column.old }
 {
-    let mut i: usize = 0;
-    while i < count {
-        column[i] = numbers::wide(counts[i]);
-        i += 1;
-    }
-}
-
-// Stores 0 in every word.
-pub(crate) fn clear(words: &mut [u64])
-    ensures { words.new ≡ replicate (length words.old) 0 }
-{
-    let n = words.len();
-    let mut i: usize = 0;
-    while i < n {
-        words[i] = 0;
-        i += 1;
+    for i in 0..count {
+        column[i] = u64::from(counts[i]);
     }
 }
 
@@ -210,10 +193,7 @@ pub(crate) fn clear(words: &mut [u64])
 pub(crate) fn free_slots(slots: &mut [u64])
     ensures { slots.new ≡ upTo (length slots.old) }
 {
-    let n = slots.len();
-    let mut i: usize = 0;
-    while i < n {
+    for i in 0..slots.len() {
         slots[i] = i as u64;
-        i += 1;
     }
 }

@@ -1,6 +1,6 @@
 -- What the code's machine stands for, its invariant, and the parts of the contracts.
 -- SPEC.md, "Lists".
-use Rattle.std.specs.Prelude.{ℕ, zero, suc, ◌≡◌, cond, List, length, Some, None, Ok, Err}
+use Rattle.std.specs.Prelude.{ℕ, zero, suc, ◌≡◌, cond, List, length, Some, None}
 use Rattle.std.specs.Prelude as std
 use Rattle.std.proofs.Math.Option.{Option, none}
 use Rattle.types.specs.Refusal.{Result, refused, done}
@@ -16,7 +16,7 @@ use Rattle.consumer.specs.View as consumer
 use Rattle.consumer.specs.declared.Consumer.{Consumer}
 use Rattle.consumer.specs.declared.Configuration.{Configuration}
 use Rattle.consumer.specs.declared.snapshots.Lengths.{Lengths}
-use Rattle.checkpoint.specs.Writing.{view_writing, SoundWriting, step_of}
+use Rattle.checkpoint.specs.Writing.{view_writing, SoundWriting, step_of, is_finished}
 use Rattle.checkpoint.specs.Parts.{unbegun}
 use Rattle.checkpoint.specs.declared.Writing.{Writing}
 use Rattle.checkpoint.specs.declared.Wrote.{Wrote}
@@ -207,5 +207,4 @@ pub record ExportedIs (m : Machine) (w : ℕ) (out : Snapshots) (r : std.Option 
 -- ## parts
 -- the number of the phase that a step leaves
 abbrev pub phaseAfter : std.Result Wrote Refusal → ℕ
-phaseAfter (Ok w) = cond w.finished 0 1
-phaseAfter (Err r) = 1
+phaseAfter r = cond (is_finished r) 0 1

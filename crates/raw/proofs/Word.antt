@@ -3,13 +3,12 @@
 use Prim.Native.Nat.{ℕ, suc, ◌+◌, ◌*◌, ◌<◌, ◌≤◌}
 use native.Mathlib.Omega.{arith}
 use native.Mathlib.Nat.{add-zero, add-suc}
-use mathlib.Core.Path.{◌≡◌, sym}
-use mathlib.Core.List.{List, [], ◌∷◌}
-use lib.ListN.{length, get_or, set}
+use mathlib.Core.Path.{◌≡◌}
+use mathlib.Core.List.{List}
+use lib.ListN.{length, get_or}
 use lib.Seq.{drop-cons}
-use Rattle.raw.specs.Bytes.{number_at, overwrite}
+use Rattle.raw.specs.Bytes.{number_at}
 use Rattle.raw.specs.Word.{four_at, word_at}
-use Rattle.raw.proofs.Bytes.{overwrite-sets}
 
 module _ (bs : List ℕ) (i n : ℕ) (room : i + n ≤ length bs) where
   next : (k j : ℕ) → j < n → number_at (suc k) (i + j) bs ≡ get_or bs (i + j) 0 + 256 * number_at k (i + suc j) bs

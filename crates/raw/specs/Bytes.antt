@@ -1,7 +1,7 @@
 -- Little-endian numbers in lists of bytes: reading sees zeros past the end, writing changes its place alone and is
 -- refused, 20, where it would pass the end.
 -- SPEC.md, "Numbers".
-use Rattle.std.specs.Prelude.{ℕ, zero, suc, ◌+◌, ◌*◌, ◌/◌, ◌%◌, ◌^◌, ◌<◌, ◌≡◌, Bool, true, ◌&&◌, List, [], ◌∷◌, ◌++◌, ltb, eqb, length, take, drop}
+use Rattle.std.specs.Prelude.{ℕ, zero, suc, ◌+◌, ◌*◌, ◌/◌, ◌%◌, ◌<◌, Bool, true, ◌&&◌, List, [], ◌∷◌, ◌++◌, ltb, eqb, length, take, drop}
 use Rattle.types.specs.Refusal.{done}
 use Rattle.types.specs.Refusal as refusal
 use Rattle.types.specs.Table.{◌⇒◌, Answer, answer, guarded}
@@ -29,11 +29,6 @@ unle (b ∷ bs) = b + 256 * unle bs
 -- the number in the k bytes from place pos on, those past the end being 0
 abbrev pub number_at : ℕ → ℕ → List ℕ → ℕ
 number_at k pos bs = unle (take k (drop pos bs))
-
--- what a read answers: that number, which has k bytes itself
-pub record ReadIs (k pos : ℕ) (bs : List ℕ) (r : ℕ) : Type 0 where
-  pub is : r ≡ number_at k pos bs
-  pub below : r < 256 ^ k
 
 -- new bytes from place pos on; all others stay
 abbrev pub overwrite : ℕ → List ℕ → List ℕ → List ℕ

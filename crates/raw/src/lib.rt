@@ -3,54 +3,30 @@
 // the compiler makes one load or one store of. And slices of zeros.
 #![tactic(auto)]
 
-ghost use Rattle.std.specs.Prelude.{◌≡◌, ◌+◌, ◌*◌, ◌<◌, ◌≤◌, [], ◌∷◌, ltb, length, replicate};
+ghost use Rattle.std.specs.Prelude.{◌≡◌, ◌+◌, ◌≤◌, [], ◌∷◌, ltb, length, replicate};
 ghost use Rattle.types.specs.Refusal.{done, OutTooShort};
 ghost use Rattle.types.specs.Refused.{as_is};
 ghost use Rattle.types.specs.Table.{◌⇒◌, answer, checked};
-ghost use Rattle.raw.specs.Bytes.{all_zero, le, number_at, ReadIs, write};
+ghost use Rattle.raw.specs.Bytes.{all_zero, le, unle, number_at, write};
 ghost use Rattle.raw.specs.Word.{four_at, word_at};
 
 use types::refusals::Refusal;
-
-// The number in the bytes from pos on, at most `width` of them.
-fn read_le(buf: &[u8], pos: usize, width: usize) -> u64
-    requires { width ≤ 8 }
-    ensures { ReadIs width pos buf.now result }
-{
-    let len = buf.len();
-    if len <= pos {
-        return 0;
-    }
-    let mut i = len;
-    if width < len - pos {
-        i = pos + width;
-    }
-    let mut x: u64 = 0;
-    while pos < i {
-        i -= 1;
-        x = x * 256 + buf[i] as u64;
-    }
-    x
-}
 
 // The number in the eight bytes from i on, all of which are there.
 pub fn word_at(bytes: &[u8], i: usize) -> u64
     requires { i + 8 ≤ length bytes.now }
     ensures { result ≡ word_at bytes.now i }
 {
-    let low = four(
-        wide(bytes[i]),
-        wide(bytes[i + 1]),
-        wide(bytes[i + 2]),
-        wide(bytes[i + 3]),
-    );
-    let high = four(
-        wide(bytes[i + 4]),
-        wide(bytes[i + 5]),
-        wide(bytes[i + 6]),
-        wide(bytes[i + 7]),
-    );
-    low + 0x1_0000_0000 * high
+    u64::from_le_bytes([
+        bytes[i],
+        bytes[i + 1],
+        bytes[i + 2],
+        bytes[i + 3],
+        bytes[i + 4],
+        bytes[i + 5],
+        bytes[i + 6],
+        bytes[i + 7],
+    ])
 }
 
 // The number in the four bytes from i on, all of which are there.
@@ -58,40 +34,31 @@ pub fn half_at(bytes: &[u8], i: usize) -> u32
     requires { i + 4 ≤ length bytes.now }
     ensures { result ≡ four_at bytes.now i (i + 1) (i + 2) (i + 3) }
 {
-    let half = four(
-        wide(bytes[i]),
-        wide(bytes[i + 1]),
-        wide(bytes[i + 2]),
-        wide(bytes[i + 3]),
-    );
-    half as u32
+    u32::from_le_bytes([bytes[i], bytes[i + 1], bytes[i + 2], bytes[i + 3]])
 }
 
-// The number of four bytes, the lowest first.
-fn four(a: u64, b: u64, c: u64, d: u64) -> u64
-    requires { (a < 256) × (b < 256) × (c < 256) × (d < 256) }
-    ensures { (result ≡ a + 256 * (b + 256 * (c + 256 * d))) × (result < 0x1_0000_0000) }
+// The N bytes from pos on; those past the end are zeros.
+fn bytes_at<const N: usize>(buf: &[u8], pos: usize) -> [u8; N]
+    ensures { unle result ≡ number_at N pos buf.now }
 {
-    a + 256 * (b + 256 * (c + 256 * d))
-}
-
-fn wide(x: u8) -> u64
-    ensures { (result ≡ x) × (result < 256) }
-{
-    x as u64
+    let rest = &buf[pos.min(buf.len())..];
+    let n = rest.len().min(N);
+    let mut bytes = [0; N];
+    bytes[..n].copy_from_slice(&rest[..n]);
+    bytes
 }
 
 pub fn read_u16(buf: &[u8], pos: usize) -> u16
     ensures { result ≡ number_at 2 pos buf.now }
 {
-    read_le(buf, pos, 2) as u16
+    u16::from_le_bytes(bytes_at(buf, pos))
 }
 
 pub fn read_u32(buf: &[u8], pos: usize) -> u32
     ensures { result ≡ number_at 4 pos buf.now }
 {
     if too_short(buf.len(), pos, 4) {
-        return read_le(buf, pos, 4) as u32;
+        return u32::from_le_bytes(bytes_at(buf, pos));
     }
     half_at(buf, pos)
 }
@@ -100,7 +67,7 @@ pub fn read_u64(buf: &[u8], pos: usize) -> u64
     ensures { result ≡ number_at 8 pos buf.now }
 {
     if too_short(buf.len(), pos, 8) {
-        return read_le(buf, pos, 8);
+        return u64::from_le_bytes(bytes_at(buf, pos));
     }
     word_at(buf, pos)
 }
@@ -134,19 +101,19 @@ pub fn write_bytes(buf: &mut [u8], pos: usize, bytes: &[u8]) -> Result<usize, Re
 pub fn write_u16(buf: &mut [u8], pos: usize, x: u16) -> Result<usize, Refusal>
     ensures { answer (as_is result) buf.new ≡ write pos (le 2 x) buf.old }
 {
-    write_bytes(buf, pos, &x.to_le_bytes())
+    write_bytes(buf, pos, &u16::to_le_bytes(x))
 }
 
 pub fn write_u32(buf: &mut [u8], pos: usize, x: u32) -> Result<usize, Refusal>
     ensures { answer (as_is result) buf.new ≡ write pos (le 4 x) buf.old }
 {
-    write_bytes(buf, pos, &x.to_le_bytes())
+    write_bytes(buf, pos, &u32::to_le_bytes(x))
 }
 
 pub fn write_u64(buf: &mut [u8], pos: usize, x: u64) -> Result<usize, Refusal>
     ensures { answer (as_is result) buf.new ≡ write pos (le 8 x) buf.old }
 {
-    write_bytes(buf, pos, &x.to_le_bytes())
+    write_bytes(buf, pos, &u64::to_le_bytes(x))
 }
 
 // Whether every byte is 0.

@@ -11,8 +11,6 @@ use Rattle.consumer.specs.declared.Consumer.{Consumer}
 use Rattle.consumer.specs.declared.Settings.{Settings}
 use Rattle.checkpoint.specs.Parts.{recording, Parts, with_parts}
 use Rattle.checkpoint.specs.declared.Writing.{Writing}
-use Rattle.checkpoint.specs.declared.BeginAnswer.{BeginAnswer}
-use Rattle.checkpoint.specs.declared.BeginAnswer.TheVariants as begins
 use Rattle.starts.specs.Parts.{Columns}
 use Rattle.machine.specs.View.{SoundAt}
 use Rattle.machine.specs.declared.Machine.{Machine}
@@ -84,13 +82,6 @@ pub record Lendable (k : ℕ) (w : Writing) : Type 0 where
 pub record Beginnable (k : ℕ) (parts : Consumer → Writing) : Type 0 where
   pub consumer : Consumer
   pub lendable : Lendable k (parts consumer)
-
--- the number of the phase that a begin leaves
-abbrev pub phase_begun : BeginAnswer → ℕ
-phase_begun (begins.Begun n) = 1
-phase_begun begins.UnknownWorker = 0
-phase_begun begins.NotPermitted = 0
-phase_begun begins.JournalFull = 0
 
 -- call 16 of worker w on every machine that has these parts, whatever area and list are lent
 abbrev pub BegunOn : ℕ → (Consumer → Writing) → ℕ → Numbers → ℕ → (Consumer → Writing) → Type 0

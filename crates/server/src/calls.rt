@@ -13,6 +13,7 @@ use crate::in_place::{
 use crate::transitions::{import, start};
 use answers::Numbers;
 use checkpoint::Writing;
+use checkpoint::in_place::StepNumbers;
 use consumer::Configuration;
 use machine::Machine;
 
@@ -166,26 +167,29 @@ pub fn ninotskev_step(machine: &mut Machine, numbers: &mut Numbers, area: &mut [
     requires { Sound machine.old }
     ensures { (out : List ℕ) → CallIs machine.old 0 17 0 0 0 0 area.old out numbers.new machine.new area.new out }
 {
+    let before = StepNumbers {
+        written: machine.writing.written,
+        ceiling: machine.writing.consumer.ceiling.0,
+        redeliveries: machine.writing.consumer.table.redeliveries_since_flush,
+        number: machine.writing.consumer.next.number,
+        block: machine.writing.consumer.next.block,
+    };
     let done = step_in_place(
         machine.phase,
-        machine.writing.written,
+        before,
         machine.writing.cursor_len,
         machine.writing.attempt_len,
         machine.writing.consumer.area_len,
         machine.writing.consumer.table.next_generation.0,
-        machine.writing.consumer.ceiling.0,
-        machine.writing.consumer.next.number,
-        machine.writing.consumer.next.block,
-        machine.writing.consumer.table.redeliveries_since_flush,
         &machine.writing.payload,
         area,
     );
     machine.phase = done.phase;
-    machine.writing.written = done.written;
-    machine.writing.consumer.ceiling.0 = done.ceiling;
-    machine.writing.consumer.next.number = done.number;
-    machine.writing.consumer.next.block = done.block;
-    machine.writing.consumer.table.redeliveries_since_flush = done.redeliveries;
+    machine.writing.written = done.left.written;
+    machine.writing.consumer.ceiling.0 = done.left.ceiling;
+    machine.writing.consumer.next.number = done.left.number;
+    machine.writing.consumer.next.block = done.left.block;
+    machine.writing.consumer.table.redeliveries_since_flush = done.left.redeliveries;
     *numbers = done.numbers;
 }
 
@@ -194,13 +198,11 @@ pub fn ninotskev_sync_due(machine: &Machine) -> u64
     requires { Sound machine.now }
     ensures { result ≡ due_next (phase_of machine.now) }
 {
-    if machine.phase != 1 {
-        return 0;
+    if machine.phase == 1 && machine.writing.sync_due() {
+        1
+    } else {
+        0
     }
-    if machine.writing.sync_due() {
-        return 1;
-    }
-    0
 }
 
 // A call of a worker on the state of the machine in its place.

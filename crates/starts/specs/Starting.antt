@@ -50,12 +50,12 @@ kept_of c = record { settings = settings_of c.settings; lease = c.lease }
 
 -- the refusal that an answer is, if it is one
 abbrev pub start_fault : std.Result (Unit {0}) code.Refusal → Option Refusal
-start_fault (Ok done) = none
+start_fault (Ok _) = none
 start_fault (Err r) = some (refusal_of r)
 
 -- the answer, with the state that stands beside it
 abbrev pub start_of : std.Result (Unit {0}) code.Refusal → State → Result State
-start_of a s = result_of (λ done. s) a
+start_of a s = result_of (λ x. s) a
 
 -- a fresh consumer
 pub record FreshIs (s : Configuration) (size : ℕ) (c : Consumer) : Type 0 where

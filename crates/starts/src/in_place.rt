@@ -17,7 +17,7 @@ ghost use Rattle.starts.specs.Restart.{is_dropped, unsettled_counts, from_snapsh
 ghost use Rattle.starts.specs.Starting.{next_group_of, Lies, LastLies, StopIs};
 ghost use Rattle.starts.specs.Parts.{fresh_numbers, columns, Long, ReadIs, RestartedIn, ImportedIn};
 
-use crate::{check_start, origin};
+use crate::{FIRST_GROUP, check_start, origin};
 use consumer::{Configuration, NextGroup, halves};
 use cursor::columns::{check_snapshot, read_column};
 use journal::Stop;
@@ -79,10 +79,7 @@ pub fn import_in_place<'a>(
     ensures { ImportedIn configuration area_len first.0 cursor.now attempts.now result (columns starts.old ends.old carried_offsets.old carried_counts.old) (columns starts.new ends.new carried_offsets.new carried_counts.new) }
 {
     check_start(configuration, area_len)?;
-    let next = NextGroup {
-        number: 1,
-        block: 0,
-    };
+    let next = FIRST_GROUP;
     read_snapshots(
         cursor,
         attempts,
@@ -99,7 +96,7 @@ pub fn import_in_place<'a>(
 pub fn free_slots(slots: &mut [u32; LEASES])
     ensures { Permutes LEASES slots.new }
 {
-    *slots = tables::slots();
+    *slots = tables::all_slots();
 }
 
 // The numbers of a fresh consumer.

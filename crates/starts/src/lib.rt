@@ -25,6 +25,12 @@ use types::refusals::Refusal;
 
 pub mod in_place;
 
+// The first group of a journal without any: number 1, at block 0.
+const FIRST_GROUP: NextGroup = NextGroup {
+    number: 1,
+    block: 0,
+};
+
 // What a start, a restart or an import answers: a consumer, or a refusal: 1 to 3, those of the hours (33 and 34), 4, 5, the cursor
 // snapshot's (6 to 12), or the attempt snapshot's (13 to 19). Beside a refusal stands the fresh consumer of this configuration, which
 // is not to be called.
@@ -87,10 +93,7 @@ fn fresh(configuration: Configuration, area_len: usize) -> Consumer
         cursor: AckCursor::new(),
         table: LeaseTable::starting_at(lease, Generation(0)),
         ceiling: Generation(0),
-        next: NextGroup {
-            number: 1,
-            block: 0,
-        },
+        next: FIRST_GROUP,
         area_len: area_len,
         settings: settings,
     }
@@ -109,7 +112,7 @@ fn resumed_table(
     LeaseTable {
         config: config,
         offsets: [0; LEASES],
-        slots: tables::slots(),
+        slots: tables::all_slots(),
         generations: [0; LEASES],
         attempt_starts: [0; LEASES],
         deadlines: [0; LEASES],
@@ -222,22 +225,25 @@ pub fn origin(area: &[u8]) -> NextGroup
     let first = opened_by(area, 0);
     let second = opened_by(area, middle);
     match (first, second) {
-        (Some(a), Some(b)) if a < b => NextGroup {
-            number: b,
+        (None, None) => FIRST_GROUP,
+        (Some(number), None) => NextGroup { number, block: 0 },
+        (None, Some(number)) => NextGroup {
+            number,
             block: middle,
         },
-        (None, Some(b)) => NextGroup {
-            number: b,
-            block: middle,
-        },
-        (Some(a), _) => NextGroup {
-            number: a,
-            block: 0,
-        },
-        (None, None) => NextGroup {
-            number: 1,
-            block: 0,
-        },
+        (Some(a), Some(b)) => {
+            if a < b {
+                NextGroup {
+                    number: b,
+                    block: middle,
+                }
+            } else {
+                NextGroup {
+                    number: a,
+                    block: 0,
+                }
+            }
+        }
     }
 }
 
@@ -252,10 +258,9 @@ pub fn limit(area: &[u8]) -> usize
 pub fn start(configuration: Configuration, area_len: usize) -> Started
     ensures { StartedIs configuration area_len (start (configuration_of configuration) area_len) result }
 {
-    Started {
-        answer: check_start(configuration, area_len),
-        consumer: fresh(configuration, area_len),
-    }
+    let answer = check_start(configuration, area_len);
+    let consumer = fresh(configuration, area_len);
+    Started { answer, consumer }
 }
 
 // A consumer that goes on from what its journal has: 1 to 3, 33, 34, 4 to 19. The area is read and nothing is written.

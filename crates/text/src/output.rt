@@ -1,6 +1,6 @@
 // Text for standard output, gathered in a buffer that is written out when it is full and when it is flushed. Nothing is lost: what
 // doesn't fit an empty buffer is written at once. A write that fails is left at that.
-ghost use Rattle.std.specs.Prelude.{[], ◌∷◌};
+ghost use Rattle.std.specs.Prelude.{◌≡◌, [], ◌∷◌};
 ghost use Rattle.text.specs.Output.{decimal, hexadecimal, Says};
 
 use io::{decimal, hex};
@@ -20,7 +20,9 @@ pub struct Output {
 
 impl Output {
     // Nothing gathered yet.
-    pub fn new(stdout: Stdout) -> Output {
+    pub fn new(stdout: Stdout) -> Output
+        ensures { result.at ≡ 0 }
+    {
         Output {
             stdout,
             bytes: [0; ROOM],
@@ -34,7 +36,10 @@ impl Output {
     }
 
     // Writes out what is gathered, which then begins anew.
-    pub fn flush(&mut self) {
+    pub fn flush(&mut self)
+        ensures empty { self.new.at ≡ 0 }
+        ensures kept { self.new.bytes ≡ self.old.bytes }
+    {
         self.write_out(&self.bytes[..min(self.at, ROOM)]);
         self.at = 0;
     }

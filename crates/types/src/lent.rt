@@ -7,7 +7,6 @@ ghost use Rattle.types.specs.Lists.{listed, roomFor, counted, numbers_of, offset
 ghost use Rattle.types.specs.Keyed.{entry};
 
 use crate::limits::{CARRIED, COUNTS};
-use crate::numbers::shorter;
 use crate::refusals::Refusal;
 use crate::{Offset, Pair};
 
@@ -33,7 +32,7 @@ pub struct AttemptCounts {
 pub fn room_for(len: usize, places: usize, room: usize) -> Result<usize, Refusal>
     ensures { as_is result ≡ roomFor (min len places) room }
 {
-    let n = shorter(len, places);
+    let n = len.min(places);
     if room < n {
         return Err(Refusal::OutTooShort);
     }
@@ -44,22 +43,18 @@ pub fn room_for(len: usize, places: usize, room: usize) -> Result<usize, Refusal
 pub fn count_of(outcome: Result<usize, Refusal>) -> usize
     ensures { result ≡ counted (as_is outcome) }
 {
-    match outcome {
-        Ok(n) => n,
-        Err(_) => 0,
-    }
+    outcome.unwrap_or(0)
 }
 
 // Lists offsets.
 pub fn list_offsets(list: OffsetList, out: &mut [Offset]) -> Result<usize, Refusal>
     ensures { answer (as_is result) (numbers_of out.new) ≡ listed (offsets_in list) (numbers_of out.old) }
 {
-    let outcome = offsets_fit(list, out.len());
-    let n = count_of(outcome);
+    let n = offsets_fit(list, out.len())?;
     for i in 0..n {
         out[i] = offset_at(list, i);
     }
-    outcome
+    Ok(n)
 }
 
 // Whether offsets fit into a list of some length, and the one at a place.
@@ -80,25 +75,20 @@ fn offset_at(list: OffsetList, at: usize) -> Offset
 pub fn list_numbers(list: OffsetList, out: &mut [u64]) -> Result<usize, Refusal>
     ensures { answer (as_is result) out.new ≡ listed (offsets_in list) out.old }
 {
-    let outcome = room_for(list.len, CARRIED, out.len());
-    let n = count_of(outcome);
-    let numbers = list.offsets;
-    for i in 0..n {
-        out[i] = numbers[i];
-    }
-    outcome
+    let n = room_for(list.len, CARRIED, out.len())?;
+    out[..n].copy_from_slice(&list.offsets[..n]);
+    Ok(n)
 }
 
 // Lists attempt counts as pairs.
 pub fn list_pairs(counts: AttemptCounts, out: &mut [Pair]) -> Result<usize, Refusal>
     ensures { answer (as_is result) (entries_of out.new) ≡ listed (counts_in counts) (entries_of out.old) }
 {
-    let outcome = counts_fit(counts, out.len());
-    let n = count_of(outcome);
+    let n = counts_fit(counts, out.len())?;
     for i in 0..n {
         out[i] = pair_at(counts, i);
     }
-    outcome
+    Ok(n)
 }
 
 // Whether attempt counts fit into a list of some length, and the one at a place.

@@ -13,17 +13,17 @@ pub mod refusals;
 
 // A position in the log: it names a message.
 #[repr(C)]
-#[derive(Clone, Copy)]
+#[derive(Clone, Copy, Debug, PartialEq, Eq)]
 pub struct Offset(pub u64);
 
 // Names one hand-out of a message.
 #[repr(C)]
-#[derive(Clone, Copy)]
+#[derive(Clone, Copy, Debug, PartialEq, Eq)]
 pub struct Generation(pub u64);
 
 // An offset with its attempt count.
 #[repr(C)]
-#[derive(Clone, Copy)]
+#[derive(Clone, Copy, Debug, PartialEq, Eq)]
 pub struct Pair {
     pub offset: u64,
     pub attempt: u32,
@@ -58,10 +58,6 @@ impl Offset {
     pub fn checked_next(self) -> Option<Offset>
         ensures { option_of number result ≡ checked_next self.0 }
     {
-        let value = self.0;
-        if value == limits::MAX {
-            return None;
-        }
-        Some(Offset(value + 1))
+        self.0.checked_add(1).map(Offset)
     }
 }

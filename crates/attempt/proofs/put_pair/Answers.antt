@@ -3,7 +3,6 @@ use Prim.Native.Nat.{◌+◌, ◌≤◌}
 use native.Mathlib.Omega.{arith}
 use mathlib.Core.Path.{◌∙◌, ap}
 use lib.ListN.{length}
-use borrow.Author.Rules.{rules}
 use Rattle.raw.specs.Bytes.{le, overwrite}
 use Rattle.raw.proofs.Bytes.{wrote}
 use Rattle.attempt.proofs.put_pair.Goals as goal

@@ -1,9 +1,9 @@
 -- `journal::copy_payload` meets its contract. The invariant: the content of the bodies before block `at` stands in
 -- front, and behind it what stood there. Assumes nothing.
-use Prim.Native.Nat.{◌+◌, ◌-◌, ◌<◌}
+use Prim.Native.Nat.{◌+◌, ◌<◌}
 use native.Mathlib.Omega.{arith}
 use Rattle.journal.specs.Blocks.{bodies_for}
-use Rattle.journal.proofs.Reader.{Copied, copy_none, copy_within, copy_more, copied_all}
+use Rattle.journal.proofs.Reader.{copy_none, copy_within, copy_more, copied_all}
 use Rattle.journal.proofs.copy_payload.Goals as goal
 use Rattle.journal.proofs.copy_payload.Goals.{In-loop-copied}
 

@@ -2,7 +2,6 @@
 use native.Mathlib.Omega.{arith}
 use mathlib.Core.Path.{◌≡◌, sym, ◌∙◌}
 use mathlib.Core.Bool.{true}
-use borrow.Author.Rules.{rules}
 use Rattle.journal.specs.Sound.{is_kind}
 use Rattle.journal.proofs.Sound.{kind-says, body-test, no_body, differ}
 use Rattle.journal.proofs.is_sound_body.Goals as goal

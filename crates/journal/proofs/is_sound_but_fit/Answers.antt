@@ -1,6 +1,5 @@
 -- `journal::is_sound_but_fit` meets its contract: the form and the number are what it tests. Assumes nothing.
 use mathlib.Core.Path.{sym, ◌∙◌}
-use borrow.Author.Rules.{rules}
 use Rattle.journal.proofs.is_sound_but_fit.Goals as goal
 
 pub returns-then-not-is_well_formed : goal.returns-then-not-is_well_formed

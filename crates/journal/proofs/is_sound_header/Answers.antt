@@ -1,7 +1,6 @@
 -- `journal::is_sound_header` meets its contract: the form, the number and the fit are what it tests. Assumes nothing.
 use native.Mathlib.Omega.{arith}
 use mathlib.Core.Path.{◌≡◌, sym, ◌∙◌}
-use borrow.Author.Rules.{rules}
 use Rattle.journal.specs.Blocks.{group_of}
 use Rattle.journal.specs.Sound.{sound_header}
 use Rattle.journal.proofs.Sound.{WellFormed, kind-says, but_fit-says, says-header, no_header}

@@ -1,6 +1,5 @@
 -- `journal::open_block` meets its contract: zeros, and the four fields put in one after another. Assumes nothing.
 use mathlib.Core.Path.{sym, ap, ◌∙◌}
-use borrow.Author.Rules.{rules}
 use lib.ListN.{length}
 use Rattle.journal.proofs.Writer.{opened}
 use Rattle.journal.proofs.open_block.Goals as goal

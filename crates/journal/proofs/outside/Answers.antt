@@ -1,6 +1,5 @@
 -- `journal::outside` meets its contract, by the test of the length. Assumes nothing.
 use mathlib.Core.Path.{sym, ◌∙◌}
-use borrow.Author.Rules.{rules}
 use Rattle.journal.proofs.outside.Goals as goal
 
 pub returns-then-bad_length : goal.returns-then-bad_length

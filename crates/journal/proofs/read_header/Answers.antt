@@ -1,5 +1,4 @@
 -- `journal::read_header` meets its contract, field by field. Assumes nothing.
-use borrow.Author.Rules.{rules}
 use Rattle.journal.proofs.Reader.{header_read}
 use Rattle.journal.proofs.read_header.Goals as goal
 

@@ -1,5 +1,4 @@
 -- `journal::used_in` meets its contract. Assumes nothing.
-use borrow.Author.Rules.{rules}
 use borrow.Author.Tests.{lt-ltb, le-ltb}
 use Rattle.journal.proofs.used_in.Goals as goal
 

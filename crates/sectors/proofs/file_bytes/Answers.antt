@@ -3,7 +3,6 @@
 use Prim.Native.Nat.{◌*◌, ◌≤◌}
 use native.Mathlib.Omega.{arith}
 use native.Mathlib.Nat.{mul-le-mul}
-use borrow.Author.Rules.{rules}
 use Rattle.sectors.proofs.Forms.{right-blocks, right-journals}
 use Rattle.sectors.proofs.file_bytes.Goals as goal
 use Rattle.sectors.proofs.file_bytes.Goals.{Start}

@@ -1,9 +1,8 @@
 -- `form_of` meets its contract: each test is a row of the table. Assumes nothing.
 use Prim.Native.Nat.{ℕ}
-use mathlib.Core.Path.{◌≡◌, sym, ap, ◌∙◌}
+use mathlib.Core.Path.{◌≡◌, sym, ◌∙◌}
 use mathlib.Core.Bool.{true, false}
 use mathlib.Core.List.{List}
-use borrow.Author.Rules.{rules}
 use lib.ListN.{take}
 use lib.Seq.{length-take-le}
 use Rattle.raw.specs.Bytes.{unle, number_at}
@@ -19,7 +18,7 @@ use Rattle.sectors.proofs.Forms.{
   other_length,
   all_right,
   same_bytes,
-  same-sound,
+  same-layout,
 }
 use Rattle.sectors.proofs.form_of.Goals as goal
 use Rattle.sectors.proofs.form_of.Goals.{After-file_bytes-whole, Else-not-is_sealed, Else-read_u64-ne-MAGIC, Else-size-ne4096, Else-version-ne1, Else-wrong_blocks, Else-wrong_journals, Start}
@@ -108,7 +107,7 @@ returns-then-bytes-whole c =
 
 pub returns : goal.returns
 returns c =
-    same-sound (blocks_are (goal.at.returns c).After-file_bytes-whole) (journals_are (goal.at.returns c).After-file_bytes-whole)
+    same-layout (blocks_are (goal.at.returns c).After-file_bytes-whole) (journals_are (goal.at.returns c).After-file_bytes-whole)
     ∙ all_right c.args.sector.now c.args.bytes (magic-is (goal.at.returns c).Else-read_u64-ne-MAGIC) (version-is (goal.at.returns c).Else-version-ne1) (size_is (goal.at.returns c).Else-size-ne4096)
     (rw (blocks_are (goal.at.returns c).After-file_bytes-whole) at (blocks-right (goal.at.returns c).Else-wrong_blocks))
     (rw (journals_are (goal.at.returns c).After-file_bytes-whole) at (journals-right (goal.at.returns c).Else-wrong_journals))

@@ -1,7 +1,5 @@
 -- `is_blank` meets its contract. Assumes nothing.
 use mathlib.Core.Path.{sym, ◌∙◌}
-use borrow.Author.Tests.{not-true, not-false}
-use borrow.Author.Rules.{rules}
 use Rattle.sectors.proofs.is_blank.Goals as goal
 
 pub returns-then-not-all_zero : goal.returns-then-not-all_zero

@@ -1,7 +1,5 @@
 -- `mark_of` meets its contract: zeros and check are what it tests. Assumes nothing.
 use mathlib.Core.Path.{sym, ◌∙◌}
-use borrow.Author.Tests.{not-true, not-false}
-use borrow.Author.Rules.{rules}
 use Rattle.sectors.proofs.mark_of.Goals as goal
 
 pub returns-then-not-all_zero : goal.returns-then-not-all_zero

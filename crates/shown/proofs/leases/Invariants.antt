@@ -15,7 +15,4 @@ use borrow.Author.Rules.{rules}
 use Rattle.shown.proofs.leases.Given as goal
 
 abbrev pub invariant-loop-i : goal.invariant-loop-i
-invariant-loop-i l = (length l.out ≡ length l.initial.out) × Left (marked lease_text) (leases_of l.table) l.initial.next l.initial.out l.i l.next l.out
-
-abbrev pub decreases-loop-i : goal.decreases-loop-i
-decreases-loop-i l = 64 - l.i
+invariant-loop-i l = Left (marked lease_text) (leases_of l.table) l.initial.out l.i l.out

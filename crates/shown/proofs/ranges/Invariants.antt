@@ -11,7 +11,4 @@ use borrow.Author.Rules.{rules}
 use Rattle.shown.proofs.ranges.Given as goal
 
 abbrev pub invariant-loop-i : goal.invariant-loop-i
-invariant-loop-i l = (length l.out ≡ length l.initial.out) × Left (marked range_text) (ahead_of l.cursor) l.initial.next l.initial.out l.i l.next l.out
-
-abbrev pub decreases-loop-i : goal.decreases-loop-i
-decreases-loop-i l = 128 - l.i
+invariant-loop-i l = Left (marked range_text) (ahead_of l.cursor) l.initial.out l.i l.out

@@ -6,7 +6,6 @@ use mathlib.Core.List.{[], ◌∷◌}
 use lib.ListN.{set, length-set}
 use Rattle.raw.specs.Bytes.{le}
 use Rattle.raw.proofs.Bytes.{overwrite-byte, wrote-behind}
-use borrow.Author.Rules.{rules}
 use Rattle.attempt.proofs.pairs.open_v2.Goals as goal
 
 pub shape_of-out : goal.shape_of-out
@@ -16,4 +15,4 @@ pub returns : goal.returns
 returns c =
     let a = c.args in
     let byte = overwrite-byte a.at 2 a.out.now (omega arith) in
-    wrote-behind (a.at + 1) (le 4 a.count) (set a.out.now a.at 2) c.write_u32.ensures a.at (2 ∷ []) a.out.now refl byte (omega arith)
+    wrote-behind (a.at + 1) (le 4 a.count) (set a.out.now a.at 2) (rw c.byte.ensures at c.write_u32.ensures) a.at (2 ∷ []) a.out.now refl byte (omega arith)

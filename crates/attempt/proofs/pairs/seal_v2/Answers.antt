@@ -6,7 +6,6 @@ use lib.ListN.{take, drop}
 use Rattle.raw.specs.Bytes.{le}
 use Rattle.raw.proofs.Bytes.{wrote}
 use Rattle.crc.specs.Crc32c.{crc}
-use borrow.Author.Rules.{rules}
 use Rattle.attempt.proofs.pairs.seal_v2.Goals as goal
 
 pub returns : goal.returns

@@ -2,18 +2,17 @@
 -- a table with the parts that the arguments are
 use Prim.Native.Nat.{◌<◌}
 use native.Mathlib.Omega.{arith}
-use mathlib.Core.Path.{◌≡◌}
+use mathlib.Core.Path.{◌≡◌, sym, ap, ◌∙◌}
 use mathlib.Core.Option.{none}
 use borrow.Author.Rules.{rules}
 use lib.ListN.{length, take}
 use Rattle.tables.specs.Search.{Placed}
 use Rattle.lease.specs.State.{view}
-use Rattle.lease.specs.Operations.{lease_of}
+use Rattle.lease.specs.Operations.{lease_of, is_none}
 use Rattle.lease.specs.Parts.{Whole, sized}
 use Rattle.lease.specs.declared.LeaseTable.{LeaseTable}
-use Rattle.lease.proofs.Found.{found-count, no-count}
 use Rattle.lease.proofs.Slots.{free, lease-at, in_flight_lem, carried-length}
-use Rattle.consumer.proofs.CallsClaim.{full-leased, full-leases, full-room, full-counted, full-counts}
+use Rattle.consumer.proofs.CallsClaim.{full-leased, full-leases, full-room, full-by-count, uncounted}
 use Rattle.consumer.proofs.steps.is_full.Goals as goal
 use Rattle.consumer.proofs.steps.is_full.Goals.{Else-len-ge-LEASES, In-Missing, Start}
 
@@ -44,13 +43,9 @@ returns-then-len-carried_len-lt-CARRIED c t w p =
     full-room (view (table (goal.at.returns-then-len-carried_len-lt-CARRIED c).Start t)) c.args.offset (lacked (goal.at.returns-then-len-carried_len-lt-CARRIED c).In-Missing t w p) (few (goal.at.returns-then-len-carried_len-lt-CARRIED c).Else-len-ge-LEASES t w)
     (omega (arith, in_flight_lem (table (goal.at.returns-then-len-carried_len-lt-CARRIED c).Start t) w.full w.sound, carried-length (table (goal.at.returns-then-len-carried_len-lt-CARRIED c).Start t) w.full w.sound, c.if-len-carried_len-lt-CARRIED.true))
 
-pub returns-in-Some : goal.returns-in-Some
-returns-in-Some c t w p =
-    full-counted (view (table (goal.at.returns-in-Some c).Start t)) c.args.offset (lacked (goal.at.returns-in-Some c).In-Missing t w p) (few (goal.at.returns-in-Some c).Else-len-ge-LEASES t w) _
-    (found-count _ (c.carried_in_place-carried.ensures (table (goal.at.returns-in-Some c).Start t) w) c.in-Some.is)
-
-pub returns-in-None : goal.returns-in-None
-returns-in-None c t w p =
-    full-counts (view (table (goal.at.returns-in-None c).Start t)) c.args.offset (lacked (goal.at.returns-in-None c).In-Missing t w p) (few (goal.at.returns-in-None c).Else-len-ge-LEASES t w)
-    (omega (arith, in_flight_lem (table (goal.at.returns-in-None c).Start t) w.full w.sound, carried-length (table (goal.at.returns-in-None c).Start t) w.full w.sound, c.if-len-carried_len-lt-CARRIED.false))
-    (no-count _ (c.carried_in_place-carried.ensures (table (goal.at.returns-in-None c).Start t) w) c.in-None.is)
+pub returns : goal.returns
+returns c t w p =
+    let u = table (goal.at.returns c).Start t in
+    sym (uncounted c.carried_in_place-carried.result c.is_none.result c.is_none.ensures) ∙ ap is_none (c.carried_in_place-carried.ensures u w)
+    ∙ full-by-count (view u) c.args.offset (lacked (goal.at.returns c).In-Missing t w p) (few (goal.at.returns c).Else-len-ge-LEASES t w)
+    (omega (arith, in_flight_lem u w.full w.sound, carried-length u w.full w.sound, c.if-len-carried_len-lt-CARRIED.false))

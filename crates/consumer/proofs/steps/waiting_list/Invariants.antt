@@ -16,6 +16,3 @@ use Rattle.consumer.proofs.steps.waiting_list.Given as goal
 abbrev pub invariant-loop-i : goal.invariant-loop-i
 invariant-loop-i l =
     Waits l.len l.carried_len l.now l.offsets l.slots l.deadlines l.carried_offsets l.listed l.by_deadline l.n l.i
-
-abbrev pub decreases-loop-i : goal.decreases-loop-i
-decreases-loop-i l = l.len - l.i

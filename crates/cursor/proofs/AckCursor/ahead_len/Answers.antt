@@ -1,5 +1,5 @@
 -- `AckCursor::ahead_len` meets its contract. The loop's invariant: the sum with the offsets of the ranges that are left is
--- the whole. The measure is how many ranges are left. Assumes nothing.
+-- the whole. Assumes nothing.
 use Prim.Native.Nat.{◌+◌, ◌-◌, ◌≤◌}
 use native.Mathlib.Omega.{arith}
 use mathlib.Core.Path.{◌≡◌}

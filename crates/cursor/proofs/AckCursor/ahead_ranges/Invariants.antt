@@ -7,6 +7,3 @@ use Rattle.cursor.proofs.AckCursor.ahead_ranges.Given as goal
 
 abbrev pub invariant-loop-i : goal.invariant-loop-i
 invariant-loop-i l = Written (view l.self).ahead l.initial.out l.n l.i l.out
-
-abbrev pub decreases-loop-i : goal.decreases-loop-i
-decreases-loop-i l = l.n - l.i

@@ -14,10 +14,5 @@ use Rattle.cursor.proofs.codec.write_ranges.Given as goal
 
 abbrev pub invariant-loop-i : goal.invariant-loop-i
 invariant-loop-i l =
-    (l.i ≤ l.n)
-    × (l.pos ≡ l.at + 16 * l.i)
-    × (length l.out ≡ length l.initial.out)
-    × (overwrite l.pos (ranges_bytes (drop l.i (zipped range (take l.n l.starts) (take l.n l.ends)))) l.out ≡ overwrite l.at (ranges_bytes (zipped range (take l.n l.starts) (take l.n l.ends))) l.initial.out)
-
-abbrev pub decreases-loop-i : goal.decreases-loop-i
-decreases-loop-i l = l.n - l.i
+    (length l.out ≡ length l.initial.out)
+    × (overwrite (l.at + 16 * l.i) (ranges_bytes (drop l.i (zipped range (take l.n l.starts) (take l.n l.ends)))) l.out ≡ overwrite l.at (ranges_bytes (zipped range (take l.n l.starts) (take l.n l.ends))) l.initial.out)

@@ -10,6 +10,3 @@ use Rattle.cursor.proofs.columns.read_column.Given as goal
 
 abbrev pub invariant-loop-i : goal.invariant-loop-i
 invariant-loop-i l = Filling (column_from l.count l.from l.input) l.initial.column l.column l.count l.i
-
-abbrev pub decreases-loop-i : goal.decreases-loop-i
-decreases-loop-i l = l.count - l.i

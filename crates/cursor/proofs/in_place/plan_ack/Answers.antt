@@ -29,7 +29,7 @@ overflow_add-offset c =
 pub join-requires : goal.join-requires
 join-requires c =
     let g = ack_cursor c.args.committed c.args.starts.now c.args.ends.now c.args.runs in
-    (omega (arith, (found (view g) c.args.offset c.in-Between.is c.locate-spot.ensures).0, runs-is g c.requires), c.requires.sound.few)
+    (omega (arith, (found (view g) c.args.offset c.in-Between.is c.locate-spot.ensures).0, runs-is g c.requires), omega (arith, c.requires.sound.few, c.requires.ends))
 
 pub overflow_add-end : goal.overflow_add-end
 overflow_add-end c =

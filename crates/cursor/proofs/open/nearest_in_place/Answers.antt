@@ -18,4 +18,4 @@ end_before-requires c =
 
 pub returns : goal.returns
 returns c =
-    c.larger.ensures ∙ found_nearest (ack_cursor c.args.committed c.args.starts.now c.args.ends.now c.args.runs) c.requires c.args.offset c.partition_point-i.result c.end_before.result c.partition_point-i.ensures c.end_before.ensures
+    c.max.ensures ∙ found_nearest (ack_cursor c.args.committed c.args.starts.now c.args.ends.now c.args.runs) c.requires c.args.offset c.partition_point-i.result c.end_before.result c.partition_point-i.ensures c.end_before.ensures

@@ -70,9 +70,6 @@ offset_bounds-out-i-in-loop-i c = omega (arith, few (goal.at.offset_bounds-out-i
 pub bounds-out-i-in-loop-i : goal.bounds-out-i-in-loop-i
 bounds-out-i-in-loop-i c = simp length-set (room (goal.at.bounds-out-i-in-loop-i c).In-loop-i)
 
-pub overflow_add-i : goal.overflow_add-i
-overflow_add-i c = omega (arith, few (goal.at.overflow_add-i c).In-loop-i)
-
 pub loop-i-preserved : goal.loop-i-preserved
 loop-i-preserved c =
     let g = ack_cursor c.args.committed c.args.starts.now c.args.ends.now c.args.runs in
@@ -82,8 +79,8 @@ loop-i-preserved c =
     let is = found_at g c.requires c.args.a c.args.b f.result.first l.i f.ensures.0 (listed (goal.at.loop-i-preserved c).In-loop-i) in
     (omega arith, rw f.ensures.1 (two-more all c.args.out.now l.out l.i c.stretch_at-stretch.result (listed (goal.at.loop-i-preserved c).In-loop-i) (c.stretch_at-stretch.ensures ∙ is) (rw f.ensures.1 at l.invariant.1)))
 
-pub overflow_mul-filled : goal.overflow_mul-filled
-overflow_mul-filled c =
+pub overflow_mul-result : goal.overflow_mul-result
+overflow_mul-result c =
     omega (arith, c.find_open-gaps.ensures.1, found-few (ack_cursor c.args.committed c.args.starts.now c.args.ends.now c.args.runs) c.requires c.args.a c.args.b)
 
 pub shape_of-out : goal.shape_of-out

@@ -16,6 +16,3 @@ use Rattle.cursor.proofs.open.open_between_in_place.Given as goal
 abbrev pub invariant-loop-i : goal.invariant-loop-i
 invariant-loop-i l =
     (l.i ≤ l.count) × Filling (bounds (stretches (view (ack_cursor l.committed l.starts l.ends l.runs)) l.a l.b)) l.initial.out l.out (2 * l.count) (2 * l.i)
-
-abbrev pub decreases-loop-i : goal.decreases-loop-i
-decreases-loop-i l = l.count - l.i

@@ -13,6 +13,3 @@ use Rattle.cursor.proofs.plans.answer_all.Given as goal
 abbrev pub invariant-loop-i : goal.invariant-loop-i
 invariant-loop-i l =
     (l.i ≤ l.n) × (length l.out ≡ length l.initial.out) × Answering l.committed (view (ack_cursor l.committed l.starts l.ends l.runs)).ahead l.offsets l.out l.at l.looks l.i
-
-abbrev pub decreases-loop-i : goal.decreases-loop-i
-decreases-loop-i l = l.n - l.i

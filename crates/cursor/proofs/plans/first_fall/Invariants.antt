@@ -9,7 +9,4 @@ use Rattle.cursor.proofs.Plan.{fall_rows_lem, falls-here, falls-later, falls_now
 use Rattle.cursor.proofs.plans.first_fall.Given as goal
 
 abbrev pub invariant-loop-i : goal.invariant-loop-i
-invariant-loop-i l = (l.i ≤ l.n) × (first (fall_rows l.before l.i (drop l.i l.offsets)) ≡ first (pair_rows l.offsets))
-
-abbrev pub decreases-loop-i : goal.decreases-loop-i
-decreases-loop-i l = l.n - l.i
+invariant-loop-i l = first (fall_rows l.before l.i (drop l.i l.offsets)) ≡ first (pair_rows l.offsets)

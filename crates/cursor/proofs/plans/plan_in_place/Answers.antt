@@ -2,7 +2,8 @@
 use mathlib.Core.Path.{sym, ap, ◌∙◌}
 use borrow.Author.Rules.{rules}
 use Rattle.cursor.specs.View.{ack_cursor, view}
-use Rattle.cursor.specs.Plan.{fall_of}
+use Rattle.types.specs.Refusal.{Falling}
+use Rattle.types.specs.Refused.{option_of}
 use Rattle.cursor.specs.declared.AckCursor.{AckCursor}
 use Rattle.cursor.proofs.Plan.{plan_unequal, plan-falling, plan-answered}
 use Rattle.cursor.proofs.plans.plan_in_place.Goals as goal
@@ -12,10 +13,10 @@ pub returns-then-offsets-out : goal.returns-then-offsets-out
 returns-then-offsets-out c =
     plan_unequal (view (ack_cursor c.args.committed c.args.starts.now c.args.ends.now c.args.runs)) c.args.offsets.now c.args.out.now c.if-offsets-out.true
 
-pub returns-in-At : goal.returns-in-At
-returns-in-At c =
-    plan-falling (view (ack_cursor c.args.committed c.args.starts.now c.args.ends.now c.args.runs)) c.args.offsets.now c.args.out.now c.if-offsets-out.false _ (sym (ap fall_of c.in-At.is) ∙ c.first_fall-fall.ensures)
+pub returns-in-Some : goal.returns-in-Some
+returns-in-Some c =
+    plan-falling (view (ack_cursor c.args.committed c.args.starts.now c.args.ends.now c.args.runs)) c.args.offsets.now c.args.out.now c.if-offsets-out.false _ (sym (ap (option_of Falling) c.in-Some.is) ∙ c.first_fall.ensures)
 
-pub returns-in-None : goal.returns-in-None
-returns-in-None c =
-    plan-answered (view (ack_cursor c.args.committed c.args.starts.now c.args.ends.now c.args.runs)) c.args.offsets.now c.args.out.now c.if-offsets-out.false c.requires.sound.valid (sym (ap fall_of c.in-None.is) ∙ c.first_fall-fall.ensures) _ _ c.answer_all.ensures.0 c.answer_all.ensures.1
+pub returns : goal.returns
+returns c =
+    plan-answered (view (ack_cursor c.args.committed c.args.starts.now c.args.ends.now c.args.runs)) c.args.offsets.now c.args.out.now c.if-offsets-out.false c.requires.sound.valid (sym (ap (option_of Falling) c.in_default.is) ∙ c.first_fall.ensures) _ _ c.answer_all.ensures.0 c.answer_all.ensures.1

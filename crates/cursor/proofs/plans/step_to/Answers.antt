@@ -43,9 +43,6 @@ pub returns-else-starts-to : goal.returns-else-starts-to
 returns-else-starts-to c =
     step-on (ack_cursor c.args.committed c.args.starts.now c.args.ends.now c.args.runs) c.requires c.args.at c.args.offset c.loop-to.to c.loop-to.looks (walking (goal.at.returns-else-starts-to c).At-loop-to) c.if-offset-committed.false _ refl (omega arith) c.if-offset-ends.true refl (rw (lt-leb _ c.args.offset c.if-starts-to.false))
 
-pub overflow_add-to : goal.overflow_add-to
-overflow_add-to c = omega (arith, c.requires.sound.few)
-
 pub loop-to-preserved : goal.loop-to-preserved
 loop-to-preserved c =
     λ w. stepping_next (ack_cursor c.args.committed c.args.starts.now c.args.ends.now c.args.runs) w c.args.at c.args.offset c.loop-to.to c.loop-to.looks (c.loop-to.invariant w) (omega arith) c.if-offset-ends.false

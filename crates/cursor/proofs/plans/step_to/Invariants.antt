@@ -11,6 +11,3 @@ use Rattle.cursor.proofs.plans.step_to.Given as goal
 abbrev pub invariant-loop-to : goal.invariant-loop-to
 invariant-loop-to l =
     (w : Whole (ack_cursor l.committed l.starts l.ends l.runs)) → Stepping (ack_cursor l.committed l.starts l.ends l.runs) w l.at l.offset l.to l.looks
-
-abbrev pub decreases-loop-to : goal.decreases-loop-to
-decreases-loop-to l = l.runs - l.to

@@ -12,6 +12,3 @@ use Rattle.cursor.proofs.reads.ahead_len.Given as goal
 
 abbrev pub invariant-loop-i : goal.invariant-loop-i
 invariant-loop-i l = (l.i ≤ l.runs) × (l.sum + offsets (drop l.i (view l.cursor).ahead) ≡ offsets (view l.cursor).ahead)
-
-abbrev pub decreases-loop-i : goal.decreases-loop-i
-decreases-loop-i l = l.runs - l.i

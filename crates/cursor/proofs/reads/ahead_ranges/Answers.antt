@@ -55,9 +55,6 @@ offset_bounds-out-i-in-loop-i c = omega (arith, few (goal.at.offset_bounds-out-i
 pub bounds-out-i-in-loop-i : goal.bounds-out-i-in-loop-i
 bounds-out-i-in-loop-i c = simp length-set (room (goal.at.bounds-out-i-in-loop-i c).In-loop-i)
 
-pub overflow_add-i : goal.overflow_add-i
-overflow_add-i c = omega (arith, few (goal.at.overflow_add-i c).In-loop-i)
-
 pub loop-i-preserved : goal.loop-i-preserved
 loop-i-preserved c =
     let l = c.loop-i in

@@ -12,6 +12,3 @@ use Rattle.cursor.proofs.reads.ahead_ranges.Given as goal
 
 abbrev pub invariant-loop-i : goal.invariant-loop-i
 invariant-loop-i l = (l.i ≤ l.runs) × Filling (bounds (view l.cursor).ahead) l.initial.out l.out (2 * l.runs) (2 * l.i)
-
-abbrev pub decreases-loop-i : goal.decreases-loop-i
-decreases-loop-i l = l.runs - l.i

@@ -1,6 +1,5 @@
 -- `LeaseConfig::from_millis` meets its contract.
 -- Assumes nothing.
-use borrow.Author.Rules.{rules}
 use Rattle.lease.proofs.LeaseConfig.from_millis.Goals as goal
 
 pub returns : goal.returns

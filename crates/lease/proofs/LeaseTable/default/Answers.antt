@@ -1,6 +1,5 @@
 -- `LeaseTable::default` meets its contract.
 -- Assumes nothing.
-use borrow.Author.Rules.{rules}
 use Rattle.lease.proofs.LeaseTable.default.Goals as goal
 
 pub returns : goal.returns

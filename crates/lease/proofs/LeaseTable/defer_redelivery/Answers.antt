@@ -1,11 +1,9 @@
 -- `LeaseTable::defer_redelivery` meets its contract.
 -- Assumes nothing.
-use Prim.Native.Nat.{◌<◌}
 use mathlib.Core.Path.{sym}
-use Rattle.types.specs.Limits.{LEASES}
 use Rattle.lease.specs.State.{view}
 use Rattle.lease.specs.Parts.{Full}
-use Rattle.lease.proofs.Bounds.{in_use, time_at}
+use Rattle.lease.proofs.Bounds.{in_use}
 use Rattle.lease.proofs.Slots.{leased, free, lease-at}
 use Rattle.lease.proofs.Questions.{none_expired, still-running, not_deferred, deferred}
 use Rattle.lease.proofs.Whole.{filled}

@@ -12,7 +12,6 @@ use Rattle.lease.specs.State.{nil, stored_in, leases_in}
 use Rattle.lease.specs.Operations.{lease}
 use Rattle.lease.specs.Helpers.{regranting}
 use Rattle.lease.specs.declared.LeaseTable.{LeaseTable}
-use Rattle.lease.proofs.Bounds.{time_at, count_at}
 use Rattle.lease.proofs.Leases.{column-at, column-set}
 use Rattle.lease.proofs.Slots.{leased, stored_at, lease-at}
 use Rattle.lease.proofs.Claims.{claim_in_flight, claim_exhausted, claimed, count-again, granted-again}
@@ -54,8 +53,8 @@ returns c t w p =
     let h = leased u w.full w.sound p refl in
     let one = stored_at u w.full w.sound at c.requires ∙ column-at w.full.leases _ in
     let is-slot = c.slot_at-slot.ensures.0 in
-    let count = c.saturating_next-count.result in
-    let again : count ≡ sat32 (get_or (leases_in u) at nil).deliveries 1 = rw (one, ← is-slot) c.saturating_next-count.ensures in
+    let count = c.saturating_add-count.result in
+    let again : count ≡ sat32 (get_or (leases_in u) at nil).deliveries 1 = rw (one, ← is-slot) c.saturating_add-count.ensures in
     rw c.granted.ensures (claimed u w.sound c.args.worker c.args.offset c.args.now (rw (h.is, one, ← is-slot) (le-ltb _ _ c.if-now-deadlines.false)) c.if-generation-eq-MAX.false
     (rw h.is) (fits (goal.at.returns c).Start) count (count-again u c.args.offset at count h again)
     (granted-again u w c.args.worker c.args.offset at c.args.now count _ (ap (λ (k : ℕ). lease c.args.generation c.args.now k count c.args.worker) c.deadline.ensures) h again _ _ _ _ _

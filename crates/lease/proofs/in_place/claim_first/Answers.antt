@@ -14,7 +14,7 @@ use Rattle.lease.specs.State.{stored_in}
 use Rattle.lease.specs.Operations.{lease}
 use Rattle.lease.specs.Parts.{gathered}
 use Rattle.lease.specs.declared.LeaseTable.{LeaseTable}
-use Rattle.lease.proofs.Bounds.{one_more, part-within, within, time_at, count_at}
+use Rattle.lease.proofs.Bounds.{one_more, part-within, within}
 use Rattle.lease.proofs.Leases.{column-set}
 use Rattle.lease.proofs.Slots.{Free, free, in_flight_lem, carried-span}
 use Rattle.lease.proofs.Claims.{claim_exhausted, claim-full, claimed, room-first, count-first, granted-first}
@@ -74,18 +74,18 @@ returns c =
     let f = c.requires.0.full in
     let ok = c.requires.0.sound in
     let q = prior (goal.at.returns c).Start c.count_of-prior.result c.count_of-prior.ensures in
-    let count = c.saturating_next-count.result in
+    let count = c.saturating_add-count.result in
     let deadline = c.deadline-deadline.result in
     let few : t.len < LEASES = c.if-len-ge-LEASES.false in
     rw c.granted.ensures (claimed t ok c.args.worker c.args.offset c.args.now (rw h.is) c.if-next-eq-MAX.false
     (room-first t c.args.offset at h (in_flight_lem t f ok) few) (fits (goal.at.returns c).Start) count
-    (count-first t c.args.offset at count h c.count_of-prior.result q c.saturating_next-count.ensures)
+    (count-first t c.args.offset at count h c.count_of-prior.result q c.saturating_add-count.ensures)
     (granted-first t c.requires.0 c.args.worker c.args.offset at c.args.now count _ (ap (λ (k : ℕ). lease c.args.next c.args.now k count c.args.worker) c.deadline-deadline.ensures)
-    h few c.count_of-prior.result q c.saturating_next-count.ensures
-    c.insert_64.new.column c.insert_count_64.new.counts _ _ _ _ _ c.remove_128.new.column c.remove_counts_128.new.column
-    (put_in_front t.len at c.args.offset t.offsets h.inside (rw f.offsets few) c.insert_64.ensures)
-    c.insert_count_64.ensures
+    h few c.count_of-prior.result q c.saturating_add-count.ensures
+    c.insert.new.column c.insert-2.new.column _ _ _ _ _ c.remove.new.column c.remove-2.new.column
+    (put_in_front t.len at c.args.offset t.offsets h.inside (rw f.offsets few) c.insert.ensures)
+    c.insert-2.ensures
     (column-set t.generations t.attempt_starts t.deadlines t.deliveries t.workers c.slot_at-free.result c.args.next c.args.now deadline count c.args.worker
     ∙ ap (λ (k : ℕ). set (stored_in t) k (lease c.args.next c.args.now deadline count c.args.worker)) c.slot_at-free.ensures.0)
-    (taken-out-front t.carried_len c.count_of-prior.result.from c.count_of-prior.result.to t.carried_offsets q.order q.inside (within f.carried-offsets ok.carried-len) c.remove_128.ensures)
-    (taken-out-front t.carried_len c.count_of-prior.result.from c.count_of-prior.result.to t.carried_counts q.order q.inside (within f.carried-counts ok.carried-len) c.remove_counts_128.ensures)))
+    (taken-out-front t.carried_len c.count_of-prior.result.from c.count_of-prior.result.to t.carried_offsets q.order q.inside (within f.carried-offsets ok.carried-len) c.remove.ensures)
+    (taken-out-front t.carried_len c.count_of-prior.result.from c.count_of-prior.result.to t.carried_counts q.order q.inside (within f.carried-counts ok.carried-len) c.remove-2.ensures)))

@@ -7,7 +7,6 @@ use Rattle.types.specs.Limits.{LEASES}
 use Rattle.tables.proofs.Search.{found-used}
 use Rattle.lease.specs.Parts.{listing}
 use Rattle.lease.specs.declared.LeaseTable.{LeaseTable}
-use Rattle.lease.proofs.Bounds.{count_at}
 use Rattle.lease.proofs.Slots.{free, lease-at}
 use Rattle.lease.proofs.in_place.count_in_place.Goals as goal
 use Rattle.lease.proofs.in_place.count_in_place.Goals.{In-Found, Start}

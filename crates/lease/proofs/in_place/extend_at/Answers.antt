@@ -8,7 +8,6 @@ use lib.ListN.{get_or}
 use Rattle.lease.specs.Operations.{cap_from, deadline_from}
 use Rattle.lease.specs.Parts.{slot_in, extending}
 use Rattle.lease.specs.declared.LeaseTable.{LeaseTable}
-use Rattle.lease.proofs.Bounds.{time_at}
 use Rattle.lease.proofs.Tokens.{cap_reached, extended-to}
 use Rattle.lease.proofs.in_place.extend_at.Goals as goal
 use Rattle.lease.proofs.in_place.extend_at.Goals.{After-cap, Start}

@@ -1,6 +1,5 @@
 -- `granted` meets its contract.
 -- Assumes nothing.
-use borrow.Author.Rules.{rules}
 use Rattle.lease.proofs.in_place.granted.Goals as goal
 
 pub returns : goal.returns

@@ -7,7 +7,6 @@ use Rattle.types.specs.Limits.{LEASES}
 use Rattle.lease.specs.State.{view}
 use Rattle.lease.specs.Parts.{PlaceWithin, due}
 use Rattle.lease.specs.declared.LeaseTable.{LeaseTable}
-use Rattle.lease.proofs.Bounds.{time_at}
 use Rattle.lease.proofs.Slots.{free, lease-at}
 use Rattle.lease.proofs.Questions.{claimable}
 use Rattle.lease.proofs.in_place.is_claimable_at.Goals as goal

@@ -1,6 +1,5 @@
 -- `lease_at` meets its contract: each number is read at the slot.
 -- Assumes nothing.
-use Rattle.lease.proofs.Bounds.{time_at, count_at}
 use Rattle.lease.proofs.in_place.lease_at.Goals as goal
 
 pub slot_at-slot-requires : goal.slot_at-slot-requires

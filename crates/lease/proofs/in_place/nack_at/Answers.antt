@@ -4,9 +4,7 @@
 -- a table with the parts that the arguments are
 use Rattle.lease.specs.Parts.{requeuing}
 use Rattle.lease.specs.declared.LeaseTable.{LeaseTable}
-use Rattle.lease.proofs.Bounds.{time_at}
 use Rattle.lease.proofs.Tokens.{none_left, requeued_to}
-use borrow.Author.Rules.{rules}
 use Rattle.lease.proofs.in_place.nack_at.Goals as goal
 use Rattle.lease.proofs.in_place.nack_at.Goals.{Start}
 

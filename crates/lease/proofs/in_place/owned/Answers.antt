@@ -8,7 +8,6 @@ use lib.ListN.{take, get_or}
 use Rattle.types.specs.Limits.{LEASES}
 use Rattle.tables.specs.Search.{Placed}
 use Rattle.tables.proofs.Search.{found-used}
-use Rattle.lease.proofs.Bounds.{time_at}
 use Rattle.lease.proofs.in_place.owned.Goals as goal
 use Rattle.lease.proofs.in_place.owned.Goals.{In-Found, Start}
 

@@ -1,7 +1,6 @@
 -- `ack_at` meets its contract. Assumes nothing.
 use mathlib.Core.Path.{◌∙◌}
 use Rattle.lease.proofs.InWords.{ack-answers}
-use borrow.Author.Rules.{rules}
 use Rattle.lease.proofs.in_words.ack_at.Goals as goal
 
 pub remove_offset-requires : goal.remove_offset-requires

@@ -5,7 +5,6 @@ use Rattle.words.specs.Columns.{word, column}
 use Rattle.lease.specs.Layout.{LEN, OFFSETS}
 use Rattle.lease.proofs.Slots.{placed-within}
 use Rattle.lease.proofs.InWords.{claim_in_flight, claim_exhausted, claim-full}
-use borrow.Author.Rules.{rules}
 use Rattle.lease.proofs.in_words.claim_at.Goals as goal
 
 pub is_running_at-requires : goal.is_running_at-requires
@@ -30,8 +29,8 @@ returns-then-is_full_at c =
     claim-full c.requires.0 c.args.worker o c.args.now (sym (c.is_running_at.ensures o c.requires.1) ∙ c.if-is_running_at.false)
     (sym c.is_exhausted.ensures ∙ c.if-is_exhausted.false) (sym (c.is_full_at.ensures o c.requires.1) ∙ c.if-is_full_at.true)
 
-pub grant_at-out-requires : goal.grant_at-out-requires
-grant_at-out-requires c =
+pub grant_at-requires : goal.grant_at-requires
+grant_at-requires c =
     let o = c.args.offset.0 in (
       c.requires.0,
       c.requires.1,

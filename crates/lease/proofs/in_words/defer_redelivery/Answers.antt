@@ -8,7 +8,6 @@ use Rattle.lease.specs.declared.Lease.{Lease}
 use Rattle.lease.proofs.Questions.{none_expired, still-running}
 use Rattle.lease.proofs.Slots.{free, lease-at}
 use Rattle.lease.proofs.InWords.{whole, in_use, not_deferred, deferred}
-use borrow.Author.Rules.{rules}
 use Rattle.lease.proofs.in_words.defer_redelivery.Goals as goal
 
 pub find-place-requires : goal.find-place-requires

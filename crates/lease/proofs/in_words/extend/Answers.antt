@@ -1,26 +1,13 @@
 -- `extend` meets its contract. Assumes nothing.
-use mathlib.Core.Path.{subst}
-use Rattle.lease.specs.InWords.{OwnedIn}
+use mathlib.Core.Path.{refl}
 use Rattle.lease.proofs.InWords.{owned-low, extend-refused}
-use borrow.Author.Rules.{rules}
 use Rattle.lease.proofs.in_words.extend.Goals as goal
 
 pub returns-in_default : goal.returns-in_default
-returns-in_default c =
-    let After-owned = c in
-    let s = After-owned in
-    extend-refused s.requires s.args.token.offset.0 s.args.token.generation.0 After-owned.owned-place.ensures c.in_default.is s.args.now
+returns-in_default c = extend-refused c.requires c.args.token.offset.0 c.args.token.generation.0 c.in_default.ensures c.args.now
 
 pub extend_at-requires : goal.extend_at-requires
-extend_at-requires c =
-    let After-owned = c in
-    let s = After-owned in
-    (s.requires, owned-low s.requires s.args.token.offset.0 s.args.token.generation.0 After-owned.owned-place.ensures c.in-Found.is)
+extend_at-requires c = (c.requires, owned-low c.requires c.args.token.offset.0 c.args.token.generation.0 c.in-Some.ensures refl)
 
 pub returns : goal.returns
-returns c =
-    let After-owned = c in
-    let s = After-owned in
-    let o = s.args.token.offset.0 in
-    let g = s.args.token.generation.0 in
-    c.extend_at.ensures o g (subst (OwnedIn o g s.args.table.now) c.in-Found.is After-owned.owned-place.ensures)
+returns c = c.extend_at.ensures c.args.token.offset.0 c.args.token.generation.0 c.in-Some.ensures

@@ -7,7 +7,6 @@ use Rattle.lease.specs.Layout.{view}
 use Rattle.lease.specs.declared.Lease.{Lease}
 use Rattle.lease.proofs.Passed.{claim-passed}
 use Rattle.lease.proofs.InWords.{in_use, again-answers}
-use borrow.Author.Rules.{rules}
 use Rattle.lease.proofs.in_words.grant_again.Goals as goal
 use Rattle.lease.proofs.in_words.grant_again.Goals.{Start}
 
@@ -29,5 +28,5 @@ grant-requires c =
 pub returns : goal.returns
 returns c =
     again-answers c.requires.0 c.args.worker c.args.offset.0 c.args.at c.args.now (fits (goal.at.returns c).Start) (small (goal.at.returns c).Start) c.requires.2 c.requires.1
-    c.saturating_next-count.result (c.saturating_next-count.ensures ∙ ap (λ (h : Lease). sat32 h.deliveries 1) c.lease_at-lease.ensures)
+    c.saturating_add-count.result (c.saturating_add-count.ensures ∙ ap (λ (h : Lease). sat32 h.deliveries 1) c.lease_at-lease.ensures)
     c.grant.new.table (c.table-1.given ∙ c.requires.0.long) c.grant.ensures.0 c.grant.result c.grant.ensures.1

@@ -1,7 +1,6 @@
 -- `grant_at` meets its contract. Assumes nothing.
 use mathlib.Core.Path.{subst}
 use Rattle.lease.specs.InWords.{PlacedIn}
-use borrow.Author.Rules.{rules}
 use Rattle.lease.proofs.in_words.grant_at.Goals as goal
 
 pub grant_again-requires : goal.grant_again-requires

@@ -2,7 +2,6 @@
 use mathlib.Core.Path.{ap, ◌∙◌}
 use Rattle.lease.specs.declared.LeaseTable.{LeaseTable}
 use Rattle.lease.proofs.InWords.{release_answers}
-use borrow.Author.Rules.{rules}
 use Rattle.lease.proofs.in_words.release_below.Goals as goal
 
 pub release_leases-requires : goal.release_leases-requires

@@ -13,7 +13,6 @@ use Rattle.lease.specs.declared.Lease.{Lease}
 use Rattle.lease.specs.declared.LeaseTable.{LeaseTable}
 use Rattle.lease.proofs.Stores.{stored_next}
 use Rattle.lease.proofs.InWords.{nack-answers}
-use borrow.Author.Rules.{rules}
 use Rattle.lease.proofs.in_words.requeue_at.Goals as goal
 
 pub overflow_add-table : goal.overflow_add-table

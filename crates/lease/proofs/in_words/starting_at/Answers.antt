@@ -5,7 +5,6 @@ use mathlib.Core.Path.{ap, ◌∙◌}
 use lib.ListN.{replicate, length-set}
 use Rattle.types.specs.Limits.{MAX}
 use Rattle.lease.proofs.InWords.{started}
-use borrow.Author.Rules.{rules}
 use Rattle.lease.proofs.in_words.starting_at.Goals as goal
 use Rattle.lease.proofs.in_words.starting_at.Goals.{Start}
 
@@ -18,5 +17,5 @@ shape_of-table c =
 
 pub returns : goal.returns
 returns c =
-    started c.clear.new.words (c.clear.ensures ∙ ap (λ (n : ℕ). replicate n 0) c.requires) c.free_slots.new.slots c.table-2-1.given.0 c.free_slots.ensures
+    started c.fill.new.self (c.fill.ensures.after (λ y e. e) ∙ ap (λ (n : ℕ). replicate n 0) c.requires) c.free_slots.new.slots c.table-2-1.given.0 c.free_slots.ensures
     c.args.config c.args.generation.0 (fits (goal.at.returns c).Start)

@@ -3,7 +3,6 @@ use mathlib.Core.Path.{ap, ◌∙◌}
 use mathlib.Core.List.{List}
 use Prim.Native.Nat.{ℕ}
 use Rattle.types.specs.Lists.{listed}
-use borrow.Author.Rules.{rules}
 use Rattle.lease.proofs.listings.expired.Goals as goal
 
 pub returns : goal.returns

@@ -9,7 +9,6 @@ use Rattle.lease.proofs.Stores.{carried-used}
 use Rattle.lease.proofs.InWords.{whole, carried_narrow}
 use Prim.Native.Nat.{◌<◌}
 use Rattle.words.specs.Columns.{word}
-use borrow.Author.Rules.{rules}
 use Rattle.lease.proofs.reads.carried_count.Goals as goal
 use Rattle.lease.proofs.reads.carried_count.Goals.{In-Found}
 

@@ -1,9 +1,9 @@
 -- `put_counts` meets its contract. The loop's invariant: the first i counts are stored. Assumes nothing.
-use Prim.Native.Nat.{ℕ, ◌+◌, ◌-◌, ◌≤◌}
+use Prim.Native.Nat.{ℕ, ◌+◌}
 use native.Mathlib.Omega.{arith}
 use mathlib.Core.Path.{◌≡◌, sym, ap, subst, ◌∙◌}
 use mathlib.Core.List.{List, ◌++◌}
-use lib.ListN.{length, take, drop, set, take-append-drop}
+use lib.ListN.{take, drop, set, take-append-drop}
 use Rattle.types.proofs.Loops.{Filling, filling, filling-more}
 use Rattle.lease.proofs.stored.put_counts.Goals as goal
 
@@ -15,7 +15,7 @@ pub loop-i-preserved : goal.loop-i-preserved
 loop-i-preserved c =
     let i = c.loop-i.i in (
       c.loop-i.invariant.0,
-      subst (λ (v : ℕ). Filling c.args.counts.now c.args.column.now (set c.loop-i.column i v) c.args.count (i + 1)) (sym c.wide.ensures)
+      subst (λ (v : ℕ). Filling c.args.counts.now c.args.column.now (set c.loop-i.column i v) c.args.count (i + 1)) (sym c.from.ensures)
           (filling-more 0 c.loop-i.invariant.0 c.loop-i-test.true c.loop-i.invariant.1),
     )
 

@@ -4,7 +4,6 @@ use Rattle.types.specs.Limits.{LEASES}
 use Rattle.words.specs.Columns.{word}
 use Rattle.lease.specs.Layout.{LEN, OFFSETS, SLOTS}
 use Rattle.lease.proofs.Stores.{offset-put, same-long}
-use borrow.Author.Rules.{rules}
 use Rattle.lease.proofs.stored.put_offset.Goals as goal
 
 pub shape_of-table : goal.shape_of-table

@@ -9,7 +9,6 @@ use Rattle.words.proofs.Columns.{column-is}
 use Rattle.tables.proofs.Search.{boundary_inside}
 use Rattle.lease.specs.Layout.{CARRIED-LEN, CARRIED-OFFSETS, CARRIED-COUNTS}
 use Rattle.lease.proofs.Stores.{carried-taken, same-long}
-use borrow.Author.Rules.{rules}
 use Rattle.lease.proofs.stored.release_counts.Goals as goal
 
 pub overflow_sub-table : goal.overflow_sub-table

@@ -10,7 +10,6 @@ use Rattle.tables.proofs.Search.{boundary_inside}
 use Rattle.lease.specs.Layout.{LEN, OFFSETS, SLOTS, WORDS}
 use Rattle.lease.proofs.Stores.{leases-released, same-long}
 use borrow.Rule.Slice.PartMut.{put_mid, same_len_mid}
-use borrow.Author.Rules.{rules}
 use Rattle.lease.proofs.stored.release_leases.Goals as goal
 
 pub set_aside-requires : goal.set_aside-requires
@@ -19,7 +18,7 @@ set_aside-requires c =
     let w1 = put_mid OFFSETS LEASES w c.remove.new.column in
     let l : length w1 ≡ WORDS = same_len_mid OFFSETS LEASES w c.remove.new.column c.table-1.given.0 ∙ c.requires.0 in
     let long : length (take LEASES (drop SLOTS w1)) ≡ LEASES = ap length (column-is SLOTS LEASES w1) ∙ column-length SLOTS LEASES w1 (omega (arith, l)) in
-    (boundary_inside c.args.up_to.0 (word LEN w) (take LEASES (drop OFFSETS w)) c.position-to.ensures, c.requires.1, omega (arith, long, c.requires.1))
+    (boundary_inside c.args.up_to.0 (word LEN w) (take LEASES (drop OFFSETS w)) c.position-to.ensures, omega (arith, long, c.requires.1))
 
 pub overflow_sub-table : goal.overflow_sub-table
 overflow_sub-table c =

@@ -1,6 +1,5 @@
 -- `remove_offset` meets its contract. Assumes nothing.
 use Prim.Native.Nat.{◌+◌, ◌-◌}
-use native.Mathlib.Omega.{arith}
 use mathlib.Core.Path.{◌∙◌}
 use lib.ListN.{set, length-set}
 use borrow.Rule.Slice.PartMut.{put_mid}
@@ -8,7 +7,6 @@ use Rattle.types.specs.Limits.{LEASES}
 use Rattle.words.specs.Columns.{word}
 use Rattle.lease.specs.Layout.{LEN, OFFSETS, SLOTS}
 use Rattle.lease.proofs.Stores.{offset-removed, same-long}
-use borrow.Author.Rules.{rules}
 use Rattle.lease.proofs.stored.remove_offset.Goals as goal
 
 pub shape_of-table : goal.shape_of-table

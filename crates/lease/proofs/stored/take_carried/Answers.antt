@@ -10,7 +10,6 @@ use Rattle.tables.specs.Search.{Placed}
 use Rattle.lease.specs.Layout.{CARRIED-LEN, CARRIED-OFFSETS, CARRIED-COUNTS, table_in}
 use Rattle.lease.proofs.Stores.{carried-taken, carried-used, passed_none, passed-one, same-long}
 use Rattle.lease.proofs.InWords.{carried_narrow}
-use borrow.Author.Rules.{rules}
 use Rattle.lease.proofs.stored.take_carried.Goals as goal
 use Rattle.lease.proofs.stored.take_carried.Goals.{In-Found}
 

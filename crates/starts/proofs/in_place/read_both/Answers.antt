@@ -2,7 +2,6 @@
 use native.Mathlib.Omega.{arith}
 use mathlib.Core.Path.{sym}
 use lib.Seq.{length-take-le}
-use borrow.Author.Rules.{rules}
 use Rattle.starts.proofs.in_place.read_both.Goals as goal
 
 pub slice_bounds-read_snapshots-end : goal.slice_bounds-read_snapshots-end

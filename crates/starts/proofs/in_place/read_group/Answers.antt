@@ -4,7 +4,6 @@ use native.Mathlib.Omega.{arith}
 use mathlib.Core.Path.{refl}
 use lib.ListN.{length}
 use Rattle.starts.proofs.Reading.{header-fits, area_small, lent_length, group-read}
-use borrow.Author.Rules.{rules}
 use Rattle.starts.proofs.in_place.read_group.Goals as goal
 
 pub overflow_mul-from : goal.overflow_mul-from

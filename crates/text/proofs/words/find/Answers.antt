@@ -1,9 +1,7 @@
 -- `find` meets its contract. The loop's invariant: the place that is looked for is the same from i on. Assumes nothing.
-use Prim.Native.Nat.{◌+◌, ◌-◌, ◌≤◌, max}
 use native.Mathlib.Omega.{arith}
-use mathlib.Core.Path.{◌≡◌, refl}
-use lib.ListN.{length, drop}
-use Rattle.text.specs.Words.{length_to}
+use mathlib.Core.Path.{◌≡◌}
+use lib.ListN.{length}
 use Rattle.text.proofs.Parsing.{to-here, to-next, to_end}
 use Rattle.text.proofs.words.find.Goals as goal
 

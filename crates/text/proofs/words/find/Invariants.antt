@@ -1,10 +1,8 @@
 -- `find` meets its contract. The loop's invariant: the place that is looked for is the same from i on. Assumes nothing.
-use Prim.Native.Nat.{◌+◌, ◌-◌, ◌≤◌, max}
-use native.Mathlib.Omega.{arith}
-use mathlib.Core.Path.{◌≡◌, refl}
-use lib.ListN.{length, drop}
+use Prim.Native.Nat.{◌+◌}
+use mathlib.Core.Path.{◌≡◌}
+use lib.ListN.{drop}
 use Rattle.text.specs.Words.{length_to}
-use Rattle.text.proofs.Parsing.{to-here, to-next, to_end}
 use Rattle.text.proofs.words.find.Given as goal
 
 abbrev pub invariant-loop-i : goal.invariant-loop-i

@@ -1,12 +1,8 @@
 -- `parse_bytes` meets its contract. The loop's invariant: `count` bytes are in the list, and the digits from `at` on are left. Assumes
 -- nothing.
-use Prim.Native.Nat.{◌-◌, ◌≤◌}
 use native.Mathlib.Omega.{arith}
-use mathlib.Core.Path.{◌≡◌, sym, ap, ◌∙◌}
-use lib.ListN.{length}
-use Rattle.text.specs.Words.{all_hex, is_bytes}
-use Rattle.text.proofs.Hex.{Decoding, decoding_none, plainly, decoding_more, decoded-bad, decoded_odd, decoded-all, decoded_dash, decoded-empty}
-use borrow.Author.Rules.{rules}
+use mathlib.Core.Path.{sym, ◌∙◌}
+use Rattle.text.proofs.Hex.{decoding_none, plainly, decoding_more, decoded-bad, decoded_odd, decoded-all, decoded_dash, decoded-empty}
 use Rattle.text.proofs.words.parse_bytes.Goals as goal
 
 pub returns-then-same : goal.returns-then-same

@@ -1,14 +1,10 @@
 -- `parse_number` meets its contract. The loop's invariant: the word's number is that of the digits from the next one on behind n. Assumes nothing.
-use Prim.Native.Nat.{◌+◌, ◌-◌, ◌≤◌}
+use Prim.Native.Nat.{◌+◌}
 use native.Mathlib.Omega.{arith}
-use mathlib.Core.Path.{◌≡◌, sym, ap, ◌∙◌}
-use lib.ListN.{length, drop, get_or, drop_of_length-le}
+use mathlib.Core.Path.{sym, ◌∙◌}
+use lib.ListN.{drop, get_or, drop_of_length-le}
 use Rattle.std.proofs.lemmas.Bool.Decides.{nat_tests}
-use borrow.Author.Rules.{rules}
-use Rattle.types.specs.Limits.{MAX}
-use Rattle.text.specs.Words.{number}
-use Rattle.text.proofs.Parsing.{number_from, drop-next, number_more, number_none, number-all, number-begun, number-empty}
-use Rattle.types.specs.Refused.{option_of}
+use Rattle.text.proofs.Parsing.{drop-next, number_more, number_none, number-all, number-begun}
 use Rattle.text.proofs.words.parse_number.Goals as goal
 
 pub loop-c-init : goal.loop-c-init

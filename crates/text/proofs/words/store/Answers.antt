@@ -1,7 +1,6 @@
 -- `store` meets its contract. Assumes nothing.
 use mathlib.Core.Path.{sym}
 use lib.Seq.{set_out}
-use borrow.Author.Rules.{rules}
 use Rattle.text.proofs.words.store.Goals as goal
 
 pub returns-else-i-out : goal.returns-else-i-out
