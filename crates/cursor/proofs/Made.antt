@@ -23,7 +23,7 @@ use Rattle.cursor.specs.Snapshot.{column_from, decode_cursor}
 use Rattle.cursor.specs.View.{ack_cursor}
 use Rattle.cursor.specs.View as cursors
 use Rattle.cursor.specs.Answers.{ranges_error, snapshot_error, ResumedIs, CheckedIs}
-use Rattle.cursor.specs.Layout.{COMMITTED, RUNS, STARTS, ENDS, WORDS, cursor_in, view}
+use Rattle.cursor.specs.Layout.{COMMITTED, RUNS, STARTS, ENDS, WORDS, cursor_in}
 use Rattle.cursor.specs.Words.{Becomes, Makes}
 use Rattle.cursor.specs.declared.AckCursor.{AckCursor}
 use Rattle.cursor.specs.declared.Range.{Range}

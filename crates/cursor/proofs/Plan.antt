@@ -16,7 +16,7 @@ use Rattle.types.specs.Table.{first, Passed, answer}
 use Rattle.types.proofs.Cases.{split}
 use Rattle.types.proofs.Table.{first_none}
 use Rattle.cursor.specs.Ranges.{range, Above, inside}
-use Rattle.cursor.specs.Cursor.{Cursor, cursor, Valid, settled}
+use Rattle.cursor.specs.Cursor.{Cursor, cursor, Valid}
 use Rattle.cursor.specs.Plan.{plan_bytes, compared, stepped_to, looks_from, looks, fall_rows, pair_rows, plan, starts_by, bytes_from, StepIs}
 use Rattle.cursor.specs.declared.Range.{Range}
 use Rattle.cursor.specs.View.{view, Whole}

@@ -2,16 +2,16 @@
 use Prim.Native.Nat.{ℕ, zero, suc, ◌+◌, ◌-◌, ◌*◌, ◌%◌, ◌≤◌, ◌<◌}
 use native.Mathlib.Omega.{arith}
 use Rattle.std.specs.Prelude.{Ok, Err}
-use mathlib.Core.Path.{◌≡◌, refl, sym, subst}
+use mathlib.Core.Path.{◌≡◌, sym, subst}
 use mathlib.Core.Bool.{true, false}
-use mathlib.Core.List.{List, [], ◌∷◌, ◌++◌}
+use mathlib.Core.List.{List, ◌++◌}
 use mathlib.Core.Option.{none, some}
 use lib.ListN.{length, get_or}
 use borrow.Author.Tests.{lt-ltb, le-ltb, eq-eqb, ne_eqb, ltb-false}
 use Rattle.types.specs.Refusal.{CursorTruncated, CursorBadLength, CursorUnsupportedVersion, CursorBadCrc}
 use Rattle.types.specs.Table.{first}
 use Rattle.types.proofs.Table.{first_none, first-met-before, first_none_before}
-use Rattle.raw.specs.Bytes.{IsBytes, number_at}
+use Rattle.raw.specs.Bytes.{IsBytes}
 use Rattle.crc.specs.Seal.{is_sealed}
 use Rattle.cursor.specs.Cursor.{Valid, resume_table}
 use Rattle.cursor.specs.Snapshot.{read_ranges, range_count, cursor_in, frame_table, decode_table, decode_cursor}

@@ -17,7 +17,6 @@ use Rattle.cursor.specs.Ranges.{offsets}
 use Rattle.cursor.specs.Cursor.{Cursor, ackBounded, commit_up_to}
 use Rattle.cursor.specs.Place.{rangeAt}
 use Rattle.cursor.specs.View.{ack_cursor, Whole}
-use Rattle.cursor.specs.View as cursor
 use Rattle.cursor.specs.Answers.{ack_of}
 use Rattle.cursor.specs.Answers as answers
 use Rattle.cursor.specs.Edits.{edited, AckPlanned, CommitPlanned}

@@ -66,7 +66,11 @@ pub fn read_column(input: &[u8], from: usize, count: usize, column: &mut [u64])
 
 // Whether the ranges of two columns, one for each place that both have, may stand ahead of committed: as `resume_with_columns`
 // tests them.
-pub fn check_columns<'a>(committed: u64, starts: &'a [u64], ends: &'a [u64]) -> Result<(), AckCursorError>
+pub fn check_columns<'a>(
+    committed: u64,
+    starts: &'a [u64],
+    ends: &'a [u64],
+) -> Result<(), AckCursorError>
     ensures { resume_fault result ≡ first (resume_table committed (zipped range starts.now ends.now)) }
 {
     let n = starts.len().min(ends.len());

@@ -15,8 +15,8 @@ ghost use Rattle.cursor.specs.Place.{Spotted};
 ghost use Rattle.cursor.specs.Edits.{edited, ack_plan, stretch_plan, join_plan, AckPlanned, CommitPlanned};
 ghost use Rattle.cursor.specs.Snapshot.{encode_cursor};
 
-use crate::columns::encode_columns;
 use crate::BoundedAck;
+use crate::columns::encode_columns;
 use types::limits::{MAX, RANGES};
 use types::refusals::Refusal;
 
@@ -164,15 +164,14 @@ pub(crate) fn plan_ack<'a>(
             recorded(committed, runs, at_start, Edit::Keep)
         }
         Spot::Apart(i) => {
-            if runs < max_runs {
-                if runs < RANGES {
-                    let start = Edit::Insert { at: i, x: offset };
-                    let end = Edit::Insert {
-                        at: i,
-                        x: offset + 1,
-                    };
-                    return recorded(committed, runs + 1, start, end);
-                }
+            let limit = max_runs.min(RANGES);
+            if runs < limit {
+                let start = Edit::Insert { at: i, x: offset };
+                let end = Edit::Insert {
+                    at: i,
+                    x: offset + 1,
+                };
+                return recorded(committed, runs + 1, start, end);
             }
             keeping(BoundedAck::Shed, committed, runs)
         }
@@ -326,11 +325,7 @@ pub(crate) fn end_before(committed: u64, ends: &[u64], at: usize) -> u64
     requires { at ≤ length ends.now }
     ensures { result ≡ get_or (committed ∷ ends.now) at 0 }
 {
-    if at == 0 {
-        return committed;
-    }
-    let k = at - 1;
-    ends[k]
+    if at == 0 { committed } else { ends[at - 1] }
 }
 
 // Whether x stands at a place of the first n numbers of a column.
@@ -338,10 +333,7 @@ fn stands_at(column: &[u64], n: usize, at: usize, x: u64) -> bool
     requires { n ≤ length column.now }
     ensures { result ≡ (ltb at n && eqb (get_or column.now at 0) x) }
 {
-    if at < n {
-        return column[at] == x;
-    }
-    false
+    at < n && column[at] == x
 }
 
 // How many of the first n numbers of a column, which rise, are at most x.

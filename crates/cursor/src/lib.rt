@@ -9,7 +9,7 @@ ghost use Rattle.types.specs.Limits.{MAX};
 ghost use Rattle.types.specs.Identifiers.{offset};
 ghost use Rattle.types.specs.Refusal.{done};
 ghost use Rattle.types.specs.Refused.{refusal_of, as_is};
-ghost use Rattle.types.specs.Lists.{listed, roomFor};
+ghost use Rattle.types.specs.Lists.{listed};
 ghost use Rattle.types.specs.Table.{answer, first};
 ghost use Rattle.types.specs.Zipped.{zipped};
 ghost use Rattle.cursor.specs.Ranges.{range, EndsFit, offsets};
@@ -21,9 +21,9 @@ ghost use Rattle.cursor.specs.declared.SnapshotError.TheVariants.{Ranges};
 
 use crate::columns::check_columns;
 use crate::in_place::{apply, is_acked_in_place, plan_ack, plan_commit};
+use types::Offset;
 use types::limits::RANGES;
 use types::refusals::Refusal;
-use types::{Offset, lent};
 
 // `encode_snapshot` and `decode_snapshot`; the same over lent columns.
 mod codec;
@@ -143,19 +143,20 @@ impl From<SnapshotError> for Refusal {
     }
 }
 
+impl Default for AckCursor {
+    fn default() -> AckCursor
+        ensures { Fresh 0 result }
+    {
+        AckCursor::new()
+    }
+}
+
 impl AckCursor {
     // A cursor at offset zero with nothing acked.
     pub fn new() -> AckCursor
         ensures { Fresh 0 result }
     {
         AckCursor::resume(Offset::ZERO)
-    }
-
-    // The same.
-    pub fn default() -> AckCursor
-        ensures { Fresh 0 result }
-    {
-        AckCursor::new()
     }
 
     // A cursor at a committed offset with nothing acked ahead of it.
@@ -173,7 +174,10 @@ impl AckCursor {
     // A cursor at a committed offset with ranges ahead of it, of which there may be any number. Refused range by range: an
     // empty one (10), one not above the end before it (11); then over 128 ranges (12). A caller whose ranges are refused can still
     // `resume` at committed: what was acked ahead of it comes again.
-    pub fn resume_with_ahead(committed: Offset, ahead: &[Range]) -> Result<AckCursor, AckCursorError>
+    pub fn resume_with_ahead(
+        committed: Offset,
+        ahead: &[Range],
+    ) -> Result<AckCursor, AckCursorError>
         ensures { ResumedIs committed.0 ahead.now result }
     {
         check_ahead(committed.0, ahead)?;
@@ -219,11 +223,14 @@ impl AckCursor {
         requires { Sound self }
         ensures { answer (as_is result) out.new ≡ listed (view self).ahead out.old }
     {
-        let n = self.room_for(out.len())?;
-        for i in 0..n {
+        let runs = self.runs;
+        if out.len() < runs {
+            return Err(Refusal::OutTooShort);
+        }
+        for i in 0..runs {
             out[i] = self.range_at(i);
         }
-        Ok(n)
+        Ok(runs)
     }
 
     // The offset below which all are acked.
@@ -326,14 +333,6 @@ impl AckCursor {
             cursor: self,
             advanced: moved.advanced,
         }
-    }
-
-    // Whether the ranges fit into a list of this length.
-    fn room_for(self, len: usize) -> Result<usize, Refusal>
-        requires { Sound self }
-        ensures { as_is result ≡ roomFor (length (view self).ahead) len }
-    {
-        lent::room_for(self.runs, RANGES, len)
     }
 
     // The range at a place.

@@ -1,36 +1,19 @@
 // The reverse of what is settled: the unsettled stretches between two numbers, and the nearest unsettled offset. Ranges don't touch, so
 // there is just one stretch before each: from the end before it up to its start. The first is found by a search, their number by
 // another, and no range before the first or behind the last is looked at.
-ghost use Rattle.std.specs.Prelude.{◌≡◌, ◌≤◌, ◌<◌, min, max, ◌∷◌, length, take, get_or};
+ghost use Rattle.std.specs.Prelude.{◌≡◌, ◌≤◌, min, max, ◌∷◌, length, take, get_or};
 ghost use Rattle.types.specs.Identifiers.{offset};
 ghost use Rattle.types.specs.Sorted.{upTo};
 ghost use Rattle.types.specs.Refused.{as_is};
 ghost use Rattle.types.specs.Table.{answer};
-ghost use Rattle.types.specs.Lists.{listed, roomFor};
 ghost use Rattle.cursor.specs.Ranges.{range};
 ghost use Rattle.cursor.specs.View.{ack_cursor, view, Sound, Whole};
-ghost use Rattle.cursor.specs.Place.{rangeAt};
-ghost use Rattle.cursor.specs.Unsettled.{stretches, nearest_open, open_between, open_numbers, found_in, Found};
+ghost use Rattle.cursor.specs.Unsettled.{stretches, nearest_open, open_between, open_numbers};
 
 use crate::in_place::{end_before, partition_point};
 use crate::{AckCursor, Range};
-use types::limits::RANGES;
+use types::Offset;
 use types::refusals::Refusal;
-use types::{Offset, lent};
-
-// The longest answer: a stretch before each range and one behind the last.
-const STRETCHES: usize = RANGES + 1;
-
-// Stretches that were found and are to be listed: those of a cursor between a and b. `first` is the place of the first range that starts
-// above a, `count` how many stretches there are.
-#[derive(Clone, Copy)]
-struct Between {
-    cursor: AckCursor,
-    a: u64,
-    b: u64,
-    first: usize,
-    count: usize,
-}
 
 // Where the stretches begin, and how many they are.
 #[derive(Clone, Copy)]
@@ -50,7 +33,24 @@ impl AckCursor {
         if b < a {
             return Err(Refusal::BoundsReversed);
         }
-        list_open(self.between(a, b), out)
+        let gaps = find_open(self.committed, &self.starts, &self.ends, self.runs, a, b);
+        let first = gaps.first;
+        let count = gaps.count;
+        if out.len() < count {
+            return Err(Refusal::OutTooShort);
+        }
+        for i in 0..count {
+            out[i] = stretch_at(
+                self.committed,
+                &self.starts,
+                &self.ends,
+                self.runs,
+                a,
+                b,
+                first + i,
+            );
+        }
+        Ok(count)
     }
 
     // The least offset at or above the given one that is not settled. The last offset of all is never settled, so that there is one.
@@ -60,57 +60,6 @@ impl AckCursor {
     {
         Offset(nearest_in_place(self.committed, &self.starts, &self.ends, self.runs, from.0))
     }
-
-    // Finds the stretches within [a, b), of which there are none where a is not below b.
-    fn between(self, a: u64, b: u64) -> Between
-        requires { Sound self }
-        ensures { Found result × (found_in result ≡ stretches (view self) a b) }
-    {
-        let gaps = find_open(self.committed, &self.starts, &self.ends, self.runs, a, b);
-        Between {
-            cursor: self,
-            a,
-            b,
-            first: gaps.first,
-            count: gaps.count,
-        }
-    }
-}
-
-// Lists stretches that were found.
-fn list_open(found: Between, out: &mut [Range]) -> Result<usize, Refusal>
-    requires { Found found }
-    ensures { answer (as_is result) out.new ≡ listed (found_in found) out.old }
-{
-    let n = open_fits(found, out.len())?;
-    for i in 0..n {
-        out[i] = open_at(found, i);
-    }
-    Ok(n)
-}
-
-// Whether they fit into a list of some length, and the one at a place.
-fn open_fits(found: Between, room: usize) -> Result<usize, Refusal>
-    requires { Found found }
-    ensures { as_is result ≡ roomFor (length (found_in found)) room }
-{
-    lent::room_for(found.count, STRETCHES, room)
-}
-
-fn open_at(found: Between, at: usize) -> Range
-    requires { Found found × (at < length (found_in found)) }
-    ensures { result ≡ rangeAt at (found_in found) }
-{
-    let cursor = found.cursor;
-    stretch_at(
-        cursor.committed,
-        &cursor.starts,
-        &cursor.ends,
-        cursor.runs,
-        found.a,
-        found.b,
-        found.first + at,
-    )
 }
 
 // `open_between` on the parts of a cursor, into a list of numbers: a stretch takes two of its places, its start and its end.
@@ -209,11 +158,5 @@ fn start_below(starts: &[u64], n: usize, at: usize, b: u64) -> u64
     requires { n ≤ length starts.now }
     ensures { result ≡ min b (get_or (take n starts.now) at b) }
 {
-    if at < n {
-        let start = starts[at];
-        if start < b {
-            return start;
-        }
-    }
-    b
+    if at < n { starts[at].min(b) } else { b }
 }

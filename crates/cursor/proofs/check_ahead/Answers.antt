@@ -1,10 +1,9 @@
 -- `check_ahead` meets its contract. Assumes nothing.
 use native.Mathlib.Omega.{arith}
-use mathlib.Core.Path.{refl, sym}
+use mathlib.Core.Path.{refl}
 use lib.ListN.{get_or}
 use Rattle.core.proofs.result.Match.{err_is}
 use Rattle.cursor.specs.Ranges.{range}
-use Rattle.cursor.specs.Answers.{ranges_error}
 use Prim.Native.Nat.{ℕ, ◌≤◌}
 use borrow.Author.Count.{below_more}
 use Rattle.types.specs.Limits.{MAX}

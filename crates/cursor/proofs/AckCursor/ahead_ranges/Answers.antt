@@ -1,41 +1,36 @@
--- `AckCursor::ahead_ranges` meets its contract. The loop's invariant: the first i ranges are written, the places behind the list are as
--- they were. Assumes nothing.
-use Rattle.std.proofs.Common.{◌≡◌, ℕ, ◌≤◌, length, arith}
-use mathlib.Core.Path.{refl, ap}
-use Rattle.core.proofs.result.Match.{err_is}
-use Rattle.types.specs.Refusal.{refused, done}
-use Rattle.types.specs.Refused.{refusal_of}
-use Rattle.types.specs.Lists.{counted}
-use Rattle.types.proofs.Listing.{counted-fits, none_written, one_more, all-written}
+-- `AckCursor::ahead_ranges` meets its contract. Assumes nothing.
+use Rattle.std.proofs.Common.{◌≡◌, length, arith}
+use mathlib.Core.Path.{sym}
+use borrow.Author.Rules.{rules}
+use Rattle.types.proofs.Listing.{none_written, one_more}
 use Rattle.cursor.specs.Ranges.{range}
 use Rattle.cursor.specs.View.{view}
+use Rattle.cursor.proofs.Search.{runs-is}
+use Rattle.cursor.proofs.Unsettled.{records-short, records-listed}
 use Rattle.cursor.proofs.AckCursor.ahead_ranges.Goals as goal
-use Rattle.cursor.proofs.AckCursor.ahead_ranges.Goals.{In_ok-n}
+use Rattle.cursor.proofs.AckCursor.ahead_ranges.Goals.{Start}
 
--- all of them are written, and there is room for them
-fits : (c : In_ok-n) → (c.in_ok-n.n ≤ length (view c.args.self).ahead) × (c.in_ok-n.n ≤ length c.args.out.now)
-fits c = counted-fits (view c.args.self).ahead c.args.out.now c.in_ok-n.n (ap counted c.in_ok-n.ensures)
+size : (s : Start) → s.args.self.runs ≡ length (view s.args.self).ahead
+size s = sym (runs-is s.args.self (record { starts = search rules; ends = search rules; sound = s.requires }))
 
-pub returns-in_err-n : goal.returns-in_err-n
-returns-in_err-n c =
-    rw (err_is c.from_residual.result c.in_err-n.field-0.0 c.from_residual.ensures.1)
-    (all-written (view c.args.self).ahead c.args.out.now 0 c.args.out.now _ c.in_err-n.ensures refl (none_written (view c.args.self).ahead c.args.out.now 0))
+pub returns-then-out-runs : goal.returns-then-out-runs
+returns-then-out-runs c = records-short (view c.args.self).ahead c.args.out.now (omega (arith, size (goal.at.returns-then-out-runs c).Start))
 
 pub loop-i-init : goal.loop-i-init
-loop-i-init c = none_written (view c.args.self).ahead c.args.out.now c.in_ok-n.n
+loop-i-init c = none_written (view c.args.self).ahead c.args.out.now c.args.self.runs
 
 pub range_at-requires : goal.range_at-requires
-range_at-requires c = (c.requires, omega (arith, (fits (goal.at.range_at-requires c).In_ok-n).0))
+range_at-requires c = (c.requires, omega (arith, size (goal.at.range_at-requires c).Start))
 
 pub bounds-out-i : goal.bounds-out-i
-bounds-out-i c = omega (arith, c.loop-i.invariant.long, (fits (goal.at.bounds-out-i c).In_ok-n).1)
+bounds-out-i c = omega (arith, c.loop-i.invariant.long)
 
 pub loop-i-preserved : goal.loop-i-preserved
 loop-i-preserved c =
     rw c.range_at.ensures
-    (one_more (view c.args.self).ahead c.args.out.now (range 0 0) c.in_ok-n.n c.loop-i.i c.loop-i.out (omega arith) (fits (goal.at.loop-i-preserved c).In_ok-n) c.loop-i.invariant)
+    (one_more (view c.args.self).ahead c.args.out.now (range 0 0) c.args.self.runs c.loop-i.i c.loop-i.out (omega arith) (omega (arith, size (goal.at.loop-i-preserved c).Start), omega arith) c.loop-i.invariant)
 
 pub returns : goal.returns
 returns c =
-    let e : c.loop-i.i ≡ c.in_ok-n.n = omega (arith, c.loop-i.invariant.within) in
-    all-written (view c.args.self).ahead c.args.out.now c.in_ok-n.n c.loop-i.out _ c.in_ok-n.ensures refl (rw e at c.loop-i.invariant)
+    let e : c.loop-i.i ≡ c.args.self.runs = omega (arith, c.loop-i.invariant.within) in
+    records-listed (view c.args.self).ahead c.args.out.now c.args.self.runs c.loop-i.out (size (goal.at.returns c).Start) (omega arith) (rw e at c.loop-i.invariant)

@@ -1,12 +1,8 @@
 -- `AckCursor::resume_with_ahead` meets its contract. Assumes nothing.
-use Prim.Native.Nat.{ℕ, ◌≤◌}
+use Prim.Native.Nat.{◌≤◌}
 use native.Mathlib.Omega.{arith}
 use mathlib.Core.Path.{refl, sym}
-use lib.ListN.{length, get_or}
-use borrow.Author.Rules.{rules}
-use borrow.Author.Count.{below_more}
-use Rattle.types.specs.Limits.{MAX}
-use Rattle.cursor.specs.Ranges.{range}
+use lib.ListN.{length}
 use Rattle.core.proofs.result.Match.{err_is}
 use Rattle.types.proofs.Loops.{filling}
 use Rattle.types.proofs.Table.{first_none}

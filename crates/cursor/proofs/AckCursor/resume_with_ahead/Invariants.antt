@@ -1,10 +1,7 @@
 -- `AckCursor::resume_with_ahead` meets its contract. The loop's invariant: the first i places of both columns are filled.
 -- Assumes nothing.
-use Prim.Native.Nat.{ℕ, ◌<◌, ◌≤◌}
 use mathlib.Core.List.{map}
-use Rattle.types.specs.Limits.{MAX}
-use Rattle.cursor.specs.Ranges.{range}
-use lib.ListN.{length, get_or}
+use lib.ListN.{length}
 use Rattle.types.proofs.Loops.{Filling}
 use Rattle.cursor.specs.declared.Range.{Range}
 use Rattle.cursor.proofs.AckCursor.resume_with_ahead.Given as goal

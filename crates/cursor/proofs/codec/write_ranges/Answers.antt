@@ -1,14 +1,8 @@
 -- `write_ranges` meets its contract. The loop's invariant: the ranges that are left, written from the next place on, give
 -- what all of them give at the start. Assumes nothing.
-use Prim.Native.Nat.{◌+◌, ◌-◌, ◌*◌, ◌≤◌}
+use Prim.Native.Nat.{◌+◌, ◌*◌}
 use native.Mathlib.Omega.{arith}
 use mathlib.Core.Path.{◌≡◌, refl, sym, ◌∙◌}
-use lib.ListN.{length, take, drop}
-use borrow.Author.Rules.{rules}
-use Rattle.types.specs.Zipped.{zipped}
-use Rattle.raw.specs.Bytes.{overwrite}
-use Rattle.cursor.specs.Ranges.{range}
-use Rattle.cursor.specs.Snapshot.{ranges_bytes}
 use Rattle.cursor.proofs.Writing.{put-more, put-end}
 use Rattle.cursor.proofs.codec.write_ranges.Goals as goal
 

@@ -1,10 +1,6 @@
 -- `check_columns` meets its contract. Assumes nothing.
 use native.Mathlib.Omega.{arith}
-use mathlib.Core.Path.{refl, sym}
-use lib.ListN.{get_or}
 use Rattle.core.proofs.result.Match.{err_is}
-use Rattle.types.specs.Zipped.{zipped}
-use Rattle.cursor.specs.Ranges.{range}
 use Rattle.cursor.proofs.Walking.{columns-size, columns-at, walked-more, walked-fault, walked-many, walked-few}
 use Rattle.cursor.proofs.columns.check_columns.Goals as goal
 

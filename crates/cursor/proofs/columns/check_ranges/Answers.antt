@@ -1,12 +1,10 @@
 -- `check_ranges` meets its contract. Assumes nothing.
 use native.Mathlib.Omega.{arith}
-use mathlib.Core.Path.{◌≡◌, sym}
+use mathlib.Core.Path.{◌≡◌}
 use Rattle.core.proofs.result.Match.{err_is}
-use Rattle.raw.specs.Bytes.{number_at}
 use Rattle.cursor.specs.Ranges.{range}
 use Rattle.cursor.specs.Place.{rangeAt}
 use Rattle.cursor.specs.Snapshot.{read_ranges}
-use Rattle.cursor.specs.declared.Range.{Range}
 use Rattle.cursor.proofs.Snapshot.{length-read}
 use Rattle.cursor.proofs.Walking.{read-at, walked-more, walked-fault, walked-many, walked-few}
 use Rattle.cursor.proofs.columns.check_ranges.Goals as goal

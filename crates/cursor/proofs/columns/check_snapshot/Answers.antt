@@ -1,6 +1,6 @@
 -- `check_snapshot` meets its contract. Assumes nothing.
 use native.Mathlib.Omega.{arith}
-use mathlib.Core.Path.{◌≡◌, refl, sym, ◌∙◌}
+use mathlib.Core.Path.{refl, sym, ◌∙◌}
 use Rattle.core.proofs.result.Match.{err_is}
 use Rattle.cursor.specs.declared.SnapshotError.TheVariants.{Ranges}
 use Rattle.cursor.proofs.Reading.{frame_refused, frame_fits, ranges-left}

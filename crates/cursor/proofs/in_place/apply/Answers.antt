@@ -1,9 +1,7 @@
 -- `apply` meets its contract. Assumes nothing.
-use native.Mathlib.Omega.{arith}
 use mathlib.Core.Path.{sym, ◌∙◌}
 use lib.Seq.{set_out}
 use Rattle.cursor.proofs.Edits.{edited-is}
-use borrow.Author.Rules.{rules}
 use Rattle.cursor.proofs.in_place.apply.Goals as goal
 
 pub returns-then-at-column : goal.returns-then-at-column

@@ -2,10 +2,8 @@
 use Prim.Native.Nat.{◌≤◌}
 use mathlib.Core.Path.{refl}
 use native.Mathlib.Omega.{arith}
-use borrow.Author.Rules.{rules}
 use Rattle.tables.proofs.Columns.{taken-out-front}
 use Rattle.cursor.specs.View.{ack_cursor}
-use Rattle.cursor.specs.declared.AckCursor.{AckCursor}
 use Rattle.cursor.proofs.Search.{long-starts, long-ends, starts_rise, place-within, found-committed}
 use Rattle.cursor.proofs.Answers.{not_advanced, moved}
 use Rattle.cursor.proofs.in_place.plan_commit.Goals as goal

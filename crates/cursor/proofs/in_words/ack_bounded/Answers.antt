@@ -1,14 +1,13 @@
 -- `ack_bounded` meets its contract. Assumes nothing.
 use Prim.Native.Nat.{ℕ}
 use native.Mathlib.Omega.{arith}
-use mathlib.Core.Path.{◌≡◌, sym, ◌∙◌}
+use mathlib.Core.Path.{sym, ◌∙◌}
 use mathlib.Core.List.{List}
-use lib.ListN.{length, length-set}
+use lib.ListN.{length-set}
 use borrow.Rule.Slice.PartMut.{put_mid}
 use Rattle.types.specs.Limits.{RANGES}
-use Rattle.cursor.specs.Layout.{COMMITTED, STARTS, ENDS, WORDS}
+use Rattle.cursor.specs.Layout.{COMMITTED, STARTS, ENDS}
 use Rattle.cursor.proofs.Words.{parts_whole, both_long, stored-long, ack-answers}
-use borrow.Author.Rules.{rules}
 use Rattle.cursor.proofs.in_words.ack_bounded.Goals as goal
 
 -- both columns back in their places

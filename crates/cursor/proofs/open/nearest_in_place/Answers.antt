@@ -1,9 +1,7 @@
 -- `nearest_in_place` meets its contract. Assumes nothing.
 use native.Mathlib.Omega.{arith}
 use mathlib.Core.Path.{◌∙◌}
-use borrow.Author.Rules.{rules}
 use Rattle.cursor.specs.View.{ack_cursor}
-use Rattle.cursor.specs.declared.AckCursor.{AckCursor}
 use Rattle.cursor.proofs.Search.{starts_rise, place-within}
 use Rattle.cursor.proofs.Unsettled.{found_nearest}
 use Rattle.cursor.proofs.open.nearest_in_place.Goals as goal

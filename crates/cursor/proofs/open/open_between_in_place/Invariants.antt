@@ -1,16 +1,9 @@
 -- `open_between_in_place` meets its contract. The loop's invariant: the numbers of the first i stretches are written, the places behind
 -- them are as they were. Assumes nothing.
-use Prim.Native.Nat.{◌+◌, ◌-◌, ◌*◌, ◌≤◌, ◌<◌}
-use native.Mathlib.Omega.{arith}
-use mathlib.Core.Path.{◌≡◌, ◌∙◌}
-use lib.ListN.{length, length-set}
-use borrow.Author.Rules.{rules}
-use Rattle.types.proofs.Loops.{Filling, filling}
+use Prim.Native.Nat.{◌*◌, ◌≤◌}
+use Rattle.types.proofs.Loops.{Filling}
 use Rattle.cursor.specs.View.{ack_cursor, view}
 use Rattle.cursor.specs.Unsettled.{stretches, bounds}
-use Rattle.cursor.specs.declared.AckCursor.{AckCursor}
-use Rattle.cursor.proofs.Search.{long-starts, long-ends}
-use Rattle.cursor.proofs.Unsettled.{found-few, found_within, found_at, two-more, numbers_reversed, numbers-short, numbers-put}
 use Rattle.cursor.proofs.open.open_between_in_place.Given as goal
 
 abbrev pub invariant-loop-i : goal.invariant-loop-i

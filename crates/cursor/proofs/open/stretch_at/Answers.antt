@@ -1,5 +1,4 @@
 -- `stretch_at` meets its contract. Assumes nothing.
-use borrow.Author.Rules.{rules}
 use Rattle.cursor.proofs.open.stretch_at.Goals as goal
 
 pub returns : goal.returns

@@ -1,13 +1,10 @@
 -- `answer_all` meets its contract. The loop's invariant: what is left to do, with what is done, is the whole. Assumes nothing.
-use Prim.Native.Nat.{ℕ, ◌+◌, ◌-◌, ◌≤◌, ◌<◌}
 use native.Mathlib.Omega.{arith}
-use mathlib.Core.Path.{◌≡◌, refl, sym}
-use mathlib.Core.List.{List}
-use lib.ListN.{length, length-set}
+use mathlib.Core.Path.{refl, sym}
+use lib.ListN.{length-set}
 use Rattle.cursor.specs.View.{ack_cursor, view}
-use Rattle.cursor.specs.declared.AckCursor.{AckCursor}
 use Rattle.cursor.proofs.Search.{runs-is}
-use Rattle.cursor.proofs.Plan.{Answering, looks-fit, answering-next, answered-looks, answered-bytes}
+use Rattle.cursor.proofs.Plan.{looks-fit, answering-next, answered-looks, answered-bytes}
 use Rattle.cursor.proofs.plans.answer_all.Goals as goal
 
 pub loop-i-init : goal.loop-i-init

@@ -1,10 +1,8 @@
 -- `plan_in_place` meets its contract: the lengths, then the first fall, then the walk. Assumes nothing.
 use mathlib.Core.Path.{sym, ap, ◌∙◌}
-use borrow.Author.Rules.{rules}
 use Rattle.cursor.specs.View.{ack_cursor, view}
 use Rattle.types.specs.Refusal.{Falling}
 use Rattle.types.specs.Refused.{option_of}
-use Rattle.cursor.specs.declared.AckCursor.{AckCursor}
 use Rattle.cursor.proofs.Plan.{plan_unequal, plan-falling, plan-answered}
 use Rattle.cursor.proofs.plans.plan_in_place.Goals as goal
 use Rattle.cursor.proofs.plans.plan_in_place.Goals.{Start}

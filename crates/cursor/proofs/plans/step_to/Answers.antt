@@ -1,10 +1,8 @@
 -- `step_to` meets its contract. The loop's invariant: the offset came from `at` to `to` with so many looks. Assumes nothing.
-use Prim.Native.Nat.{◌-◌}
 use native.Mathlib.Omega.{arith}
 use mathlib.Core.Path.{refl}
 use borrow.Author.Tests.{le-leb, lt-leb}
-use Rattle.cursor.specs.View.{ack_cursor, Whole}
-use Rattle.cursor.specs.declared.AckCursor.{AckCursor}
+use Rattle.cursor.specs.View.{ack_cursor}
 use Rattle.cursor.proofs.Plan.{Stepping, stepping_next, step-below, step-on, step-over}
 use Rattle.cursor.proofs.plans.step_to.Goals as goal
 use Rattle.cursor.proofs.plans.step_to.Goals.{At-loop-to, Start}

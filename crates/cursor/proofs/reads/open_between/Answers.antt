@@ -1,5 +1,4 @@
 -- `open_between` meets its contract. Assumes nothing.
-use borrow.Author.Rules.{rules}
 use mathlib.Core.Path.{ap, ◌∙◌}
 use Rattle.cursor.specs.Unsettled.{open_numbers}
 use Rattle.cursor.specs.View.{view}

@@ -1,5 +1,4 @@
 -- `plan` meets its contract. Assumes nothing.
-use borrow.Author.Rules.{rules}
 use mathlib.Core.Path.{ap, ◌∙◌}
 use Rattle.cursor.specs.Plan.{plan}
 use Rattle.cursor.specs.View.{view}

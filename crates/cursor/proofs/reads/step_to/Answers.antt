@@ -1,5 +1,4 @@
 -- `step_to` meets its contract. Assumes nothing.
-use borrow.Author.Rules.{rules}
 use mathlib.Core.Path.{subst}
 use Rattle.cursor.specs.Plan.{StepIs}
 use Rattle.cursor.specs.View.{view}

@@ -1,5 +1,4 @@
 -- `decode_snapshot` meets its contract. All is tested before a word is stored. Assumes nothing.
-use borrow.Author.Rules.{rules}
 use Prim.Native.Nat.{ℕ}
 use native.Mathlib.Omega.{arith}
 use mathlib.Core.Path.{sym, ◌∙◌}

@@ -1,19 +1,16 @@
 -- `resume_with_columns` meets its contract. All is tested before a word is stored. Assumes nothing.
-use borrow.Author.Rules.{rules}
 use Prim.Native.Nat.{ℕ, ◌≤◌, min}
 use native.Mathlib.Omega.{arith}
-use mathlib.Core.Path.{◌≡◌, sym, ap, ◌∙◌}
+use mathlib.Core.Path.{◌≡◌, sym, ◌∙◌}
 use mathlib.Core.List.{List}
-use mathlib.Core.Option.{Option, none}
+use mathlib.Core.Option.{none}
 use lib.ListN.{length, length-set}
 use borrow.Rule.Slice.PartMut.{put_mid}
 use Rattle.types.specs.Limits.{RANGES}
-use Rattle.types.specs.Refusal.{Refusal}
 use Rattle.types.specs.Table.{first}
 use Rattle.types.specs.Zipped.{zipped}
 use Rattle.cursor.specs.Ranges.{range}
 use Rattle.cursor.specs.Cursor.{resume_table}
-use Rattle.cursor.specs.Answers.{resume_fault}
 use Rattle.cursor.specs.Layout.{COMMITTED, STARTS, ENDS}
 use Rattle.cursor.proofs.Words.{column-long, ends-long, both_long, stored-long}
 use Rattle.cursor.proofs.Made.{resume-kept, columns-few, resume-made}
