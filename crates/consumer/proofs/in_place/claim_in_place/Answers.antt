@@ -3,7 +3,6 @@
 use Prim.Native.Nat.{◌≤◌}
 use native.Mathlib.Omega.{arith}
 use mathlib.Core.Path.{refl}
-use borrow.Author.Rules.{rules}
 use Rattle.types.specs.Limits.{MAX}
 use Rattle.types.specs.Refused.{refusal_of}
 use Rattle.cursor.specs.View.{ack_cursor}

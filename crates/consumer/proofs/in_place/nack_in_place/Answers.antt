@@ -4,14 +4,13 @@ use Prim.Native.Nat.{ℕ}
 use mathlib.Core.Path.{◌≡◌, refl}
 use Rattle.types.specs.Refusal.{done}
 use native.Mathlib.Omega.{arith}
-use borrow.Author.Rules.{rules}
 use Rattle.types.specs.Refused.{refusal_of}
 use Rattle.types.specs.Table.{Passed, checked}
 use Rattle.delivery.specs.Config.{delay_of}
 use Rattle.lease.specs.Answers as answers
 use Rattle.consumer.specs.Rights as rights
-use Rattle.consumer.specs.Calls.{token_rows, attempt_of, nack}
-use Rattle.consumer.specs.Parts.{Whole, nacking}
+use Rattle.consumer.specs.Calls.{token_rows, attempt_of}
+use Rattle.consumer.specs.Parts.{nacking}
 use Rattle.consumer.specs.View.{view}
 use Rattle.consumer.specs.declared.Consumer.{Consumer}
 use Rattle.consumer.proofs.CallsReturns.{table-whole}

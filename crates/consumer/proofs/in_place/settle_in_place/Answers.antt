@@ -2,15 +2,13 @@
 -- lent. Assumes nothing.
 use mathlib.Core.Path.{◌≡◌, refl, sym, ◌∙◌}
 use Prim.Native.Nat.{ℕ}
-use borrow.Author.Rules.{rules}
 use Rattle.types.specs.Refusal.{done}
 use Rattle.types.specs.Refused.{refusal_of}
 use Rattle.types.specs.Table.{Passed, checked}
 use Rattle.cursor.specs.Answers as cursor
 use Rattle.cursor.specs.View.{ack_cursor}
-use Rattle.lease.specs.Answers.{ack_of}
 use Rattle.consumer.specs.Rights as rights
-use Rattle.consumer.specs.Calls.{token_rows, attempt_of, ack}
+use Rattle.consumer.specs.Calls.{token_rows, attempt_of}
 use Rattle.consumer.specs.Parts.{settling}
 use Rattle.consumer.specs.View.{view}
 use Rattle.consumer.specs.declared.Consumer.{Consumer}

@@ -1,9 +1,8 @@
 -- `is_full` meets its contract: refusal 27, test by test. Assumes nothing.
-use Prim.Native.Nat.{ℕ, ◌+◌, ◌<◌}
+use Prim.Native.Nat.{ℕ, ◌+◌}
 use native.Mathlib.Omega.{arith}
 use mathlib.Core.Path.{◌≡◌, sym, ap, ◌∙◌}
 use mathlib.Core.Option.{none}
-use borrow.Author.Rules.{rules}
 use lib.ListN.{length, take}
 use Rattle.tables.specs.Search.{Placed}
 use Rattle.tables.specs.declared.Place.TheVariants.{Missing}
