@@ -25,19 +25,19 @@ pub overflow_add-to : goal.overflow_add-to
 overflow_add-to c = omega (arith, within (goal.at.overflow_add-to c).In-loop-copied)
 
 pub overflow_add-copied : goal.overflow_add-copied
-overflow_add-copied c = omega (arith, c.shorter-size.ensures)
+overflow_add-copied c = omega (arith, c.min-size.ensures)
 
 pub overflow_add-at : goal.overflow_add-at
 overflow_add-at c = omega (arith, within (goal.at.overflow_add-at c).In-loop-copied)
 
 pub loop-copied-smaller : goal.loop-copied-smaller
-loop-copied-smaller c = omega (arith, c.shorter-size.ensures)
+loop-copied-smaller c = omega (arith, c.min-size.ensures)
 
 pub loop-copied-preserved : goal.loop-copied-preserved
 loop-copied-preserved c =
     copy_more _ _ _ _ c.requires.0 c.requires.1 _ _ _ c.loop-copied.invariant _
     c.loop-copied-test.true
-    c.shorter-size.ensures
+    (omega (arith, c.min-size.ensures))
     _
     _
     c.write_bytes.ensures
