@@ -4,7 +4,7 @@ use Prim.Native.Nat.{ℕ, suc, ◌+◌, ◌/◌, ◌≤◌}
 use native.Mathlib.Omega.{arith}
 use native.Mathlib.Numerals.{add-one}
 use mathlib.Core.Path.{◌≡◌, refl, ap, ◌∙◌}
-use mathlib.Core.Bool.{true, false}
+use mathlib.Core.Bool.{Bool, true, false}
 use mathlib.Core.List.{List}
 use lib.Dec.{leb}
 use lib.ListN.{length, take, length-take}
@@ -17,6 +17,7 @@ use Rattle.types.specs.Table.{Answer, answer}
 use Rattle.types.proofs.Cases.{split}
 use Rattle.journal.specs.Area.{outside, write_at}
 use Rattle.journal.specs.Answers.{block_of, write_block}
+use Rattle.journal.specs.Blocks.{bodies_for}
 use Rattle.journal.proofs.Area.{whole_says}
 use Rattle.redeliveries.specs.Counter.{after_flush}
 use Rattle.lease.proofs.Valid.{valid-flushed}
@@ -25,7 +26,7 @@ use Rattle.consumer.specs.State.{State}
 use Rattle.consumer.specs.View.{view, Sound}
 use Rattle.consumer.specs.declared.Consumer.{Consumer}
 use Rattle.consumer.proofs.Area.{area-taken}
-use Rattle.checkpoint.specs.Checkpoint.{bodies, group_block, zeros, new_ceiling, flushed, is_zeroing, is_last, sync_due, next_place, next_block, step}
+use Rattle.checkpoint.specs.Checkpoint.{bodies, group_block, zeroed_for, zeros, new_ceiling, flushed, is_zeroing, is_last, sync_due, next_place, next_block, step}
 use Rattle.checkpoint.specs.Checkpoint as checkpoint
 use Rattle.checkpoint.specs.Writing.{view_writing, SoundWriting, SteppedIs, Into}
 use Rattle.checkpoint.specs.Parts.{Parts, parts, with_parts, PlaceIs, NextIs, header_by}
@@ -66,20 +67,14 @@ small w s =
     }
 
 -- ## Whether a sync is due
--- as the code finds it, of the place that the group goes to
-pub due-is : (w : Writing) (n : ℕ) → n ≡ bodies (view w.consumer) → (place : Place)
-    → PlaceIs w.consumer.area_len w.consumer.next.block n place → leb (place.zeros + n) (w.written + 1) ≡ sync_due (view_writing w)
-due-is w n count place there =
-    let zeros-is : place.zeros ≡ zeros (view w.consumer) = rw (← count) there.zeros in
-    rw (zeros-is, count, add-one w.written)
+-- the numbers of a sound record are small enough to ask, and its bodies and zeros are those of the code
+pub askable : (w : Writing) → SoundWriting w → (w.cursor_len + w.attempt_len ≤ 3606) × (w.consumer.next.block ≤ 128) × (w.written ≤ 136)
+askable w s = let f = small w s in (omega (arith, f.cursor-len, f.attempt_len_lem), f.block, f.written)
 
-pub zeros_small : (w : Writing) → SoundWriting w → (n : ℕ) → n ≡ bodies (view w.consumer) → (place : Place)
-    → PlaceIs w.consumer.area_len w.consumer.next.block n place → place.zeros ≤ 128
-zeros_small w s n count place there =
-    let room = state-room (view w.consumer) s.valid.state in
-    let most = (whole_says w.consumer.area_len (area-taken w.consumer.area_len s.valid.state.area)).most in
-    let z : place.zeros ≡ zeros (view w.consumer) = rw (← count) there.zeros in
-    omega (arith, z, room.zeroed, most)
+pub due-is : (w : Writing) → SoundWriting w → (due : Bool)
+    → due ≡ leb (zeroed_for w.consumer.area_len w.consumer.next.block (bodies_for (w.cursor_len + w.attempt_len)) + bodies_for (w.cursor_len + w.attempt_len)) (suc w.written)
+    → due ≡ sync_due (view_writing w)
+due-is w s due e = rw (small w s).count at e
 
 -- ## A block is written
 pub into-inside : (w : Writing) (a : List ℕ) (i : ℕ) → Into w a i → outside (length a) i ≡ false

@@ -1,11 +1,12 @@
 // A checkpoint on the parts of a writing record: each function takes its numbers by value and the bytes lent, and answers the numbers that
 // change, so that a record by value and one that lies in another's memory are served by the same function.
-ghost use Rattle.std.specs.Prelude.{◌≤◌, ◌+◌, ◌≡◌, false, length, take};
+ghost use Rattle.std.specs.Prelude.{◌≤◌, ◌+◌, ◌≡◌, suc, false, leb, length, take};
 ghost use Rattle.types.specs.Limits.{sat64};
 ghost use Rattle.cursor.specs.View.{ack_cursor};
 ghost use Rattle.journal.specs.Area.{outside, write_at};
 ghost use Rattle.journal.specs.Answers.{block_of};
 ghost use Rattle.journal.specs.Blocks.{bodies_for};
+ghost use Rattle.checkpoint.specs.Checkpoint.{zeroed_for};
 ghost use Rattle.checkpoint.specs.Counts.{Narrow};
 ghost use Rattle.checkpoint.specs.Parts.{counting, beginning, fitting, Beginnable, BegunIn, PermittedIn, parts, PlaceIs, NextIs, Steppable, SteppedIn, header_by};
 
@@ -57,7 +58,7 @@ pub fn bodies_of(cursor_len: usize, attempt_len: usize) -> usize
     requires { (cursor_len ≤ 4000) × (attempt_len ≤ 4000) }
     ensures { result ≡ bodies_for (cursor_len + attempt_len) }
 {
-    (cursor_len + attempt_len + 499) / 500
+    (cursor_len + attempt_len).div_ceil(500)
 }
 
 // Where a group goes: the block of its header, and how many blocks are zeroed before it, from there on.
@@ -79,6 +80,22 @@ pub fn place_of(area_len: usize, block: usize, bodies: usize) -> Place
         };
     }
     Place { block, zeros: 0 }
+}
+
+// Whether a sync is due after the next block write: after the last block before the header, and after the header, which is the last one.
+pub fn is_sync_due(
+    written: usize,
+    cursor_len: usize,
+    attempt_len: usize,
+    area_len: usize,
+    block: usize,
+) -> bool
+    requires { (cursor_len + attempt_len ≤ 3606) × (block ≤ 128) × (written ≤ 136) }
+    ensures { let n = bodies_for (cursor_len + attempt_len) in result ≡ leb (zeroed_for area_len block n + n) (suc written) }
+{
+    let bodies = bodies_of(cursor_len, attempt_len);
+    let place = place_of(area_len, block, bodies);
+    place.zeros + bodies <= written + 1
 }
 
 // What `begin` does on the parts of a consumer, and on the payload of the record, for a worker that may: 38 and 39 come first.

@@ -152,8 +152,12 @@ impl Writing {
         requires { SoundWriting self.now }
         ensures { result ≡ sync_due (view_writing self.now) }
     {
-        let bodies = in_place::bodies_of(self.cursor_len, self.attempt_len);
-        let place = in_place::place_of(self.consumer.area_len, self.consumer.next.block, bodies);
-        place.zeros + bodies <= self.written + 1
+        in_place::is_sync_due(
+            self.written,
+            self.cursor_len,
+            self.attempt_len,
+            self.consumer.area_len,
+            self.consumer.next.block,
+        )
     }
 }

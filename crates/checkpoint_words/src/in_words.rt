@@ -9,7 +9,7 @@ ghost use Rattle.checkpoint_words.specs.InWords.{Begins, Counts, stored, Steps};
 
 use crate::layout::{ATTEMPT_LEN, CURSOR_LEN, WRITTEN};
 use checkpoint::counts::Columns;
-use checkpoint::in_place::{BegunAt, StepNumbers, bodies_of, place_of};
+use checkpoint::in_place::{BegunAt, StepNumbers};
 use checkpoint::{Wrote, in_place};
 use consumer::rights::CHECKPOINT;
 use consumer_words::layout::{AREA_LEN, CEILING, CURSOR, NEXT_BLOCK, NEXT_NUMBER, TABLE};
@@ -102,9 +102,13 @@ pub fn sync_due(words: &[u64], payload: &[u8; 3606]) -> bool
     requires { SoundWriting words.now payload.now }
     ensures { result ≡ sync_due (view_writing words.now payload.now) }
 {
-    let bodies = bodies_of(words[CURSOR_LEN] as usize, words[ATTEMPT_LEN] as usize);
-    let place = place_of(words[AREA_LEN] as usize, words[NEXT_BLOCK] as usize, bodies);
-    place.zeros + bodies <= words[WRITTEN] as usize + 1
+    in_place::is_sync_due(
+        words[WRITTEN] as usize,
+        words[CURSOR_LEN] as usize,
+        words[ATTEMPT_LEN] as usize,
+        words[AREA_LEN] as usize,
+        words[NEXT_BLOCK] as usize,
+    )
 }
 
 // Stores the numbers that steps change.

@@ -2,12 +2,12 @@
 -- SPEC.md, "State".
 use Rattle.std.specs.Prelude.{ℕ, ◌<◌, ◌≡◌, Bool, true, false, Ok, Err, List, [], ◌∷◌, length}
 use Rattle.std.specs.Prelude as std
-use Rattle.std.proofs.Math.Option.{Option, none, some}
+use Rattle.std.proofs.Math.Option.{none}
 use Rattle.types.specs.Limits.{WORKERS}
-use Rattle.types.specs.Refusal.{Refusal, Result, refused, done}
+use Rattle.types.specs.Refusal.{Result, refused, done}
 use Rattle.types.specs.Refused.{refusal_of, result_of}
 use Rattle.types.specs.declared.refusals.Refusal as code_refusal
-use Rattle.types.specs.Table.{Row, first, checked, Answer, answer}
+use Rattle.types.specs.Table.{first, checked, Answer, answer}
 use Rattle.types.specs.Lists.{listed, offsets_in}
 use Rattle.types.specs.declared.lent.OffsetList.{OffsetList}
 use Rattle.cursor.specs.View.{ack_cursor}

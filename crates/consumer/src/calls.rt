@@ -12,7 +12,7 @@ use types::refusals::Refusal;
 
 // What a claim hands out: its token, the number of hand-outs so far, this one counted, and whether it is for delivery or for the dead
 // letters.
-#[derive(Clone, Copy)]
+#[derive(Clone, Copy, Debug, PartialEq, Eq)]
 pub struct HandOut {
     pub token: LeaseToken,
     pub deliveries: u32,

@@ -14,7 +14,7 @@ use types::{Offset, lent};
 
 // Whether a checkpoint is due, and why: no generation is left below the ceiling, or redeliveries since the last checkpoint have
 // reached the threshold.
-#[derive(Clone, Copy)]
+#[derive(Clone, Copy, Debug, PartialEq, Eq)]
 pub struct Due {
     pub ceiling: bool,
     pub threshold: bool,

@@ -22,7 +22,7 @@ use types::limits::{CARRIED, LEASES, RANGES, WORKERS};
 use types::refusals::Refusal;
 
 // How many bytes each snapshot of an export has.
-#[derive(Clone, Copy)]
+#[derive(Clone, Copy, Debug, PartialEq, Eq)]
 pub struct Lengths {
     pub cursor_len: u16,
     pub attempt_len: u16,

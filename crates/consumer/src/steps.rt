@@ -168,18 +168,16 @@ pub fn handed_out(max_deliver: u32, outcome: Result<Grant, Refusal>) -> Result<H
     ensures { claim_of result ≡ handed_out max_deliver (answers.claim_of outcome) }
 {
     let grant = outcome?;
-    let token = grant.token;
-    let deliveries = grant.deliveries;
-    let disposition = delivery::disposition_of(max_deliver, deliveries);
+    let disposition = delivery::disposition_of(max_deliver, grant.deliveries);
     Ok(HandOut {
-        token,
-        deliveries,
+        token: grant.token,
+        deliveries: grant.deliveries,
         disposition,
     })
 }
 
 // The lease that a token owns: how often it was handed out, and its place.
-#[derive(Clone, Copy)]
+#[derive(Clone, Copy, Debug, PartialEq, Eq)]
 pub struct HeldAt {
     pub deliveries: u32,
     pub at: usize,

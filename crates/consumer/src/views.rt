@@ -16,7 +16,7 @@ use types::Generation;
 use types::limits::{CARRIED, LEASES, RANGES, WORKERS};
 
 // How an offset stands at a clock: settled, held by a lease whose deadline hasn't come, or all else.
-#[derive(Clone, Copy)]
+#[derive(Clone, Copy, Debug, PartialEq, Eq)]
 pub enum Standing {
     Settled,
     Held,
@@ -24,7 +24,7 @@ pub enum Standing {
 }
 
 // What a supervisor sees of a lease: how often its offset was handed out, and who claimed it under which generation until when.
-#[derive(Clone, Copy)]
+#[derive(Clone, Copy, Debug, PartialEq, Eq)]
 pub struct Holding {
     pub attempts: u32,
     pub generation: Generation,
@@ -33,7 +33,7 @@ pub struct Holding {
 }
 
 // What is shown of an offset; what a reader isn't shown, or what isn't there, is absent.
-#[derive(Clone, Copy)]
+#[derive(Clone, Copy, Debug, PartialEq, Eq)]
 pub enum View {
     // To a worker, and to a supervisor where the offset is settled.
     Plain(Standing),

@@ -81,7 +81,10 @@ fn offset_test(words: &[u64], offset: Offset, now: u64) -> Result<Place, Refusal
     if lease::reads::is_exhausted(table) {
         return Err(Refusal::Exhausted);
     }
-    if reads::is_at_ceiling(words) || reads::is_at_threshold(words) {
+    if reads::is_at_ceiling(words) {
+        return Err(Refusal::CheckpointDue);
+    }
+    if reads::is_at_threshold(words) {
         return Err(Refusal::CheckpointDue);
     }
     if is_full(table, place, offset) {

@@ -12,7 +12,7 @@ ghost use Rattle.cursor.specs.Answers.{decode_fault, DecodedIs};
 use crate::columns::{check_snapshot, read_column};
 use crate::in_place::encode_in_place;
 use crate::{AckCursor, SnapshotError};
-use types::limits::RANGES;
+use types::Offset;
 use types::refusals::Refusal;
 
 const SNAPSHOT_VERSION: u8 = 1;
@@ -48,16 +48,11 @@ impl AckCursor {
     {
         let figures = check_snapshot(input)?;
         let runs = figures.runs;
-        let mut starts = [0; RANGES];
-        let mut ends = [0; RANGES];
-        read_column(input, 9, runs, &mut starts);
-        read_column(input, 17, runs, &mut ends);
-        Ok(AckCursor {
-            committed: figures.committed,
-            starts,
-            ends,
-            runs,
-        })
+        let mut cursor = AckCursor::resume(Offset(figures.committed));
+        read_column(input, 9, runs, &mut cursor.starts);
+        read_column(input, 17, runs, &mut cursor.ends);
+        cursor.runs = runs;
+        Ok(cursor)
     }
 }
 

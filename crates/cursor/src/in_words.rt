@@ -72,11 +72,8 @@ pub fn is_acked(cursor: &[u64], offset: Offset) -> bool
     requires { Sound cursor.now }
     ensures { result ≡ settled (view cursor.now) offset.0 }
 {
-    is_acked_in_place(
-        cursor[COMMITTED],
-        &cursor[STARTS..ENDS],
-        &cursor[ENDS..WORDS],
-        cursor[RUNS] as usize,
-        offset.0,
-    )
+    let starts = &cursor[STARTS..ENDS];
+    let ends = &cursor[ENDS..WORDS];
+    let runs = cursor[RUNS] as usize;
+    is_acked_in_place(cursor[COMMITTED], starts, ends, runs, offset.0)
 }

@@ -181,18 +181,13 @@ impl AckCursor {
         ensures { ResumedIs committed.0 ahead.now result }
     {
         check_ahead(committed.0, ahead)?;
-        let mut starts = [0; RANGES];
-        let mut ends = [0; RANGES];
+        let mut cursor = AckCursor::resume(committed);
         for (i, range) in ahead.iter().enumerate() {
-            starts[i] = range.start;
-            ends[i] = range.end;
+            cursor.starts[i] = range.start;
+            cursor.ends[i] = range.end;
         }
-        Ok(AckCursor {
-            committed: committed.0,
-            starts,
-            ends,
-            runs: ahead.len(),
-        })
+        cursor.runs = ahead.len();
+        Ok(cursor)
     }
 
     // The same with the starts and the ends in columns of their own, a range for each place that both have.
@@ -205,16 +200,11 @@ impl AckCursor {
     {
         check_columns(committed.0, starts, ends)?;
         let runs = starts.len().min(ends.len());
-        let mut own_starts = [0; RANGES];
-        let mut own_ends = [0; RANGES];
-        tables::copy(&mut own_starts, 0, starts, runs);
-        tables::copy(&mut own_ends, 0, ends, runs);
-        Ok(AckCursor {
-            committed: committed.0,
-            starts: own_starts,
-            ends: own_ends,
-            runs,
-        })
+        let mut cursor = AckCursor::resume(committed);
+        tables::copy(&mut cursor.starts, 0, starts, runs);
+        tables::copy(&mut cursor.ends, 0, ends, runs);
+        cursor.runs = runs;
+        Ok(cursor)
     }
 
     // Lists the ranges ahead from the first place on and answers their number; later places stay. Refused, with the list

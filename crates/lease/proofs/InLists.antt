@@ -3,7 +3,7 @@
 use Prim.Native.Nat.{ℕ, ◌≤◌, ◌<◌, min}
 use native.Mathlib.Omega.{arith}
 use mathlib.Core.Path.{◌≡◌, refl, sym, ap, subst, ◌∙◌}
-use mathlib.Core.Bool.{true, false}
+use mathlib.Core.Bool.{false}
 use mathlib.Core.List.{List, [], ◌∷◌, ◌++◌, map}
 use mathlib.Core.Option.{some, none-ne-some, some-injective}
 use lib.ListN.{length, take, drop}
@@ -11,7 +11,7 @@ use lib.Seq.{length-take-le}
 use borrow.Author.Tests.{lt-ltb, le-ltb}
 use Rattle.types.specs.Limits.{CARRIED}
 use Rattle.types.specs.Keyed.{Entry, entries}
-use Rattle.types.specs.Refusal.{refused, done, TooManyPairs, OutTooShort}
+use Rattle.types.specs.Refusal.{refused, done, OutTooShort}
 use Rattle.types.specs.Table.{answer}
 use Rattle.types.specs.Lists.{counts_in}
 use Rattle.types.specs.declared.lent.AttemptCounts.{AttemptCounts}
@@ -64,9 +64,6 @@ module _ (c : AttemptCounts) (l : List (Entry ℕ)) (e : counts_in c ≡ l) (a :
 
 -- ## stored, or refused
 module _ {w : List ℕ} (ok : Sound w) (c : Carried) (tidy : Tidy c) where
-  pub resume-refused : c.full ≡ true → Answers (refused TooManyPairs) w w (resumed_with (view w) (carried_in c))
-  resume-refused e = record { is = rw e; sound = ok; kept = refl }
-
   pub resume-answers : c.full ≡ false → length c.offsets ≡ CARRIED → length c.counts ≡ CARRIED → (ks vs : List ℕ)
       → take c.len ks ≡ take c.len c.offsets → take c.len vs ≡ take c.len c.counts → (w' : List ℕ) → length w' ≡ WORDS
       → table_in w' ≡ carrying c.len ks vs (table_in w) → Answers (done tt) w w' (resumed_with (view w) (carried_in c))

@@ -244,13 +244,13 @@ fn granted(
 }
 
 // Where the lease stands that a token owns: the test that every call with a token begins with.
-pub(crate) fn owned<'a>(
+pub(crate) fn owned(
     len: usize,
     offset: u64,
     generation: u64,
-    offsets: &'a [u64; LEASES],
-    slots: &'a [u32; LEASES],
-    generations: &'a [u64; LEASES],
+    offsets: &[u64; LEASES],
+    slots: &[u32; LEASES],
+    generations: &[u64; LEASES],
 ) -> Option<usize>
     requires { len ≤ LEASES }
     ensures { Owned offset generation (take len offsets.now) slots.now generations.now result }
@@ -287,12 +287,12 @@ pub fn ack_at(
 }
 
 // What `LeaseTable::extend` does where the token owns the lease at a place.
-pub fn extend_at<'a>(
+pub fn extend_at(
     config: LeaseConfig,
     at: usize,
     now: u64,
-    slots: &'a [u32; LEASES],
-    attempt_starts: &'a [u64; LEASES],
+    slots: &[u32; LEASES],
+    attempt_starts: &[u64; LEASES],
     deadlines: &mut [u64; LEASES],
 ) -> Result<u64, Refusal>
     requires { at < LEASES }
@@ -388,14 +388,14 @@ pub fn slot_at(slots: &[u32; LEASES], at: usize) -> usize
 }
 
 // The lease at a place of the table.
-pub fn lease_at<'a>(
+pub fn lease_at(
     at: usize,
-    slots: &'a [u32; LEASES],
-    generations: &'a [u64; LEASES],
-    attempt_starts: &'a [u64; LEASES],
-    deadlines: &'a [u64; LEASES],
-    deliveries: &'a [u32; LEASES],
-    workers: &'a [u32; LEASES],
+    slots: &[u32; LEASES],
+    generations: &[u64; LEASES],
+    attempt_starts: &[u64; LEASES],
+    deadlines: &[u64; LEASES],
+    deliveries: &[u32; LEASES],
+    workers: &[u32; LEASES],
 ) -> Lease
     requires { at < LEASES }
     ensures { result ≡ lease (get_or generations.now (slot_in slots.now at) 0) (get_or attempt_starts.now (slot_in slots.now at) 0) (get_or deadlines.now (slot_in slots.now at) 0) (get_or deliveries.now (slot_in slots.now at) 0) (get_or workers.now (slot_in slots.now at) 0) }
@@ -412,16 +412,16 @@ pub fn lease_at<'a>(
 }
 
 // What `LeaseTable::lease_of` answers.
-pub fn lease_in_place<'a>(
+pub fn lease_in_place(
     len: usize,
     offset: u64,
-    offsets: &'a [u64; LEASES],
-    slots: &'a [u32; LEASES],
-    generations: &'a [u64; LEASES],
-    attempt_starts: &'a [u64; LEASES],
-    deadlines: &'a [u64; LEASES],
-    deliveries: &'a [u32; LEASES],
-    workers: &'a [u32; LEASES],
+    offsets: &[u64; LEASES],
+    slots: &[u32; LEASES],
+    generations: &[u64; LEASES],
+    attempt_starts: &[u64; LEASES],
+    deadlines: &[u64; LEASES],
+    deliveries: &[u32; LEASES],
+    workers: &[u32; LEASES],
 ) -> Option<Lease>
     requires { len ≤ LEASES }
     ensures { HoldsIn (leasing len offsets.now slots.now generations.now attempt_starts.now deadlines.now deliveries.now workers.now) (λ s. lease_in result ≡ lease_of s offset) }
@@ -451,35 +451,36 @@ pub struct Held {
 }
 
 // What a call with a token asks of its lease.
-pub fn hold_in_place<'a>(
+pub fn hold_in_place(
     len: usize,
     offset: u64,
     generation: u64,
-    offsets: &'a [u64; LEASES],
-    slots: &'a [u32; LEASES],
-    generations: &'a [u64; LEASES],
-    deliveries: &'a [u32; LEASES],
-    workers: &'a [u32; LEASES],
+    offsets: &[u64; LEASES],
+    slots: &[u32; LEASES],
+    generations: &[u64; LEASES],
+    deliveries: &[u32; LEASES],
+    workers: &[u32; LEASES],
 ) -> Option<Held>
     requires { len ≤ LEASES }
     ensures { HoldsIn (counting len offsets.now slots.now generations.now deliveries.now workers.now) (λ s. hold_in result ≡ hold s offset generation) × HeldAt offset generation (take len offsets.now) slots.now generations.now result }
 {
     let at = owned(len, offset, generation, offsets, slots, generations)?;
     let slot = slot_at(slots, at);
+    let worker = workers[slot];
     Some(Held {
         deliveries: deliveries[slot],
-        worker: workers[slot],
+        worker,
         at,
     })
 }
 
 // How often an offset that is in flight was handed out.
-pub fn count_in_place<'a>(
+pub fn count_in_place(
     len: usize,
     offset: u64,
-    offsets: &'a [u64; LEASES],
-    slots: &'a [u32; LEASES],
-    deliveries: &'a [u32; LEASES],
+    offsets: &[u64; LEASES],
+    slots: &[u32; LEASES],
+    deliveries: &[u32; LEASES],
 ) -> Option<u32>
     requires { len ≤ LEASES }
     ensures { HoldsIn (listing len offsets.now slots.now deliveries.now) (λ s. attempts_of result ≡ deliveries_of (lease_of s offset)) }
@@ -493,11 +494,11 @@ pub fn count_in_place<'a>(
 }
 
 // What `LeaseTable::is_claimable` answers, where the offset stands at a place or belongs there.
-pub fn is_claimable_at<'a>(
+pub fn is_claimable_at(
     place: Place,
     now: u64,
-    slots: &'a [u32; LEASES],
-    deadlines: &'a [u64; LEASES],
+    slots: &[u32; LEASES],
+    deadlines: &[u64; LEASES],
 ) -> bool
     requires { PlaceWithin LEASES place }
     ensures { (o : ℕ) → HoldsAt o place (due slots.now deadlines.now) (λ s. result ≡ is_claimable s o now) }
@@ -510,11 +511,11 @@ pub fn is_claimable_at<'a>(
 }
 
 // What `LeaseTable::carried_count` answers.
-pub fn carried_in_place<'a>(
+pub fn carried_in_place(
     carried_len: usize,
     offset: u64,
-    carried_offsets: &'a [u64; CARRIED],
-    carried_counts: &'a [u32; CARRIED],
+    carried_offsets: &[u64; CARRIED],
+    carried_counts: &[u32; CARRIED],
 ) -> Option<u32>
     requires { carried_len ≤ CARRIED }
     ensures { HoldsIn (carrying carried_len carried_offsets.now carried_counts.now) (λ s. attempts_of result ≡ lookup offset s.carried) }
@@ -527,11 +528,11 @@ pub fn carried_in_place<'a>(
 }
 
 // What `LeaseTable::lease_counts` answers.
-pub fn lease_counts_in_place<'a>(
+pub fn lease_counts_in_place(
     len: usize,
-    offsets: &'a [u64; LEASES],
-    slots: &'a [u32; LEASES],
-    deliveries: &'a [u32; LEASES],
+    offsets: &[u64; LEASES],
+    slots: &[u32; LEASES],
+    deliveries: &[u32; LEASES],
 ) -> AttemptCounts
     requires { len ≤ LEASES }
     ensures { HoldsIn (listing len offsets.now slots.now deliveries.now) (λ s. ListsCounts result (attempt_counts s)) }
@@ -551,14 +552,14 @@ pub fn lease_counts_in_place<'a>(
 }
 
 // What `LeaseTable::all_counts` answers.
-pub fn all_counts_in_place<'a>(
+pub fn all_counts_in_place(
     len: usize,
     carried_len: usize,
-    offsets: &'a [u64; LEASES],
-    slots: &'a [u32; LEASES],
-    deliveries: &'a [u32; LEASES],
-    carried_offsets: &'a [u64; CARRIED],
-    carried_counts: &'a [u32; CARRIED],
+    offsets: &[u64; LEASES],
+    slots: &[u32; LEASES],
+    deliveries: &[u32; LEASES],
+    carried_offsets: &[u64; CARRIED],
+    carried_counts: &[u32; CARRIED],
 ) -> AttemptCounts
     requires { len ≤ LEASES }
     ensures { HoldsIn (listing_all len carried_len offsets.now slots.now deliveries.now carried_offsets.now carried_counts.now) (λ s. ListsCounts result (all_attempt_counts s)) }
@@ -568,12 +569,12 @@ pub fn all_counts_in_place<'a>(
 }
 
 // What `LeaseTable::expired_list` answers.
-pub fn expired_in_place<'a>(
+pub fn expired_in_place(
     len: usize,
     now: u64,
-    offsets: &'a [u64; LEASES],
-    slots: &'a [u32; LEASES],
-    deadlines: &'a [u64; LEASES],
+    offsets: &[u64; LEASES],
+    slots: &[u32; LEASES],
+    deadlines: &[u64; LEASES],
 ) -> OffsetList
     requires { len ≤ LEASES }
     ensures { HoldsIn (timing len offsets.now slots.now deadlines.now) (λ s. ListsOffsets result (expired s now)) }

@@ -89,9 +89,7 @@ pub fn ack(table: &mut [u64], token: LeaseToken) -> Result<(), Refusal>
     requires { Sound table.old }
     ensures { Answers (ack_of result) table.old table.new (ack (view table.old) token.offset.0 token.generation.0) }
 {
-    let Some(at) = reads::owned(table, token) else {
-        return Err(Refusal::Fenced);
-    };
+    let at = reads::owned(table, token).ok_or(Refusal::Fenced)?;
     ack_at(table, at);
     Ok(())
 }
@@ -109,9 +107,7 @@ pub fn extend(table: &mut [u64], token: LeaseToken, now: u64) -> Result<u64, Ref
     requires { Sound table.old }
     ensures { Answers (extend_of result) table.old table.new (extend (view table.old) token.offset.0 token.generation.0 now) }
 {
-    let Some(at) = reads::owned(table, token) else {
-        return Err(Refusal::Fenced);
-    };
+    let at = reads::owned(table, token).ok_or(Refusal::Fenced)?;
     extend_at(table, at, now)
 }
 
@@ -142,9 +138,7 @@ pub fn nack(
     requires { Sound table.old }
     ensures { Answers (nack_of result) table.old table.new (nack (view table.old) token.offset.0 token.generation.0 now delay_nanos) }
 {
-    let Some(at) = reads::owned(table, token) else {
-        return Err(Refusal::Fenced);
-    };
+    let at = reads::owned(table, token).ok_or(Refusal::Fenced)?;
     if reads::is_exhausted(table) {
         return Err(Refusal::Exhausted);
     }

@@ -80,7 +80,7 @@ impl LeaseTable {
     }
 
     // The table with other carried counts, or refusal 19.
-    fn resumed(self, carried: Carried) -> Answered<Result<(), Refusal>>
+    fn resumed(mut self, carried: Carried) -> Answered<Result<(), Refusal>>
         requires { Sound self × Tidy carried }
         ensures { Answers (resume_of result.outcome) self result.table (resumed_with (view self) (carried_in carried)) }
     {
@@ -92,12 +92,11 @@ impl LeaseTable {
         }
         let offsets = carried.offsets;
         let counts = carried.counts;
-        let mut table = self;
-        table.carried_offsets = offsets;
-        table.carried_counts = counts;
-        table.carried_len = carried.len;
+        self.carried_offsets = offsets;
+        self.carried_counts = counts;
+        self.carried_len = carried.len;
         Answered {
-            table,
+            table: self,
             outcome: Ok(()),
         }
     }

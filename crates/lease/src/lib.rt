@@ -28,7 +28,7 @@ mod stored;
 // How long a hand-out lasts, in nanoseconds. A hard cap below the visibility shortens every lease to the cap; where one
 // of the two is 0, a lease runs out the moment it is granted.
 #[repr(C)]
-#[derive(Clone, Copy)]
+#[derive(Clone, Copy, Debug, PartialEq, Eq)]
 pub struct LeaseConfig {
     // How long a message that was handed out stays in flight.
     pub visibility_nanos: u64,
@@ -81,14 +81,14 @@ impl LeaseConfig {
 // Names one hand-out of a message: an ack, an extension or a nack carries it, and works only while the lease of the
 // offset has this generation.
 #[repr(C)]
-#[derive(Clone, Copy)]
+#[derive(Clone, Copy, Debug, PartialEq, Eq)]
 pub struct LeaseToken {
     pub offset: Offset,
     pub generation: Generation,
 }
 
 #[repr(C)]
-#[derive(Clone, Copy)]
+#[derive(Clone, Copy, Debug, PartialEq, Eq)]
 pub struct Lease {
     pub generation: Generation,
     // When the current attempt began: the hard cap runs from here, anew with each attempt.
@@ -100,7 +100,7 @@ pub struct Lease {
 }
 
 // What a claim hands out: the token, and how often its message was handed out so far, this time counted.
-#[derive(Clone, Copy)]
+#[derive(Clone, Copy, Debug, PartialEq, Eq)]
 pub struct Grant {
     pub token: LeaseToken,
     pub deliveries: u32,

@@ -64,12 +64,12 @@ pub fn owned(table: &[u64], token: LeaseToken) -> Option<usize>
     requires { Sound table.now }
     ensures { OwnedIn token.offset.0 token.generation.0 table.now result }
 {
-    let place = find(table, Offset(token.offset.0));
+    let place = find(table, token.offset);
     let Place::Found(at) = place else {
         return None;
     };
     let lease = stored::lease_at(table, at);
-    if lease.generation.0 == token.generation.0 {
+    if lease.generation == token.generation {
         return Some(at);
     }
     None

@@ -193,22 +193,29 @@ pub rests-stands : {s : Configuration} {n : ℕ} {c : Consumer} {m : Machine} �
 rests-stands i = record { configuration = i.configuration; phase = i.phase; consumer = ap (λ (w : Writing). w.consumer) i.writing }
 
 -- ## restart
+module _ (m : Machine) (a out : List ℕ) where
+  pub restart-kept : Sound m → (f : code_refusal.Refusal) → refused (refusal_of f) ≡ restarts.restart (configuration_of m.configuration) a
+      → CalledIs m restart a out (record { answer = calls.Restarted (Err f); machine = m }) a out
+  unfolding transition
+  restart-kept ok f w = record { is = rw (← w); sound = ok; configuration = refl; kept = refl; lists = rw (← w) }
+
+  pub restart-made : (u : Unit {0}) (c : Consumer) → done (view c) ≡ restarts.restart (configuration_of m.configuration) a → consumer.Sound c
+      → (m' : Machine) → Stands m.configuration 0 c m' → CalledIs m restart a out (record { answer = calls.Restarted (Ok u); machine = m' }) a out
+  unfolding transition
+  restart-made u c w s m' i =
+      record { is = rw (← w, i.phase, i.consumer); sound = rw (i.phase, i.consumer) s; configuration = i.configuration; kept = tt; lists = rw (← w) }
+
 module _ (m : Machine) (ok : Sound m) (a out : List ℕ) (size : ℕ) (r : Started)
     (h : StartedIs m.configuration size (restarts.restart (configuration_of m.configuration) a) r) where
   pub restart-refused : (f : code_refusal.Refusal) → r.answer ≡ Err f → CalledIs m restart a out (record { answer = calls.Restarted r.answer; machine = m }) a out
-  unfolding transition
-  restart-refused f p =
-      let w : refused (refusal_of f) ≡ restarts.restart (configuration_of m.configuration) a = rw p at h.is in
-      rw p (record { is = rw (← w); sound = ok; configuration = refl; kept = refl; lists = rw (← w) })
+  restart-refused f p = rw p (restart-kept m a out ok f (rw p at h.is))
 
   pub restart-done : (u : Unit {0}) → r.answer ≡ Ok u → (m' : Machine) → Stands m.configuration 0 r.consumer m'
       → CalledIs m restart a out (record { answer = calls.Restarted r.answer; machine = m' }) a out
-  unfolding transition
   restart-done u p m' i =
       let w : done (view r.consumer) ≡ restarts.restart (configuration_of m.configuration) a = rw p at h.is in
       let s : consumer.Sound r.consumer = rw (← w) at h.beside in
-      rw p
-      (record { is = rw (← w, i.phase, i.consumer); sound = rw (i.phase, i.consumer) s; configuration = i.configuration; kept = tt; lists = rw (← w) })
+      rw p (restart-made m a out u r.consumer w s m' i)
 
 -- ## start and import
 module _ (right : Result State) (s : Configuration) (size : ℕ) (r : Started) (h : StartedIs s size right r) (m : Machine) where

@@ -15,7 +15,7 @@ use Rattle.types.specs.Refused.{refusal_of, result_of, option_of}
 use Rattle.types.specs.declared.refusals.Refusal as code
 use Rattle.types.specs.declared.refusals.Refusal.TheVariants.{Damaged}
 use Rattle.types.specs.Table.{first, Passed, checked}
-use Rattle.types.proofs.Table.{first_none}
+use Rattle.types.proofs.Table.{first_none, checked-passed, checked-done, checked_refused}
 use Rattle.tables.specs.Slots.{Permutes}
 use Rattle.raw.specs.Bytes.{IsBytes}
 use Rattle.cursor.specs.Snapshot.{decode_cursor}
@@ -37,9 +37,9 @@ use Rattle.consumer.specs.declared.Configuration.{Configuration}
 use Rattle.consumer.specs.declared.NextGroup.{NextGroup}
 use Rattle.consumer.specs.declared.Consumer.{Consumer}
 use Rattle.consumer.proofs.Area.{area-taken}
-use Rattle.starts.specs.Restart.{start_table, fresh, from_snapshots, read_group, origin, limit, walk_of, unfit_at, last_group, from_walk, restart}
+use Rattle.starts.specs.Restart.{start_table, fresh, from_snapshots, read_group, origin, limit, walk_of, end_table, last_group, from_walk, restart}
 use Rattle.starts.specs.Import.{import}
-use Rattle.starts.specs.Starting.{configuration_of, kept_of, next_group_of, FreshIs, StartedIs, Lies, LastLies, StopIs}
+use Rattle.starts.specs.Starting.{configuration_of, kept_of, next_group_of, FreshIs, StartedIs, Lies, StopIs}
 use Rattle.starts.specs.Parts.{fresh_numbers, Columns, state_by, OnNumbers, Measured, ReadIs, going_on, ResumedIn, RestartedIn, ImportedIn}
 use Rattle.starts.specs.declared.in_place.RestartedAt.{RestartedAt}
 use Rattle.starts.proofs.Halves.{limit-within}
@@ -67,49 +67,32 @@ module _ (a : List ℕ) where
       go (at_once p q r) = absurd (none-ne-some i (sym p))
       go (behind h m p q r s g) = let same : h ≡ i = cc in lies m (rw same at g.header)
 
-  pub stopped-lies : (s : Stop) → StopIs a s → LastLies a s.last
-  stopped-lies s h = go s.last refl
-    where
-      go : (l : std.Option ℕ) → s.last ≡ l → LastLies a l
-      go (Some i) p = last-lies i s.number s.block h.area (sym h.is ∙ rw p)
-      go None p = tt
+  pub stopped-lies : (s : Stop) (i : ℕ) → StopIs a s → s.last ≡ Some i → Lies a i
+  stopped-lies s i h p = last-lies i s.number s.block h.area (sym h.is ∙ rw p)
 
-  pub last-there : (l : std.Option ℕ) (i : ℕ) → LastLies a l → l ≡ Some i → Lies a i
-  last-there l i h q = rw q at h
+-- ## What each end of the walk is answered with
+module _ (a : List ℕ) (s : Stop) where
+  abbrev right : state.Configuration → Result State
+  right k = from_walk k a (done (stop_of s))
 
-  -- ## What each end of the walk is answered with
-  pub last-read : (l : std.Option ℕ) (i : ℕ) (next : NextGroup) → l ≡ Some i → (r : std.Result RestartedAt code.Refusal) (p p' : Columns)
-      → ReadIs (λ k. read_group k a i (next_group_of next)) (length a) r p p'
-      → ReadIs (λ k. last_group k a (option_of (λ n. n) l) (next_group_of next)) (length a) r p p'
-  last-read l i next q r p p' h = rw q h
+  pub end-refused : (r : code.Refusal) → refused (refusal_of r) ≡ checked (end_table a (stop_of s)) (done (tt {0})) → (p : Columns) → ReadIs right (length a) (Err r) p p
+  unfolding from_walk
+  end-refused r e p = refused-read right (length a) r p (λ k. sym (checked_refused (end_table a (stop_of s)) tt _ (refusal_of r) (sym e)))
 
-  pub none_read : (l : std.Option ℕ) (next : NextGroup) (p : Columns) → l ≡ None
-      → ReadIs (λ k. last_group k a (option_of (λ n. n) l) (next_group_of next)) (length a) (Ok fresh_numbers) p p
-  none_read l next p q = rw q (fresh-read (λ k. done (fresh k (length a))) (length a) p (λ k. refl))
+  module _ (e : done (tt {0}) ≡ checked (end_table a (stop_of s)) (done (tt {0}))) where
+    abbrev last_from : state.Configuration → std.Option ℕ → Result State
+    last_from k l = last_group k a (option_of (λ n. n) l) (next_group_at s.number s.block)
 
-  -- where the walk ended, what stands there, and what was found behind that place
-  module _ (s : Stop) (unfit : Bool) (there : unfit ≡ unfit_at a s.number s.block) where
-    abbrev right : state.Configuration → Result State
-    right k = from_walk k a (done (stop_of s))
-
-    pub unfit-resumed : unfit ≡ true → (p : Columns) → ReadIs right (length a) (Err (Damaged s.block)) p p
+    whole : (k : state.Configuration) → last_from k s.last ≡ right k
     unfolding from_walk
-    unfit-resumed t p = refused-read right (length a) (Damaged s.block) p (λ c. rw (sym there ∙ t))
+    whole k = sym (checked-passed (end_table a (stop_of s)) _ (checked-done (end_table a (stop_of s)) tt tt (sym e)).0)
 
-    module _ (fits : unfit ≡ false) (hi : ℕ) (whole : hi ≡ limit a) (found : Bool) (is : found ≡ header_behind a hi s.block) where
-      behind-is : header_behind a (limit a) s.block ≡ found
-      behind-is = rw (← whole) (sym is)
+    pub none-read : s.last ≡ None → (p : Columns) → ReadIs right (length a) (Ok fresh_numbers) p p
+    none-read q p = fresh-read right (length a) p (λ k. ap (last_from k) (sym q) ∙ whole k)
 
-      pub worn-resumed : found ≡ true → (p : Columns) → ReadIs right (length a) (Err (Damaged s.block)) p p
-      unfolding from_walk
-      worn-resumed t p = refused-read right (length a) (Damaged s.block) p (λ c. rw (sym there ∙ fits, behind-is, t))
-
-      pub last-resumed : found ≡ false → (r : std.Result RestartedAt code.Refusal) (b b' : Columns)
-          → ReadIs (λ c. last_group c a (option_of (λ n. n) s.last) (next_group_at s.number s.block)) (length a) r b b' → ReadIs right (length a) r b b'
-      unfolding from_walk
-      last-resumed t =
-          read_as (λ c. last_group c a (option_of (λ n. n) s.last) (next_group_at s.number s.block)) (length a) right
-          (λ c. rw (sym there ∙ fits, behind-is, t))
+    pub last-read : (i : ℕ) → s.last ≡ Some i → (r : std.Result RestartedAt code.Refusal) (p p' : Columns)
+        → ReadIs (λ k. read_group k a i (next_group_at s.number s.block)) (length a) r p p' → ReadIs right (length a) r p p'
+    last-read i q = read_as (λ k. read_group k a i (next_group_at s.number s.block)) (length a) right (λ k. ap (last_from k) (sym q) ∙ whole k)
 
 -- ## The tests, and whatever goes on behind them
 module _ (s : Configuration) (size : ℕ) where

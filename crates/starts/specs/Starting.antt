@@ -92,8 +92,3 @@ pub record Lies (a : List ℕ) (i : ℕ) : Type 0 where
 pub record StopIs (a : List ℕ) (s : Stop) : Type 0 where
   pub area : bad_length (length a) ≡ false
   pub is : done (stop_of s) ≡ walk_of a
-
--- the last group of a walk, if there was one, lies in the area
-abbrev pub LastLies : List ℕ → std.Option ℕ → Type 0
-LastLies a (Some i) = Lies a i
-LastLies a None = Unit {0}

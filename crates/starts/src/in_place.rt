@@ -1,6 +1,6 @@
 // A restart and an import on the parts of a consumer: its columns are lent, and filled only where nothing is refused; its numbers are
 // answered. So a consumer by value and one that lies in another's memory are served by the same function.
-ghost use Rattle.std.specs.Prelude.{◌≡◌, not, ℕ, ◌-◌, ◌≤◌, length, take, drop};
+ghost use Rattle.std.specs.Prelude.{◌≡◌, not, ℕ, ◌≤◌, length, take};
 ghost use Rattle.types.specs.Limits.{LEASES};
 ghost use Rattle.types.specs.Keyed.{entries};
 ghost use Rattle.types.specs.Lists.{entry_of, entries_of};
@@ -10,11 +10,12 @@ ghost use Rattle.cursor.specs.View.{ack_cursor};
 ghost use Rattle.cursor.specs.Snapshot.{decode_cursor};
 ghost use Rattle.attempt.specs.Snapshot.{decode_attempts};
 ghost use Rattle.types.specs.Refusal.{done};
-ghost use Rattle.types.specs.Refused.{option_of};
+ghost use Rattle.types.specs.Refused.{as_is};
+ghost use Rattle.types.specs.Table.{checked};
 ghost use Rattle.journal.specs.Answers.{stop_of};
 ghost use Rattle.consumer.specs.State as state;
-ghost use Rattle.starts.specs.Restart.{is_dropped, unsettled_counts, from_snapshots, read_group, limit, unfit_at, last_group, from_walk};
-ghost use Rattle.starts.specs.Starting.{next_group_of, Lies, LastLies, StopIs};
+ghost use Rattle.starts.specs.Restart.{is_dropped, unsettled_counts, from_snapshots, read_group, limit, unfit_at, end_table};
+ghost use Rattle.starts.specs.Starting.{next_group_of, Lies};
 ghost use Rattle.starts.specs.Parts.{fresh_numbers, columns, Long, ReadIs, RestartedIn, ImportedIn};
 
 use crate::{FIRST_GROUP, check_start, origin};
@@ -52,10 +53,18 @@ pub fn restart_in_place(
     let from = origin(area);
     let hi = from.block + halves::half_blocks(area.len());
     let stop = journal::walk(area, hi, from.number, from.block)?;
-    resume_from(
+    check_end(area, hi, stop)?;
+    let Some(at) = stop.last else {
+        return Ok(fresh_numbers());
+    };
+    let next = NextGroup {
+        number: stop.number,
+        block: stop.block,
+    };
+    read_group(
         area,
-        hi,
-        stop,
+        at,
+        next,
         starts,
         ends,
         carried_offsets,
@@ -126,69 +135,20 @@ fn unfit_at(area: &[u8], hi: usize, number: u64, block: usize) -> bool
     journal::is_sound_but_fit(&area[from..to], number)
 }
 
-// The last group that a walk over the half in use met, or a fresh consumer where there is none: 5 to 19. A header that doesn't fit
-// there, where the walk ended, is 5, and so is a block of kind 1 with a right check behind that place.
-fn resume_from(
-    area: &[u8],
-    hi: usize,
-    stop: Stop,
-    starts: &mut [u64; RANGES],
-    ends: &mut [u64; RANGES],
-    carried_offsets: &mut [u64; CARRIED],
-    carried_counts: &mut [u32; CARRIED],
-) -> Result<RestartedAt, Refusal>
-    requires { StopIs area.now stop × (hi ≡ limit area.now) × Long (columns starts.old ends.old carried_offsets.old carried_counts.old) }
-    ensures { ReadIs (λ (k : state.Configuration). from_walk k area.now (done (stop_of stop))) (length area.now) result (columns starts.old ends.old carried_offsets.old carried_counts.old) (columns starts.new ends.new carried_offsets.new carried_counts.new) }
+// Refusal 5 of what stands where a walk over the half in use ended: a header that doesn't fit there, or a block of kind 1 with a right
+// check behind that place.
+fn check_end(area: &[u8], hi: usize, stop: Stop) -> Result<(), Refusal>
+    requires { hi ≡ limit area.now }
+    ensures { as_is result ≡ checked (end_table area.now (stop_of stop)) (done (tt {0})) }
 {
-    let number = stop.number;
     let block = stop.block;
-    if unfit_at(area, hi, number, block) {
+    if unfit_at(area, hi, stop.number, block) {
         return Err(Refusal::Damaged { block });
     }
     if journal::header_behind(area, hi, block) {
         return Err(Refusal::Damaged { block });
     }
-    let next = NextGroup { number, block };
-    read_last(
-        area,
-        stop.last,
-        next,
-        starts,
-        ends,
-        carried_offsets,
-        carried_counts,
-    )
-}
-
-// The last group of a walk, or a fresh consumer where there is none: 6 to 19.
-fn read_last(
-    area: &[u8],
-    last: Option<usize>,
-    next: NextGroup,
-    starts: &mut [u64; RANGES],
-    ends: &mut [u64; RANGES],
-    carried_offsets: &mut [u64; CARRIED],
-    carried_counts: &mut [u32; CARRIED],
-) -> Result<RestartedAt, Refusal>
-    requires { LastLies area.now last × Long (columns starts.old ends.old carried_offsets.old carried_counts.old) }
-    ensures { ReadIs (λ (k : state.Configuration). last_group k area.now (option_of (λ n. n) last) (next_group_of next)) (length area.now) result (columns starts.old ends.old carried_offsets.old carried_counts.old) (columns starts.new ends.new carried_offsets.new carried_counts.new) }
-{
-    match last {
-        Some(at) => {
-            return read_group(
-                area,
-                at,
-                next,
-                starts,
-                ends,
-                carried_offsets,
-                carried_counts,
-            );
-        }
-        None => {
-            return Ok(fresh_numbers());
-        }
-    }
+    Ok(())
 }
 
 // The group whose header stands at a block.
@@ -211,39 +171,11 @@ fn read_group(
     let _ = journal::read_payload(area, at, &mut payload);
     let middle = header.cursor_len as usize;
     let end = middle + header.attempt_len as usize;
-    let ceiling = header.ceiling;
-    read_both(
-        &payload,
-        middle,
-        end,
-        ceiling,
-        next,
-        starts,
-        ends,
-        carried_offsets,
-        carried_counts,
-    )
-}
-
-// Two snapshots that stand one behind the other, up to a place each.
-fn read_both(
-    bytes: &[u8],
-    middle: usize,
-    end: usize,
-    ceiling: u64,
-    next: NextGroup,
-    starts: &mut [u64; RANGES],
-    ends: &mut [u64; RANGES],
-    carried_offsets: &mut [u64; CARRIED],
-    carried_counts: &mut [u32; CARRIED],
-) -> Result<RestartedAt, Refusal>
-    requires { (middle ≤ end) × (end ≤ length bytes.now) × Long (columns starts.old ends.old carried_offsets.old carried_counts.old) }
-    ensures { (size : ℕ) → ReadIs (λ (k : state.Configuration). from_snapshots k size (decode_cursor (take middle bytes.now)) (decode_attempts (take (end - middle) (drop middle bytes.now))) ceiling (next_group_of next)) size result (columns starts.old ends.old carried_offsets.old carried_counts.old) (columns starts.new ends.new carried_offsets.new carried_counts.new) }
-{
+    let bytes: &[u8] = &payload;
     read_snapshots(
         &bytes[..middle],
         &bytes[middle..end],
-        ceiling,
+        header.ceiling,
         next,
         starts,
         ends,

@@ -1,10 +1,11 @@
 -- `begin_in_place` meets its contract: the worker's rows, then what a begin does that is permitted. Assumes nothing.
-use mathlib.Core.Path.{sym, ap, ◌∙◌}
+use mathlib.Core.Path.{sym}
+use Rattle.core.proofs.result.Match.{err_is}
 use Rattle.types.proofs.Table.{first_none}
 use Rattle.cursor.specs.View.{ack_cursor}
 use Rattle.consumer.specs.Rights.{checkpointing}
 use Rattle.consumer.specs.Calls.{call_rows}
-use Rattle.consumer.specs.View.{view, permission_of}
+use Rattle.consumer.specs.View.{view}
 use Rattle.consumer.specs.Parts.{permitting}
 use Rattle.checkpoint.specs.Parts.{beginning, counting}
 use Rattle.checkpoint.proofs.Encoding.{begin_unpermitted}
@@ -14,7 +15,9 @@ pub returns-in_err-permission_of : goal.returns-in_err-permission_of
 returns-in_err-permission_of c =
     let a = c.args in
     let p = beginning a.rights.now (ack_cursor a.committed a.starts.now a.ends.now a.runs) (counting (λ column. column) a.counts) a.number a.block a.area_len in
-    λ x l w lc la. let h = c.in_err-permission_of.ensures in let k = c.from_residual.ensures.1 in let m = c.in_err-permission_of.was in ?
+    λ x l w lc la.
+    rw (err_is c.from_residual.result c.in_err-permission_of.field-0.0 c.from_residual.ensures.1)
+    (begin_unpermitted (p x) a.worker w lc la a.payload.now c.in_err-permission_of.field-0.0 c.in_err-permission_of.ensures)
 
 pub returns : goal.returns
 returns c =

@@ -4,7 +4,6 @@
 use Prim.Native.Nat.{◌≤◌}
 use native.Mathlib.Omega.{arith}
 use mathlib.Core.Path.{sym, ◌∙◌}
-use borrow.Author.Rules.{rules}
 use Rattle.types.specs.Limits.{MAX}
 use Rattle.types.specs.Refusal.{done}
 use Rattle.cursor.specs.View.{ack_cursor}

@@ -3,7 +3,6 @@
 use Prim.Native.Nat.{ℕ}
 use mathlib.Core.Path.{◌≡◌, sym, ap, ◌∙◌}
 use mathlib.Core.List.{List, [], ◌∷◌}
-use borrow.Author.Rules.{rules}
 use Rattle.types.specs.Refusal.{Result, done}
 use Rattle.lease.proofs.Found.{found-count, no-count}
 use Rattle.consumer.specs.State.{count_or0}

@@ -3,12 +3,11 @@
 -- a consumer with the parts that the arguments are
 use mathlib.Core.Path.{refl}
 use native.Mathlib.Omega.{arith}
-use borrow.Author.Rules.{rules}
 use Rattle.std.proofs.lemmas.Result.{err_from_is_err_and}
 use Rattle.types.specs.Refused.{refusal_of}
 use Rattle.lease.specs.Answers.{extend_of}
 use Rattle.consumer.specs.Rights as rights
-use Rattle.consumer.specs.Calls.{token_rows, attempt_of, progress}
+use Rattle.consumer.specs.Calls.{token_rows, attempt_of}
 use Rattle.consumer.specs.Parts.{progressing}
 use Rattle.consumer.specs.View.{view}
 use Rattle.consumer.specs.declared.Consumer.{Consumer}

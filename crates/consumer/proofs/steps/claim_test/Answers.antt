@@ -1,7 +1,6 @@
 -- `claim_test` meets its contract: the worker's rows, then the claim's own. Assumes nothing.
-use mathlib.Core.Path.{sym, ap, ◌∙◌}
+use mathlib.Core.Path.{sym, ◌∙◌}
 use mathlib.Core.Option.{none-ne-some}
-use borrow.Author.Rules.{rules}
 use Rattle.std.proofs.lemmas.Result.{err_from_is_err_and}
 use Rattle.types.specs.Refused.{refusal_of}
 use Rattle.cursor.specs.View.{ack_cursor}

@@ -1,6 +1,4 @@
 -- `commit_test` meets its contract: the worker's rows, then Unchanged. Assumes nothing.
-use mathlib.Core.Path.{◌≡◌}
-use borrow.Author.Rules.{rules}
 use Rattle.std.proofs.lemmas.Result.{err_from_is_err_and}
 use Rattle.types.specs.Refused.{refusal_of}
 use Rattle.consumer.specs.Parts.{deciding}

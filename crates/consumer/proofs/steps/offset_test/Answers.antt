@@ -4,7 +4,6 @@ use native.Mathlib.Omega.{arith}
 use mathlib.Core.Path.{◌≡◌, sym, ap, ◌∙◌}
 use mathlib.Core.Bool.{Bool, true, false, not}
 use lib.ListN.{take}
-use borrow.Author.Rules.{rules}
 use Rattle.std.specs.Prelude.{None}
 use Rattle.std.specs.Prelude as std
 use Rattle.tables.specs.Search.{Placed}

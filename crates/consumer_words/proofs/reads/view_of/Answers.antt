@@ -10,7 +10,6 @@ use Rattle.consumer.specs.State.{State}
 use Rattle.consumer.specs.Standing.{bare, unsettled_as, in_full}
 use Rattle.consumer.proofs.Standing.{is-settled, is_plain, is-full}
 use Rattle.consumer_words.specs.Layout.{view}
-use borrow.Author.Rules.{rules}
 use Rattle.consumer_words.proofs.reads.view_of.Goals as goal
 
 pub returns-then-is_settled : goal.returns-then-is_settled

@@ -1,10 +1,11 @@
 -- `AckCursor::resume_with_columns` meets its contract. Assumes nothing.
 use Prim.Native.Nat.{◌≤◌}
 use native.Mathlib.Omega.{arith}
-use mathlib.Core.Path.{sym, ◌∙◌}
+use mathlib.Core.Path.{ap, sym, ◌∙◌}
 use Rattle.core.proofs.result.Match.{err_is}
 use Rattle.types.specs.Zipped.{zipped}
 use Rattle.cursor.specs.Ranges.{range}
+use Rattle.cursor.specs.declared.AckCursor.{AckCursor}
 use Rattle.cursor.proofs.Made.{columns-fit, columns-few, columns-put, resume_refused, resumed}
 use Rattle.cursor.proofs.Walking.{columns-size}
 use Rattle.cursor.proofs.AckCursor.resume_with_columns.Goals as goal
@@ -32,6 +33,8 @@ returns c =
     let ys = a.ends.now in
     let t = c.in_ok-check_columns.ensures in
     let r = c.min-runs in
-    resumed a.committed.0 (zipped range xs ys) _ (omega arith) (columns-fit xs ys (λ i. omega (arith, c.type_inv.ends i))) t
+    let k = ap (λ (g : AckCursor). g.committed) c.resume-cursor.ensures.literal in
+    rw k
+    (resumed a.committed.0 (zipped range xs ys) _ (omega arith) (columns-fit xs ys (λ i. omega (arith, c.type_inv.ends i))) t
     (r.ensures ∙ sym (columns-size xs ys))
-    (columns-put a.committed.0 xs ys t r.result r.ensures _ _ _ _ c.copy.ensures c.copy-2.ensures)
+    (columns-put a.committed.0 xs ys t r.result r.ensures _ _ _ _ c.copy.ensures c.copy-2.ensures))

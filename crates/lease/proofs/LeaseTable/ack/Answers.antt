@@ -1,22 +1,13 @@
 -- `LeaseTable::ack` meets its contract: the token owns no lease, or the parts of the table, lent to `ack_at`, are that table's.
 -- Assumes nothing.
 use Rattle.lease.proofs.Whole.{filled, whole}
-use Rattle.lease.proofs.Tokens.{owned-used, not_owned, ack-fenced}
+use Rattle.lease.proofs.Tokens.{not_owned, ack-fenced}
 use Rattle.lease.proofs.LeaseTable.ack.Goals as goal
-
-pub owned-requires : goal.owned-requires
-owned-requires c = c.requires.len
 
 pub returns-in_default : goal.returns-in_default
 returns-in_default c =
     let full = filled c.well_formed.0 in
     ack-fenced c.args.self full c.requires c.args.token.offset.0 c.args.token.generation.0 (not_owned c.args.self full c.requires c.args.token.offset.0 c.args.token.generation.0 c.in_default.ensures)
-
-pub ack_at-len-requires : goal.ack_at-len-requires
-ack_at-len-requires c =
-    let table = c.args.self in
-    let used = owned-used c.args.token.offset.0 c.args.token.generation.0 table.len table.offsets table.slots table.generations c.in-Some.ensures in
-    (used, c.requires.len)
 
 pub returns : goal.returns
 returns c = c.ack_at-len.ensures c.args.self (whole c.well_formed.0 c.requires) c.args.token.offset.0 c.args.token.generation.0 c.in-Some.ensures

@@ -1,23 +1,13 @@
 -- `LeaseTable::nack` meets its contract: the token owns no lease, or the parts of the table, lent to `nack_at`, are that table's.
 -- Assumes nothing.
 use Rattle.lease.proofs.Whole.{filled, whole}
-use Rattle.lease.proofs.Bounds.{in_use}
-use Rattle.lease.proofs.Tokens.{owned-used, not_owned, nack-fenced}
+use Rattle.lease.proofs.Tokens.{not_owned, nack-fenced}
 use Rattle.lease.proofs.LeaseTable.nack.Goals as goal
-
-pub owned-requires : goal.owned-requires
-owned-requires c = c.requires.len
 
 pub returns-in_default : goal.returns-in_default
 returns-in_default c =
     let full = filled c.well_formed.0 in
     nack-fenced c.args.self full c.requires c.args.token.offset.0 c.args.token.generation.0 (not_owned c.args.self full c.requires c.args.token.offset.0 c.args.token.generation.0 c.in_default.ensures) c.args.now c.args.delay_nanos
-
-pub nack_at-done-requires : goal.nack_at-done-requires
-nack_at-done-requires c =
-    let table = c.args.self in
-    let used = owned-used c.args.token.offset.0 c.args.token.generation.0 table.len table.offsets table.slots table.generations c.in-Some.ensures in
-    in_use used c.requires.len
 
 pub returns : goal.returns
 returns c = c.nack_at-done.ensures c.args.self (whole c.well_formed.0 c.requires) c.args.token.offset.0 c.args.token.generation.0 c.in-Some.ensures

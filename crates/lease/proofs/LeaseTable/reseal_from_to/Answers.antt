@@ -1,23 +1,14 @@
 -- `LeaseTable::reseal_from_to` meets its contract.
 -- Assumes nothing.
 use Rattle.lease.proofs.Whole.{filled}
-use Rattle.lease.proofs.Bounds.{in_use}
-use Rattle.lease.proofs.Tokens.{owned-used, not_owned}
+use Rattle.lease.proofs.Tokens.{not_owned}
 use Rattle.lease.proofs.Questions.{not_resealed, resealed}
 use Rattle.lease.proofs.LeaseTable.reseal_from_to.Goals as goal
-
-pub owned-requires : goal.owned-requires
-owned-requires c = c.requires.len
 
 pub returns-in_default : goal.returns-in_default
 returns-in_default c =
     let full = filled c.well_formed.0 in
     not_resealed c.args.self full c.requires c.args.offset.0 c.args.from.0 c.args.generation.0 (not_owned c.args.self full c.requires c.args.offset.0 c.args.from.0 c.in_default.ensures)
-
-pub slot_at-slot-requires : goal.slot_at-slot-requires
-slot_at-slot-requires c =
-    let table = c.args.self in
-    in_use (owned-used c.args.offset.0 c.args.from.0 table.len table.offsets table.slots table.generations c.in-Some.ensures) c.requires.len
 
 pub returns : goal.returns
 returns c =

@@ -12,23 +12,8 @@ use Rattle.tables.specs.Carried.{carried_in}
 use Rattle.lease.specs.State.{Table, view}
 use Rattle.lease.specs.Answers.{resume_of, Answers}
 use Rattle.lease.specs.Helpers.{resumed_with}
-use Rattle.lease.proofs.Carried.{carry_on_all, pair-more, pair_end, resumed-all}
+use Rattle.lease.proofs.Carried.{carry_on_all, pair_end, resumed-all}
 use Rattle.lease.proofs.LeaseTable.resume_attempts.Goals as goal
-
-pub loop-pair-init : goal.loop-pair-init
-loop-pair-init c =
-    (c.carried_so_far-carried.ensures.tidy, ap (carry_on_all (entries_of c.args.pairs.now)) c.carried_so_far-carried.ensures.is)
-
-pub loop-pair-preserved : goal.loop-pair-preserved
-loop-pair-preserved c =
-    let l = c.loop-pair in
-    (c.carry_pair-carried.ensures.tidy, pair-more c.args.pairs.now l.pair-index l.carried c.carry_pair-carried.result c.loop-pair-test.true c.carry_pair-carried.ensures ∙ l.invariant.1)
-
-pub carry_pair-carried-requires : goal.carry_pair-carried-requires
-carry_pair-carried-requires c = c.loop-pair.invariant.0
-
-pub resumed-requires : goal.resumed-requires
-resumed-requires c = (c.requires, c.loop-pair.invariant.0)
 
 pub returns : goal.returns
 returns c =

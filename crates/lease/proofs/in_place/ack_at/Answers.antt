@@ -8,15 +8,9 @@ use mathlib.Core.List.{List}
 use lib.ListN.{get_or, set}
 use Rattle.tables.proofs.Columns.{taken-out-front}
 use Rattle.lease.specs.Parts.{removing}
-use Rattle.lease.proofs.Bounds.{next_place, some_left, up_one, up_to, within}
+use Rattle.lease.proofs.Bounds.{up_one, up_to, within}
 use Rattle.lease.proofs.Tokens.{acked}
 use Rattle.lease.proofs.in_place.ack_at.Goals as goal
-
-pub overflow_add-next : goal.overflow_add-next
-overflow_add-next c = next_place c.requires.0 c.requires.1
-
-pub overflow_sub-last : goal.overflow_sub-last
-overflow_sub-last c = some_left c.requires.0
 
 pub returns : goal.returns
 returns c t w o g p =

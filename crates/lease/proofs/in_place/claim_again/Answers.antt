@@ -2,7 +2,7 @@
 -- at the place.
 -- Assumes nothing.
 -- a table with the parts that the arguments are
-use Prim.Native.Nat.{ℕ, ◌≤◌, ◌<◌}
+use Prim.Native.Nat.{ℕ, ◌≤◌}
 use native.Mathlib.Omega.{arith}
 use mathlib.Core.Path.{◌≡◌, refl, ap, ◌∙◌}
 use lib.ListN.{get_or, set}
@@ -26,15 +26,6 @@ table s =
 fits : (s : Start) → s.args.offset ≤ MAX
 fits s = omega arith
 
-generation-fits : (s : Start) → s.args.generation ≤ MAX
-generation-fits s = omega arith
-
-left : (s : Start) → (s.args.generation ≡ MAX → ⊥) → s.args.generation < MAX
-left s h = omega (arith, generation-fits s, h)
-
-pub slot_at-slot-requires : goal.slot_at-slot-requires
-slot_at-slot-requires c = c.requires
-
 pub returns-then-now-deadlines : goal.returns-then-now-deadlines
 returns-then-now-deadlines c t w p =
     claim_in_flight (table (goal.at.returns-then-now-deadlines c).Start t) w.sound c.args.worker c.args.offset c.args.now (rw (lease-at (table (goal.at.returns-then-now-deadlines c).Start t) w.full w.sound c.args.offset p refl, ← c.slot_at-slot.ensures.0) (lt-ltb _ _ c.if-now-deadlines.true))
@@ -42,9 +33,6 @@ returns-then-now-deadlines c t w p =
 pub returns-then-generation-eq-MAX : goal.returns-then-generation-eq-MAX
 returns-then-generation-eq-MAX c t w p =
     claim_exhausted (table (goal.at.returns-then-generation-eq-MAX c).Start t) w.sound c.args.worker c.args.offset c.args.now (rw (lease-at (table (goal.at.returns-then-generation-eq-MAX c).Start t) w.full w.sound c.args.offset p refl, ← c.slot_at-slot.ensures.0) (le-ltb _ _ c.if-now-deadlines.false)) c.if-generation-eq-MAX.true
-
-pub granted-requires : goal.granted-requires
-granted-requires c = left (goal.at.granted-requires c).Start c.if-generation-eq-MAX.false
 
 pub returns : goal.returns
 returns c t w p =

@@ -3,7 +3,7 @@
 -- the table that the arguments are
 use Prim.Native.Nat.{ℕ, ◌≤◌, ◌<◌}
 use native.Mathlib.Omega.{arith}
-use mathlib.Core.Path.{◌≡◌, refl, ap, ◌∙◌}
+use mathlib.Core.Path.{refl, ap, ◌∙◌}
 use lib.ListN.{take, set}
 use Rattle.types.specs.Limits.{MAX, LEASES}
 use Rattle.tables.specs.Search.{Spans}
@@ -14,7 +14,7 @@ use Rattle.lease.specs.State.{stored_in}
 use Rattle.lease.specs.Operations.{lease}
 use Rattle.lease.specs.Parts.{gathered}
 use Rattle.lease.specs.declared.LeaseTable.{LeaseTable}
-use Rattle.lease.proofs.Bounds.{one_more, part-within, within}
+use Rattle.lease.proofs.Bounds.{within}
 use Rattle.lease.proofs.Leases.{column-set}
 use Rattle.lease.proofs.Slots.{Free, free, in_flight_lem, carried-span}
 use Rattle.lease.proofs.Claims.{claim_exhausted, claim-full, claimed, room-first, count-first, granted-first}
@@ -33,10 +33,6 @@ fits s = omega arith
 lacked : (s : Start) → Free (table s) s.args.offset s.args.at
 lacked s = free (table s) s.requires.0.full s.requires.0.sound s.requires.1 refl
 
--- there is a generation
-left : (s : Start) → (s.args.next ≡ MAX → ⊥) → s.args.next < MAX
-left s h = omega (arith, s.requires.0.sound.valid.generation-fits, h)
-
 -- the places of its carried count
 prior : (s : Start) (r : Span) → Spans s.args.offset (take s.args.carried_len s.args.carried_offsets.now) s.args.carried_counts.now r
     → Spanned s.args.carried_len s.args.carried_offsets.now s.args.carried_counts.now s.args.offset r
@@ -50,21 +46,6 @@ pub returns-then-len-ge-LEASES : goal.returns-then-len-ge-LEASES
 returns-then-len-ge-LEASES c =
     let ok = c.requires.0.sound in
     claim-full (table (goal.at.returns-then-len-ge-LEASES c).Start) ok c.args.worker c.args.offset c.args.now (rw (lacked (goal.at.returns-then-len-ge-LEASES c).Start).is) c.if-next-eq-MAX.false (lacked (goal.at.returns-then-len-ge-LEASES c).Start).is (rw (in_flight_lem (table (goal.at.returns-then-len-ge-LEASES c).Start) c.requires.0.full ok) c.if-len-ge-LEASES.true)
-
-pub overflow_sub-left : goal.overflow_sub-left
-overflow_sub-left c = (prior (goal.at.overflow_sub-left c).Start c.count_of-prior.result c.count_of-prior.ensures).order
-
-pub overflow_sub-left-2 : goal.overflow_sub-left-2
-overflow_sub-left-2 c = let q = prior (goal.at.overflow_sub-left-2 c).Start c.count_of-prior.result c.count_of-prior.ensures in part-within q.order q.inside
-
-pub slot_at-free-requires : goal.slot_at-free-requires
-slot_at-free-requires c = c.if-len-ge-LEASES.false
-
-pub overflow_add-len : goal.overflow_add-len
-overflow_add-len c = one_more c.if-len-ge-LEASES.false
-
-pub granted-requires : goal.granted-requires
-granted-requires c = left (goal.at.granted-requires c).Start c.if-next-eq-MAX.false
 
 pub returns : goal.returns
 returns c =

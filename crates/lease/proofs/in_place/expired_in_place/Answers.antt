@@ -4,22 +4,12 @@
 use Prim.Native.Nat.{◌≤◌}
 use native.Mathlib.Omega.{arith}
 use Rattle.types.specs.Limits.{LEASES}
-use Rattle.lease.proofs.Bounds.{in_use}
-use Rattle.lease.proofs.Lists.{listing_none, listing-expired, listing-running, expired-listed}
+use Rattle.lease.proofs.Lists.{listing-expired, listing-running, expired-listed}
 use Rattle.lease.proofs.in_place.expired_in_place.Goals as goal
 use Rattle.lease.proofs.in_place.expired_in_place.Goals.{At-loop-i, then-deadlines-slot, else-deadlines-slot}
 
 few : (c : At-loop-i) → c.args.len ≤ LEASES
 few c = c.requires
-
-pub loop-i-init : goal.loop-i-init
-loop-i-init c = listing_none c.args.len c.args.now c.args.offsets.now c.args.slots.now c.args.deadlines.now
-
-pub slot_at-slot-requires : goal.slot_at-slot-requires
-slot_at-slot-requires c = in_use c.loop-i-test.true (few (goal.at.slot_at-slot-requires c).At-loop-i)
-
-pub overflow_add-n : goal.overflow_add-n
-overflow_add-n c = omega (arith, few (goal.at.overflow_add-n c).At-loop-i, c.loop-i.invariant.few, c.loop-i-test.true)
 
 pub loop-i-preserved : goal.loop-i-preserved
 loop-i-preserved c =

@@ -1,9 +1,8 @@
 -- `hold_in_place` meets its contract, on every table that has the parts that it is lent.
 -- Assumes nothing.
-use native.Mathlib.Omega.{arith}
 use Rattle.lease.specs.Parts.{counting}
 use Rattle.lease.specs.declared.LeaseTable.{LeaseTable}
-use Rattle.lease.proofs.Tokens.{owned-used, not_owned, owned, one}
+use Rattle.lease.proofs.Tokens.{not_owned, owned, one}
 use Rattle.lease.proofs.in_place.hold_in_place.Goals as goal
 use Rattle.lease.proofs.in_place.hold_in_place.Goals.{Start}
 
@@ -11,17 +10,10 @@ use Rattle.lease.proofs.in_place.hold_in_place.Goals.{Start}
 abbrev table : Start → LeaseTable → LeaseTable
 table s = counting s.args.len s.args.offsets.now s.args.slots.now s.args.generations.now s.args.deliveries.now s.args.workers.now
 
-pub owned-requires : goal.owned-requires
-owned-requires c = c.requires
-
 pub returns-in_err-at : goal.returns-in_err-at
 returns-in_err-at c =
     let s = (goal.at.returns-in_err-at c).Start in
     rw c.from_residual.ensures (λ t w. rw (not_owned (table s t) w.full w.sound c.args.offset c.args.generation c.in_err-at.ensures), tt)
-
-pub slot_at-slot-requires : goal.slot_at-slot-requires
-slot_at-slot-requires c =
-    omega (arith, owned-used c.args.offset c.args.generation c.args.len c.args.offsets.now c.args.slots.now c.args.generations.now c.in_ok-at.ensures, c.requires)
 
 pub returns : goal.returns
 returns c =

@@ -15,9 +15,6 @@ pub returns-then-next_generation-eq-MAX : goal.returns-then-next_generation-eq-M
 returns-then-next_generation-eq-MAX c t w o g p =
     none_left (table (goal.at.returns-then-next_generation-eq-MAX c).Start t) w.full w.sound o g p c.if-next_generation-eq-MAX.true c.args.now c.args.delay_nanos
 
-pub slot_at-slot-requires : goal.slot_at-slot-requires
-slot_at-slot-requires c = c.requires
-
 pub returns : goal.returns
 returns c t w o g p =
     rw c.slot_at-slot.ensures.0 (requeued_to (table (goal.at.returns c).Start t) w.full w.sound o g p c.if-next_generation-eq-MAX.false c.args.now c.args.delay_nanos c.saturating_add-deadline.result c.saturating_add-deadline.ensures)

@@ -2,7 +2,6 @@
 -- Assumes nothing.
 -- a table with the parts that the arguments are
 use Prim.Native.Nat.{ℕ, ◌≤◌}
-use native.Mathlib.Omega.{arith}
 use lib.ListN.{take}
 use Rattle.tables.proofs.Columns.{taken-out-front}
 use Rattle.tables.specs.Search.{Boundary}
@@ -23,16 +22,6 @@ carried-used s n h = boundary_inside s.args.up_to s.args.carried_len s.args.carr
 
 used : (s : Start) (n : ℕ) → Boundary s.args.up_to (take s.args.len s.args.offsets.now) n → n ≤ s.args.len
 used s n h = boundary_inside s.args.up_to s.args.len s.args.offsets.now h
-
-pub set_aside-requires : goal.set_aside-requires
-set_aside-requires c =
-    (used (goal.at.set_aside-requires c).Start c.position-first.result c.position-first.ensures, omega (arith, c.told-slots, c.requires))
-
-pub overflow_sub-result : goal.overflow_sub-result
-overflow_sub-result c = used (goal.at.overflow_sub-result c).Start c.position-first.result c.position-first.ensures
-
-pub overflow_sub-result-2 : goal.overflow_sub-result-2
-overflow_sub-result-2 c = carried-used (goal.at.overflow_sub-result-2 c).Start c.position-carried.result c.position-carried.ensures
 
 pub returns : goal.returns
 returns c t w =

@@ -1,13 +1,13 @@
 -- `extend` meets its contract. Assumes nothing.
-use mathlib.Core.Path.{refl}
-use Rattle.lease.proofs.InWords.{owned-low, extend-refused}
+use Rattle.std.proofs.Common.{◌≡◌, subst, arith}
+use Rattle.std.proofs.lemmas.Result.{err_from_is_err_and}
+use Rattle.types.specs.declared.refusals.Refusal.TheVariants as refusal
+use Rattle.lease.specs.InWords.{OwnedIn}
+use Rattle.lease.proofs.InWords.{extend-refused}
 use Rattle.lease.proofs.in_words.extend.Goals as goal
 
-pub returns-in_default : goal.returns-in_default
-returns-in_default c = extend-refused c.requires c.args.token.offset.0 c.args.token.generation.0 c.in_default.ensures c.args.now
-
-pub extend_at-requires : goal.extend_at-requires
-extend_at-requires c = (c.requires, owned-low c.requires c.args.token.offset.0 c.args.token.generation.0 c.in-Some.ensures refl)
-
-pub returns : goal.returns
-returns c = c.extend_at.ensures c.args.token.offset.0 c.args.token.generation.0 c.in-Some.ensures
+pub returns-in_err-at : goal.returns-in_err-at
+returns-in_err-at c =
+    let p = err_from_is_err_and c.from_residual.result c.from_residual.ensures.1 in
+    let fenced : c.in_err-at.field-0.0 ≡ refusal.Fenced = grind arith in
+    rw (p.1, p.2, fenced) (extend-refused c.requires c.args.token.offset.0 c.args.token.generation.0 (subst (OwnedIn c.args.token.offset.0 c.args.token.generation.0 c.args.table.now) c.in_err-at.ensures.ok_part c.owned.ensures) c.args.now)

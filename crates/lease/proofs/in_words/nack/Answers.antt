@@ -1,18 +1,20 @@
 -- `nack` meets its contract. Assumes nothing.
-use mathlib.Core.Path.{refl, sym, ◌∙◌}
-use Rattle.lease.proofs.InWords.{owned-low, nack-refused, nack_exhausted}
+use Rattle.std.proofs.Common.{◌≡◌, sym, ◌∙◌, subst, arith}
+use Rattle.std.proofs.lemmas.Result.{err_from_is_err_and}
+use Rattle.types.specs.declared.refusals.Refusal.TheVariants as refusal
+use Rattle.lease.specs.InWords.{OwnedIn}
+use Rattle.lease.proofs.InWords.{nack-refused, nack_exhausted}
 use Rattle.lease.proofs.in_words.nack.Goals as goal
 
-pub returns-in_default : goal.returns-in_default
-returns-in_default c = nack-refused c.requires c.args.token.offset.0 c.args.token.generation.0 c.in_default.ensures c.args.now c.args.delay_nanos
+pub returns-in_err-at : goal.returns-in_err-at
+returns-in_err-at c =
+    let p = err_from_is_err_and c.from_residual.result c.from_residual.ensures.1 in
+    let fenced : c.in_err-at.field-0.0 ≡ refusal.Fenced = grind arith in
+    rw (p.1, p.2, fenced) (nack-refused c.requires c.args.token.offset.0 c.args.token.generation.0 (subst (OwnedIn c.args.token.offset.0 c.args.token.generation.0 c.args.table.now) c.in_err-at.ensures.ok_part c.owned.ensures) c.args.now c.args.delay_nanos)
 
 pub returns-then-is_exhausted : goal.returns-then-is_exhausted
 returns-then-is_exhausted c =
-    nack_exhausted c.requires c.args.token.offset.0 c.args.token.generation.0 c.in-Some.ensures c.args.now c.args.delay_nanos (sym c.is_exhausted.ensures ∙ c.if-is_exhausted.true)
-
-pub requeue_at-deadline-requires : goal.requeue_at-deadline-requires
-requeue_at-deadline-requires c =
-    (c.requires, owned-low c.requires c.args.token.offset.0 c.args.token.generation.0 c.in-Some.ensures refl, sym c.is_exhausted.ensures ∙ c.if-is_exhausted.false)
+    nack_exhausted c.requires c.args.token.offset.0 c.args.token.generation.0 (subst (OwnedIn c.args.token.offset.0 c.args.token.generation.0 c.args.table.now) c.in_ok-at.ensures.ok_part c.owned.ensures) c.args.now c.args.delay_nanos (sym c.is_exhausted.ensures ∙ c.if-is_exhausted.true)
 
 pub returns : goal.returns
-returns c = c.requeue_at-deadline.ensures c.args.token.offset.0 c.args.token.generation.0 c.in-Some.ensures
+returns c = c.requeue_at-deadline.ensures c.args.token.offset.0 c.args.token.generation.0 (subst (OwnedIn c.args.token.offset.0 c.args.token.generation.0 c.args.table.now) c.in_ok-at.ensures.ok_part c.owned.ensures)

@@ -2,7 +2,7 @@
 use Prim.Native.Nat.{ℕ, ◌≤◌}
 use native.Mathlib.Omega.{arith}
 use mathlib.Core.Path.{ap, ◌∙◌}
-use lib.ListN.{replicate, length-set}
+use lib.ListN.{replicate}
 use Rattle.types.specs.Limits.{MAX}
 use Rattle.lease.proofs.InWords.{started}
 use Rattle.lease.proofs.in_words.starting_at.Goals as goal
@@ -10,10 +10,6 @@ use Rattle.lease.proofs.in_words.starting_at.Goals.{Start}
 
 fits : (s : Start) → s.args.generation.0 ≤ MAX
 fits s = omega arith
-
-pub shape_of-table : goal.shape_of-table
-shape_of-table c =
-    simp length-set (c.table-2-1.given.1 ∙ c.table-1.given)
 
 pub returns : goal.returns
 returns c =

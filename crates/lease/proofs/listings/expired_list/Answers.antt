@@ -10,27 +10,10 @@ use Rattle.words.proofs.Columns.{column-at}
 use Rattle.lease.specs.Layout.{LEN, OFFSETS, table_in}
 use Rattle.lease.specs.Stored.{held_at}
 use Rattle.lease.specs.declared.Lease.{Lease}
-use Rattle.lease.proofs.Lists.{Listing, listing_none, listing-expired, listing-running, expired-listed}
+use Rattle.lease.proofs.Lists.{Listing, listing-expired, listing-running, expired-listed}
 use Rattle.lease.proofs.InWords.{whole}
 use Rattle.lease.proofs.listings.expired_list.Goals as goal
 use Rattle.lease.proofs.listings.expired_list.Goals.{then-lease-now, else-lease-now}
-
-pub loop-i-init : goal.loop-i-init
-loop-i-init c =
-    let w = c.args.table.now in
-    listing_none (word LEN w) c.args.now (table_in w).offsets (table_in w).slots (table_in w).deadlines
-
-pub lease_at-lease-requires : goal.lease_at-lease-requires
-lease_at-lease-requires c =
-    (c.requires, omega (arith, c.loop-i-test.true, c.requires.table.len))
-
-pub overflow_add-listed : goal.overflow_add-listed
-overflow_add-listed c =
-    omega (arith, c.loop-i-test.true, c.requires.table.len)
-
-pub overflow_add-n : goal.overflow_add-n
-overflow_add-n c =
-    omega (arith, c.loop-i-test.true, c.requires.table.len, c.loop-i.invariant.few)
 
 pub loop-i-preserved : goal.loop-i-preserved
 loop-i-preserved c =

@@ -6,7 +6,7 @@ use mathlib.Core.Path.{◌≡◌, sym, ap, subst, ◌∙◌}
 use mathlib.Core.List.{List}
 use lib.ListN.{get_or, set, replicate}
 use Rattle.types.specs.Limits.{LEASES}
-use Rattle.types.proofs.Loops.{Filling, filling, filling-more}
+use Rattle.types.proofs.Loops.{Filling, filling-more}
 use Rattle.words.specs.Columns.{word}
 use Rattle.words.proofs.Columns.{column-at}
 use Rattle.tables.specs.Slots.{through}
@@ -20,21 +20,6 @@ use Rattle.lease.proofs.listings.lease_counts.Goals as goal
 
 abbrev zeros : List ℕ
 zeros = replicate 192 0
-
-pub loop-i-init : goal.loop-i-init
-loop-i-init c =
-    let w = c.args.table.now in
-    let x = table_in w in
-    let few = c.requires.table.len in
-    (filling x.offsets zeros (word LEN w) (omega (arith, few)), filling (through 0 x.slots x.deliveries) zeros (word LEN w) (omega (arith, few)))
-
-pub lease_at-lease-requires : goal.lease_at-lease-requires
-lease_at-lease-requires c =
-    (c.requires, omega (arith, c.loop-i-test.true, c.requires.table.len))
-
-pub overflow_add-offsets : goal.overflow_add-offsets
-overflow_add-offsets c =
-    omega (arith, c.loop-i-test.true, c.requires.table.len)
 
 pub loop-i-preserved : goal.loop-i-preserved
 loop-i-preserved c =

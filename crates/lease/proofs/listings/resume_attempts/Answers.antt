@@ -20,28 +20,6 @@ use Rattle.lease.specs.InWords.{Answers}
 use Rattle.lease.proofs.Carried.{carry_on_all, resumed-all}
 use Rattle.lease.proofs.listings.resume_attempts.Goals as goal
 
-pub loop-offset-init : goal.loop-offset-init
-loop-offset-init c =
-    let zip = c.zip-offset-items.ensures in (
-      c.carried_counts-carried.ensures.tidy,
-      rw (c.into_iter-offset-iterator.ensures.into_iter_gives, zip.first, c.iter.ensures.rest, zip.second.0)
-          (ap (carry_on_all (entries c.args.offsets.now c.args.attempts.now)) c.carried_counts-carried.ensures.is),
-    )
-
-pub carry_pair-carried-requires : goal.carry_pair-carried-requires
-carry_pair-carried-requires c = c.loop-offset.invariant.0
-
-pub loop-offset-preserved : goal.loop-offset-preserved
-loop-offset-preserved c =
-    let left = c.next.new.self in
-    let steps = c.in-Some.ensures.steps in (
-      c.carry_pair-carried.ensures.tidy,
-      ap (carry_on_all (entries left.a.rest.now left.b.rest.now)) c.carry_pair-carried.ensures.is ∙ (rw (steps.0, steps.1) at c.loop-offset.invariant.1),
-    )
-
-pub resume_with-requires : goal.resume_with-requires
-resume_with-requires c = (c.requires, c.loop-offset.invariant.0)
-
 pub returns : goal.returns
 returns c =
     let w = c.args.table.now in

@@ -24,10 +24,6 @@ returns-in_default c =
     let w = c.args.table.now in
     rw (uncarried (table_in w) (whole c.requires).full c.requires.table (rw (column-is CARRIED-OFFSETS CARRIED w) at c.find-place.ensures) c.in_default.is).is
 
-pub overflow_add-result : goal.overflow_add-result
-overflow_add-result c =
-    record { fits = omega (arith, inside (goal.at.overflow_add-result c).In-Found) }
-
 pub overflow_cast-result : goal.overflow_cast-result
 overflow_cast-result c =
     omega (arith, carried_narrow c.requires c.in-Found.at (used (goal.at.overflow_cast-result c).In-Found))

@@ -27,7 +27,7 @@ returns-in_default c x h =
     let g = c.args in
     idle-asked g.phase _ g.worker g.kind g.a g.b g.c g.d g.out.now _ _ _ e
     (ask_none _ g.worker g.kind g.a g.b g.c g.d g.out.now (idle-sound g.phase _ e h.sound)
-    (ap (asking_of (length g.out.now)) (sym c.in_default.is) ∙ c.ask_of-asking.ensures (length g.out.now)))
+    (ap (asking_of (length g.out.now)) (sym c.in_default.is) ∙ c.ask_of-asked.ensures (length g.out.now)))
 
 pub ask_in_place-done-requires : goal.ask_in_place-done-requires
 ask_in_place-done-requires c =
@@ -39,5 +39,5 @@ returns c x h =
     let g = c.args in
     idle-asked g.phase _ g.worker g.kind g.a g.b g.c g.d g.out.now _ _ _ e
     (ask-some _ g.worker g.kind g.a g.b g.c g.d g.out.now _ _ _ c.of_ask.result
-    (ap (asking_of (length g.out.now)) (sym c.in-Ask.is) ∙ c.ask_of-asking.ensures (length g.out.now))
+    (ap (asking_of (length g.out.now)) (sym c.in-Some.is) ∙ c.ask_of-asked.ensures (length g.out.now))
     (c.ask_in_place-done.ensures x (whole g.phase _ e h)) (c.of_ask.ensures _))

@@ -15,14 +15,13 @@ before s =
     let a = s.args in
     to_restart a.committed a.runs a.len a.carried_len a.next_generation a.redeliveries a.ceiling a.number a.block a.area_len a.config a.settings a.slots.now
 
-pub returns-in_default : goal.returns-in_default
-returns-in_default c =
-    refused-on c.args.configuration c.args.phase c.args.area.now c.restart_in_place-done.result _ _ c.restart_in_place-done.ensures c.of_start-numbers.result c.of_start-numbers.ensures
-    (before (goal.at.returns-in_default c).Start) (before (goal.at.returns-in_default c).Start) c.in_default.not-Started
-
-pub returns : goal.returns
-returns c =
-    let r = c.restart_in_place-done.result in
+pub returns-in-Ok : goal.returns-in-Ok
+returns-in-Ok c =
+    let r = c.in-Ok.done in
     let after : Columns → Writing → Writing = to_restart r.committed r.runs 0 r.carried_len r.ceiling 0 r.ceiling r.number r.block (length c.args.area.now) c.args.configuration.lease c.args.configuration.settings c.free_slots.new.slots in
-    done_on c.args.configuration c.args.phase c.args.area.now c.restart_in_place-done.result _ _ c.restart_in_place-done.ensures c.of_start-numbers.result c.of_start-numbers.ensures
-    (before (goal.at.returns c).Start) after c.in-Started.is (λ w. c.free_slots.ensures) (λ w. refl)
+    done_on c.args.configuration c.args.phase c.args.area.now _ _ _ (before (goal.at.returns-in-Ok c).Start) after r c.in-Ok.ensures c.of_done.ensures (λ w. c.free_slots.ensures) (λ w. refl)
+
+pub returns-in-Err : goal.returns-in-Err
+returns-in-Err c =
+    let b = before (goal.at.returns-in-Err c).Start in
+    refused-on c.args.configuration c.args.phase c.args.area.now _ _ _ b b _ c.in-Err.ensures c.of_refusal.ensures
