@@ -17,7 +17,7 @@ use Rattle.std.specs.Prelude.{Ok, Err}
 use Rattle.inspect.specs.Verdicts.{Verdict, Row, verdict, is_sound, opening_table, header_rest_table, body_rest_table, opening_verdict, header_verdict, body_verdict}
 
 -- a fault is no soundness
-pub no-fault : {f : Fault} → Err f ≡ Ok tt → ⊥
+pub no-fault : {f : Fault} → ◌≡◌ {A = Verdict} (Err f) (Ok tt) → ⊥
 no-fault e = true≢false (sym (ap is_sound e))
 
 -- every test of a table finds nothing
