@@ -9,15 +9,6 @@ returns-then-end-at c =
     search_ended _ _ _ c.args.at (omega (arith, c.min-end.ensures))
     (search_none _ _ _ (omega arith))
 
-pub loop-i-init : goal.loop-i-init
-loop-i-init c = (omega arith, search_none _ _ _ (omega arith))
-
-pub overflow_mul-from : goal.overflow_mul-from
-overflow_mul-from c = omega (arith, c.min-end.ensures)
-
-pub overflow_add-to : goal.overflow_add-to
-overflow_add-to c = omega (arith, c.min-end.ensures)
-
 pub returns-then-is_head : goal.returns-then-is_head
 returns-then-is_head c =
     search_found _ _ _ _ c.is_head.ensures _ c.loop-i.invariant.0

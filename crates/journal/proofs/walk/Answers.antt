@@ -38,9 +38,6 @@ answers : (c : At-loop-at) (w : Result Stop)
     → w ≡ walk_in c.args.hi c.args.first_number c.args.first_block c.args.area.now
 answers c w = walk-answered _ _ _ _ _ w (good c) c.min-end.ensures
 
-pub group_at-requires : goal.group_at-requires
-group_at-requires c = (c.loop-at-test.true, omega (arith, c.min-end.ensures))
-
 pub returns-in_err-behind : goal.returns-in_err-behind
 returns-in_err-behind c =
     let p = err_from_is_err_and c.from_residual.result c.from_residual.ensures.1 in
