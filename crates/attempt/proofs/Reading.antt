@@ -1,13 +1,13 @@
 -- What the decoder's functions answer, over plain values. Assumes nothing.
-use Prim.Native.Nat.{ℕ, zero, suc, ◌+◌, ◌-◌, ◌*◌, ◌%◌, ◌<◌, ◌≤◌}
+use Prim.Native.Nat.{ℕ, zero, suc, ◌+◌, ◌-◌, ◌*◌, ◌<◌, ◌≤◌}
 use native.Mathlib.Omega.{arith}
 use native.Mathlib.Numerals.{add-one}
 use mathlib.Core.Path.{◌≡◌, refl, sym, ap, ◌∙◌}
 use mathlib.Core.Bool.{Bool, true, false}
 use mathlib.Core.List.{List, [], ◌∷◌, ◌++◌}
-use lib.ListN.{length, take, drop, get_or, set, length-map, take-append-drop}
+use lib.ListN.{length, take, drop, get_or, set, length-map}
 use lib.Seq.{take-suc-set, drop-set-lt, append_snoc}
-use borrow.Author.Tests.{lt-ltb, le-ltb, le-leb, lt-leb, eq-eqb, ne_eqb}
+use borrow.Author.Tests.{lt-ltb, le-ltb, le-leb, lt-leb}
 use Rattle.types.specs.Limits.{PAIRS}
 use Rattle.types.specs.Refusal.{Refusal, Result, refused, done}
 use Rattle.types.specs.Refusal as refusal
@@ -16,9 +16,8 @@ use Rattle.types.specs.Keyed.{Entry}
 use Rattle.types.proofs.Table.{checked-done, checked_refused}
 use Rattle.types.proofs.Scan.{map-set}
 use Rattle.raw.specs.Bytes.{number_at}
-use Rattle.crc.specs.Seal.{is_sealed}
-use Rattle.attempt.specs.Snapshot.{apart, offset_at, read_pair, read_pairs, pairs_as, pairs_of, pair_count, pairs_in, known}
-use Rattle.attempt.specs.Snapshot.{order_after, order_table, limit_table, pairs_table}
+use Rattle.attempt.specs.Snapshot.{apart, offset_at, read_pair, read_pairs, pairs_as, pairs_of, pair_count, pairs_in}
+use Rattle.attempt.specs.Snapshot.{order_after, order_table, limit_table}
 use Rattle.attempt.specs.Snapshot.{decode_table, decode_attempts, decode_into}
 use Rattle.attempt.specs.Codec.{blank}
 use Rattle.types.specs.declared.Pair.{Pair}
@@ -29,35 +28,6 @@ use Rattle.attempt.proofs.Snapshot.{length-read, accepted, accepts, fill-room, f
 module _ (b : List ℕ) where
   abbrev check_answer : Result ℕ
   check_answer = checked (decode_table b) (done (pair_count b))
-
-  pub truncated : length b < 9 → check_answer ≡ refused refusal.AttemptTruncated
-  truncated h = rw (lt-ltb (length b) 9 h)
-
-  module _ (long : 9 ≤ length b) where
-    pub other-version : known (get_or b 0 0) ≡ false → check_answer ≡ refused (refusal.AttemptUnsupportedVersion (get_or b 0 0))
-    other-version h = rw (le-ltb (length b) 9 long, h)
-
-    module _ (version : known (get_or b 0 0) ≡ true) where
-      pub bad-length : ((length b - 9) % 12 ≡ 0 → ⊥) → check_answer ≡ refused (refusal.AttemptBadLength (length b))
-      bad-length h = rw (le-ltb (length b) 9 long, version, ne_eqb ((length b - 9) % 12) 0 h)
-
-      module _ (whole : (length b - 9) % 12 ≡ 0) where
-        pub count_mismatch : (number_at 4 1 b ≡ pair_count b → ⊥)
-            → check_answer ≡ refused (refusal.CountMismatch (number_at 4 1 b) (pair_count b))
-        count_mismatch h =
-            rw (le-ltb (length b) 9 long, version, eq-eqb ((length b - 9) % 12) 0 whole)
-            (rw (ne_eqb (number_at 4 1 b) (pair_count b) h))
-
-        module _ (counted : number_at 4 1 b ≡ pair_count b) where
-          pub bad-crc : is_sealed b ≡ false → check_answer ≡ refused refusal.AttemptBadCrc
-          bad-crc h =
-              rw (le-ltb (length b) 9 long, version, eq-eqb ((length b - 9) % 12) 0 whole)
-              (rw (eq-eqb (number_at 4 1 b) (pair_count b) counted, h))
-
-          pub framed : is_sealed b ≡ true → check_answer ≡ checked (pairs_table (pairs_in b)) (done (pair_count b))
-          framed h =
-              rw (le-ltb (length b) 9 long, version, eq-eqb ((length b - 9) % 12) 0 whole)
-              (rw (eq-eqb (number_at 4 1 b) (pair_count b) counted, h))
 
 -- ---- the pairs that are left: i of n are passed
 module _ (split : Bool) (b : List ℕ) (n i : ℕ) where
@@ -98,9 +68,6 @@ module _ (split : Bool) (b : List ℕ) (n i : ℕ) where
         let l : i < length (entries_of a) = rw length-map (omega arith) in
         let q : Entry ℕ = read_pair split n i b in
         rw (map-set entry_of a i p, e, read_more h, add-one, take-suc-set (entries_of a) i q l, drop-set-lt n (entries_of a) i q h, append_snoc)
-
-    pub get-end : i ≡ n → take i (entries_of a) ++ (read_pairs split n (n - i) i b ++ drop n (entries_of a)) ≡ entries_of a
-    get-end e = rw (read-end (omega arith), e, take-append-drop)
 
 pub length-blank : length blank ≡ 128
 unfolding blank

@@ -22,7 +22,6 @@ pub mod pairs;
 
 use types::Pair;
 use types::limits::PAIRS;
-use types::numbers::shorter;
 use types::refusals::Refusal;
 
 // The length of a snapshot without pairs: version, count and check.
@@ -191,7 +190,7 @@ pub fn encode_columns<'a>(
 ) -> Result<usize, Refusal>
     ensures { answer (as_is result) out.new ≡ encode_version (byte_of version) (entries offsets.now attempts.now) at out.old }
 {
-    let count = shorter(offsets.len(), attempts.len());
+    let count = offsets.len().min(attempts.len());
     if PAIRS < count {
         return Err(Refusal::TooManyPairs);
     }
@@ -341,10 +340,7 @@ pub fn check(input: &[u8]) -> Result<usize, AttemptSnapshotError>
 pub fn pairs_of(outcome: Result<usize, AttemptSnapshotError>) -> usize
     ensures { result ≡ counted (decode_of outcome) }
 {
-    match outcome {
-        Ok(count) => count,
-        Err(_) => 0,
-    }
+    outcome.unwrap_or(0)
 }
 
 // How the pairs of bytes lie: as in version 2 where they begin so, and otherwise as in version 1.

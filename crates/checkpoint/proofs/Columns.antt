@@ -15,7 +15,7 @@ use Rattle.checkpoint.specs.Parts.{counting}
 use Rattle.checkpoint.specs.declared.counts.Columns.{Columns}
 use Rattle.checkpoint.proofs.Merged.{listed, slotted}
 
-module _ {T : Type 0} {numbers : List T → List ℕ} {narrow : List T → Type 0} {c : Columns T} (p : Storable numbers narrow c) (i : ℕ) (h : i < c.len) where
+module _ {T : Type 0} {numbers : List T → List ℕ} {narrow : List T → ℕ → Type 0} {c : Columns T} (p : Storable numbers narrow c) (i : ℕ) (h : i < c.len) where
   abbrev slot : ℕ
   slot = get_or (numbers c.slots.now) i 0
 
@@ -34,6 +34,6 @@ module _ {T : Type 0} (numbers : List T → List ℕ) (c : Columns T) (x : Consu
   abbrev pub with_counts : Consumer
   with_counts = record { cursor = x.cursor; table = counting numbers c x.table; ceiling = x.ceiling; next = x.next; area_len = x.area_len; settings = x.settings }
 
-  pub storable : {narrow : List T → Type 0} → Full with_counts.table → Sound with_counts → Narrow narrow c → Storable numbers narrow c
+  pub storable : {narrow : List T → ℕ → Type 0} → Full with_counts.table → Sound with_counts → Narrow narrow c → Storable numbers narrow c
   storable full ok small =
       record { listed = listed with_counts full ok; slotted = slotted with_counts full ok; counts = full.leases.counts; narrow = small }

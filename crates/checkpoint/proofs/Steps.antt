@@ -8,7 +8,7 @@ use mathlib.Core.Bool.{Bool, true, false}
 use mathlib.Core.List.{List}
 use lib.Dec.{leb}
 use lib.ListN.{length, take, length-take}
-use borrow.Author.Tests.{eq-eqb, ne_eqb, le-leb, lt-leb, leb-true, leb-false}
+use borrow.Author.Tests.{eq-eqb, ne_eqb, lt-leb, leb-false}
 use Rattle.std.specs.Prelude.{Ok, Err}
 use Rattle.types.specs.Limits.{MAX32}
 use Rattle.types.specs.Refusal.{Result}
@@ -24,7 +24,6 @@ use Rattle.lease.proofs.Valid.{valid-flushed}
 use Rattle.lease.specs.State as lease
 use Rattle.consumer.specs.State.{State}
 use Rattle.consumer.specs.View.{view, Sound}
-use Rattle.consumer.specs.declared.Consumer.{Consumer}
 use Rattle.consumer.proofs.Area.{area-taken}
 use Rattle.checkpoint.specs.Checkpoint.{bodies, group_block, zeroed_for, zeros, new_ceiling, flushed, is_zeroing, is_last, sync_due, next_place, next_block, step}
 use Rattle.checkpoint.specs.Checkpoint as checkpoint

@@ -1,6 +1,6 @@
 -- The counts of a checkpoint in two columns each: those of the leases and the carried ones, of which no offset has both.
 -- SPEC.md, "Checkpoint".
-use Rattle.std.specs.Prelude.{ℕ, ◌+◌, ◌≤◌, ◌≡◌, List, ◌∷◌, length, take, drop}
+use Rattle.std.specs.Prelude.{ℕ, ◌+◌, ◌<◌, ◌≤◌, ◌≡◌, List, ◌∷◌, length, take, drop}
 use Rattle.std.proofs.Math.Option.{some}
 use Rattle.types.specs.Limits.{LEASES, CARRIED}
 use Rattle.types.specs.Keyed.{Entry, entry, entries, lookup}
@@ -55,14 +55,14 @@ module _ {T : Type 0} (numbers : List T → List ℕ) where
   abbrev pub carried : Columns T → List (Entry ℕ)
   carried c = counted c.carried_len c.carried_offsets.now (numbers c.carried_counts.now)
 
--- columns whose numbers are of 32 bits, in the words of their type
-pub record Narrow {T : Type 0} (narrow : List T → Type 0) (c : Columns T) : Type 0 where
-  pub slots : narrow c.slots.now
-  pub leased : narrow c.deliveries.now
-  pub carried : narrow c.carried_counts.now
+-- columns whose numbers are of 32 bits, as their type says it of each; of the carried counts those in use
+pub record Narrow {T : Type 0} (narrow : List T → ℕ → Type 0) (c : Columns T) : Type 0 where
+  pub slots : (i : ℕ) → narrow c.slots.now i
+  pub leased : (i : ℕ) → narrow c.deliveries.now i
+  pub carried : (i : ℕ) → i < c.carried_len → narrow c.carried_counts.now i
 
 -- what is lent
-pub record Storable {T : Type 0} (numbers : List T → List ℕ) (short : List T → Type 0) (c : Columns T) : Type 0 where
+pub record Storable {T : Type 0} (numbers : List T → List ℕ) (short : List T → ℕ → Type 0) (c : Columns T) : Type 0 where
   pub listed : Listed c.len c.carried_len c.offsets.now (counts_of numbers c) c.carried_offsets.now (numbers c.carried_counts.now)
   pub slotted : Slotted (numbers c.slots.now)
   pub counts : length (numbers c.deliveries.now) ≡ LEASES

@@ -16,12 +16,12 @@ use types::limits::LEASES;
 pub trait Number: Copy {
     ghost numbers: { List Self → List ℕ };
 
-    // That none of them is longer.
-    ghost narrow: { List Self → Type 0 };
+    // That the one at a place is no longer.
+    ghost narrow: { List Self → ℕ → Type 0 };
 
     // The number at a place.
     fn at(column: &[Self], i: usize) -> u32
-        requires narrow { narrow column.now }
+        requires narrow { narrow column.now i }
         requires within { i < length (numbers column.now) }
         ensures { result ≡ get_or (numbers column.now) i 0 };
 }
@@ -29,7 +29,7 @@ pub trait Number: Copy {
 impl Number for u32 {
     ghost numbers = { λ column. column };
 
-    ghost narrow = { λ column. Unit {0} };
+    ghost narrow = { λ column i. Unit {0} };
 
     fn at(column: &[u32], i: usize) -> u32 {
         column[i]
@@ -39,7 +39,7 @@ impl Number for u32 {
 impl Number for u64 {
     ghost numbers = { λ column. column };
 
-    ghost narrow = { λ column. (i : ℕ) → get_or column i 0 ≤ MAX32 };
+    ghost narrow = { λ column i. get_or column i 0 ≤ MAX32 };
 
     fn at(column: &[u64], i: usize) -> u32 {
         column[i] as u32

@@ -19,7 +19,8 @@ pub struct Headers {
 fn first_header(area: &[u8], from: usize, hi: usize) -> Option<usize>
     ensures { option_of (λ i. i) result ≡ first_header area.now (min hi (blocks area.now) - from) from }
 {
-    for i in from..hi.min(area.len() / 512) {
+    let end = hi.min(area.len() / 512);
+    for i in from..end {
         let start = 512 * i;
         let to = start + 512;
         if journal::is_head(&area[start..to]) {
@@ -40,9 +41,10 @@ fn group_of(block: &[u8]) -> u64
 pub fn headers_behind(area: &[u8], from: usize, hi: usize) -> Headers
     ensures { HeadersAre (named area.now (min hi (blocks area.now) - from) from) result }
 {
+    let end = hi.min(area.len() / 512);
     let mut count: usize = 0;
     let mut number: u64 = 0;
-    for i in from..hi.min(area.len() / 512) {
+    for i in from..end {
         let start = 512 * i;
         let to = start + 512;
         let block = &area[start..to];
@@ -77,8 +79,9 @@ fn named_by(block: &[u8]) -> u64
 pub fn highest_named(area: &[u8]) -> u64
     ensures { result ≡ highest_named area.now }
 {
+    let end = area.len() / 512;
     let mut number: u64 = 0;
-    for i in 0..area.len() / 512 {
+    for i in 0..end {
         let start = 512 * i;
         let to = start + 512;
         number = number.max(named_by(&area[start..to]));

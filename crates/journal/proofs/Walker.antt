@@ -31,11 +31,6 @@ module _ (a : List ℕ) (k i n t : ℕ) where
     pub most : j ≤ n + 1
     pub rest : first_unsound a k i n t (n + 1 - j) j ≡ first_unsound a k i n t n 1
 
-  pub scan_none : Scanned 1
-  scan_none =
-      let e : n + 1 - 1 ≡ n = omega arith in
-      record { first = omega arith; most = omega arith; rest = rw e }
-
   module _ (j : ℕ) (s : Scanned j) where
     -- what the test of body j found
     module _ (used : ℕ) (u : Bool) (h : j ≤ n)
@@ -55,12 +50,6 @@ module _ (a : List ℕ) (k i n t : ℕ) where
 
       pub scan_unsound : u ≡ false → refused (Damaged (i + j)) ≡ turn_of (or_unsound (first_unsound a k i n t n 1) (i + suc n))
       scan_unsound e = rw (← s.rest, left, tested, e)
-
-    pub scan_all : n < j → done (some (i + 1 + n)) ≡ turn_of (or_unsound (first_unsound a k i n t n 1) (i + suc n))
-    scan_all h =
-        let m : n + 1 - j ≡ 0 = omega arith in
-        let q : i + 1 + n ≡ i + suc n = omega arith in
-        rw (← s.rest, m, q)
 
 -- ## A turn
 module _ (a : List ℕ) (hi k i : ℕ) where

@@ -14,7 +14,6 @@ ghost use Rattle.std.proofs.Math.Option.{some};
 ghost use Rattle.journal.specs.Walks.{first_unsound, or_unsound, group_at, header_behind, contents};
 ghost use Rattle.journal.specs.Answers.{fill, write_block, walk_in, read_payload, header_in, header_bytes, block_of, turn_of, walked_of};
 
-use types::numbers::shorter;
 use types::refusals::Refusal;
 
 // What the header of a group says: its number, the generation ceiling, and the lengths of the cursor snapshot and of
@@ -125,7 +124,7 @@ fn write_body(block: &mut [u8], number: u32, index: u8, payload: &[u8]) -> Resul
         return Err(Refusal::BadArea);
     }
     let from = chunk_start(index, payload.len());
-    let to = shorter(from + 500, payload.len());
+    let to = (from + 500).min(payload.len());
     put_body(block, number, index, &payload[from..to]);
     Ok(())
 }
@@ -265,7 +264,7 @@ pub fn is_sound_body(block: &[u8], number: u64, index: u8, used: u16) -> bool
     if bytes != used {
         return false;
     }
-    let from = shorter(8 + used as usize, 508);
+    let from = (8 + used as usize).min(508);
     raw::all_zero(&block[from..508])
 }
 
@@ -330,7 +329,7 @@ pub fn walk(area: &[u8], hi: usize, first_number: u64, first_block: usize) -> Re
     if bad_length(area.len()) {
         return Err(Refusal::BadArea);
     }
-    let end = shorter(hi, area.len() / 512);
+    let end = hi.min(area.len() / 512);
     let mut last = None;
     let mut number = first_number;
     let mut at = first_block;
@@ -353,7 +352,7 @@ pub fn walk(area: &[u8], hi: usize, first_number: u64, first_block: usize) -> Re
 pub fn header_behind(area: &[u8], hi: usize, at: usize) -> bool
     ensures { result ≡ header_behind area.now hi at }
 {
-    let end = shorter(hi, area.len() / 512);
+    let end = hi.min(area.len() / 512);
     if end <= at {
         return false;
     }
@@ -391,7 +390,7 @@ fn copy_payload(area: &[u8], first: usize, total: usize, out: &mut [u8])
     let mut at = first;
     let mut copied: usize = 0;
     while copied < total {
-        let size = shorter(500, total - copied);
+        let size = (total - copied).min(500);
         let from = 512 * at + 8;
         let to = from + size;
         let _ = raw::write_bytes(out, copied, &area[from..to]);
@@ -438,5 +437,5 @@ fn chunk_start(index: u8, len: usize) -> usize
     if index == 0 {
         return 0;
     }
-    shorter(500 * (index as usize - 1), len)
+    (500 * (index as usize - 1)).min(len)
 }

@@ -88,7 +88,7 @@ fn write(op: Op, cursor: AckCursor, list: List, bytes: &mut [u8]) -> Answer
 }
 
 // All of them.
-pub fn change(op: Op, cursor: AckCursor, list: List, mut bytes: Bytes) -> Done<Bytes>
+pub fn change(op: Op, cursor: AckCursor, list: List, bytes: Bytes) -> Done<Bytes>
     requires { Sound cursor × BytesReady bytes }
     ensures { BytesReady result.left }
 {
@@ -96,9 +96,10 @@ pub fn change(op: Op, cursor: AckCursor, list: List, mut bytes: Bytes) -> Done<B
         return new(op.w, op.x, bytes);
     }
     let n = bytes.n;
-    let answer = write(op, cursor, list, &mut bytes.all[..n]);
+    let mut all = bytes.all;
+    let answer = write(op, cursor, list, &mut all[..n]);
     Done {
-        left: bytes,
+        left: Bytes { all, n },
         answer,
     }
 }

@@ -5,20 +5,10 @@ use native.Mathlib.Omega.{arith}
 use mathlib.Core.Path.{refl, ap, ◌∙◌}
 use mathlib.Core.Bool.{Bool}
 use lib.ListN.{get_or}
-use Rattle.types.proofs.Loops.{filling}
 use Rattle.raw.specs.Bytes.{number_at}
 use Rattle.attempt.specs.Snapshot.{apart, attempt_at}
 use Rattle.attempt.proofs.ReadColumns.{read_more, read_all}
 use Rattle.attempt.proofs.read_attempts.Goals as goal
-
-pub loop-i-init : goal.loop-i-init
-loop-i-init c = filling _ _ _ (omega arith)
-
-pub attempt_at-requires : goal.attempt_at-requires
-attempt_at-requires c = (omega arith, omega arith)
-
-pub bounds-attempts-i : goal.bounds-attempts-i
-bounds-attempts-i c = omega (arith, c.loop-i.invariant.full)
 
 pub loop-i-preserved : goal.loop-i-preserved
 loop-i-preserved c =
@@ -28,9 +18,6 @@ loop-i-preserved c =
     let at = c.attempt_at.ensures ∙ ap (λ (split : Bool). attempt_at split a.n l.i) c.version_of-version.ensures in
     let read = c.read_u32.ensures ∙ ap (λ (p : ℕ). number_at 4 p b) at in
     read_more (apart (get_or b 0 0)) a.n b (λ e. e.value) refl _ read (omega arith) l.invariant
-
-pub shape_of-attempts : goal.shape_of-attempts
-shape_of-attempts c = c.loop-i.invariant.full
 
 pub returns : goal.returns
 returns c =

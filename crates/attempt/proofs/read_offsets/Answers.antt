@@ -5,17 +5,10 @@ use native.Mathlib.Omega.{arith}
 use mathlib.Core.Path.{refl, ap, ◌∙◌}
 use mathlib.Core.Bool.{Bool}
 use lib.ListN.{get_or}
-use Rattle.types.proofs.Loops.{filling}
 use Rattle.raw.specs.Bytes.{number_at}
 use Rattle.attempt.specs.Snapshot.{apart, offset_at}
 use Rattle.attempt.proofs.ReadColumns.{read_more, read_all}
 use Rattle.attempt.proofs.read_offsets.Goals as goal
-
-pub loop-i-init : goal.loop-i-init
-loop-i-init c = filling _ _ _ (omega arith)
-
-pub bounds-offsets-i : goal.bounds-offsets-i
-bounds-offsets-i c = omega (arith, c.loop-i.invariant.full)
 
 pub loop-i-preserved : goal.loop-i-preserved
 loop-i-preserved c =
@@ -25,9 +18,6 @@ loop-i-preserved c =
     let at = c.offset_at.ensures ∙ ap (λ (split : Bool). offset_at split l.i) c.version_of-version.ensures in
     let read = c.read_u64.ensures ∙ ap (λ (p : ℕ). number_at 8 p b) at in
     read_more (apart (get_or b 0 0)) a.n b (λ e. e.key) refl _ read (omega arith) l.invariant
-
-pub shape_of-offsets : goal.shape_of-offsets
-shape_of-offsets c = c.loop-i.invariant.full
 
 pub returns : goal.returns
 returns c =

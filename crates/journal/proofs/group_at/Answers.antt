@@ -1,15 +1,11 @@
 -- `journal::group_at` meets its contract: the header is the block's part of the area, and its counts bound the
 -- bodies. Assumes nothing.
 use Rattle.std.proofs.lemmas.Result.{err_from_is_err_and}
-use native.Mathlib.Omega.{arith}
 use Rattle.journal.proofs.Walker.{turn-nothing, turn-counted, turn-bodies}
 use Rattle.journal.proofs.group_at.Goals as goal
 
 pub returns-then-not-is_sound_header : goal.returns-then-not-is_sound_header
 returns-then-not-is_sound_header c = turn-nothing _ _ _ _ _ c.is_sound_header.ensures c.if-not-is_sound_header.true
-
-pub overflow_cast-bodies : goal.overflow_cast-bodies
-overflow_cast-bodies c = omega (arith, c.type_inv.block 1)
 
 pub bodies_at-requires : goal.bodies_at-requires
 bodies_at-requires c =

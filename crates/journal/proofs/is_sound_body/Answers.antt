@@ -32,7 +32,7 @@ slice_bounds-all_zero-end c =
 pub returns : goal.returns
 returns c =
     c.all_zero.ensures
-    ∙ body-test _ _ _ _ _ c.shorter-from.ensures (kind (goal.at.returns c).Else-not-is_kind)
+    ∙ body-test _ _ _ _ _ c.min-from.ensures (kind (goal.at.returns c).Else-not-is_kind)
     (sym c.read_u32-owner.ensures ∙ c.if-owner-number.false)
     c.if-block-index.false
     (sym c.read_u16-bytes.ensures ∙ c.if-bytes-used.false)

@@ -34,12 +34,9 @@ good c = sym c.bad_length.ensures ∙ c.if-bad_length.false
 
 -- what the walk from where the loop stands answers is the call's answer
 answers : (c : At-loop-at) (w : Result Stop)
-    → w ≡ walk c.args.area.now c.shorter-end.result c.args.first_number c.args.first_block
+    → w ≡ walk c.args.area.now c.min-end.result c.args.first_number c.args.first_block
     → w ≡ walk_in c.args.hi c.args.first_number c.args.first_block c.args.area.now
-answers c w = walk-answered _ _ _ _ _ w (good c) c.shorter-end.ensures
-
-pub group_at-requires : goal.group_at-requires
-group_at-requires c = (c.loop-at-test.true, omega (arith, c.shorter-end.ensures))
+answers c w = walk-answered _ _ _ _ _ w (good c) c.min-end.ensures
 
 pub returns-in_err-behind : goal.returns-in_err-behind
 returns-in_err-behind c =
@@ -50,7 +47,7 @@ returns-in_err-behind c =
 
 -- the group that the turn found
 passed : (c : In-Some)
-    → group_at c.args.area.now c.shorter-end.result c.loop-at.number c.loop-at.at ≡ group c.in-Some.behind
+    → group_at c.args.area.now c.min-end.result c.loop-at.number c.loop-at.at ≡ group c.in-Some.behind
 passed c = found-group _ _ (rw c.in-Some.is at c.in_ok-behind.ensures)
 
 pub overflow_add-number : goal.overflow_add-number

@@ -16,4 +16,4 @@ returns c =
     ∙ ap (body_block a.number a.index)
     (chunk_part a.index _ _ a.payload.now
     c.chunk_start-from.ensures
-    c.shorter-to.ensures))
+    c.min-to.ensures))

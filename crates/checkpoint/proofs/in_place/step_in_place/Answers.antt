@@ -4,15 +4,12 @@ use Prim.Native.Nat.{◌+◌}
 use native.Mathlib.Omega.{arith}
 use mathlib.Core.Path.{◌≡◌, sym, ◌∙◌}
 use borrow.Author.Rules.{rules}
-use mathlib.Core.List.{List}
 use Prim.Native.Nat.{ℕ}
-use lib.ListN.{length, take}
-use Rattle.journal.specs.Answers.{block_of}
 use Rattle.journal.specs.Blocks.{bodies_for}
 use Rattle.consumer.specs.View.{view}
-use Rattle.checkpoint.specs.Checkpoint.{bodies, new_ceiling, is_last, next_place, next_block}
-use Rattle.checkpoint.specs.Parts.{Parts, parts, with_parts, PlaceIs, NextIs, Steppable, header_by}
-use Rattle.checkpoint.specs.Writing.{view_writing, SoundWriting}
+use Rattle.checkpoint.specs.Checkpoint.{bodies}
+use Rattle.checkpoint.specs.Parts.{Parts, parts, with_parts, NextIs, Steppable, header_by}
+use Rattle.checkpoint.specs.Writing.{SoundWriting}
 use Rattle.checkpoint.specs.declared.Writing.{Writing}
 use Rattle.checkpoint.proofs.Steps.{Small, small, place-small, next_small, write-last, write-place, write_content, write-inside, step-refused, step-last, step-going}
 use Rattle.checkpoint.proofs.in_place.step_in_place.Goals as goal

@@ -8,4 +8,4 @@ pub bounds-words-970 : goal.bounds-words-970
 bounds-words-970 c = simp length-set (omega (arith, c.requires))
 
 pub returns : goal.returns
-returns c = rw c.wide.ensures
+returns c = rw c.from.ensures
