@@ -4,7 +4,7 @@ use Prim.Native.Nat.{ℕ, ◌+◌, ◌≤◌, ◌<◌}
 use native.Mathlib.Omega.{arith}
 use mathlib.Core.Path.{◌≡◌, refl, sym, ap, subst, ◌∙◌}
 use mathlib.Core.Bool.{Bool, true, false, cond, ◌&&◌, true≢false}
-use mathlib.Core.List.{List, [], ◌∷◌}
+use mathlib.Core.List.{List}
 use mathlib.Core.Option.{Option, none, some}
 use lib.Dec.{leb}
 use lib.ListN.{length, take, drop}
@@ -15,7 +15,7 @@ use Rattle.types.specs.Limits.{MAX, LEASES, RANGES, WORKERS, sat64}
 use Rattle.types.specs.Refusal.{Refusal, Result, refused, done, Exhausted, CheckpointDue, Shed}
 use Rattle.types.specs.Table.{Answer, answer, Kept, Passed, first}
 use Rattle.types.proofs.Cases.{split}
-use Rattle.words.specs.Columns.{word, column, spliced}
+use Rattle.words.specs.Columns.{word, spliced}
 use Rattle.words.proofs.Columns.{column-is, spliced-is, column-length, column-spliced, column-beside, word-beside, spliced-length}
 use Rattle.cursor.specs.Cursor.{Cursor, ackBounded, commit_up_to}
 use Rattle.cursor.specs.Answers as cursor

@@ -1,5 +1,5 @@
 -- `is_full` meets its contract: refusal 27, test by test. Assumes nothing.
-use Prim.Native.Nat.{ℕ, ◌+◌, ◌≤◌, ◌<◌}
+use Prim.Native.Nat.{ℕ, ◌≤◌, ◌<◌}
 use native.Mathlib.Omega.{arith}
 use mathlib.Core.Path.{◌≡◌, sym, ap, ◌∙◌}
 use mathlib.Core.Bool.{Bool, true, false}
@@ -9,7 +9,6 @@ use lib.ListN.{length}
 use borrow.Author.Tests.{leb-true, leb-false}
 use Rattle.types.specs.Limits.{LEASES}
 use Rattle.tables.specs.declared.Place.{Place}
-use Rattle.tables.specs.declared.Place.TheVariants.{Missing}
 use Rattle.lease.specs.Operations.{lease_of, is_none}
 use Rattle.lease.specs.InWords.{PlacedIn, FullAt}
 use Rattle.lease.specs.Layout.{table_in, Sound}

@@ -15,7 +15,7 @@ use Rattle.hours.specs.View as hours
 use Rattle.hours.specs.declared.Hours.{Hours}
 use Rattle.lease.specs.Layout as lease
 use Rattle.lease.specs.declared.LeaseConfig.{LeaseConfig}
-use Rattle.consumer.specs.Calls.{attempt_of, nack_delay}
+use Rattle.consumer.specs.Calls.{nack_delay}
 use Rattle.consumer_words.specs.Layout.{BACKOFF-LEN, BACKOFFS, view}
 use Rattle.consumer_words.proofs.State.{table-part, lent-table}
 use Rattle.consumer_words.proofs.steps.nack_delay.Goals as goal

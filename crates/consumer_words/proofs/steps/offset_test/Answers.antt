@@ -1,14 +1,13 @@
 -- `offset_test` meets its contract. Assumes nothing.
-use Prim.Native.Nat.{ℕ, ◌<◌}
+use Prim.Native.Nat.{ℕ}
 use mathlib.Core.Path.{◌≡◌, sym, ap, subst, ◌∙◌}
-use mathlib.Core.Bool.{true, false}
+use mathlib.Core.Bool.{true}
 use mathlib.Core.List.{List}
 use mathlib.Core.Option.{Option}
 use lib.Dec.{eqb}
-use borrow.Author.Tests.{not-true, not-false, eqb-true, eqb-false, leb-true, leb-false}
+use borrow.Author.Tests.{eqb-true, eqb-false, leb-true, leb-false}
 use Rattle.types.specs.Limits.{MAX, LEASES}
 use Rattle.words.specs.Columns.{word, column}
-use Rattle.cursor.specs.Cursor.{settled}
 use Rattle.std.specs.Prelude.{None}
 use Rattle.std.specs.Prelude as std
 use Rattle.hours.specs.Hours.{isOpen}
