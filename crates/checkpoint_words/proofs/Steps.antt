@@ -4,7 +4,7 @@ use native.Mathlib.Omega.{arith}
 use mathlib.Core.Path.{◌≡◌, refl, sym, ap, subst, ◌∙◌}
 use mathlib.Core.Bool.{Bool, true, false}
 use mathlib.Core.List.{List}
-use lib.ListN.{length, get_or}
+use lib.ListN.{length}
 use Rattle.std.specs.Prelude.{Ok, Err}
 use Rattle.std.specs.Prelude as std
 use Rattle.types.specs.Limits.{MAX32}
@@ -14,15 +14,14 @@ use Rattle.words.specs.Columns.{word}
 use Rattle.words.proofs.Columns.{column-at}
 use Rattle.lease.specs.Layout.{NEXT, REDELIVERIES, table_in, Fits}
 use Rattle.lease.specs.Layout as leases
-use Rattle.consumer.specs.declared.Consumer.{Consumer}
-use Rattle.consumer_words.specs.Layout.{TABLE, CEILING, NEXT-NUMBER, NEXT-BLOCK, AREA-LEN, leases_in, consumer_in, view}
+use Rattle.consumer_words.specs.Layout.{TABLE, CEILING, NEXT-NUMBER, NEXT-BLOCK, AREA-LEN, leases_in, consumer_in}
 use Rattle.checkpoint.specs.Checkpoint.{lent, step}
 use Rattle.checkpoint.specs.Parts.{Parts, parts, with_parts, tabled, wrote_of, stepped, Steppable, SteppedIn}
 use Rattle.checkpoint.specs.Writing.{step_of, left_of, SteppedIs}
 use Rattle.checkpoint.specs.Writing as writing
 use Rattle.checkpoint.specs.declared.Writing.{Writing}
 use Rattle.checkpoint.specs.declared.in_place.SteppedAt.{SteppedAt}
-use Rattle.checkpoint_words.specs.Layout.{WRITTEN, CURSOR-LEN, ATTEMPT-LEN, WORDS, writing_in, view_writing, Sound, SoundWriting}
+use Rattle.checkpoint_words.specs.Layout.{WRITTEN, CURSOR-LEN, ATTEMPT-LEN, WORDS, writing_in, view_writing, SoundWriting}
 use Rattle.checkpoint_words.specs.InWords.{SoundAfter, stored, Steps}
 use Rattle.checkpoint_words.proofs.Stores.{stored-length, stores}
 

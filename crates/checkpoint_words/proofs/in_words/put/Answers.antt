@@ -1,7 +1,6 @@
 -- `put` meets its contract. Assumes nothing.
 use native.Mathlib.Omega.{arith}
 use lib.ListN.{length-set}
-use borrow.Author.Rules.{rules}
 use Rattle.checkpoint_words.proofs.in_words.put.Goals as goal
 
 pub bounds-words-970 : goal.bounds-words-970

@@ -9,4 +9,3 @@ use Rattle.inspect.proofs.listing.run_from.Given as goal
 
 abbrev pub invariant-loop-end : goal.invariant-loop-end
 invariant-loop-end l = l.after ≡ place_at l.area l.half l.end
-

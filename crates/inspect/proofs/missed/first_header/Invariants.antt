@@ -13,4 +13,3 @@ use Rattle.inspect.proofs.missed.first_header.Given as goal
 abbrev pub invariant-loop-i : goal.invariant-loop-i
 invariant-loop-i l =
     first_header l.area (l.end - l.i) l.i ≡ first_header l.area (l.end - l.from) l.from
-

@@ -16,4 +16,3 @@ use Rattle.inspect.proofs.missed.headers_behind.Given as goal
 abbrev pub invariant-loop-i : goal.invariant-loop-i
 invariant-loop-i l =
     Tally l.area l.end (named l.area (l.end - l.from) l.from) l.i l.count l.number
-

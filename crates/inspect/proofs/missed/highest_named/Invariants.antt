@@ -12,4 +12,3 @@ use Rattle.inspect.proofs.missed.highest_named.Given as goal
 
 abbrev pub invariant-loop-i : goal.invariant-loop-i
 invariant-loop-i l = HighestTo l.area l.end l.number l.i
-
