@@ -13,6 +13,8 @@ use Rattle.types.specs.Refusal as refusal
 use Rattle.types.specs.Refused.{refusal_of, as_is}
 use Rattle.types.specs.declared.refusals.Refusal as code_refusal
 use Rattle.tables.specs.Slots.{Permutes}
+use Rattle.cursor.specs.View.{ack_cursor}
+use Rattle.lease.specs.Parts.{gathered}
 use Rattle.consumer.specs.Calls as consumer
 use Rattle.consumer.specs.Parts.{Whole}
 use Rattle.consumer.specs.View.{view, Answers}
@@ -22,11 +24,12 @@ use Rattle.checkpoint.specs.Parts.{Lent, BegunAs}
 use Rattle.checkpoint.specs.Writing.{SoundWriting, SteppedIs, step_of}
 use Rattle.checkpoint.specs.declared.Writing.{Writing}
 use Rattle.checkpoint.specs.declared.Stepped.{Stepped}
-use Rattle.starts.specs.Parts.{Columns, going_on, RestartedIn}
+use Rattle.starts.specs.Parts.{Columns, columns, going_on, RestartedIn}
 use Rattle.starts.specs.declared.in_place.RestartedAt.{RestartedAt}
 use Rattle.machine.specs.Calls.{progress, begin, step, restart, u64, progressed}
 use Rattle.machine.specs.Transitions.{answered_as}
-use Rattle.machine.specs.View.{SoundAt, phaseAfter}
+use Rattle.machine.specs.View.{SoundAt, Sound, Stands, phaseAfter}
+use Rattle.machine.specs.declared.Machine.{Machine}
 use Rattle.machine.specs.Parts.{consumer_of, left, Ready}
 use Rattle.machine.specs.declared.in_place.Fixed.{Fixed}
 use Rattle.machine.specs.declared.in_place.Figures.{Figures}
@@ -36,7 +39,7 @@ use Rattle.machine.proofs.Transitions.{not_begun, not_stepped, begin-refused, be
 use Rattle.answers.specs.Numbers.{numbers_of, not_now, no_values, one_value, wrote_values}
 use Rattle.answers.specs.declared.Numbers.{Numbers}
 use Rattle.server.specs.Transitions.{AskedOn, CallIs}
-use Rattle.server.specs.Parts.{machine_of, Askable, Lendable, RestartedOn}
+use Rattle.server.specs.Parts.{machine_of, Askable, Lendable}
 use Rattle.server.proofs.InNumbers.{idle-sound, idle-asked, ask-some, call-some}
 
 -- ## a call on the state
@@ -96,23 +99,53 @@ module _ (s : Configuration) (k : ℕ) (w : Writing) (ok : SoundAt k w) (v : ℕ
         (begin-refused (machine_of s k w) e a out ok v f (record { answer = Err q; writing = w' }) h.begun q refl) same)
 
 -- ## restart
--- on every machine that has these parts; a refusal keeps the columns
-module _ (s : Configuration) (k : ℕ) (a : List ℕ) (p p' : Columns) (n : Numbers) (before after : Columns → Writing → Writing) where
-  pub refused-on : (f : code_refusal.Refusal) → RestartedIn s a (Err f) p p' → n ≡ numbers_of (refusal.numbered (refusal_of f)) → RestartedOn k s (before p) a n k (before p')
-  refused-on f h same w ok out =
-      let m = machine_of s k (before p w) in
+-- the columns that a restart fills, and the machine with others in their places
+abbrev pub columns_of : Machine → Columns
+columns_of m =
+    let c = m.writing.consumer in columns c.cursor.starts c.cursor.ends c.table.carried_offsets c.table.carried_counts
+
+abbrev pub with_columns : Machine → Columns → Machine
+with_columns m p =
+    let c = m.writing.consumer in
+    let t = c.table in
+    record {
+      configuration = m.configuration;
+      phase = m.phase;
+      writing =
+          record {
+            consumer =
+                record {
+                  cursor = ack_cursor c.cursor.committed p.starts p.ends c.cursor.runs;
+                  table =
+                      gathered t.config t.len t.carried_len t.next_generation.0 t.redeliveries_since_flush t.offsets t.slots t.generations t.attempt_starts t.deadlines
+                      t.deliveries t.workers p.offsets p.counts;
+                  ceiling = c.ceiling;
+                  next = c.next;
+                  area_len = c.area_len;
+                  settings = c.settings;
+                };
+            written = m.writing.written;
+            payload = m.writing.payload;
+            cursor_len = m.writing.cursor_len;
+            attempt_len = m.writing.attempt_len;
+          };
+    }
+
+module _ (m : Machine) (ok : Sound m) (a out : List ℕ) (p' : Columns) (n : Numbers) where
+  -- a refusal keeps them
+  pub restart-refused : (f : code_refusal.Refusal) → RestartedIn m.configuration a (Err f) (columns_of m) p' → n ≡ numbers_of (refusal.numbered (refusal_of f))
+      → CallIs m 0 18 0 0 0 0 a out n (with_columns m p') a out
+  restart-refused f h same =
       rw h.kept
       (call-some m 0 18 0 0 0 0 a out restart (record { answer = calls.Restarted (Err f); machine = m }) a out n refl
-      (restart-kept m a out ok f (h.is (before p w).consumer)) same)
+      (restart-kept m a out ok f (h.is m.writing.consumer)) same)
 
-  pub done_on : (r : RestartedAt) → RestartedIn s a (Ok r) p p' → n ≡ numbers_of (refusal.answered no_values (as_is (Ok (tt {0})))) → ((w : Writing) → Permutes LEASES (after p' w).consumer.table.slots)
-      → ((w : Writing) → (after p' w).consumer ≡ going_on s (length a) r p' (after p' w).consumer) → RestartedOn k s (before p) a n 0 (after p')
-  done_on r h same free is w ok out =
-      let m = machine_of s k (before p w) in
-      let m' = machine_of s 0 (after p' w) in
+  pub restarted-on : (r : RestartedAt) → RestartedIn m.configuration a (Ok r) (columns_of m) p' → n ≡ numbers_of (refusal.answered no_values (as_is (Ok (tt {0}))))
+      → (m' : Machine) → Stands m.configuration 0 (going_on m.configuration (length a) r p' m'.writing.consumer) m' → Permutes LEASES m'.writing.consumer.table.slots
+      → CallIs m 0 18 0 0 0 0 a out n m' a out
+  restarted-on r h same m' is free =
       call-some m 0 18 0 0 0 0 a out restart (record { answer = calls.Restarted (Ok (tt {0})); machine = m' }) a out n refl
-      (restart-made m a out (tt {0}) (going_on s (length a) r p' (after p' w).consumer) (h.is (after p' w).consumer) (h.sound (after p' w).consumer (free w)) m'
-      (record { configuration = refl; phase = refl; consumer = is w })) same
+      (restart-made m a out (tt {0}) (going_on m.configuration (length a) r p' m'.writing.consumer) (h.is m'.writing.consumer) (h.sound m'.writing.consumer free) m' is) same
 
 -- ## step
 pub writing-sound : (k : ℕ) (w : Writing) → k ≡ 1 → SoundAt k w → SoundWriting w

@@ -5,16 +5,13 @@ ghost use Rattle.lease.specs.Parts.{listing_all};
 ghost use Rattle.consumer.specs.Export.{snapshots};
 ghost use Rattle.consumer.specs.Parts.{progressing, planning, exporting};
 ghost use Rattle.checkpoint.specs.Parts.{beginning, parts};
-ghost use Rattle.starts.specs.Parts.{columns, Long};
 ghost use Rattle.machine.specs.Parts.{consumer_of};
-ghost use Rattle.server.specs.Parts.{fixed_as, figures_as, AskableIn, AskedIn, ProgressedIn, PlannedIn, ExportedIn, to_begin, Beginnable, BegunOn, to_restart, restarted_by, RestartedOn, Steppable, SteppedOn};
+ghost use Rattle.server.specs.Parts.{AskableIn, AskedIn, ProgressedIn, PlannedIn, ExportedIn, to_begin, Beginnable, BegunOn, Steppable, SteppedOn};
 
 use crate::kinds;
 use answers::Numbers;
 use checkpoint::counts::Columns;
 use checkpoint::in_place::StepNumbers;
-use consumer::{Configuration, Settings};
-use hours::Hours;
 use lease::LeaseConfig;
 use machine::in_place::{Figures, Fixed};
 use types::limits::{CARRIED, LEASES, RANGES, WORKERS};
@@ -28,7 +25,7 @@ pub struct AskDone {
 
 // A call of a worker on the state, where it can be called: that is phase 0. The rights are read only; they are lent by themselves, as
 // the columns are, since the machine's function takes them and the backoffs for one lifetime.
-fn ask_on(
+pub fn ask_in_place(
     phase: u64,
     worker: u64,
     kind: u64,
@@ -96,93 +93,6 @@ fn ask_on(
         numbers: answers::of_ask(answer, out),
         figures: after,
     }
-}
-
-// A call of a worker on the state.
-pub fn ask_in_place(
-    phase: u64,
-    worker: u64,
-    kind: u64,
-    a: u64,
-    b: u64,
-    c: u64,
-    d: u64,
-    committed: u64,
-    runs: usize,
-    config: LeaseConfig,
-    hours: Hours,
-    len: usize,
-    carried_len: usize,
-    next_generation: u64,
-    redeliveries: u32,
-    ceiling: u64,
-    block: usize,
-    area_len: usize,
-    max_deliver: u32,
-    backoff_len: usize,
-    threshold: u32,
-    starts: &mut [u64; RANGES],
-    ends: &mut [u64; RANGES],
-    offsets: &mut [u64; LEASES],
-    slots: &mut [u32; LEASES],
-    generations: &mut [u64; LEASES],
-    attempt_starts: &mut [u64; LEASES],
-    deadlines: &mut [u64; LEASES],
-    deliveries: &mut [u32; LEASES],
-    workers: &mut [u32; LEASES],
-    carried_offsets: &mut [u64; CARRIED],
-    carried_counts: &mut [u32; CARRIED],
-    backoff_nanos: &[u64; 16],
-    rights: &mut [u8; WORKERS],
-    out: &mut [u64],
-) -> AskDone
-    requires { AskableIn phase (consumer_of (fixed_as config hours ceiling block area_len max_deliver backoff_len threshold) (figures_as committed runs len carried_len next_generation redeliveries) starts.old ends.old offsets.old slots.old generations.old attempt_starts.old deadlines.old deliveries.old workers.old carried_offsets.old carried_counts.old backoff_nanos.now rights.old) }
-    ensures { AskedIn phase (consumer_of (fixed_as config hours ceiling block area_len max_deliver backoff_len threshold) (figures_as committed runs len carried_len next_generation redeliveries) starts.old ends.old offsets.old slots.old generations.old attempt_starts.old deadlines.old deliveries.old workers.old carried_offsets.old carried_counts.old backoff_nanos.now rights.old) worker kind a b c d out.old
-        result.numbers (consumer_of (fixed_as config hours ceiling block area_len max_deliver backoff_len threshold) result.figures starts.new ends.new offsets.new slots.new generations.new attempt_starts.new deadlines.new deliveries.new workers.new carried_offsets.new carried_counts.new backoff_nanos.now rights.new) out.new }
-{
-    let figures = Figures {
-        committed,
-        runs,
-        len,
-        carried_len,
-        next_generation,
-        redeliveries,
-    };
-    let fixed = Fixed {
-        config,
-        hours,
-        ceiling,
-        block,
-        area_len,
-        max_deliver,
-        backoff_len,
-        threshold,
-    };
-    ask_on(
-        phase,
-        worker,
-        kind,
-        a,
-        b,
-        c,
-        d,
-        fixed,
-        figures,
-        starts,
-        ends,
-        offsets,
-        slots,
-        generations,
-        attempt_starts,
-        deadlines,
-        deliveries,
-        workers,
-        carried_offsets,
-        carried_counts,
-        backoff_nanos,
-        rights,
-        out,
-    )
 }
 
 // Progress, where the state can be called: that is phase 0. All columns but the deadlines are read only; each is lent by itself.
@@ -318,102 +228,6 @@ pub struct StepDone {
     pub numbers: Numbers,
     pub phase: u64,
     pub left: StepNumbers,
-}
-
-// What a restart answers, and the numbers of the machine that it changes.
-#[derive(Clone, Copy)]
-pub struct RestartDone {
-    pub numbers: Numbers,
-    pub phase: u64,
-    pub committed: u64,
-    pub runs: usize,
-    pub len: usize,
-    pub carried_len: usize,
-    pub next_generation: u64,
-    pub redeliveries: u32,
-    pub ceiling: u64,
-    pub number: u64,
-    pub block: usize,
-    pub area_len: usize,
-    pub config: LeaseConfig,
-    pub settings: Settings,
-}
-
-// Call 18, in whatever phase, of a machine of this configuration: its consumer's numbers and columns are those that the journal has.
-// Refused, nothing changes.
-pub fn restart_in_place(
-    phase: u64,
-    committed: u64,
-    runs: usize,
-    len: usize,
-    carried_len: usize,
-    next_generation: u64,
-    redeliveries: u32,
-    ceiling: u64,
-    number: u64,
-    block: usize,
-    area_len: usize,
-    config: LeaseConfig,
-    settings: Settings,
-    configuration: Configuration,
-    starts: &mut [u64; RANGES],
-    ends: &mut [u64; RANGES],
-    slots: &mut [u32; LEASES],
-    carried_offsets: &mut [u64; CARRIED],
-    carried_counts: &mut [u32; CARRIED],
-    area: &[u8],
-) -> RestartDone
-    requires { Long (columns starts.old ends.old carried_offsets.old carried_counts.old) }
-    ensures { RestartedOn phase configuration (to_restart committed runs len carried_len next_generation redeliveries ceiling number block area_len config settings slots.old (columns starts.old ends.old carried_offsets.old carried_counts.old)) area.now
-        result.numbers result.phase (restarted_by result slots.new (columns starts.new ends.new carried_offsets.new carried_counts.new)) }
-{
-    let done = starts::in_place::restart_in_place(
-        configuration,
-        area,
-        starts,
-        ends,
-        carried_offsets,
-        carried_counts,
-    );
-    match done {
-        Ok(done) => {
-            starts::in_place::free_slots(slots);
-            let lease = configuration.lease;
-            let given = configuration.settings;
-            RestartDone {
-                numbers: answers::of_done(Ok(())),
-                phase: 0,
-                committed: done.committed,
-                runs: done.runs,
-                len: 0,
-                carried_len: done.carried_len,
-                next_generation: done.ceiling,
-                redeliveries: 0,
-                ceiling: done.ceiling,
-                number: done.number,
-                block: done.block,
-                area_len: area.len(),
-                config: lease,
-                settings: given,
-            }
-        }
-        Err(refusal) => RestartDone {
-            numbers: answers::of_refusal(refusal),
-            phase,
-            committed,
-            runs,
-            len,
-            carried_len,
-            next_generation,
-            redeliveries,
-            ceiling,
-            number,
-            block,
-            area_len,
-            config,
-            settings,
-        },
-    }
 }
 
 // Call 16, where a checkpoint can be begun: that is phase 0. The columns are read only; each is lent by itself.

@@ -1,6 +1,5 @@
 -- `lease` meets its contract. Assumes nothing.
 use Rattle.text.proofs.Putting.{says_then}
-use borrow.Author.Rules.{rules}
 use Rattle.shown.proofs.lease.Goals as goal
 
 pub returns : goal.returns

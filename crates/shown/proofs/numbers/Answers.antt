@@ -1,6 +1,5 @@
 -- `numbers` meets its contract. Assumes nothing.
 use Rattle.text.proofs.Putting.{says_then}
-use borrow.Author.Rules.{rules}
 use Rattle.shown.proofs.numbers.Goals as goal
 
 pub returns : goal.returns

@@ -1,4 +1,4 @@
--- `ask_on` meets its contract: only in phase 0 is the consumer called, and then a number is no call, or what the consumer answers.
+-- `ask_in_place` meets its contract: only in phase 0 is the consumer called, and then a number is no call, or what the consumer answers.
 -- Assumes nothing.
 use native.Mathlib.Omega.{arith}
 use mathlib.Core.Path.{◌≡◌, sym, ap, ◌∙◌}
@@ -7,8 +7,8 @@ use borrow.Author.Rules.{rules}
 use Rattle.server.specs.Kinds.{asking_of}
 use Rattle.server.proofs.InNumbers.{not_idle, idle-sound, idle-asked, ask_none, ask-some}
 use Rattle.server.proofs.InPlace.{whole, ready}
-use Rattle.server.proofs.in_place.ask_on.Goals as goal
-use Rattle.server.proofs.in_place.ask_on.Goals.{Else-phase-ne0, Then-phase-ne0}
+use Rattle.server.proofs.in_place.ask_in_place.Goals as goal
+use Rattle.server.proofs.in_place.ask_in_place.Goals.{Else-phase-ne0, Then-phase-ne0}
 
 elsewhere : (c : Then-phase-ne0) → c.args.phase ≡ 0 → ⊥
 elsewhere c e = omega arith
