@@ -8,7 +8,7 @@ use lib.Dec.{eqb, ltb}
 use borrow.Author.Tests.{eqb-true, ltb-true, ltb-false, not-false}
 use Rattle.types.proofs.Cases.{split, neither}
 use Rattle.journal.specs.Area.{bad_length}
-use Rattle.consumer.specs.State.{bad_area, half_blocks, in_second}
+use Rattle.consumer.specs.State.{bad_area, half_blocks, in_second, half_end}
 
 pub record Halves (n : ℕ) : Type 0 where
   pub taken : bad_length n ≡ false
@@ -36,3 +36,11 @@ pub data InUse (n block : ℕ) : Type 0 where
 pub in_use : (n block : ℕ) → InUse n block
 in_use n block =
     split (in_second n block) (λ t. second (ltb-true (half_blocks n) block t) t) (λ t. first (ltb-false (half_blocks n) block t) t)
+
+-- the next block lies before the end of its half
+pub before-end : (n block : ℕ) → block ≤ n / 512 → block ≤ half_end n block
+before-end n block h = go (in_use n block)
+  where
+    go : InUse n block → block ≤ half_end n block
+    go (first l e) = rw e (omega arith)
+    go (second l e) = rw e h

@@ -4,7 +4,7 @@
 use Prim.Native.Nat.{ℕ, zero, suc, ◌+◌, ◌≤◌, ◌<◌}
 use native.Mathlib.Omega.{arith}
 use mathlib.Core.Path.{◌≡◌, refl, sym, ap, ◌∙◌}
-use mathlib.Core.List.{List, [], ◌∷◌, ◌++◌, append_assoc}
+use mathlib.Core.List.{List, [], ◌∷◌, ◌++◌, append_assoc, append-nil}
 use mathlib.Core.Option.{Option, none, some, none-ne-some}
 use lib.ListN.{length, take, drop, get_or, length-append, length-take, length-drop}
 use lib.Seq.{take_all, take-add, take-take, length-take-le, take-append-add, drop-append-add}
@@ -138,6 +138,11 @@ module _ (t : LeaseTable) (w : lease.Whole t) (now : ℕ) where
         let r = rw one_more at (rising-take 0 (i + 1) (leases_of t) w.sound.valid.rising) in
         rw (one_more, ← due) (comes_in now this (take i (leases_of t)) 0 at r (rw (← due) at d) (rw (← due) at b))
 
+  pub behind_none : (times : List ℕ) → Behind t now t.carried_offsets times 0 0
+  behind_none times =
+      let e : t.carried_len + 0 ≡ t.carried_len = omega arith in
+      record { full = w.full.carried-offsets; is = rw e (sym (append-nil (take t.carried_len t.carried_offsets))); deadlines = refl }
+
   module _ {listed times : List ℕ} {n i : ℕ} (h : i < t.len) (inv : Behind t now listed times n i) where
     pub behind-running : now < get_or t.deadlines (slot_in t.slots i) 0 → Behind t now listed times n (i + 1)
     behind-running d = record { full = inv.full; is = rw (running i h d) inv.is; deadlines = rw (running i h d) inv.deadlines }
@@ -178,6 +183,10 @@ room-behind c w n h =
     omega (arith, in_flight_lem c.table w.full w.sound.table, carried-length c.table w.full w.sound.table, w.sound.valid.together)
 
 module _ (len m now : ℕ) (ks slots ds cks : List ℕ) where
+  pub waits_none : (times : List ℕ) → length times ≡ LEASES → Waits len m now ks slots ds cks cks times 0 0
+  waits_none times e =
+      record { inside = omega arith; few = omega arith; full = e; behind = λ c w. behind_none (awaiting len m ks slots ds cks c).table (table-whole w) now times }
+
   module _ {listed times : List ℕ} {n i : ℕ} (inv : Waits len m now ks slots ds cks listed times n i) where
     module _ (fits : len ≤ LEASES) (more : i < len) where
       pub waits-running : now < get_or ds (slot_in slots i) 0 → Waits len m now ks slots ds cks listed times n (i + 1)

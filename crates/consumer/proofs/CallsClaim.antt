@@ -17,9 +17,14 @@ use Rattle.types.specs.Table.{Row, first, Passed, Answer, answer}
 use Rattle.types.specs.Keyed.{lookup}
 use Rattle.types.proofs.Table.{first_none, guarded-passed, first-met-before, first_none_before, passed-append}
 use Rattle.cursor.specs.Cursor.{settled}
+use Rattle.delivery.specs.Config.{dispositionOf}
+use Rattle.delivery.specs.Policy.{destination}
+use Rattle.delivery.specs.declared.Disposition.{Disposition}
+use Rattle.delivery.specs.declared.Disposition.TheVariants as dispositions
 use Rattle.hours.specs.Hours.{isOpen, next_opening}
 use Rattle.lease.specs.declared.Lease.{Lease}
 use Rattle.lease.specs.declared.LeaseTable.{LeaseTable}
+use Rattle.lease.specs.declared.Grant as code
 use Rattle.lease.specs.State.{Table}
 use Rattle.lease.specs.State as state
 use Rattle.lease.specs.Operations.{Grant, granted, grant, lease_of, is_none, running}
@@ -30,7 +35,7 @@ use Rattle.consumer.specs.State.{State, with_table}
 use Rattle.consumer.specs.Rights.{claiming}
 use Rattle.consumer.specs.Calls.{call_rows, HandOut, hand_out, is_full, claim_rows, claim_table, claim, claimed}
 use Rattle.consumer.specs.Parts.{handed_out}
-use Rattle.consumer.specs.View.{view, Sound, Answers, holding}
+use Rattle.consumer.specs.View.{view, Sound, Answers, holding, hand_out_of, destination_of}
 use Rattle.consumer.specs.declared.Consumer.{Consumer}
 use Rattle.consumer.proofs.Open.{claim_open}
 use Rattle.consumer.proofs.Valid.{claimed-valid}
@@ -163,6 +168,18 @@ unfolding claim
 claim-refused c ok w o now r e = refuses c ok (claim_table (view c) w o now) r _ (sym e)
 
 -- ## the grant
+-- the answer has the disposition's destination
+destination-is : (d : Disposition) → dispositionOf d ≡ done (destination_of d)
+destination-is dispositions.Deliver = refl
+destination-is dispositions.DeadLetter = refl
+
+pub handed : (limit : ℕ) (g : code.Grant) (d : Disposition) → dispositionOf d ≡ done (destination limit g.deliveries)
+    → done (hand_out_of (record { token = g.token; deliveries = g.deliveries; disposition = d })) ≡ handed_out limit (done (grant_in g))
+handed limit g d q =
+    let both : done (destination_of d) ≡ done (destination limit g.deliveries) = sym (destination-is d) ∙ q in
+    let same : destination_of d ≡ destination limit g.deliveries = cc in
+    rw same
+
 module _ (c : Consumer) (ok : Sound c) (w o now : ℕ) (fits : o ≤ MAX) (p : Passed (claim_table (view c) w o now)) where
   abbrev t : Table
   t = (view c).table

@@ -14,7 +14,7 @@ use Rattle.lease.specs.declared.Lease.{Lease}
 use Rattle.hours.proofs.Openings.{next-later}
 use Rattle.lease.specs.Operations.{lease_of, running, requeued_as}
 use Rattle.consumer.specs.State.{State}
-use Rattle.consumer.specs.Calls.{attempt_of, nack_deadline, nacked}
+use Rattle.consumer.specs.Calls.{attempt_of, nack_deadline, nacked, nack}
 use Rattle.consumer.specs.Nacks.{latest, WithinCap, NackWithinCap}
 use Rattle.consumer.proofs.Updates.{lookup-update-same}
 use Rattle.consumer.proofs.Open.{NackOpen, nack_cases}

@@ -1,12 +1,13 @@
 -- What is shown of an offset: what each case of it owes its contract, and what a worker can't tell apart.
 -- Assumes nothing.
-use Prim.Native.Nat.{ℕ, zero, suc}
+use Prim.Native.Nat.{ℕ, zero, suc, ◌≤◌, ◌<◌}
 use mathlib.Core.Path.{◌≡◌, refl, sym, ap, ◌∙◌}
-use mathlib.Core.Bool.{Bool, true, false, not, ◌&&◌}
+use mathlib.Core.Bool.{Bool, true, false, not, cond, ◌&&◌}
 use mathlib.Core.List.{List, [], ◌∷◌}
-use mathlib.Core.Option.{Option}
+use mathlib.Core.Option.{Option, none, some}
 use lib.Dec.{leb}
 use lib.ListN.{get_or}
+use borrow.Author.Tests.{lt-ltb, le-ltb}
 use Rattle.std.specs.Prelude.{Some, None}
 use Rattle.std.specs.Prelude as std
 use Rattle.types.specs.Limits.{WORKERS}
@@ -21,7 +22,7 @@ use Rattle.consumer.specs.State.{State, count_or0}
 use Rattle.consumer.specs.Rights.{looking, bit_of, SUPERVISOR, permits, worker_rows}
 use Rattle.consumer.specs.Calls.{call_rows}
 use Rattle.consumer.specs.Questions.{ViewOf, look}
-use Rattle.consumer.specs.Standing.{Settled, View, bare, unsettled_as, in_full, supervises, view_of, standing_number, view_values, Alike}
+use Rattle.consumer.specs.Standing.{Settled, Held, Waiting, View, bare, unsettled_as, in_full, supervises, view_of, standing_number, view_values, Alike}
 use Rattle.consumer.specs.View.{standing_in, view_in}
 use Rattle.consumer.specs.declared.views.Standing as code-standing
 use Rattle.consumer.specs.declared.views.Standing.TheVariants as standings
@@ -40,6 +41,12 @@ supervises-by rights w e = marked (leb WORKERS w) (permits rights w SUPERVISOR) 
 
 -- ## the standing by the lease that was found
 module _ (x : std.Option Lease) (l : Lease) (now : ℕ) (e : x ≡ Some l) where
+  pub before-deadline : now < l.deadline → Held ≡ unsettled_as (lease_in x) now
+  before-deadline h = rw (e, lt-ltb now l.deadline h)
+
+  pub from-deadline : l.deadline ≤ now → Waiting ≡ unsettled_as (lease_in x) now
+  from-deadline h = rw (e, le-ltb now l.deadline h)
+
   pub is-leased : (y : code-standing.Standing) (carried : Option ℕ) → standing_in y ≡ unsettled_as (lease_in x) now
       → view_in (views.Leased y (record { attempts = l.deliveries; generation = l.generation; deadline = l.deadline; holder = l.worker })) ≡ in_full (lease_in x) carried now
   is-leased y carried h = rw (h, e)

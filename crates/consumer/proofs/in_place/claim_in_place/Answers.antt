@@ -2,6 +2,7 @@
 -- is lent. Assumes nothing.
 use Prim.Native.Nat.{◌≤◌}
 use native.Mathlib.Omega.{arith}
+use mathlib.Core.Path.{refl}
 use Rattle.types.specs.Limits.{MAX}
 use Rattle.types.specs.Refused.{refusal_of}
 use Rattle.cursor.specs.View.{ack_cursor}
@@ -25,6 +26,13 @@ pub returns-in-Err : goal.returns-in-Err
 returns-in-Err c x w =
     let k = made (goal.at.returns-in-Err c).Start x in
     claim-refused k w.sound c.args.worker c.args.offset c.args.now (refusal_of c.in-Err.refusal) (c.in-Err.ensures.0.is k w)
+
+-- a worker that may claim is one of the eight
+pub overflow_cast-worker : goal.overflow_cast-worker
+overflow_cast-worker c = omega (arith, c.in-Ok.ensures.0.known refl)
+
+pub claim_at-claimed-requires : goal.claim_at-claimed-requires
+claim_at-claimed-requires c = (c.requires.1, c.in-Ok.ensures.1)
 
 fits : (s : Start) → s.args.offset ≤ MAX
 fits s = omega arith

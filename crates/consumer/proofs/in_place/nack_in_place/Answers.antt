@@ -3,6 +3,7 @@
 use Prim.Native.Nat.{ℕ}
 use mathlib.Core.Path.{◌≡◌, refl}
 use Rattle.types.specs.Refusal.{done}
+use native.Mathlib.Omega.{arith}
 use Rattle.types.specs.Refused.{refusal_of}
 use Rattle.types.specs.Table.{Passed, checked}
 use Rattle.delivery.specs.Config.{delay_of}
@@ -14,6 +15,7 @@ use Rattle.consumer.specs.View.{view}
 use Rattle.consumer.specs.declared.Consumer.{Consumer}
 use Rattle.consumer.proofs.CallsReturns.{table-whole}
 use Rattle.consumer.proofs.CallsToken.{first-refused, test-passed, nack-refused, nack_exhausted, nack-due, nack-passed, nack_requeued}
+use Rattle.lease.proofs.Tokens.{owned-used}
 use Rattle.consumer.proofs.in_place.nack_in_place.Goals as goal
 use Rattle.consumer.proofs.in_place.nack_in_place.Goals.{Start}
 
@@ -49,6 +51,10 @@ returns-then-ceiling-next_generation c x w =
     let s = (goal.at.returns-then-ceiling-next_generation c).Start in
     nack-due (made s x) w.sound c.args.worker c.args.offset c.args.generation c.args.now (delay_of c.args.delay)
     (owned s x _ (c.in-Ok.ensures.0 (made s x) w rights.nacking refl)).0 c.if-next_generation-eq-MAX.false c.if-ceiling-next_generation.true
+
+pub nack_at-nacked-requires : goal.nack_at-nacked-requires
+nack_at-nacked-requires c =
+    omega (arith, owned-used c.args.offset c.args.generation c.args.len c.args.offsets.now c.args.slots.now c.args.generations.now c.in-Ok.ensures.1, c.requires.1)
 
 pub returns : goal.returns
 returns c x w =

@@ -2,6 +2,7 @@
 -- parts that it is lent. Assumes nothing.
 -- a consumer with the parts that the arguments are
 use mathlib.Core.Path.{refl}
+use native.Mathlib.Omega.{arith}
 use Rattle.std.proofs.lemmas.Result.{err_from_is_err_and}
 use Rattle.types.specs.Refused.{refusal_of}
 use Rattle.lease.specs.Answers.{extend_of}
@@ -12,6 +13,7 @@ use Rattle.consumer.specs.View.{view}
 use Rattle.consumer.specs.declared.Consumer.{Consumer}
 use Rattle.consumer.proofs.CallsReturns.{table-whole}
 use Rattle.consumer.proofs.CallsToken.{first-refused, test-passed, progress-refused, progress-is}
+use Rattle.lease.proofs.Tokens.{owned-used}
 use Rattle.consumer.proofs.in_place.progress_in_place.Goals as goal
 use Rattle.consumer.proofs.in_place.progress_in_place.Goals.{Start}
 
@@ -29,6 +31,10 @@ returns-in_err-held c x w =
     (progress-refused k w.sound c.args.worker c.args.offset c.args.generation c.args.now r
     (first-refused (token_rows (view k) c.args.worker rights.extending c.args.offset c.args.generation) (attempt_of (view k) c.args.offset) r
     (c.in_err-held.ensures.0 k w rights.extending refl)))
+
+pub extend_at-requires : goal.extend_at-requires
+extend_at-requires c =
+    omega (arith, owned-used c.args.offset c.args.generation c.args.len c.args.offsets.now c.args.slots.now c.args.generations.now c.in_ok-held.ensures.1, c.requires)
 
 pub returns : goal.returns
 returns c x w =

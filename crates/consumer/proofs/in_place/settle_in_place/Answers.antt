@@ -14,6 +14,7 @@ use Rattle.consumer.specs.View.{view}
 use Rattle.consumer.specs.declared.Consumer.{Consumer}
 use Rattle.consumer.proofs.CallsReturns.{table-whole}
 use Rattle.consumer.proofs.CallsToken.{first-refused, test-passed, ack-refused, ack-shed, ack-settled}
+use Rattle.lease.proofs.Tokens.{owned-used}
 use Rattle.consumer.proofs.in_place.settle_in_place.Goals as goal
 use Rattle.consumer.proofs.in_place.settle_in_place.Goals.{Start}
 
@@ -43,6 +44,10 @@ returns-then-is_shed c x w =
     let s = (goal.at.returns-then-is_shed c).Start in
     ack-shed (made s x) w.sound c.args.worker c.args.offset c.args.generation (owned s x _ (c.in-Ok.ensures.0 (made s x) w rights.settling refl))
     (cursor.ack_of c.ack_in_place-noted.result.outcome) _ c.ack_in_place-noted.ensures (sym c.is_shed.ensures ∙ c.if-is_shed.true)
+
+pub ack_at-left-requires : goal.ack_at-left-requires
+ack_at-left-requires c =
+    (owned-used c.args.offset c.args.generation c.args.len c.args.offsets.now c.args.slots.now c.args.generations.now c.in-Ok.ensures.1, c.requires.1)
 
 pub returns : goal.returns
 returns c x w =

@@ -66,6 +66,12 @@ second n x e =
     let s = n.before.before.before.before.before.before in
     omega (arith, n.snapshot_len-attempt_len.ensures, attempts-length 1 (all_attempt_counts (view (given s x)).table), e)
 
+pub all_counts_in_place-counts-requires : goal.all_counts_in_place-counts-requires
+all_counts_in_place-counts-requires c = c.requires.whole.sound.table.len
+
+pub snapshot_len-cursor_len-requires : goal.snapshot_len-cursor_len-requires
+snapshot_len-cursor_len-requires c = c.requires.cursor.sound.few
+
 pub snapshot_len-attempt_len-requires : goal.snapshot_len-attempt_len-requires
 snapshot_len-attempt_len-requires c = few (goal.at.snapshot_len-attempt_len-requires c).After-all_counts_in_place-counts
 
@@ -76,6 +82,20 @@ returns-then-cursor-cursor_len c x l w =
 pub returns-then-attempts-attempt_len : goal.returns-then-attempts-attempt_len
 returns-then-attempts-attempt_len c x l w =
     attempts-short (view (given (goal.at.returns-then-attempts-attempt_len c).Start x)) w (lent (goal.at.returns-then-attempts-attempt_len c).Start) (omega (arith, c.if-cursor-cursor_len.false, first (goal.at.returns-then-attempts-attempt_len c).After-snapshot_len-attempt_len x)) (omega (arith, c.if-attempts-attempt_len.true, second (goal.at.returns-then-attempts-attempt_len c).After-snapshot_len-attempt_len x (counted (goal.at.returns-then-attempts-attempt_len c).After-all_counts_in_place-counts x l)))
+
+pub encode_in_place-requires : goal.encode_in_place-requires
+encode_in_place-requires c = c.requires.cursor
+
+pub encode_counts-requires : goal.encode_counts-requires
+encode_counts-requires c = omega (arith, few (goal.at.encode_counts-requires c).After-all_counts_in_place-counts)
+
+pub overflow_cast-result : goal.overflow_cast-result
+overflow_cast-result c =
+    omega (arith, c.snapshot_len-cursor_len.ensures, c.requires.cursor.sound.few)
+
+pub overflow_cast-result-2 : goal.overflow_cast-result-2
+overflow_cast-result-2 c =
+    omega (arith, c.snapshot_len-attempt_len.ensures, few (goal.at.overflow_cast-result-2 c).After-all_counts_in_place-counts)
 
 pub returns : goal.returns
 returns c x l w =

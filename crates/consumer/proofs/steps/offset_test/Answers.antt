@@ -15,12 +15,13 @@ use Rattle.hours.specs.View as hours
 use Rattle.lease.specs.Operations.{lease_of, running}
 use Rattle.lease.specs.Parts.{HoldsAt, due}
 use Rattle.lease.specs.Rest.{is_claimable}
+use Rattle.lease.proofs.Slots.{placed-within}
 use Rattle.consumer.specs.State.{State}
 use Rattle.consumer.specs.Parts.{Whole, testing}
 use Rattle.consumer.specs.View.{view}
 use Rattle.consumer.specs.declared.Consumer.{Consumer}
 use Rattle.consumer.proofs.CallsReturns.{table-whole}
-use Rattle.consumer.proofs.CallsClaim.{open-now, blocked, unblocked, is-running, is_exhausted, is-at-ceiling, is-at-threshold, is-full, is_open}
+use Rattle.consumer.proofs.CallsClaim.{open-now, opens-later, blocked, unblocked, is-last, is-settled, is-closed, is-running, is_exhausted, is-at-ceiling, is-at-threshold, is-full, is_open}
 use Rattle.consumer.proofs.steps.offset_test.Goals as goal
 use Rattle.consumer.proofs.steps.offset_test.Goals.{Start}
 
@@ -44,6 +45,29 @@ not-running : (s : Start) (x : Consumer) → Whole (made s x) → (place : Place
     → (b : Bool) → ((o : ℕ) → HoldsAt o place (due s.args.slots.now s.args.deadlines.now) (λ t. b ≡ is_claimable t o s.args.now)) → not b ≡ false
     → running (lease_of (shown s x).table s.args.offset) s.args.now ≡ false
 not-running s x w place p b e n = unblocked b _ (e s.args.offset (made s x).table (table-whole w) p) n
+
+pub returns-then-offset-eq-MAX : goal.returns-then-offset-eq-MAX
+returns-then-offset-eq-MAX c = (λ x w. is-last (shown (goal.at.returns-then-offset-eq-MAX c).Start x) c.args.offset c.args.now c.if-offset-eq-MAX.true, tt)
+
+pub returns-then-is_acked_in_place : goal.returns-then-is_acked_in_place
+returns-then-is_acked_in_place c = (
+  λ x w.
+      let s = (goal.at.returns-then-is_acked_in_place c).Start in
+      is-settled (shown s x) c.args.offset c.args.now c.if-offset-eq-MAX.false (sym c.is_acked_in_place.ensures ∙ c.if-is_acked_in_place.true),
+  tt,
+)
+
+pub returns-in-Some : goal.returns-in-Some
+returns-in-Some c = (
+  λ x w.
+      let s = (goal.at.returns-in-Some c).Start in
+      let e = opens-later (isOpen (hours.view c.args.hours) c.args.now) _ c.in-Some.opening (sym (ap opening_of c.in-Some.is) ∙ c.at.ensures) in
+      is-closed (shown s x) c.args.offset c.args.now c.if-offset-eq-MAX.false (sym c.is_acked_in_place.ensures ∙ c.if-is_acked_in_place.false) e.0 c.in-Some.opening e.1,
+  tt,
+)
+
+pub is_claimable_at-requires : goal.is_claimable_at-requires
+is_claimable_at-requires c = placed-within c.args.offset c.args.len c.args.offsets.now c.find-place.result c.requires.1 c.find-place.ensures
 
 pub returns-then-not-is_claimable_at : goal.returns-then-not-is_claimable_at
 returns-then-not-is_claimable_at c = (

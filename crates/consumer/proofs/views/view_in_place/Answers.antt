@@ -2,6 +2,7 @@
 -- a consumer with the parts that the arguments are, and its state
 use mathlib.Core.Path.{sym, ap, ◌∙◌}
 use mathlib.Core.Option.{Option}
+use borrow.Author.Rules.{rules}
 use Rattle.types.specs.Keyed.{lookup}
 use Rattle.cursor.specs.View.{ack_cursor}
 use Rattle.lease.specs.declared.Lease.{Lease}
@@ -11,7 +12,7 @@ use Rattle.consumer.specs.Parts.{showing}
 use Rattle.consumer.specs.View.{view}
 use Rattle.consumer.specs.declared.Consumer.{Consumer}
 use Rattle.consumer.proofs.CallsReturns.{table-whole}
-use Rattle.consumer.proofs.Standing.{is_plain, is-full}
+use Rattle.consumer.proofs.Standing.{is-settled, is_plain, is-full}
 use Rattle.consumer.proofs.views.view_in_place.Goals as goal
 use Rattle.consumer.proofs.views.view_in_place.Goals.{Start}
 
@@ -23,6 +24,10 @@ made s =
 
 abbrev shown : Start → Consumer → State
 shown s x = view (made s x)
+
+pub returns-then-is_acked_in_place : goal.returns-then-is_acked_in_place
+returns-then-is_acked_in_place c x w =
+    is-settled (shown (goal.at.returns-then-is_acked_in_place c).Start x) c.args.worker c.args.offset c.args.now (sym c.is_acked_in_place.ensures ∙ c.if-is_acked_in_place.true)
 
 pub returns-then-is_supervisor : goal.returns-then-is_supervisor
 returns-then-is_supervisor c x w =
