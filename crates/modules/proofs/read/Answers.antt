@@ -6,8 +6,8 @@ use Rattle.modules.specs.Reading.{Going}
 use borrow.Author.Rules.{rules}
 use Rattle.modules.proofs.read.Goals as goal
 
-pub loop-turns-init : goal.loop-turns-init
-loop-turns-init c = (
+pub loop-init : goal.loop-init
+loop-init c = (
   refl,
   refl,
   record {
@@ -16,5 +16,5 @@ loop-turns-init c = (
   },
 )
 
-pub loop-turns-preserved : goal.loop-turns-preserved
-loop-turns-preserved c = (search rules, search rules, search rules)
+pub loop-preserved : goal.loop-preserved
+loop-preserved c = (search rules, search rules, search rules)
