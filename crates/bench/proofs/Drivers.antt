@@ -10,7 +10,7 @@ use Rattle.raw.specs.Bytes.{write}
 use Rattle.cursor.specs.Cursor.{Cursor, ackBounded, resume_with_ahead}
 use Rattle.std.specs.Prelude as std
 use Rattle.std.specs.Prelude.{Ok, Err}
-use Rattle.core.specs.Result.{result_unwrap_or}
+use Rattle.std.specs.Result.{result_unwrap_or}
 use Rattle.cursor.specs.View.{view, Fresh, Sound}
 use Rattle.cursor.specs.Answers.{ResumedIs}
 use Rattle.cursor.specs.declared.AckCursor.{AckCursor}

@@ -5,12 +5,13 @@ use native.Mathlib.Omega.{arith}
 use mathlib.Core.Path.{◌≡◌, refl, sym, ap, ◌∙◌}
 use mathlib.Core.Bool.{Bool}
 use mathlib.Core.List.{List, ◌∷◌}
-use mathlib.Core.Option.{Option, none, some}
+use mathlib.Core.Option.{Option, none, some, none-ne-some}
 use lib.ListN.{length}
 use Rattle.std.specs.Prelude as std
-use Rattle.std.specs.Prelude.{Some, None, Ok}
+use Rattle.std.specs.Prelude.{Some, None, Ok, Err}
 use Rattle.types.specs.Refusal.{Refusal, Result, refused, done}
 use Rattle.types.specs.declared.refusals.Refusal as code
+use Rattle.types.specs.Refused.{refusal_of}
 use Rattle.types.proofs.Checked.{refused_not_done}
 use Rattle.types.proofs.Table.{checked-done}
 use Rattle.consumer.specs.State.{State}
@@ -205,8 +206,9 @@ fresh-from s size r h e =
 pub not_refused : (c : state.Configuration) (m m' : Machine) (a a' out : List ℕ) (s : State) (x : std.Result (Unit {0}) code.Refusal) (f : Refusal)
     → restarts.restart c a ≡ done s → after_of restart (answer.Restarted x) m' a' out ≡ transition c (phase_of m) a restart → start_fault x ≡ some f → ⊥
 unfolding transition
-not_refused c m m' a a' out s x f reads e g =
-    refused_not_done (same_answer (refused f) (done s) (phase_of m') (idle s) a' a (rw (g, reads) at e))
+not_refused c m m' a a' out s (Ok t) f reads e g = absurd (none-ne-some f g)
+not_refused c m m' a a' out s (Err r) f reads e g =
+    refused_not_done (same_answer (refused (refusal_of r)) (done s) (phase_of m') (idle s) a' a (rw reads at e))
 
 pub demand_3_ran : Demand3Ran
 unfolding Demand3Ran Demand3 BatchBound

@@ -6,6 +6,7 @@ pub mod Search
 pub mod Answers
 pub mod Snapshot
 pub mod Reading
+pub mod Refusals
 pub mod Writing
 pub mod Walking
 pub mod Edits

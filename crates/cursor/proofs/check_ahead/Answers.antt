@@ -2,7 +2,7 @@
 use native.Mathlib.Omega.{arith}
 use mathlib.Core.Path.{refl}
 use lib.ListN.{get_or}
-use Rattle.core.proofs.result.Match.{err_is}
+use Rattle.cursor.proofs.Refusals.{err_is}
 use Rattle.cursor.specs.Ranges.{range}
 use Prim.Native.Nat.{ℕ, ◌≤◌}
 use borrow.Author.Count.{below_more}

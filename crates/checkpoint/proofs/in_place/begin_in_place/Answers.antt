@@ -1,6 +1,6 @@
 -- `begin_in_place` meets its contract: the worker's rows, then what a begin does that is permitted. Assumes nothing.
 use mathlib.Core.Path.{sym}
-use Rattle.core.proofs.result.Match.{err_is}
+use Rattle.cursor.proofs.Refusals.{err_is}
 use Rattle.types.proofs.Table.{first_none}
 use Rattle.cursor.specs.View.{ack_cursor}
 use Rattle.consumer.specs.Rights.{checkpointing}

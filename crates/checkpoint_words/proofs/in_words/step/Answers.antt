@@ -3,7 +3,7 @@ use Prim.Native.Nat.{ℕ}
 use native.Mathlib.Omega.{arith}
 use mathlib.Core.Path.{sym, subst}
 use mathlib.Core.List.{List}
-use Rattle.core.proofs.result.Match.{err_is}
+use Rattle.cursor.proofs.Refusals.{err_is}
 use Rattle.std.specs.Prelude.{Ok}
 use Rattle.checkpoint_words.specs.InWords.{Steps}
 use Rattle.checkpoint_words.proofs.Steps.{steppable, counter_narrow, stepped_words, step-refused_words}

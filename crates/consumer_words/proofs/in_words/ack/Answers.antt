@@ -2,7 +2,7 @@
 use Prim.Native.Nat.{ℕ, ◌<◌}
 use mathlib.Core.Path.{refl, sym, subst, ◌∙◌}
 use mathlib.Core.List.{List}
-use Rattle.core.proofs.result.Match.{err_is}
+use Rattle.cursor.proofs.Refusals.{err_is}
 use Rattle.types.specs.Refused.{refusal_of}
 use Rattle.cursor.specs.Answers.{ack_of}
 use Rattle.lease.specs.Layout.{table_in}

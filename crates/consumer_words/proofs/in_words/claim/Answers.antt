@@ -3,7 +3,7 @@ use Prim.Native.Nat.{ℕ}
 use native.Mathlib.Omega.{arith}
 use mathlib.Core.Path.{sym, subst}
 use mathlib.Core.List.{List}
-use Rattle.core.proofs.result.Match.{err_is}
+use Rattle.cursor.proofs.Refusals.{err_is}
 use Rattle.types.specs.Refused.{refusal_of}
 use Rattle.lease.specs.InWords.{grant_in, PlacedIn}
 use Rattle.consumer.specs.Calls.{claim_table}

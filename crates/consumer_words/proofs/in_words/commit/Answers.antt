@@ -1,5 +1,5 @@
 -- `commit` meets its contract: 38, 39, and what is answered a worker who may commit. Assumes nothing.
-use Rattle.core.proofs.result.Match.{err_is}
+use Rattle.cursor.proofs.Refusals.{err_is}
 use Rattle.types.specs.Refused.{refusal_of}
 use Rattle.consumer_words.proofs.State.{unpermitted_so}
 use Rattle.consumer_words.proofs.in_words.commit.Goals as goal

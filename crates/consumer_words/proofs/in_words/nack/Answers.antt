@@ -5,7 +5,7 @@ use mathlib.Core.Bool.{false}
 use mathlib.Core.List.{List}
 use lib.Dec.{eqb}
 use borrow.Author.Tests.{eqb-true, eqb-false, leb-true, leb-false}
-use Rattle.core.proofs.result.Match.{err_is}
+use Rattle.cursor.proofs.Refusals.{err_is}
 use Rattle.types.specs.Limits.{MAX}
 use Rattle.types.specs.Refused.{refusal_of}
 use Rattle.delivery.specs.Config.{delay_of}

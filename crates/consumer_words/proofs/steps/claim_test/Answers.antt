@@ -1,6 +1,6 @@
 -- `claim_test` meets its contract: the worker's rows, then the offset's. Assumes nothing.
 use mathlib.Core.Path.{◌∙◌}
-use Rattle.core.proofs.result.Match.{err_is}
+use Rattle.cursor.proofs.Refusals.{err_is}
 use Rattle.types.specs.Refused.{refusal_of}
 use Rattle.consumer.proofs.CallsClaim.{claim_unpermitted, claim-permitted}
 use Rattle.consumer_words.specs.Layout.{view}

@@ -3,7 +3,7 @@ use Prim.Native.Nat.{ℕ}
 use mathlib.Core.Path.{◌≡◌, sym, ap, subst, ◌∙◌}
 use mathlib.Core.List.{List}
 use mathlib.Core.Option.{Option}
-use Rattle.core.proofs.result.Match.{err_is}
+use Rattle.cursor.proofs.Refusals.{err_is}
 use Rattle.std.specs.Prelude.{Some}
 use Rattle.types.specs.Limits.{WORKERS}
 use Rattle.types.specs.Refusal.{Refusal}

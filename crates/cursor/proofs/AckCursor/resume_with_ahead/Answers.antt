@@ -3,7 +3,7 @@ use Prim.Native.Nat.{◌≤◌}
 use native.Mathlib.Omega.{arith}
 use mathlib.Core.Path.{ap, refl, sym}
 use lib.ListN.{length}
-use Rattle.core.proofs.result.Match.{err_is}
+use Rattle.cursor.proofs.Refusals.{err_is}
 use Rattle.types.proofs.Loops.{filling}
 use Rattle.types.proofs.Table.{first_none}
 use Rattle.cursor.specs.Cursor.{resume_table}

@@ -2,7 +2,7 @@
 use Prim.Native.Nat.{◌≤◌}
 use native.Mathlib.Omega.{arith}
 use mathlib.Core.Path.{ap, sym, ◌∙◌}
-use Rattle.core.proofs.result.Match.{err_is}
+use Rattle.cursor.proofs.Refusals.{err_is}
 use Rattle.types.specs.Zipped.{zipped}
 use Rattle.cursor.specs.Ranges.{range}
 use Rattle.cursor.specs.declared.AckCursor.{AckCursor}

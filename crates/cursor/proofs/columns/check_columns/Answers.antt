@@ -1,6 +1,6 @@
 -- `check_columns` meets its contract. Assumes nothing.
 use native.Mathlib.Omega.{arith}
-use Rattle.core.proofs.result.Match.{err_is}
+use Rattle.cursor.proofs.Refusals.{err_is}
 use Rattle.cursor.proofs.Walking.{columns-size, columns-at, walked-more, walked-fault, walked-many, walked-few}
 use Rattle.cursor.proofs.columns.check_columns.Goals as goal
 

@@ -1,7 +1,7 @@
 -- `check_ranges` meets its contract. Assumes nothing.
 use native.Mathlib.Omega.{arith}
 use mathlib.Core.Path.{◌≡◌}
-use Rattle.core.proofs.result.Match.{err_is}
+use Rattle.cursor.proofs.Refusals.{err_is}
 use Rattle.cursor.specs.Ranges.{range}
 use Rattle.cursor.specs.Place.{rangeAt}
 use Rattle.cursor.specs.Snapshot.{read_ranges}

@@ -1,7 +1,7 @@
 -- `check_snapshot` meets its contract. Assumes nothing.
 use native.Mathlib.Omega.{arith}
 use mathlib.Core.Path.{refl, sym, ◌∙◌}
-use Rattle.core.proofs.result.Match.{err_is}
+use Rattle.cursor.proofs.Refusals.{err_is}
 use Rattle.cursor.specs.declared.SnapshotError.TheVariants.{Ranges}
 use Rattle.cursor.proofs.Reading.{frame_refused, frame_fits, ranges-left}
 use Rattle.cursor.proofs.columns.check_snapshot.Goals as goal

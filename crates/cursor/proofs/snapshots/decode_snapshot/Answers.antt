@@ -6,7 +6,7 @@ use mathlib.Core.List.{List}
 use lib.ListN.{length-set}
 use borrow.Rule.Slice.PartMut.{put_mid}
 use Rattle.types.specs.Limits.{RANGES}
-use Rattle.core.proofs.result.Match.{err_is}
+use Rattle.cursor.proofs.Refusals.{err_is}
 use Rattle.raw.proofs.Bytes.{bytes-known}
 use Rattle.cursor.specs.Layout.{COMMITTED, STARTS, ENDS}
 use Rattle.cursor.proofs.Walking.{checked-few}

@@ -14,7 +14,7 @@ use Rattle.cursor.specs.Cursor.{resume_table}
 use Rattle.cursor.specs.Layout.{COMMITTED, STARTS, ENDS}
 use Rattle.cursor.proofs.Words.{column-long, ends-long, both_long, stored-long}
 use Rattle.cursor.proofs.Made.{resume-kept, columns-few, resume-made}
-use Rattle.core.proofs.result.Match.{err_is}
+use Rattle.cursor.proofs.Refusals.{err_is}
 use Rattle.cursor.proofs.snapshots.resume_with_columns.Goals as goal
 
 few : (committed : ℕ) (starts ends : List ℕ) {runs : ℕ} → none ≡ first (resume_table committed (zipped range starts ends)) → runs ≡ min (length starts) (length ends) → runs ≤ RANGES
