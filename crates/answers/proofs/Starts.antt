@@ -1,12 +1,14 @@
 -- The answer of a start has no values, whatever state stands beside it. Assumes nothing.
 use mathlib.Core.Path.{◌≡◌, refl}
-use mathlib.Core.Option.{Option, none, some}
-use Rattle.types.specs.Refusal.{Refusal, done, answered}
-use Rattle.types.specs.Table.{unless}
+use Rattle.std.specs.Prelude.{Ok, Err}
+use Rattle.std.specs.Prelude as std
+use Rattle.types.specs.Refusal.{answered}
+use Rattle.types.specs.Refused.{as_is}
+use Rattle.types.specs.declared.refusals.Refusal.{Refusal}
 use Rattle.consumer.specs.State.{State}
+use Rattle.starts.specs.Starting.{start_of}
 use Rattle.answers.specs.Numbers.{numbers_of, no_values}
 
-pub start-numbers : (o : Option Refusal) (s : State)
-    → numbers_of (answered no_values (unless o (done (tt {0})))) ≡ numbers_of (answered no_values (unless o (done s)))
-start-numbers none s = refl
-start-numbers (some r) s = refl
+pub start-numbers : (a : std.Result (Unit {0}) Refusal) (s : State) → numbers_of (answered no_values (as_is a)) ≡ numbers_of (answered no_values (start_of a s))
+start-numbers (Ok u) s = refl
+start-numbers (Err f) s = refl

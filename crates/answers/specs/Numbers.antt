@@ -4,6 +4,7 @@
 use Rattle.std.specs.Prelude.{ℕ, Bool, List, [], ◌∷◌, length, get_or}
 use Rattle.std.proofs.Math.Option.{Option, none, some}
 use Rattle.types.specs.Refusal.{Code, code, answered}
+use Rattle.cursor.specs.declared.columns.Figures.{Figures}
 use Rattle.delivery.specs.Policy.{Destination, Deliver, DeadLetter}
 use Rattle.consumer.specs.Calls.{HandOut}
 use Rattle.consumer.specs.Questions.{bit}
@@ -44,6 +45,9 @@ bit_value b = bit b ∷ []
 
 abbrev pub wrote_values : BlockWritten → List ℕ
 wrote_values w = w.block ∷ bit w.last ∷ []
+
+abbrev pub figures_values : Figures → List ℕ
+figures_values f = f.committed ∷ f.runs ∷ []
 
 abbrev pub values : List ℕ → List ℕ
 values l = l

@@ -3,37 +3,28 @@
 #![tactic(auto)]
 
 ghost use Rattle.std.specs.Prelude.{◌≡◌, ℕ, List, [], ◌∷◌, ◌++◌, get_or, take};
-ghost use Rattle.types.specs.Refusal.{code, done, numbered, answered};
-ghost use Rattle.types.specs.Table.{unless};
-ghost use Rattle.raw.specs.Bytes.{outcome_of};
-ghost use Rattle.cursor.specs.Answers.{ranges_error, snapshot_error, decode_fault};
-ghost use Rattle.cursor.specs.Unsettled.{open_of};
-ghost use Rattle.attempt.specs.Codec.{attempt_error, encode_of, decode_of};
+ghost use Rattle.types.specs.Refusal.{code, numbered, answered};
+ghost use Rattle.types.specs.Refused.{refusal_of, as_is};
 ghost use Rattle.consumer.specs.Questions.{bit};
 ghost use Rattle.consumer.specs.Export.{snapshots};
 ghost use Rattle.consumer.specs.Standing.{standing_number, view_values};
-ghost use Rattle.consumer.specs.View.{claim_of, settle_of, nack_of, progress_of, commit_of, plan_of, export_of, standing_in, view_in};
+ghost use Rattle.consumer.specs.View.{destination_of, claim_of, commit_of, plan_of, export_of, standing_in, view_in};
 ghost use Rattle.checkpoint.specs.Writing.{step_of};
-ghost use Rattle.starts.specs.Starting.{start_fault};
-ghost use Rattle.machine.specs.Answers.{begun_of, first_places, list_of, places_of, lease_told, reply_of, Arguments, seen_of};
+ghost use Rattle.machine.specs.Answers.{first_places, lease_told, told_by, reply_of, Arguments, seen_of};
 ghost use Rattle.machine.specs.Calls.{Call};
 ghost use Rattle.machine.specs.View.{after_of};
 ghost use Rattle.machine.specs.declared.Machine.{Machine};
-ghost use Rattle.answers.specs.Numbers.{numbers_of, values, hand_out_values, no_values, one_value, bit_value, wrote_values, seen_numbers, numbers_in};
+ghost use Rattle.answers.specs.Numbers.{numbers_of, values, dead_letter, hand_out_values, no_values, one_value, bit_value, wrote_values, figures_values, seen_numbers, numbers_in};
 
-use attempt::{AttemptSnapshotError, Encode};
-use checkpoint::{BeginAnswer, StepAnswer};
-use consumer::calls::{ClaimAnswer, CommitAnswer, NackAnswer, ProgressAnswer, SettleAnswer};
-use consumer::plans::PlanAnswer;
-use consumer::snapshots::ExportAnswer;
+use checkpoint::Wrote;
+use consumer::calls::HandOut;
+use consumer::snapshots::Lengths;
 use consumer::views::{Standing, View};
-use cursor::open::OpenAnswer;
-use cursor::{AckCursorError, SnapshotError};
-use machine::calls::{AskAnswer, CallAnswer, LeaseReply, Reply};
-use raw::Write;
-use starts::StartAnswer;
-use types::lent::Listed;
+use cursor::columns::Figures;
+use delivery::Disposition;
+use machine::calls::{AskAnswer, CallAnswer, LeaseFigures, Reply};
 use types::numbers::shorter;
+use types::refusals::Refusal;
 
 // What a call answers: the refusal's number, 0 where nothing was refused; how many values there are; and the first five of them.
 #[repr(C)]
@@ -48,223 +39,167 @@ pub struct Numbers(
     pub u64,
 );
 
+impl Numbers {
+    // A call that can't be made where it stands, or that is none.
+    pub const NOT_NOW: Numbers = Numbers(255, 0, 0, 0, 0, 0, 0);
+}
+
+// A number without values, with one, and with two.
+fn bare(number: u64) -> Numbers
+    ensures { result ≡ numbers_of (code number []) }
+{
+    Numbers(number, 0, 0, 0, 0, 0, 0)
+}
+
+fn with_one(number: u64, value: u64) -> Numbers
+    ensures { result ≡ numbers_of (code number (value ∷ [])) }
+{
+    Numbers(number, 1, value, 0, 0, 0, 0)
+}
+
+fn with_two(number: u64, first: u64, second: u64) -> Numbers
+    ensures { result ≡ numbers_of (code number (first ∷ second ∷ [])) }
+{
+    Numbers(number, 2, first, second, 0, 0, 0)
+}
+
+// A refusal.
+pub fn of_refusal(refusal: Refusal) -> Numbers
+    ensures { result ≡ numbers_of (numbered (refusal_of refusal)) }
+{
+    match refusal {
+        Refusal::UnlimitedDeliverNotAllowed => bare(1),
+        Refusal::TooManySteps => bare(2),
+        Refusal::ZeroThreshold => bare(3),
+        Refusal::BadArea => bare(4),
+        Refusal::Damaged { block } => with_one(5, block as u64),
+        Refusal::CursorTruncated => bare(6),
+        Refusal::CursorBadLength { len } => with_one(7, len as u64),
+        Refusal::CursorUnsupportedVersion { version } => with_one(8, version as u64),
+        Refusal::CursorBadCrc => bare(9),
+        Refusal::EmptyRange { start, end } => with_two(10, start, end),
+        Refusal::NotSortedDisjointAndAboveCommitted { start, prev_end } => {
+            with_two(11, start, prev_end)
+        }
+        Refusal::TooManyRuns => bare(12),
+        Refusal::AttemptTruncated => bare(13),
+        Refusal::AttemptUnsupportedVersion { version } => with_one(14, version as u64),
+        Refusal::AttemptBadLength { len } => with_one(15, len as u64),
+        Refusal::CountMismatch { declared, actual } => with_two(16, declared as u64, actual),
+        Refusal::AttemptBadCrc => bare(17),
+        Refusal::NotSorted {
+            offset,
+            prev_offset,
+        } => with_two(18, offset, prev_offset),
+        Refusal::TooManyPairs => bare(19),
+        Refusal::OutTooShort => bare(20),
+        Refusal::LastOffset => bare(21),
+        Refusal::Settled => bare(22),
+        Refusal::InFlight => bare(23),
+        Refusal::Fenced => bare(24),
+        Refusal::Exhausted => bare(25),
+        Refusal::CheckpointDue => bare(26),
+        Refusal::Full => bare(27),
+        Refusal::CapReached => bare(28),
+        Refusal::Shed => bare(29),
+        Refusal::JournalFull => bare(31),
+        Refusal::BoundsReversed => bare(32),
+        Refusal::BadHours => bare(33),
+        Refusal::NeverOpen => bare(34),
+        Refusal::Closed { opening } => with_one(35, opening),
+        Refusal::UnequalLengths => bare(36),
+        Refusal::Falling { place } => with_one(37, place as u64),
+        Refusal::UnknownWorker => bare(38),
+        Refusal::NotPermitted => bare(39),
+        Refusal::ForeignToken => bare(40),
+    }
+}
+
+// What has no values: Ack, Term, a start and a restart.
+pub fn of_done(answer: Result<(), Refusal>) -> Numbers
+    ensures { result ≡ numbers_of (answered no_values (as_is answer)) }
+{
+    match answer {
+        Ok(()) => bare(0),
+        Err(refusal) => of_refusal(refusal),
+    }
+}
+
+// What has one: when the offset of a Nack can be claimed again, and the new deadline of a Progress.
+pub fn of_value(answer: Result<u64, Refusal>) -> Numbers
+    ensures { result ≡ numbers_of (answered one_value (as_is answer)) }
+{
+    match answer {
+        Ok(value) => with_one(0, value),
+        Err(refusal) => of_refusal(refusal),
+    }
+}
+
+// What counts: the blocks that a begin will write, the pairs of an attempt snapshot, and the position behind what was written.
+pub fn of_count(answer: Result<usize, Refusal>) -> Numbers
+    ensures { result ≡ numbers_of (answered one_value (as_is answer)) }
+{
+    match answer {
+        Ok(count) => with_one(0, count as u64),
+        Err(refusal) => of_refusal(refusal),
+    }
+}
+
 // A hand-out: its generation, the hand-outs so far, and 1 where it is for the dead letters. Outside hours, the clock of the next opening.
-pub fn of_claim(answer: ClaimAnswer) -> Numbers
+pub fn of_claim(answer: Result<HandOut, Refusal>) -> Numbers
     ensures { result ≡ numbers_of (answered hand_out_values (claim_of answer)) }
 {
     match answer {
-        ClaimAnswer::Deliver { token, deliveries } => {
-            Numbers(0, 3, token.generation.0, deliveries as u64, 0, 0, 0)
-        }
-        ClaimAnswer::DeadLetter { token, deliveries } => {
-            Numbers(0, 3, token.generation.0, deliveries as u64, 1, 0, 0)
-        }
-        ClaimAnswer::Closed { opening } => Numbers(35, 1, opening, 0, 0, 0, 0),
-        ClaimAnswer::UnknownWorker => Numbers(38, 0, 0, 0, 0, 0, 0),
-        ClaimAnswer::NotPermitted => Numbers(39, 0, 0, 0, 0, 0, 0),
-        ClaimAnswer::LastOffset => Numbers(21, 0, 0, 0, 0, 0, 0),
-        ClaimAnswer::Settled => Numbers(22, 0, 0, 0, 0, 0, 0),
-        ClaimAnswer::InFlight => Numbers(23, 0, 0, 0, 0, 0, 0),
-        ClaimAnswer::Exhausted => Numbers(25, 0, 0, 0, 0, 0, 0),
-        ClaimAnswer::CheckpointDue => Numbers(26, 0, 0, 0, 0, 0, 0),
-        ClaimAnswer::Full => Numbers(27, 0, 0, 0, 0, 0, 0),
+        Ok(out) => Numbers(
+            0,
+            3,
+            out.token.generation.0,
+            out.deliveries as u64,
+            dead_letter(out.disposition),
+            0,
+            0,
+        ),
+        Err(refusal) => of_refusal(refusal),
     }
 }
 
-// Ack and Term: no values.
-pub fn of_settle(answer: SettleAnswer) -> Numbers
-    ensures { result ≡ numbers_of (answered no_values (settle_of answer)) }
+// 1 for the dead letters, else 0.
+fn dead_letter(disposition: Disposition) -> u64
+    ensures { result ≡ dead_letter (destination_of disposition) }
 {
-    match answer {
-        SettleAnswer::Settled => Numbers(0, 0, 0, 0, 0, 0, 0),
-        SettleAnswer::UnknownWorker => Numbers(38, 0, 0, 0, 0, 0, 0),
-        SettleAnswer::NotPermitted => Numbers(39, 0, 0, 0, 0, 0, 0),
-        SettleAnswer::Fenced => Numbers(24, 0, 0, 0, 0, 0, 0),
-        SettleAnswer::ForeignToken => Numbers(40, 0, 0, 0, 0, 0, 0),
-        SettleAnswer::Shed => Numbers(29, 0, 0, 0, 0, 0, 0),
-    }
-}
-
-// Nack: when the offset can be claimed again.
-pub fn of_nack(answer: NackAnswer) -> Numbers
-    ensures { result ≡ numbers_of (answered one_value (nack_of answer)) }
-{
-    match answer {
-        NackAnswer::Requeued { deadline } => Numbers(0, 1, deadline, 0, 0, 0, 0),
-        NackAnswer::UnknownWorker => Numbers(38, 0, 0, 0, 0, 0, 0),
-        NackAnswer::NotPermitted => Numbers(39, 0, 0, 0, 0, 0, 0),
-        NackAnswer::Fenced => Numbers(24, 0, 0, 0, 0, 0, 0),
-        NackAnswer::ForeignToken => Numbers(40, 0, 0, 0, 0, 0, 0),
-        NackAnswer::Exhausted => Numbers(25, 0, 0, 0, 0, 0, 0),
-        NackAnswer::CheckpointDue => Numbers(26, 0, 0, 0, 0, 0, 0),
-    }
-}
-
-// Progress: the new deadline.
-pub fn of_progress(answer: ProgressAnswer) -> Numbers
-    ensures { result ≡ numbers_of (answered one_value (progress_of answer)) }
-{
-    match answer {
-        ProgressAnswer::Extended { deadline } => Numbers(0, 1, deadline, 0, 0, 0, 0),
-        ProgressAnswer::UnknownWorker => Numbers(38, 0, 0, 0, 0, 0, 0),
-        ProgressAnswer::NotPermitted => Numbers(39, 0, 0, 0, 0, 0, 0),
-        ProgressAnswer::Fenced => Numbers(24, 0, 0, 0, 0, 0, 0),
-        ProgressAnswer::ForeignToken => Numbers(40, 0, 0, 0, 0, 0, 0),
-        ProgressAnswer::CapReached => Numbers(28, 0, 0, 0, 0, 0, 0),
+    match disposition {
+        Disposition::Deliver => 0,
+        Disposition::DeadLetter => 1,
     }
 }
 
 // Commit: 1 where it settled something.
-pub fn of_commit(answer: CommitAnswer) -> Numbers
+pub fn of_commit(answer: Result<bool, Refusal>) -> Numbers
     ensures { result ≡ numbers_of (answered bit_value (commit_of answer)) }
 {
     match answer {
-        CommitAnswer::Committed => Numbers(0, 1, 1, 0, 0, 0, 0),
-        CommitAnswer::Unchanged => Numbers(0, 1, 0, 0, 0, 0, 0),
-        CommitAnswer::UnknownWorker => Numbers(38, 0, 0, 0, 0, 0, 0),
-        CommitAnswer::NotPermitted => Numbers(39, 0, 0, 0, 0, 0, 0),
-    }
-}
-
-// Begin: how many blocks are to be written.
-pub fn of_begin(answer: BeginAnswer) -> Numbers
-    ensures { result ≡ numbers_of (answered one_value (begun_of answer)) }
-{
-    match answer {
-        BeginAnswer::Begun { writes } => Numbers(0, 1, writes as u64, 0, 0, 0, 0),
-        BeginAnswer::UnknownWorker => Numbers(38, 0, 0, 0, 0, 0, 0),
-        BeginAnswer::NotPermitted => Numbers(39, 0, 0, 0, 0, 0, 0),
-        BeginAnswer::JournalFull => Numbers(31, 0, 0, 0, 0, 0, 0),
+        Ok(moved) => with_one(0, bit_of(moved)),
+        Err(refusal) => of_refusal(refusal),
     }
 }
 
 // A step: the block that it wrote, and 1 where it was the last.
-pub fn of_step(answer: StepAnswer) -> Numbers
+pub fn of_step(answer: Result<Wrote, Refusal>) -> Numbers
     ensures { result ≡ numbers_of (answered wrote_values (step_of answer)) }
 {
     match answer {
-        StepAnswer::Wrote { block } => Numbers(0, 2, block as u64, 0, 0, 0, 0),
-        StepAnswer::Finished { block } => Numbers(0, 2, block as u64, 1, 0, 0, 0),
-        StepAnswer::BadArea => Numbers(4, 0, 0, 0, 0, 0, 0),
-    }
-}
-
-// The refusals of a cursor's ranges, 10 to 12.
-pub fn of_ranges(error: AckCursorError) -> Numbers
-    ensures { result ≡ numbers_of (numbered (ranges_error error)) }
-{
-    match error {
-        AckCursorError::EmptyRange { start, end } => Numbers(10, 2, start, end, 0, 0, 0),
-        AckCursorError::NotSortedDisjointAndAboveCommitted { start, prev_end } => {
-            Numbers(11, 2, start, prev_end, 0, 0, 0)
-        }
-        AckCursorError::TooManyRuns => Numbers(12, 0, 0, 0, 0, 0, 0),
-    }
-}
-
-// The refusals of a cursor snapshot, 6 to 12.
-pub fn of_cursor(error: SnapshotError) -> Numbers
-    ensures { result ≡ numbers_of (numbered (snapshot_error error)) }
-{
-    match error {
-        SnapshotError::Truncated => Numbers(6, 0, 0, 0, 0, 0, 0),
-        SnapshotError::BadLength { len } => Numbers(7, 1, len as u64, 0, 0, 0, 0),
-        SnapshotError::UnsupportedVersion(version) => Numbers(8, 1, version as u64, 0, 0, 0, 0),
-        SnapshotError::BadCrc => Numbers(9, 0, 0, 0, 0, 0, 0),
-        SnapshotError::Ranges(error) => of_ranges(error),
-    }
-}
-
-// The refusals of an attempt snapshot, 13 to 19.
-pub fn of_attempts(error: AttemptSnapshotError) -> Numbers
-    ensures { result ≡ numbers_of (numbered (attempt_error error)) }
-{
-    match error {
-        AttemptSnapshotError::Truncated => Numbers(13, 0, 0, 0, 0, 0, 0),
-        AttemptSnapshotError::UnsupportedVersion(version) => Numbers(
-            14,
-            1,
-            version as u64,
-            0,
-            0,
-            0,
-            0,
-        ),
-        AttemptSnapshotError::BadLength { len } => Numbers(15, 1, len as u64, 0, 0, 0, 0),
-        AttemptSnapshotError::CountMismatch { declared, actual } => Numbers(
-            16,
-            2,
-            declared as u64,
-            actual,
-            0,
-            0,
-            0,
-        ),
-        AttemptSnapshotError::BadCrc => Numbers(17, 0, 0, 0, 0, 0, 0),
-        AttemptSnapshotError::NotSorted {
-            offset,
-            prev_offset,
-        } => Numbers(18, 2, offset, prev_offset, 0, 0, 0),
-        AttemptSnapshotError::TooManyPairs => Numbers(19, 0, 0, 0, 0, 0, 0),
-    }
-}
-
-// What writing a cursor snapshot answers: the position behind it.
-pub fn of_write(outcome: Write) -> Numbers
-    ensures { result ≡ numbers_of (answered one_value (outcome_of outcome)) }
-{
-    match outcome {
-        Write::Next(pos) => Numbers(0, 1, pos as u64, 0, 0, 0, 0),
-        Write::OutTooShort => Numbers(20, 0, 0, 0, 0, 0, 0),
-    }
-}
-
-// What writing an attempt snapshot answers: the position behind it.
-pub fn of_encode(outcome: Encode) -> Numbers
-    ensures { result ≡ numbers_of (answered one_value (encode_of outcome)) }
-{
-    match outcome {
-        Encode::Next(pos) => Numbers(0, 1, pos as u64, 0, 0, 0, 0),
-        Encode::TooManyPairs => Numbers(19, 0, 0, 0, 0, 0, 0),
-        Encode::OutTooShort => Numbers(20, 0, 0, 0, 0, 0, 0),
+        Ok(wrote) => with_two(0, wrote.block as u64, bit_of(wrote.finished)),
+        Err(refusal) => of_refusal(refusal),
     }
 }
 
 // What reading a cursor snapshot answers: its committed offset and the number of its ranges.
-pub fn of_decode_cursor(outcome: cursor::Decode, committed: u64, runs: usize) -> Numbers
-    ensures { result ≡ numbers_of (answered values (unless (decode_fault outcome) (done (committed ∷ runs ∷ [])))) }
-{
-    match outcome {
-        cursor::Decode::Restored => Numbers(0, 2, committed, runs as u64, 0, 0, 0),
-        cursor::Decode::Refused(error) => of_cursor(error),
-    }
-}
-
-// What reading an attempt snapshot answers: how many pairs there are.
-pub fn of_decode_attempts(outcome: attempt::Decode) -> Numbers
-    ensures { result ≡ numbers_of (answered one_value (decode_of outcome)) }
-{
-    match outcome {
-        attempt::Decode::Pairs(count) => Numbers(0, 1, count as u64, 0, 0, 0, 0),
-        attempt::Decode::Refused(error) => of_attempts(error),
-    }
-}
-
-// A start or a restart: no values.
-pub fn of_start(answer: StartAnswer) -> Numbers
-    ensures { result ≡ numbers_of (answered no_values (unless (start_fault answer) (done (tt {0})))) }
+pub fn of_figures(answer: Result<Figures, Refusal>) -> Numbers
+    ensures { result ≡ numbers_of (answered figures_values (as_is answer)) }
 {
     match answer {
-        StartAnswer::Started => Numbers(0, 0, 0, 0, 0, 0, 0),
-        StartAnswer::UnlimitedDeliverNotAllowed => Numbers(1, 0, 0, 0, 0, 0, 0),
-        StartAnswer::TooManySteps => Numbers(2, 0, 0, 0, 0, 0, 0),
-        StartAnswer::ZeroThreshold => Numbers(3, 0, 0, 0, 0, 0, 0),
-        StartAnswer::BadHours => Numbers(33, 0, 0, 0, 0, 0, 0),
-        StartAnswer::NeverOpen => Numbers(34, 0, 0, 0, 0, 0, 0),
-        StartAnswer::BadArea => Numbers(4, 0, 0, 0, 0, 0, 0),
-        StartAnswer::Damaged { block } => Numbers(5, 1, block as u64, 0, 0, 0, 0),
-        StartAnswer::Cursor(error) => of_cursor(error),
-        StartAnswer::Attempts(error) => of_attempts(error),
+        Ok(figures) => with_two(0, figures.committed, figures.runs as u64),
+        Err(refusal) => of_refusal(refusal),
     }
 }
 
@@ -281,12 +216,9 @@ fn place(list: &[u64], n: usize, i: usize) -> u64
 }
 
 // A list that stands in the first places of `out`.
-fn of_list(listed: Listed, out: &[u64]) -> Numbers
-    ensures { result ≡ numbers_of (answered values (list_of listed out.now)) }
+fn of_list(n: usize, out: &[u64]) -> Numbers
+    ensures { result ≡ numbers_of (code 0 (first_places n out.now)) }
 {
-    let Listed::Filled(n) = listed else {
-        return Numbers(20, 0, 0, 0, 0, 0, 0);
-    };
     Numbers(
         0,
         n as u64,
@@ -296,17 +228,6 @@ fn of_list(listed: Listed, out: &[u64]) -> Numbers
         place(out, n, 3),
         place(out, n, 4),
     )
-}
-
-// Stretches whose numbers stand in the first places of `out`.
-fn of_open(answer: OpenAnswer, out: &[u64]) -> Numbers
-    ensures { result ≡ numbers_of (answered values (places_of (open_of answer) out.now)) }
-{
-    match answer {
-        OpenAnswer::Filled(n) => of_list(Listed::Filled(n), out),
-        OpenAnswer::BoundsReversed => Numbers(32, 0, 0, 0, 0, 0, 0),
-        OpenAnswer::OutTooShort => Numbers(20, 0, 0, 0, 0, 0, 0),
-    }
 }
 
 fn wide(byte: u8) -> u64
@@ -326,11 +247,11 @@ fn byte_at(list: &[u8], i: usize) -> u64
 }
 
 // A plan: how many looks it took, and behind that the bytes that stand in `out`.
-pub fn of_plan(answer: PlanAnswer, out: &[u8]) -> Numbers
+pub fn of_plan(answer: Result<usize, Refusal>, out: &[u8]) -> Numbers
     ensures { result ≡ numbers_of (answered values (plan_of answer out.now)) }
 {
     match answer {
-        PlanAnswer::Answered(looks) => Numbers(
+        Ok(looks) => Numbers(
             0,
             out.len() as u64 + 1,
             looks as u64,
@@ -339,10 +260,7 @@ pub fn of_plan(answer: PlanAnswer, out: &[u8]) -> Numbers
             byte_at(out, 2),
             byte_at(out, 3),
         ),
-        PlanAnswer::UnequalLengths => Numbers(36, 0, 0, 0, 0, 0, 0),
-        PlanAnswer::Falling(place) => Numbers(37, 1, place as u64, 0, 0, 0, 0),
-        PlanAnswer::UnknownWorker => Numbers(38, 0, 0, 0, 0, 0, 0),
-        PlanAnswer::NotPermitted => Numbers(39, 0, 0, 0, 0, 0, 0),
+        Err(refusal) => of_refusal(refusal),
     }
 }
 
@@ -358,18 +276,18 @@ fn byte_in(front: &[u8], behind: &[u8], i: usize) -> u64
 }
 
 // Two snapshots: how long they are, and behind that their bytes.
-fn of_snapshots(cursor_len: u16, attempt_len: u16, cursor: &[u8], attempts: &[u8]) -> Numbers
-    ensures { result ≡ numbers_of (answered values (done (cursor_len ∷ attempt_len ∷ (take cursor_len cursor.now ++ take attempt_len attempts.now)))) }
+fn of_snapshots(lengths: Lengths, cursor: &[u8], attempts: &[u8]) -> Numbers
+    ensures { result ≡ numbers_of (code 0 (lengths.cursor_len ∷ lengths.attempt_len ∷ (take lengths.cursor_len cursor.now ++ take lengths.attempt_len attempts.now))) }
 {
-    let n = shorter(cursor_len as usize, cursor.len());
-    let k = shorter(attempt_len as usize, attempts.len());
+    let n = shorter(lengths.cursor_len as usize, cursor.len());
+    let k = shorter(lengths.attempt_len as usize, attempts.len());
     let front = &cursor[..n];
     let behind = &attempts[..k];
     Numbers(
         0,
         (n + k + 2) as u64,
-        cursor_len as u64,
-        attempt_len as u64,
+        lengths.cursor_len as u64,
+        lengths.attempt_len as u64,
         byte_in(front, behind, 0),
         byte_in(front, behind, 1),
         byte_in(front, behind, 2),
@@ -377,26 +295,21 @@ fn of_snapshots(cursor_len: u16, attempt_len: u16, cursor: &[u8], attempts: &[u8
 }
 
 // An export: how long both snapshots are, and behind that the bytes that stand at the front of the lent lists.
-pub fn of_export(answer: ExportAnswer, cursor: &[u8], attempts: &[u8]) -> Numbers
+pub fn of_export(answer: Result<Lengths, Refusal>, cursor: &[u8], attempts: &[u8]) -> Numbers
     ensures { result ≡ numbers_of (answered values (export_of answer (snapshots cursor.now attempts.now))) }
 {
     match answer {
-        ExportAnswer::Exported {
-            cursor_len,
-            attempt_len,
-        } => of_snapshots(cursor_len, attempt_len, cursor, attempts),
-        ExportAnswer::OutTooShort => Numbers(20, 0, 0, 0, 0, 0, 0),
-        ExportAnswer::UnknownWorker => Numbers(38, 0, 0, 0, 0, 0, 0),
-        ExportAnswer::NotPermitted => Numbers(39, 0, 0, 0, 0, 0, 0),
+        Ok(lengths) => of_snapshots(lengths, cursor, attempts),
+        Err(refusal) => of_refusal(refusal),
     }
 }
 
 // A lease: its generation, the start of its attempt, its deadline and its hand-outs; or nothing.
-fn of_lease(lease: LeaseReply) -> Numbers
-    ensures { result ≡ numbers_of (answered values (done (lease_told lease))) }
+fn of_lease(lease: Option<LeaseFigures>) -> Numbers
+    ensures { result ≡ numbers_of (code 0 (lease_told lease)) }
 {
     match lease {
-        LeaseReply::Some(lease) => Numbers(
+        Some(lease) => Numbers(
             0,
             4,
             lease.generation.0,
@@ -405,7 +318,7 @@ fn of_lease(lease: LeaseReply) -> Numbers
             lease.deliveries as u64,
             0,
         ),
-        LeaseReply::None => Numbers(0, 0, 0, 0, 0, 0, 0),
+        None => bare(0),
     }
 }
 
@@ -413,10 +326,7 @@ fn of_lease(lease: LeaseReply) -> Numbers
 fn bit_of(test: bool) -> u64
     ensures { result ≡ bit test }
 {
-    if test {
-        return 1;
-    }
-    0
+    if test { 1 } else { 0 }
 }
 
 fn number_of(standing: Standing) -> u64
@@ -434,8 +344,8 @@ fn of_view(view: View) -> Numbers
     ensures { result ≡ numbers_of (code 0 (view_values (view_in view))) }
 {
     match view {
-        View::Plain(standing) => Numbers(0, 1, number_of(standing), 0, 0, 0, 0),
-        View::Unleased { attempts } => Numbers(0, 2, 2, attempts as u64, 0, 0, 0),
+        View::Plain(standing) => with_one(0, number_of(standing)),
+        View::Unleased { attempts } => with_two(0, 2, attempts as u64),
         View::Leased { standing, lease } => Numbers(
             0,
             5,
@@ -448,24 +358,32 @@ fn of_view(view: View) -> Numbers
     }
 }
 
-// A question: what it is answered.
-pub fn of_reply(reply: Reply, out: &[u64]) -> Numbers
-    ensures { result ≡ numbers_of (answered values (reply_of reply out.now)) }
+// What a question is answered, where it isn't refused.
+fn of_reply(reply: Reply, out: &[u64]) -> Numbers
+    ensures { result ≡ numbers_of (code 0 (told_by reply out.now)) }
 {
     match reply {
-        Reply::Waiting(listed) => of_list(listed, out),
-        Reply::Committed(offset) => Numbers(0, 1, offset.0, 0, 0, 0, 0),
-        Reply::IsSettled(settled) => Numbers(0, 1, bit_of(settled), 0, 0, 0, 0),
+        Reply::Waiting(count) => of_list(count, out),
+        Reply::Committed(offset) => with_one(0, offset.0),
+        Reply::IsSettled(settled) => with_one(0, bit_of(settled)),
         Reply::LeaseOf(lease) => of_lease(lease),
-        Reply::CountOf(count) => Numbers(0, 1, count as u64, 0, 0, 0, 0),
-        Reply::InFlight(count) => Numbers(0, 1, count as u64, 0, 0, 0, 0),
-        Reply::IsDue(due) => Numbers(0, 2, bit_of(due.ceiling), bit_of(due.threshold), 0, 0, 0),
-        Reply::BlocksLeft(count) => Numbers(0, 1, count as u64, 0, 0, 0, 0),
+        Reply::CountOf(count) => with_one(0, count as u64),
+        Reply::InFlight(count) => with_one(0, count as u64),
+        Reply::IsDue(due) => with_two(0, bit_of(due.ceiling), bit_of(due.threshold)),
+        Reply::BlocksLeft(count) => with_one(0, count as u64),
         Reply::ViewOf(view) => of_view(view),
-        Reply::OpenBetween(answer) => of_open(answer, out),
-        Reply::NearestOpen(offset) => Numbers(0, 1, offset.0, 0, 0, 0, 0),
-        Reply::UnknownWorker => Numbers(38, 0, 0, 0, 0, 0, 0),
-        Reply::NotPermitted => Numbers(39, 0, 0, 0, 0, 0, 0),
+        Reply::OpenBetween(count) => of_list(count, out),
+        Reply::NearestOpen(offset) => with_one(0, offset.0),
+    }
+}
+
+// A question: what it is answered.
+pub fn of_look(answer: Result<Reply, Refusal>, out: &[u64]) -> Numbers
+    ensures { result ≡ numbers_of (answered values (reply_of answer out.now)) }
+{
+    match answer {
+        Ok(reply) => of_reply(reply, out),
+        Err(refusal) => of_refusal(refusal),
     }
 }
 
@@ -475,12 +393,12 @@ pub fn of_ask(answer: AskAnswer, out: &[u64]) -> Numbers
 {
     match answer {
         AskAnswer::Claimed(answer) => of_claim(answer),
-        AskAnswer::Acked(answer) => of_settle(answer),
-        AskAnswer::Termed(answer) => of_settle(answer),
-        AskAnswer::Nacked(answer) => of_nack(answer),
-        AskAnswer::Progressed(answer) => of_progress(answer),
+        AskAnswer::Acked(answer) => of_done(answer),
+        AskAnswer::Termed(answer) => of_done(answer),
+        AskAnswer::Nacked(answer) => of_value(answer),
+        AskAnswer::Progressed(answer) => of_value(answer),
         AskAnswer::Committed(answer) => of_commit(answer),
-        AskAnswer::Looked(reply) => of_reply(reply, out),
+        AskAnswer::Looked(answer) => of_look(answer, out),
     }
 }
 
@@ -490,9 +408,9 @@ pub fn of_call(answer: CallAnswer, out: &[u64]) -> Numbers
 {
     match answer {
         CallAnswer::Asked(answer) => of_ask(answer, out),
-        CallAnswer::Begun(answer) => of_begin(answer),
+        CallAnswer::Begun(answer) => of_count(answer),
         CallAnswer::Stepped(answer) => of_step(answer),
-        CallAnswer::Restarted(answer) => of_start(answer),
-        CallAnswer::NotNow => Numbers(255, 0, 0, 0, 0, 0, 0),
+        CallAnswer::Restarted(answer) => of_done(answer),
+        CallAnswer::NotNow => Numbers::NOT_NOW,
     }
 }

@@ -3,13 +3,13 @@ use Prim.Native.Nat.{ℕ, ◌+◌, ◌*◌, ◌≤◌}
 use native.Mathlib.Omega.{arith}
 use mathlib.Core.Path.{◌≡◌, refl, sym, ap, ◌∙◌}
 use mathlib.Core.Bool.{true}
-use mathlib.Core.List.{List, [], ◌∷◌}
+use mathlib.Core.List.{List, ◌∷◌}
 use lib.ListN.{length, take, drop}
 use Rattle.types.specs.Limits.{PAIRS}
-use Rattle.types.specs.Refusal.{Result, done}
-use Rattle.types.specs.Table.{Answer, answer}
+use Rattle.types.specs.Refusal.{done}
+use Rattle.types.specs.Table.{answer}
 use Rattle.types.specs.Keyed.{Entry, entry}
-use Rattle.raw.specs.Bytes.{le, overwrite, write}
+use Rattle.raw.specs.Bytes.{le, overwrite}
 use Rattle.raw.proofs.Bytes.{overwrite-append, length-overwrite, write-room}
 use Rattle.crc.specs.Crc32c.{crc}
 use Rattle.attempt.specs.Snapshot.{pairs_bytes, body_bytes, encode_into2, offset_at, attempt_at}

@@ -3,20 +3,15 @@
 use Prim.Native.Nat.{ℕ, zero, suc, ◌+◌, ◌<◌, ◌≤◌}
 use native.Mathlib.Omega.{arith}
 use native.Mathlib.Nat.{add-zero}
-use mathlib.Core.Path.{◌≡◌, refl, ap, ◌∙◌}
+use mathlib.Core.Path.{◌≡◌, ap, ◌∙◌}
 use mathlib.Core.Bool.{Bool}
-use mathlib.Core.List.{List, [], ◌∷◌, ◌++◌, map}
+use mathlib.Core.List.{List, ◌++◌, map}
 use lib.ListN.{length, drop, get_or, set, take-append-drop, length-map, get_or-map}
 use lib.Seq.{take_all}
 use Rattle.types.specs.Keyed.{Entry, entry}
 use Rattle.types.proofs.Loops.{Filling, filling-more}
 use Rattle.attempt.specs.Snapshot.{read_pair, read_pairs}
 use Rattle.attempt.proofs.Snapshot.{length-read}
-
--- no bytes name version 0
-pub no-version : (b : List ℕ) → length b ≡ 0 → 0 ≡ get_or b 0 0
-no-version [] h = refl
-no-version (x ∷ b) h = absurd (omega arith)
 
 module _ (split : Bool) (n : ℕ) (b : List ℕ) where
   pair-at : (k i j : ℕ) → j < k → get_or (read_pairs split n k i b) j (entry 0 0) ≡ read_pair split n (i + j) b

@@ -1,13 +1,13 @@
 -- What the decoder's functions answer, over plain values. Assumes nothing.
-use Prim.Native.Nat.{ℕ, zero, suc, ◌+◌, ◌-◌, ◌*◌, ◌%◌, ◌<◌, ◌≤◌}
+use Prim.Native.Nat.{ℕ, zero, suc, ◌+◌, ◌-◌, ◌*◌, ◌<◌, ◌≤◌}
 use native.Mathlib.Omega.{arith}
 use native.Mathlib.Numerals.{add-one}
 use mathlib.Core.Path.{◌≡◌, refl, sym, ap, ◌∙◌}
 use mathlib.Core.Bool.{Bool, true, false}
 use mathlib.Core.List.{List, [], ◌∷◌, ◌++◌}
-use lib.ListN.{length, take, drop, get_or, set, length-map, take-append-drop}
+use lib.ListN.{length, take, drop, get_or, set, length-map}
 use lib.Seq.{take-suc-set, drop-set-lt, append_snoc}
-use borrow.Author.Tests.{lt-ltb, le-ltb, le-leb, lt-leb, eq-eqb, ne_eqb}
+use borrow.Author.Tests.{lt-ltb, le-ltb, le-leb, lt-leb}
 use Rattle.types.specs.Limits.{PAIRS}
 use Rattle.types.specs.Refusal.{Refusal, Result, refused, done}
 use Rattle.types.specs.Refusal as refusal
@@ -16,52 +16,18 @@ use Rattle.types.specs.Keyed.{Entry}
 use Rattle.types.proofs.Table.{checked-done, checked_refused}
 use Rattle.types.proofs.Scan.{map-set}
 use Rattle.raw.specs.Bytes.{number_at}
-use Rattle.crc.specs.Seal.{is_sealed}
-use Rattle.attempt.specs.Snapshot.{apart, offset_at, read_pair, read_pairs, pairs_as, pairs_of, pair_count, pairs_in, known}
-use Rattle.attempt.specs.Snapshot.{order_after, order_table, limit_table, pairs_table}
+use Rattle.attempt.specs.Snapshot.{apart, offset_at, read_pair, read_pairs, pairs_as, pairs_of, pair_count, pairs_in}
+use Rattle.attempt.specs.Snapshot.{order_after, order_table, limit_table}
 use Rattle.attempt.specs.Snapshot.{decode_table, decode_attempts, decode_into}
-use Rattle.attempt.specs.Codec.{blank, attempt_error, fill_of, DecodedIs, RefusedIs, RoomIs}
+use Rattle.attempt.specs.Codec.{blank}
 use Rattle.types.specs.declared.Pair.{Pair}
-use Rattle.types.specs.Lists.{entry_of, entries_of, counted}
-use Rattle.attempt.specs.declared.Decoded.{Decoded}
-use Rattle.attempt.specs.declared.AttemptSnapshotError.{AttemptSnapshotError}
-use Rattle.attempt.specs.declared.Decode.TheVariants as outcomes
-use Rattle.attempt.specs.declared.Fill.TheVariants.{Pairs, Refused, OutTooShort}
+use Rattle.types.specs.Lists.{entry_of, entries_of}
 use Rattle.attempt.proofs.Snapshot.{length-read, accepted, accepts, fill-room, fill-short}
 
 -- ---- the tests of `check`, in their order
 module _ (b : List ℕ) where
   abbrev check_answer : Result ℕ
   check_answer = checked (decode_table b) (done (pair_count b))
-
-  pub truncated : length b < 9 → check_answer ≡ refused refusal.AttemptTruncated
-  truncated h = rw (lt-ltb (length b) 9 h)
-
-  module _ (long : 9 ≤ length b) where
-    pub other-version : known (get_or b 0 0) ≡ false → check_answer ≡ refused (refusal.AttemptUnsupportedVersion (get_or b 0 0))
-    other-version h = rw (le-ltb (length b) 9 long, h)
-
-    module _ (version : known (get_or b 0 0) ≡ true) where
-      pub bad-length : ((length b - 9) % 12 ≡ 0 → ⊥) → check_answer ≡ refused (refusal.AttemptBadLength (length b))
-      bad-length h = rw (le-ltb (length b) 9 long, version, ne_eqb ((length b - 9) % 12) 0 h)
-
-      module _ (whole : (length b - 9) % 12 ≡ 0) where
-        pub count_mismatch : (number_at 4 1 b ≡ pair_count b → ⊥)
-            → check_answer ≡ refused (refusal.CountMismatch (number_at 4 1 b) (pair_count b))
-        count_mismatch h =
-            rw (le-ltb (length b) 9 long, version, eq-eqb ((length b - 9) % 12) 0 whole)
-            (rw (ne_eqb (number_at 4 1 b) (pair_count b) h))
-
-        module _ (counted : number_at 4 1 b ≡ pair_count b) where
-          pub bad-crc : is_sealed b ≡ false → check_answer ≡ refused refusal.AttemptBadCrc
-          bad-crc h =
-              rw (le-ltb (length b) 9 long, version, eq-eqb ((length b - 9) % 12) 0 whole)
-              (rw (eq-eqb (number_at 4 1 b) (pair_count b) counted, h))
-
-          pub framed : is_sealed b ≡ true → check_answer ≡ checked (pairs_table (pairs_in b)) (done (pair_count b))
-          framed h =
-              rw (le-ltb (length b) 9 long, version, eq-eqb ((length b - 9) % 12) 0 whole)
-              (rw (eq-eqb (number_at 4 1 b) (pair_count b) counted, h))
 
 -- ---- the pairs that are left: i of n are passed
 module _ (split : Bool) (b : List ℕ) (n i : ℕ) where
@@ -93,7 +59,7 @@ module _ (split : Bool) (b : List ℕ) (n i : ℕ) where
     pub ordered : n ≤ i → order ≡ checked limit (done n)
     ordered h = rw (read-end h)
 
-  -- the loop of `get_pairs`: the pairs read, those left and the other places of the array give what the array is to be
+  -- the loop of `fill_pairs`: the pairs read, those left and the other places of the array give what the array is to be
   module _ (a : List Pair) where
     pub get-more : (p : Pair) → i < n → n ≤ length a → entry_of p ≡ read_pair split n i b
         → take (i + 1) (entries_of (set a i p)) ++ (read_pairs split n (n - (i + 1)) (i + 1) b ++ drop n (entries_of (set a i p)))
@@ -102,9 +68,6 @@ module _ (split : Bool) (b : List ℕ) (n i : ℕ) where
         let l : i < length (entries_of a) = rw length-map (omega arith) in
         let q : Entry ℕ = read_pair split n i b in
         rw (map-set entry_of a i p, e, read_more h, add-one, take-suc-set (entries_of a) i q l, drop-set-lt n (entries_of a) i q h, append_snoc)
-
-    pub get-end : i ≡ n → take i (entries_of a) ++ (read_pairs split n (n - i) i b ++ drop n (entries_of a)) ≡ entries_of a
-    get-end e = rw (read-end (omega arith), e, take-append-drop)
 
 pub length-blank : length blank ≡ 128
 unfolding blank
@@ -150,48 +113,12 @@ module _ (b : List ℕ) where
     pub decoded-bytes : decode_attempts b ≡ done (pairs_of n b)
     decoded-bytes = accepts b passed.0 ∙ ap (λ (k : ℕ). done (pairs_of k b)) passed.1
 
-    -- what the bytes hold, in a list with room
-    into : (lent : List (Entry ℕ)) → n ≤ length lent → decode_into b lent ≡ answer (done n) (pairs_of n b ++ drop n lent)
-    into lent room = rw decoded-bytes (fill-room (pairs_of n b) lent n (length-read (apart (get_or b 0 0)) n n 0 b) room)
+    -- what the bytes hold, in a list with room, and in one without
+    pub into : (lent : List (Entry ℕ)) → n ≤ length lent → answer (done n) (pairs_of n b ++ drop n lent) ≡ decode_into b lent
+    into lent room = rw decoded-bytes (sym (fill-room (pairs_of n b) lent n (length-read (apart (get_or b 0 0)) n n 0 b) room))
 
-    no_room : (lent : List (Entry ℕ)) → length lent < n → decode_into b lent ≡ answer (refused refusal.OutTooShort) lent
-    no_room lent short = rw decoded-bytes (fill-short (pairs_of n b) lent n (length-read (apart (get_or b 0 0)) n n 0 b) short)
+    pub no_room : (lent : List (Entry ℕ)) → length lent < n → answer (refused refusal.OutTooShort) lent ≡ decode_into b lent
+    no_room lent short = rw decoded-bytes (sym (fill-short (pairs_of n b) lent n (length-read (apart (get_or b 0 0)) n n 0 b) short))
 
-  -- ---- what `decode_pairs` answers
-  pub refuses : (error : AttemptSnapshotError) (r : Decoded) → refused (attempt_error error) ≡ check_answer b → RefusedIs error r → DecodedIs b r
-  refuses error r e k =
-      let bytes = refused-bytes (attempt_error error) e in
-      record { is = rw (k.outcome-is, k.pairs, bytes); count = rw k.outcome-is k.count }
-
-  pub decodes : (n : ℕ) (pairs : List Pair) → done n ≡ check_answer b → entries_of pairs ≡ pairs_of n b ++ drop n (entries_of blank)
-      → DecodedIs b (record { outcome = outcomes.Pairs n; pairs = pairs; count = n })
-  decodes n pairs e g =
-      let room : n ≤ length (entries_of blank) = omega (arith, (fits n e).0, length-map blank entry_of, length-blank) in
-      record { is = rw g (sym (into n e (entries_of blank) room)); count = refl }
-
-  -- ---- what `check_room` answers
-  module _ (room : ℕ) where
-    pub room-refused : (error : AttemptSnapshotError) → refused (attempt_error error) ≡ check_answer b → RoomIs b room (Refused error)
-    room-refused error e =
-        record {
-          is = λ lent size. rw (refused-bytes (attempt_error error) e);
-          within = omega arith;
-          fits = omega arith;
-        }
-
-    module _ (n : ℕ) (e : done n ≡ check_answer b) where
-      pub room-short : room < n → RoomIs b room OutTooShort
-      room-short h =
-          record {
-            is = λ lent size. sym (no_room n e lent (omega arith));
-            within = omega arith;
-            fits = omega arith;
-          }
-
-      pub room-enough : n ≤ room → RoomIs b room (Pairs n)
-      room-enough h =
-          record {
-            is = λ lent size. sym (into n e lent (omega arith));
-            within = omega (arith, (fits n e).1);
-            fits = h;
-          }
+  pub refused-into : (q : Refusal) → refused q ≡ check_answer b → (lent : List (Entry ℕ)) → answer (refused q) lent ≡ decode_into b lent
+  refused-into q e lent = rw (refused-bytes q e)

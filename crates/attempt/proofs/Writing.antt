@@ -1,14 +1,13 @@
 -- What the encoder's functions write, over plain values. Assumes nothing.
 use Prim.Native.Nat.{ℕ, ◌+◌, ◌*◌, ◌<◌, ◌≤◌, min}
 use native.Mathlib.Omega.{arith}
-use native.Mathlib.Decide.{dec_lt}
 use native.Mathlib.Numerals.{add-one}
 use mathlib.Core.Path.{◌≡◌, refl, sym, ◌∙◌}
 use mathlib.Core.Bool.{Bool, true, false}
 use mathlib.Core.Logic.{inr}
 use mathlib.Core.List.{List, [], ◌∷◌, ◌++◌, map-append}
-use lib.ListN.{length, take, drop, get_or, set, length-map, length-take}
-use lib.Seq.{take-length, take-suc, take-suc-set}
+use lib.ListN.{length, take, drop, get_or, set, length-take}
+use lib.Seq.{take-suc, take-suc-set}
 use borrow.Author.Tests.{lt-ltb, le-ltb}
 use Rattle.types.specs.Limits.{PAIRS}
 use Rattle.types.specs.Refusal.{Result, refused, done}
@@ -21,7 +20,7 @@ use Rattle.raw.proofs.Bytes.{length-overwrite, overwrite_none, overwrite-byte, o
 use Rattle.crc.specs.Crc32c.{crc}
 use Rattle.crc.proofs.Seal.{sealed-put}
 use Rattle.attempt.specs.Snapshot.{apart, offsets_bytes, attempts_bytes, pair_bytes, pairs_bytes, body_bytes, encode_attempts, encode_version, offset_at, attempt_at}
-use Rattle.attempt.specs.Codec.{nil, encode_front}
+use Rattle.attempt.specs.Codec.{nil}
 use Rattle.types.specs.declared.Pair.{Pair}
 use Rattle.types.specs.Lists.{entry_of, entries_of}
 use Rattle.attempt.proofs.Snapshot.{length-offsets, length-body, attempts-length}
@@ -32,15 +31,6 @@ put_from split n at i [] out = out
 put_from split n at i (p ∷ l) out =
     put_from split n at (i + 1) l
     (overwrite (at + attempt_at split n i) (le 4 p.value) (overwrite (at + offset_at split i) (le 8 p.key) out))
-
--- the numbers of a pair stand among the bytes of n pairs
-pub offset-within : (split : Bool) (n i : ℕ) → i < n → offset_at split i + 8 ≤ 5 + 12 * n
-offset-within false n i h = omega arith
-offset-within true n i h = omega arith
-
-pub attempt_within : (split : Bool) (n i : ℕ) → i < n → attempt_at split n i + 4 ≤ 5 + 12 * n
-attempt_within false n i h = omega arith
-attempt_within true n i h = omega arith
 
 -- the loop of `put_pairs`: the pairs that are left, written from pair i on, give what all of them gave at the start
 module _ (split : Bool) (n at : ℕ) (ks vs : List ℕ) (i : ℕ) where
@@ -118,7 +108,7 @@ body-put v l n at bs o₁ o₂ size room count pairs =
     let head = wrote-behind (at + 1) (le 4 n) (set bs at v) count at (v ∷ []) bs refl byte (omega arith) in
     pairs ∙ rw (head, size) (overwrite-append at (v ∷ le 4 n) (pairs_bytes (apart v) l) bs (omega arith))
 
--- ---- what `write_columns` answers, test by test
+-- ---- what `encode_columns` answers, test by test
 same : {p q : ℕ} {x : List ℕ} → p ≡ q → answer (done p) x ≡ answer (done q) x
 same e = rw e
 
@@ -160,9 +150,3 @@ module _ (pairs : List Pair) (ks vs : List ℕ) (i : ℕ) where
       let even : length (take i ks) ≡ length (take i vs) = simp length-take (omega arith) in
       rw (add-one, take-suc-set ks i k g₁, take-suc-set vs i v g₂, take-suc pairs i nil h, entries_snoc k v (take i ks) (take i vs) even, e, ← q)
       (sym (map-append entry_of (take i pairs) (get_or pairs i nil ∷ [])))
-
-pub first-many : (v : ℕ) (pairs : List Pair) (n at : ℕ) (bs : List ℕ) → PAIRS < n → answer (refused refusal.TooManyPairs) bs ≡ encode_front v n pairs at bs
-first-many v pairs n at bs h = rw (lt-ltb PAIRS n h)
-
-pub first-few : (v : ℕ) (pairs : List Pair) (n at : ℕ) (bs : List ℕ) → n ≤ PAIRS → encode_front v n pairs at bs ≡ encode_version v (entries_of (take n pairs)) at bs
-first-few v pairs n at bs h = rw (le-ltb PAIRS n h)

@@ -1,3 +1,4 @@
 pub mod Snapshot
+pub mod Versions
 pub mod Codec
 pub mod Examples

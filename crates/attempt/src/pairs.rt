@@ -5,15 +5,15 @@ ghost use Rattle.raw.specs.Bytes.{le, overwrite};
 ghost use Rattle.crc.specs.Crc32c.{crc};
 ghost use Rattle.attempt.specs.Snapshot.{offset_at, attempt_at};
 
-use crate::{PAIR_LEN, SNAPSHOT_VERSION_2, put_pair};
+use crate::{PAIR_LEN, Version, put_pair};
 
 // Writes the version and the number of pairs of a snapshot that begins at a position.
 pub fn open_v2(count: usize, out: &mut [u8], at: usize)
     requires { (count ≤ 128) × (at + 5 ≤ length out.old) }
     ensures { out.new ≡ overwrite at (2 ∷ le 4 count) out.old }
 {
-    out[at] = SNAPSHOT_VERSION_2;
-    raw::write_u32(out, at + 1, count as u32);
+    out[at] = Version::Two.byte();
+    let _ = raw::write_u32(out, at + 1, count as u32);
 }
 
 // Writes pair i of `count` into it.
@@ -33,5 +33,5 @@ pub fn seal_v2(count: usize, out: &mut [u8], at: usize)
 {
     let end = at + (5 + PAIR_LEN * count);
     let check = crc::crc32c(&out[at..end]);
-    raw::write_u32(out, end, check);
+    let _ = raw::write_u32(out, end, check);
 }

@@ -2,18 +2,20 @@
 use Prim.Native.Nat.{ℕ, suc, ◌+◌, ◌-◌, ◌*◌, ◌≤◌, ◌<◌}
 use native.Mathlib.Omega.{arith}
 use native.Mathlib.Numerals.{add-one}
-use mathlib.Core.Path.{◌≡◌, refl, ap, ◌∙◌}
+use mathlib.Core.Path.{◌≡◌, ap, ◌∙◌}
 use mathlib.Core.List.{List}
 use Rattle.types.specs.Refusal.{Result}
 use Rattle.types.specs.Table.{Answer, answer}
 use Rattle.raw.specs.Bytes.{write}
 use Rattle.cursor.specs.Cursor.{Cursor, ackBounded, resume_with_ahead}
-use Rattle.cursor.specs.View.{view, empty}
+use Rattle.std.specs.Prelude as std
+use Rattle.std.specs.Prelude.{Ok, Err}
+use Rattle.std.specs.Result.{result_unwrap_or}
+use Rattle.cursor.specs.View.{view, Fresh, Sound}
 use Rattle.cursor.specs.Answers.{ResumedIs}
+use Rattle.cursor.specs.declared.AckCursor.{AckCursor}
+use Rattle.cursor.specs.declared.AckCursorError.{AckCursorError}
 use Rattle.cursor.specs.declared.Range.{Range}
-use Rattle.cursor.specs.declared.Resume.{Resume}
-use Rattle.cursor.specs.declared.Resume.TheVariants as resumes
-use Rattle.cursor.specs.declared.Resumed.{Resumed}
 use Rattle.cursor.specs.Snapshot.{encode_cursor}
 use Rattle.lease.specs.State.{Table}
 use Rattle.lease.specs.Operations.{claim}
@@ -65,12 +67,13 @@ writes-next c out i n h = rw (less i n h)
 pub writes-over : (c : Cursor) (out : List ℕ) (i n : ℕ) → n ≤ i → writes (n - i) c out ≡ out
 writes-over c out i n h = rw (over i n h)
 
--- the cursor that stands beside either answer of a resumption
-pub resumed-cursor : (committed : ℕ) (ahead : List Range) (r : Resumed) → ResumedIs committed ahead r → view r.cursor ≡ cursor_of (resume_with_ahead committed ahead)
-resumed-cursor committed ahead r is = go r.outcome refl
-  where
-    go : (o : Resume) → r.outcome ≡ o → view r.cursor ≡ cursor_of (resume_with_ahead committed ahead)
-    go resumes.Resumed q = ap cursor_of (rw q at is.is)
-    go (resumes.Refused error) q =
-        let fresh : r.cursor ≡ empty 0 = rw q at is.kept in
-        ap view fresh ∙ ap cursor_of (rw q at is.is)
+-- the cursor of a resumption, and a fresh one in place of a refusal
+module _ (committed : ℕ) (ahead : List Range) (fresh : AckCursor) (new : Fresh 0 fresh) where
+  pub resumed-cursor : (r : std.Result AckCursor AckCursorError) → ResumedIs committed ahead r
+      → view (result_unwrap_or r fresh) ≡ cursor_of (resume_with_ahead committed ahead)
+  resumed-cursor (Ok c) is = ap cursor_of is.is
+  resumed-cursor (Err e) is = new.is ∙ ap cursor_of is.is
+
+  pub resumed_sound : (r : std.Result AckCursor AckCursorError) → ResumedIs committed ahead r → Sound (result_unwrap_or r fresh)
+  resumed_sound (Ok c) is = is.sound
+  resumed_sound (Err e) is = new.sound

@@ -35,8 +35,7 @@ fn ack_batch(start: AckCursor, base: u64, count: u64) -> AckCursor
     let mut left = count;
     while 0 < left {
         left -= 1;
-        let acked = cursor.ack(Offset(base + left));
-        cursor = acked.cursor;
+        cursor = cursor.ack(Offset(base + left)).cursor;
     }
     cursor
 }
@@ -45,13 +44,9 @@ fn ack_batch(start: AckCursor, base: u64, count: u64) -> AckCursor
 fn claim_below(n: u32) -> LeaseTable
     ensures { Becomes result (claims (starting_at default_config 0) (rising 0 n)) }
 {
-    let end = n as u64;
     let mut table = LeaseTable::new(LeaseConfig::default());
-    let mut i: u64 = 0;
-    while i < end {
-        let claimed = table.claim(0, Offset(i), 0);
-        table = claimed.table;
-        i += 1;
+    for i in 0..n as u64 {
+        table = table.claim(0, Offset(i), 0).table;
     }
     table
 }
@@ -62,11 +57,8 @@ pub extern "C" fn ninotskev_bench_acks_in_order(n: u64) -> u64
     ensures { result ≡ (acks (resume 0) (rising 0 n)).committed }
 {
     let mut cursor = AckCursor::new();
-    let mut i: u64 = 0;
-    while i < n {
-        let acked = cursor.ack(Offset(i));
-        cursor = acked.cursor;
-        i += 1;
+    for i in 0..n {
+        cursor = cursor.ack(Offset(i)).cursor;
     }
     cursor.committed
 }
@@ -76,12 +68,9 @@ pub extern "C" fn ninotskev_bench_acks_in_order(n: u64) -> u64
 pub extern "C" fn ninotskev_bench_acks_reversed(n: u32) -> u64
     ensures { result ≡ (batches (resume 0) 0 n).committed }
 {
-    let end = n as u64;
     let mut cursor = AckCursor::new();
-    let mut i: u64 = 0;
-    while i < end {
+    for i in 0..n as u64 {
         cursor = ack_batch(cursor, 64 * i, 64);
-        i += 1;
     }
     cursor.committed
 }
@@ -92,11 +81,9 @@ pub extern "C" fn ninotskev_bench_claims_and_acks(window: u32, n: u32) -> Stand
     ensures { result ≡ stand_of (works window (group (claims (starting_at default_config 0) (rising 0 window)) (resume 0)) 0 n) }
 {
     let ahead = window as u64;
-    let end = n as u64;
     let mut table = claim_below(window);
     let mut cursor = AckCursor::new();
-    let mut i: u64 = 0;
-    while i < end {
+    for i in 0..n as u64 {
         let claimed = table.claim(0, Offset(i + ahead), 0);
         let token = LeaseToken {
             offset: Offset(i),
@@ -106,7 +93,6 @@ pub extern "C" fn ninotskev_bench_claims_and_acks(window: u32, n: u32) -> Stand
         table = released.table;
         let acked = cursor.ack(Offset(i));
         cursor = acked.cursor;
-        i += 1;
     }
     Stand {
         committed: cursor.committed,
@@ -126,11 +112,10 @@ pub extern "C" fn ninotskev_bench_encodes<'a>(
 )
     ensures { out.new ≡ writes n (cursor_of (resume_with_ahead committed (zipped range starts.now ends.now))) out.old }
 {
-    let resumed = AckCursor::resume_with_columns(Offset(committed), starts, ends);
-    let cursor = resumed.cursor;
-    let mut i: u32 = 0;
-    while i < n {
-        cursor.encode_snapshot(out, 0);
-        i += 1;
+    let cursor = AckCursor::resume_with_columns(Offset(committed), starts, ends).unwrap_or(
+        AckCursor::new(),
+    );
+    for i in 0..n {
+        let _ = cursor.encode_snapshot(out, 0);
     }
 }

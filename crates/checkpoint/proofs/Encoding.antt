@@ -9,7 +9,11 @@ use mathlib.Core.Option.{some}
 use lib.ListN.{length, take, length-append}
 use borrow.Author.Tests.{lt-ltb, le-ltb}
 use Rattle.types.specs.Limits.{MAX32, PAIRS}
-use Rattle.types.specs.Refusal.{Refusal, Result, refused, UnknownWorker, NotPermitted}
+use Rattle.std.specs.Prelude.{Ok, Err}
+use Rattle.types.specs.Refusal.{Result}
+use Rattle.types.specs.Refused.{refusal_of}
+use Rattle.types.specs.declared.refusals.Refusal.{Refusal}
+use Rattle.types.specs.declared.refusals.Refusal.TheVariants.{JournalFull}
 use Rattle.types.specs.Table.{Passed, answer}
 use Rattle.types.specs.Table as table
 use Rattle.types.proofs.Table.{passed_none, first-met-before, first_none_before}
@@ -33,8 +37,6 @@ use Rattle.consumer.proofs.Counts.{counts-few}
 use Rattle.checkpoint.specs.Checkpoint.{cursor_bytes, attempt_bytes, payload_of, bodies, zeroed_for, zeros, begin_rows, begin_table, begin}
 use Rattle.checkpoint.specs.Writing.{SoundWriting}
 use Rattle.checkpoint.specs.Parts.{recording, Lent, BegunAs}
-use Rattle.checkpoint.specs.declared.BeginAnswer.TheVariants as begins
-use Rattle.checkpoint.specs.declared.BeginAnswer.TheVariants.{Begun, JournalFull}
 use Rattle.checkpoint.proofs.Payload.{payload-fits}
 use Rattle.checkpoint.proofs.Places.{state-room}
 use Rattle.checkpoint.proofs.Merged.{both-counted, counts-merged}
@@ -101,7 +103,7 @@ module _ (c : Consumer) (s : Sound c) (w lc' la' : ℕ) (bytes : List ℕ) (work
   its_own : table.first (begin_table (view c) worker) ≡ table.first (begin_rows (view c))
   its_own = first_none_before (call_rows (view c) worker checkpointing) (begin_rows (view c)) (passed_none (call_rows (view c) worker checkpointing) p)
 
-  pub begin-refused : MAX32 < c.next.number → BegunAs JournalFull worker (recording w lc' la' bytes c) (recording w lc' la' bytes c)
+  pub begin-refused : MAX32 < c.next.number → BegunAs (Err JournalFull) worker (recording w lc' la' bytes c) (recording w lc' la' bytes c)
   unfolding begin
   begin-refused h =
       let none = lt-ltb MAX32 c.next.number h in
@@ -110,7 +112,7 @@ module _ (c : Consumer) (s : Sound c) (w lc' la' : ℕ) (bytes : List ℕ) (work
   module _ (lc la : ℕ) (first : lc ≡ length (cursor_bytes (view c))) (second : la ≡ length (attempt_bytes (view c))) where
     pub begin-done : c.next.number ≤ MAX32 → (n z : ℕ) → n ≡ bodies_for (lc + la) → z ≡ zeroed_for c.area_len c.next.block n
         → (after : List ℕ) → take (lc + la) after ≡ payload_of (view c)
-        → BegunAs (Begun (z + (n + 1))) worker (recording w lc' la' bytes c) (recording 0 lc la after c)
+        → BegunAs (Ok (z + (n + 1))) worker (recording w lc' la' bytes c) (recording 0 lc la after c)
     unfolding begin
     begin-done h n z count zeroed after payload =
         let n-is : n ≡ bodies (view c) = count ∙ bodies-counted c s lc la first second in
@@ -127,14 +129,9 @@ module _ (c : Consumer) (s : Sound c) (w lc' la' : ℕ) (bytes : List ℕ) (work
 
 -- ## A worker that may not
 module _ (c : Consumer) (worker w lc la : ℕ) (bytes : List ℕ) where
-  refused_as : (r : Refusal) → some r ≡ table.first (call_rows (view c) worker checkpointing) → refused r ≡ begin (view c) worker
+  pub begin_unpermitted : (r : Refusal) → some (refusal_of r) ≡ table.first (call_rows (view c) worker checkpointing)
+      → BegunAs (Err r) worker (recording w lc la bytes c) (recording w lc la bytes c)
   unfolding begin
-  refused_as r e = rw (first-met-before (call_rows (view c) worker checkpointing) (begin_rows (view c)) r (sym e))
-
-  pub begin-unknown : some UnknownWorker ≡ table.first (call_rows (view c) worker checkpointing)
-      → BegunAs begins.UnknownWorker worker (recording w lc la bytes c) (recording w lc la bytes c)
-  begin-unknown e = record { begun = record { is = refused_as UnknownWorker e; sound = tt; kept = refl }; kept = refl }
-
-  pub begin_not_permitted : some NotPermitted ≡ table.first (call_rows (view c) worker checkpointing)
-      → BegunAs begins.NotPermitted worker (recording w lc la bytes c) (recording w lc la bytes c)
-  begin_not_permitted e = record { begun = record { is = refused_as NotPermitted e; sound = tt; kept = refl }; kept = refl }
+  begin_unpermitted r e =
+      let met = first-met-before (call_rows (view c) worker checkpointing) (begin_rows (view c)) (refusal_of r) (sym e) in
+      record { begun = record { is = rw met; sound = tt; kept = refl }; kept = refl }

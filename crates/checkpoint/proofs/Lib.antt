@@ -4,6 +4,7 @@ pub mod Payload
 pub mod Places
 pub mod Placing
 pub mod Merged
+pub mod Columns
 pub mod Encoding
 pub mod Steps
 pub mod Syncs

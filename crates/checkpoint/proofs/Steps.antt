@@ -4,33 +4,34 @@ use Prim.Native.Nat.{ℕ, suc, ◌+◌, ◌/◌, ◌≤◌}
 use native.Mathlib.Omega.{arith}
 use native.Mathlib.Numerals.{add-one}
 use mathlib.Core.Path.{◌≡◌, refl, ap, ◌∙◌}
-use mathlib.Core.Bool.{true, false}
+use mathlib.Core.Bool.{Bool, true, false}
 use mathlib.Core.List.{List}
 use lib.Dec.{leb}
 use lib.ListN.{length, take, length-take}
-use borrow.Author.Tests.{eq-eqb, ne_eqb, le-leb, lt-leb, leb-true, leb-false}
+use borrow.Author.Tests.{eq-eqb, ne_eqb, lt-leb, leb-false}
+use Rattle.std.specs.Prelude.{Ok, Err}
 use Rattle.types.specs.Limits.{MAX32}
 use Rattle.types.specs.Refusal.{Result}
+use Rattle.types.specs.declared.refusals.Refusal.TheVariants.{BadArea}
 use Rattle.types.specs.Table.{Answer, answer}
 use Rattle.types.proofs.Cases.{split}
 use Rattle.journal.specs.Area.{outside, write_at}
 use Rattle.journal.specs.Answers.{block_of, write_block}
+use Rattle.journal.specs.Blocks.{bodies_for}
 use Rattle.journal.proofs.Area.{whole_says}
 use Rattle.redeliveries.specs.Counter.{after_flush}
 use Rattle.lease.proofs.Valid.{valid-flushed}
 use Rattle.lease.specs.State as lease
 use Rattle.consumer.specs.State.{State}
 use Rattle.consumer.specs.View.{view, Sound}
-use Rattle.consumer.specs.declared.Consumer.{Consumer}
 use Rattle.consumer.proofs.Area.{area-taken}
-use Rattle.checkpoint.specs.Checkpoint.{bodies, group_block, zeros, new_ceiling, flushed, is_zeroing, is_last, sync_due, next_place, next_block, step}
+use Rattle.checkpoint.specs.Checkpoint.{bodies, group_block, zeroed_for, zeros, new_ceiling, flushed, is_zeroing, is_last, sync_due, next_place, next_block, step}
 use Rattle.checkpoint.specs.Checkpoint as checkpoint
 use Rattle.checkpoint.specs.Writing.{view_writing, SoundWriting, SteppedIs, Into}
 use Rattle.checkpoint.specs.Parts.{Parts, parts, with_parts, PlaceIs, NextIs, header_by}
 use Rattle.checkpoint.specs.declared.in_place.Place.{Place}
 use Rattle.checkpoint.specs.declared.in_place.NextWrite.{NextWrite}
 use Rattle.checkpoint.specs.declared.Writing.{Writing}
-use Rattle.checkpoint.specs.declared.StepAnswer.TheVariants.{Wrote, Finished, BadArea}
 use Rattle.checkpoint.proofs.Payload.{payload-fits}
 use Rattle.checkpoint.proofs.Places.{state-room, header-next, next-inside}
 use Rattle.checkpoint.proofs.Valid.{flushed-valid}
@@ -65,20 +66,14 @@ small w s =
     }
 
 -- ## Whether a sync is due
--- as the code finds it, of the place that the group goes to
-pub due-is : (w : Writing) (n : ℕ) → n ≡ bodies (view w.consumer) → (place : Place)
-    → PlaceIs w.consumer.area_len w.consumer.next.block n place → leb (place.zeros + n) (w.written + 1) ≡ sync_due (view_writing w)
-due-is w n count place there =
-    let zeros-is : place.zeros ≡ zeros (view w.consumer) = rw (← count) there.zeros in
-    rw (zeros-is, count, add-one w.written)
+-- the numbers of a sound record are small enough to ask, and its bodies and zeros are those of the code
+pub askable : (w : Writing) → SoundWriting w → (w.cursor_len + w.attempt_len ≤ 3606) × (w.consumer.next.block ≤ 128) × (w.written ≤ 136)
+askable w s = let f = small w s in (omega (arith, f.cursor-len, f.attempt_len_lem), f.block, f.written)
 
-pub zeros_small : (w : Writing) → SoundWriting w → (n : ℕ) → n ≡ bodies (view w.consumer) → (place : Place)
-    → PlaceIs w.consumer.area_len w.consumer.next.block n place → place.zeros ≤ 128
-zeros_small w s n count place there =
-    let room = state-room (view w.consumer) s.valid.state in
-    let most = (whole_says w.consumer.area_len (area-taken w.consumer.area_len s.valid.state.area)).most in
-    let z : place.zeros ≡ zeros (view w.consumer) = rw (← count) there.zeros in
-    omega (arith, z, room.zeroed, most)
+pub due-is : (w : Writing) → SoundWriting w → (due : Bool)
+    → due ≡ leb (zeroed_for w.consumer.area_len w.consumer.next.block (bodies_for (w.cursor_len + w.attempt_len)) + bodies_for (w.cursor_len + w.attempt_len)) (suc w.written)
+    → due ≡ sync_due (view_writing w)
+due-is w s due e = rw (small w s).count at e
 
 -- ## A block is written
 pub into-inside : (w : Writing) (a : List ℕ) (i : ℕ) → Into w a i → outside (length a) i ≡ false
@@ -97,7 +92,7 @@ module _ (p : Parts) (within : Writing) (s : SoundWriting (with_parts p within))
   abbrev st : State
   st = view w.consumer
 
-  pub step-refused : (length a ≡ p.areaLen → ⊥) → SteppedIs w a (record { answer = BadArea; writing = w }) a
+  pub step-refused : (length a ≡ p.areaLen → ⊥) → SteppedIs w a (record { answer = Err BadArea; writing = w }) a
   unfolding step
   step-refused n = record { is = rw (ne_eqb (length a) p.areaLen n); sound = s; kept = refl }
 
@@ -153,7 +148,7 @@ module _ (p : Parts) (within : Writing) (s : SoundWriting (with_parts p within))
 
     pub step-going : (i : ℕ) (b after : List ℕ) → is_last (view_writing w) ≡ false → i ≡ next_place (view_writing w)
         → b ≡ next_block (view_writing w)
-        → after ≡ write_at a i b → SteppedIs w a (record { answer = Wrote i; writing = moved }) after
+        → after ≡ write_at a i b → SteppedIs w a (record { answer = Ok (record { block = i; finished = false }); writing = moved }) after
     unfolding step
     step-going i b after t i-is b-is e =
         record {
@@ -195,7 +190,7 @@ module _ (p : Parts) (within : Writing) (s : SoundWriting (with_parts p within))
           }
 
       pub step-last : (b after : List ℕ) → b ≡ next_block (view_writing w) → after ≡ write_at a i b
-          → SteppedIs w a (record { answer = Finished i; writing = last }) after
+          → SteppedIs w a (record { answer = Ok (record { block = i; finished = true }); writing = last }) after
       unfolding step
       step-last b after b-is e =
           record {

@@ -1,11 +1,13 @@
 -- The parts of a consumer and of a writing record, as a begin and a step in place are handed them, and what both answer on every
 -- consumer and every record that has them.
 -- SPEC.md, "Checkpoint".
-use Rattle.std.specs.Prelude.{ℕ, suc, ◌+◌, ◌-◌, ◌≡◌, cond, List, ltb, leb, length, replicate}
+use Rattle.std.specs.Prelude.{ℕ, suc, ◌+◌, ◌-◌, ◌≡◌, cond, List, ltb, leb, length, replicate, Ok, Err}
+use Rattle.std.specs.Prelude as std
 use Rattle.types.specs.Table.{Passed, Kept}
+use Rattle.types.specs.declared.refusals.Refusal.{Refusal}
 use Rattle.cursor.specs.View as cursor
 use Rattle.cursor.specs.declared.AckCursor.{AckCursor}
-use Rattle.lease.specs.Parts.{gathered, Full}
+use Rattle.lease.specs.Parts.{gathered, listing_all, Full}
 use Rattle.lease.specs.declared.LeaseTable.{LeaseTable}
 use Rattle.journal.specs.declared.Header.{Header}
 use Rattle.journal.specs.declared.Block.TheVariants as block
@@ -17,7 +19,9 @@ use Rattle.consumer.specs.declared.Consumer.{Consumer}
 use Rattle.checkpoint.specs.Checkpoint.{header_place, zeroed_for}
 use Rattle.checkpoint.specs.Writing.{SoundWriting, begin_of, BegunIs, SteppedIs}
 use Rattle.checkpoint.specs.declared.Writing.{Writing}
-use Rattle.checkpoint.specs.declared.BeginAnswer.{BeginAnswer}
+use Rattle.checkpoint.specs.declared.Wrote.{Wrote}
+use Rattle.checkpoint.specs.declared.counts.Columns.{Columns}
+use Rattle.checkpoint.specs.declared.in_place.BegunAt.{BegunAt}
 use Rattle.checkpoint.specs.declared.in_place.SteppedAt.{SteppedAt}
 use Rattle.checkpoint.specs.declared.in_place.Place.{Place}
 use Rattle.checkpoint.specs.declared.in_place.NextWrite.{NextWrite}
@@ -38,6 +42,11 @@ fitting cursor table n b size c =
 -- and with these rights
 abbrev pub beginning : List ℕ → AckCursor → (LeaseTable → LeaseTable) → (number block areaLen : ℕ) → Consumer → Consumer
 beginning rights cursor table n b size = permitted rights (fitting cursor table n b size)
+
+-- what a table counts in these columns
+abbrev pub counting : {T : Type 0} → (List T → List ℕ) → Columns T → LeaseTable → LeaseTable
+counting numbers c =
+    listing_all c.len c.carried_len c.offsets.now (numbers c.slots.now) (numbers c.deliveries.now) c.carried_offsets.now (numbers c.carried_counts.now)
 
 -- a record of a consumer
 abbrev pub recording : (written cursorLen attemptLen : ℕ) → List ℕ → Consumer → Writing
@@ -60,18 +69,28 @@ pub record Beginnable (parts : Consumer → Consumer) (bytes : List ℕ) : Type 
   pub payload : length bytes ≡ 3606
 
 -- begin on a record: as by value, and a refusal keeps the very record, its payload included
-pub record BegunAs (answer : BeginAnswer) (worker : ℕ) (before after : Writing) : Type 0 where
+pub record BegunAs (answer : std.Result ℕ Refusal) (worker : ℕ) (before after : Writing) : Type 0 where
   pub begun : BegunIs before.consumer worker (record { answer = answer; writing = after })
   pub kept : Kept (begin_of answer after) before after
 
-abbrev pub BegunIn : BeginAnswer → ℕ → (Consumer → Consumer) → (before after : Consumer → Writing) → Type 0
-BegunIn answer w parts before after = (c : Consumer) → Lent (parts c) → BegunAs answer w (before (parts c)) (after (parts c))
+-- what a begin answers, and the record that it makes of one with these numbers; a refusal leaves them
+abbrev pub writes_of : std.Result BegunAt Refusal → std.Result ℕ Refusal
+writes_of (Ok b) = Ok b.writes
+writes_of (Err r) = Err r
+
+abbrev pub begun_by : std.Result BegunAt Refusal → (written cursorLen attemptLen : ℕ) → List ℕ → Consumer → Writing
+begun_by (Ok b) w lc la bytes = recording 0 b.cursor_len b.attempt_len bytes
+begun_by (Err r) w lc la bytes = recording w lc la bytes
+
+abbrev pub BegunIn : std.Result BegunAt Refusal → ℕ → (Consumer → Consumer) → (before after : List ℕ) → Type 0
+BegunIn r worker parts before after =
+    (c : Consumer) → Lent (parts c) → (w lc la : ℕ) → BegunAs (writes_of r) worker (recording w lc la before (parts c)) (begun_by r w lc la after (parts c))
 
 -- the same for every worker that may
-abbrev pub PermittedIn : BeginAnswer → (Consumer → Consumer) → (before after : Consumer → Writing) → Type 0
-PermittedIn answer parts before after =
-    (c : Consumer) → Lent (parts c) → (w : ℕ) → Passed (call_rows (view (parts c)) w checkpointing)
-    → BegunAs answer w (before (parts c)) (after (parts c))
+abbrev pub PermittedIn : std.Result BegunAt Refusal → (Consumer → Consumer) → (before after : List ℕ) → Type 0
+PermittedIn r parts before after =
+    (c : Consumer) → Lent (parts c) → (worker : ℕ) → Passed (call_rows (view (parts c)) worker checkpointing) → (w lc la : ℕ)
+    → BegunAs (writes_of r) worker (recording w lc la before (parts c)) (begun_by r w lc la after (parts c))
 
 -- ## step
 -- the numbers that a step reads or changes, and the payload
@@ -131,15 +150,20 @@ pub record Steppable (p : Parts) : Type 0 where
   pub writing : Writing
   pub sound : SoundWriting (with_parts p writing)
 
--- what a step answers on every record that has these parts
-abbrev pub stepped : Parts → SteppedAt → Parts
-stepped p r =
-    parts r.written p.cursorLen p.attemptLen p.areaLen p.generation r.ceiling r.redeliveries r.number r.block p.payload
+-- what a step answers on every record that has these parts, and the parts that it leaves
+abbrev pub wrote_of : std.Result SteppedAt Refusal → std.Result Wrote Refusal
+wrote_of (Ok s) = Ok s.wrote
+wrote_of (Err r) = Err r
 
-abbrev pub SteppedIn : Parts → List ℕ → SteppedAt → List ℕ → Type 0
+abbrev pub stepped : Parts → std.Result SteppedAt Refusal → Parts
+stepped p (Ok s) =
+    parts s.numbers.written p.cursorLen p.attemptLen p.areaLen p.generation s.numbers.ceiling s.numbers.redeliveries s.numbers.number s.numbers.block p.payload
+stepped p (Err r) = p
+
+abbrev pub SteppedIn : Parts → List ℕ → std.Result SteppedAt Refusal → List ℕ → Type 0
 SteppedIn p a r a' =
     (w : Writing) → SoundWriting (with_parts p w)
-    → SteppedIs (with_parts p w) a (record { answer = r.answer; writing = with_parts (stepped p r) w }) a'
+    → SteppedIs (with_parts p w) a (record { answer = wrote_of r; writing = with_parts (stepped p r) w }) a'
 
 -- where a group of n bodies goes
 pub record PlaceIs (size from n : ℕ) (r : Place) : Type 0 where

@@ -1,10 +1,12 @@
 -- What the code's writing record and the answers of begin and step stand for, the invariant of the record, and the parts of the
 -- contracts.
 -- SPEC.md, "Checkpoint".
-use Rattle.std.specs.Prelude.{ℕ, ◌+◌, ◌<◌, ◌≡◌, true, false, List, length, take}
+use Rattle.std.specs.Prelude.{ℕ, ◌+◌, ◌<◌, ◌≡◌, Bool, true, false, cond, List, length, take, Ok, Err}
+use Rattle.std.specs.Prelude as std
 use Rattle.types.specs.Refusal.{Result, refused, done}
-use Rattle.types.specs.Refusal as refusal
+use Rattle.types.specs.Refused.{refusal_of, result_of}
 use Rattle.types.specs.Table.{answer, Kept}
+use Rattle.types.specs.declared.refusals.Refusal.{Refusal}
 use Rattle.consumer.specs.State.{State, blocks_of}
 use Rattle.consumer.specs.View.{view, Sound}
 use Rattle.consumer.specs.declared.Consumer.{Consumer}
@@ -13,11 +15,8 @@ use Rattle.checkpoint.specs.Checkpoint as checkpoint
 use Rattle.checkpoint.specs.Valid.{ValidWriting}
 use Rattle.checkpoint.specs.declared.Writing.{Writing}
 use Rattle.checkpoint.specs.declared.Begun.{Begun}
-use Rattle.checkpoint.specs.declared.BeginAnswer.{BeginAnswer}
-use Rattle.checkpoint.specs.declared.BeginAnswer.TheVariants as begins
 use Rattle.checkpoint.specs.declared.Stepped.{Stepped}
-use Rattle.checkpoint.specs.declared.StepAnswer.{StepAnswer}
-use Rattle.checkpoint.specs.declared.StepAnswer.TheVariants as steps
+use Rattle.checkpoint.specs.declared.Wrote.{Wrote}
 
 abbrev pub view_writing : Writing → checkpoint.Writing
 view_writing w = writing (view w.consumer) w.written
@@ -34,18 +33,14 @@ pub record SoundWriting (w : Writing) : Type 0 where
   pub encoded : Encoded (view w.consumer) w.payload w.cursor_len w.attempt_len
 
 -- ## begin
-abbrev pub begin_of : BeginAnswer → Writing → Result checkpoint.Writing
-begin_of (begins.Begun n) w = done (view_writing w)
-begin_of begins.JournalFull w = refused refusal.JournalFull
-begin_of begins.UnknownWorker w = refused refusal.UnknownWorker
-begin_of begins.NotPermitted w = refused refusal.NotPermitted
+abbrev pub begin_of : std.Result ℕ Refusal → Writing → Result checkpoint.Writing
+begin_of (Ok n) w = done (view_writing w)
+begin_of (Err r) w = refused (refusal_of r)
 
 -- a record that is begun is sound, and has as many block writes before it as its answer says
-abbrev pub SoundBegun : BeginAnswer → Writing → Type 0
-SoundBegun (begins.Begun n) w = SoundWriting w × (n ≡ writes (view w.consumer))
-SoundBegun begins.JournalFull w = Unit {0}
-SoundBegun begins.UnknownWorker w = Unit {0}
-SoundBegun begins.NotPermitted w = Unit {0}
+abbrev pub SoundBegun : std.Result ℕ Refusal → Writing → Type 0
+SoundBegun (Ok n) w = SoundWriting w × (n ≡ writes (view w.consumer))
+SoundBegun (Err r) w = Unit {0}
 
 -- begin by a worker: answer and record are the definition's, and the record has the very consumer, begun or refused
 pub record BegunIs (before : Consumer) (worker : ℕ) (r : Begun) : Type 0 where
@@ -54,21 +49,30 @@ pub record BegunIs (before : Consumer) (worker : ℕ) (r : Begun) : Type 0 where
   pub kept : r.writing.consumer ≡ before
 
 -- ## step
-abbrev pub step_of : StepAnswer → Result BlockWritten
-step_of (steps.Wrote block) = done (record { block = block; last = false })
-step_of (steps.Finished block) = done (record { block = block; last = true })
-step_of steps.BadArea = refused refusal.BadArea
+abbrev pub written_of : Wrote → BlockWritten
+written_of b = record { block = b.block; last = b.finished }
+
+abbrev pub step_of : std.Result Wrote Refusal → Result BlockWritten
+step_of = result_of written_of
+
+-- whether that was the last write; a step that is refused is not
+abbrev pub is_finished : std.Result Wrote Refusal → Bool
+is_finished (Ok b) = b.finished
+is_finished (Err r) = false
 
 -- what is left: after the last write the consumer, else the record
-abbrev pub left_of : StepAnswer → Writing → Left
-left_of (steps.Wrote block) w = going (view_writing w)
-left_of (steps.Finished block) w = finished (view w.consumer)
-left_of steps.BadArea w = going (view_writing w)
+abbrev pub left_after : Bool → Writing → Left
+left_after last w = cond last (finished (view w.consumer)) (going (view_writing w))
 
-abbrev pub SoundLeft : StepAnswer → Writing → Type 0
-SoundLeft (steps.Wrote block) w = SoundWriting w
-SoundLeft (steps.Finished block) w = Sound w.consumer
-SoundLeft steps.BadArea w = SoundWriting w
+abbrev pub SoundAfter : Bool → Writing → Type 0
+SoundAfter true w = Sound w.consumer
+SoundAfter false w = SoundWriting w
+
+abbrev pub left_of : std.Result Wrote Refusal → Writing → Left
+left_of r w = left_after (is_finished r) w
+
+abbrev pub SoundLeft : std.Result Wrote Refusal → Writing → Type 0
+SoundLeft r w = SoundAfter (is_finished r) w
 
 -- step: answer, what is left and the lent area are the definition's, and a refusal gives back the very record
 pub record SteppedIs (before : Writing) (a : List ℕ) (r : Stepped) (a' : List ℕ) : Type 0 where

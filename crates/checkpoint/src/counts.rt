@@ -1,17 +1,63 @@
 // The counts of a checkpoint, written straight into its payload: those of the leases and the carried ones, each sorted by offset. No offset
 // has both, so that they are as many as both are together.
-ghost use Rattle.std.specs.Prelude.{◌+◌, ◌*◌, ◌<◌, ◌≤◌, ◌≡◌, true, length, drop, get_or};
+ghost use Rattle.std.specs.Prelude.{◌+◌, ◌*◌, ◌<◌, ◌≤◌, ◌≡◌, ℕ, true, List, length, drop, get_or};
 ghost use Rattle.types.specs.Refusal.{done};
 ghost use Rattle.types.specs.Table.{answer};
+ghost use Rattle.types.specs.Limits.{MAX32};
 ghost use Rattle.tables.specs.Merge.{merge};
-ghost use Rattle.tables.specs.Slots.{through};
 ghost use Rattle.raw.specs.Bytes.{overwrite};
 ghost use Rattle.attempt.specs.Snapshot.{pairs_bytes, encode_into2};
-ghost use Rattle.checkpoint.specs.Counts.{counted, Listed, Slotted, next_count, NextIs};
+ghost use Rattle.checkpoint.specs.Counts.{counts_of, leased, carried, next_count, NextIs, Storable};
 
 use attempt::pairs;
-use lease::in_place::slot_at;
-use types::limits::{CARRIED, LEASES};
+use types::limits::LEASES;
+
+// What a column of numbers of 32 bits is made of: a `u32` for each in an array of their own, or a `u64` among the words of a table.
+pub trait Number: Copy {
+    ghost numbers: { List Self → List ℕ };
+
+    // That the one at a place is no longer.
+    ghost narrow: { List Self → ℕ → Type 0 };
+
+    // The number at a place.
+    fn at(column: &[Self], i: usize) -> u32
+        requires narrow { narrow column.now i }
+        requires within { i < length (numbers column.now) }
+        ensures { result ≡ get_or (numbers column.now) i 0 };
+}
+
+impl Number for u32 {
+    ghost numbers = { λ column. column };
+
+    ghost narrow = { λ column i. Unit {0} };
+
+    fn at(column: &[u32], i: usize) -> u32 {
+        column[i]
+    }
+}
+
+impl Number for u64 {
+    ghost numbers = { λ column. column };
+
+    ghost narrow = { λ column i. get_or column i 0 ≤ MAX32 };
+
+    fn at(column: &[u64], i: usize) -> u32 {
+        column[i] as u32
+    }
+}
+
+// The columns that have the counts: the leases' offsets by place, the slot of each place, and the counts by slot; the carried offsets and
+// their counts.
+#[derive(Clone, Copy)]
+pub struct Columns<'a, T> {
+    pub len: usize,
+    pub carried_len: usize,
+    pub offsets: &'a [u64],
+    pub slots: &'a [T],
+    pub deliveries: &'a [T],
+    pub carried_offsets: &'a [u64],
+    pub carried_counts: &'a [T],
+}
 
 // The next count, and how many it takes of the leases and of the carried ones.
 #[derive(Clone, Copy)]
@@ -22,128 +68,75 @@ pub struct NextCount {
     pub right: usize,
 }
 
-// The count of lease i.
-fn leased<'a>(
-    offsets: &'a [u64; LEASES],
-    slots: &'a [u32; LEASES],
-    deliveries: &'a [u32; LEASES],
-    i: usize,
-) -> NextCount
-    requires { (i < 64) × Slotted slots.now }
-    ensures { result ≡ next_count (get_or offsets.now i 0) (get_or (through 0 slots.now deliveries.now) i 0) 1 0 }
-{
-    let slot = slot_at(slots, i);
-    NextCount {
-        offset: offsets[i],
-        attempt: deliveries[slot],
-        left: 1,
-        right: 0,
+impl<'a, T: Number> Columns<'a, T> {
+    // The count of lease i.
+    fn leased(self, i: usize) -> NextCount
+        requires { Storable T.numbers T.narrow self × (i < self.len) }
+        ensures { result ≡ next_count (get_or self.entry.offsets.now i 0) (get_or (counts_of T.numbers self.entry) i 0) 1 0 }
+    {
+        let slot = T::at(self.slots, i) as usize % LEASES;
+        NextCount {
+            offset: self.offsets[i],
+            attempt: T::at(self.deliveries, slot),
+            left: 1,
+            right: 0,
+        }
     }
-}
 
-// The carried count j.
-fn carried<'a>(offsets: &'a [u64; CARRIED], counts: &'a [u32; CARRIED], j: usize) -> NextCount
-    requires { j < 128 }
-    ensures { result ≡ next_count (get_or offsets.now j 0) (get_or counts.now j 0) 0 1 }
-{
-    NextCount {
-        offset: offsets[j],
-        attempt: counts[j],
-        left: 0,
-        right: 1,
+    // The carried count j.
+    fn carried(self, j: usize) -> NextCount
+        requires { Storable T.numbers T.narrow self × (j < self.carried_len) }
+        ensures { result ≡ next_count (get_or self.entry.carried_offsets.now j 0) (get_or (T.numbers self.entry.carried_counts.now) j 0) 0 1 }
+    {
+        NextCount {
+            offset: self.carried_offsets[j],
+            attempt: T::at(self.carried_counts, j),
+            left: 0,
+            right: 1,
+        }
     }
-}
 
-// The lower of lease i and carried count j, where one of them is there.
-fn next_count<'a>(
-    len: usize,
-    carried_len: usize,
-    offsets: &'a [u64; LEASES],
-    slots: &'a [u32; LEASES],
-    deliveries: &'a [u32; LEASES],
-    carried_offsets: &'a [u64; CARRIED],
-    carried_counts: &'a [u32; CARRIED],
-    i: usize,
-    j: usize,
-) -> NextCount
-    requires { Listed len carried_len offsets.now (through 0 slots.now deliveries.now) carried_offsets.now carried_counts.now × (i ≤ len) × (j ≤ carried_len) × (i + j < len + carried_len) × Slotted slots.now }
-    ensures { NextIs (drop i (counted len offsets.now (through 0 slots.now deliveries.now))) (drop j (counted carried_len carried_offsets.now carried_counts.now)) result }
-{
-    if len <= i {
-        return carried(carried_offsets, carried_counts, j);
+    // The lower of lease i and carried count j, where one of them is there.
+    fn next(self, i: usize, j: usize) -> NextCount
+        requires { Storable T.numbers T.narrow self × (i ≤ self.len) × (j ≤ self.carried_len) × (i + j < self.len + self.carried_len) }
+        ensures { NextIs (drop i (leased T.numbers self.entry)) (drop j (carried T.numbers self.entry)) result }
+    {
+        if self.len <= i {
+            return self.carried(j);
+        }
+        if self.carried_len <= j {
+            return self.leased(i);
+        }
+        if self.offsets[i] < self.carried_offsets[j] {
+            return self.leased(i);
+        }
+        self.carried(j)
     }
-    if carried_len <= j {
-        return leased(offsets, slots, deliveries, i);
-    }
-    if offsets[i] < carried_offsets[j] {
-        return leased(offsets, slots, deliveries, i);
-    }
-    carried(carried_offsets, carried_counts, j)
-}
 
-// Writes the pairs of a snapshot that begins at a position.
-fn put_pairs<'a>(
-    len: usize,
-    carried_len: usize,
-    offsets: &'a [u64; LEASES],
-    slots: &'a [u32; LEASES],
-    deliveries: &'a [u32; LEASES],
-    carried_offsets: &'a [u64; CARRIED],
-    carried_counts: &'a [u32; CARRIED],
-    out: &mut [u8],
-    at: usize,
-)
-    requires { Listed len carried_len offsets.now (through 0 slots.now deliveries.now) carried_offsets.now carried_counts.now × (at + (5 + 12 * (len + carried_len)) ≤ length out.old) × Slotted slots.now }
-    ensures { out.new ≡ overwrite (at + 5) (pairs_bytes true (merge (counted len offsets.now (through 0 slots.now deliveries.now)) (counted carried_len carried_offsets.now carried_counts.now))) out.old }
-{
-    let count = len + carried_len;
-    let mut i: usize = 0;
-    let mut j: usize = 0;
-    while i + j < count {
-        let next = next_count(
-            len,
-            carried_len,
-            offsets,
-            slots,
-            deliveries,
-            carried_offsets,
-            carried_counts,
-            i,
-            j,
-        );
-        pairs::put_v2(out, at, count, i + j, next.offset, next.attempt);
-        i += next.left;
-        j += next.right;
+    // Writes the pairs of a snapshot that begins at a position.
+    fn put_pairs(self, out: &mut [u8], at: usize)
+        requires { Storable T.numbers T.narrow self × (at + (5 + 12 * (self.len + self.carried_len)) ≤ length out.old) }
+        ensures { out.new ≡ overwrite (at + 5) (pairs_bytes true (merge (leased T.numbers self.entry) (carried T.numbers self.entry))) out.old }
+    {
+        let count = self.len + self.carried_len;
+        let mut i: usize = 0;
+        let mut j: usize = 0;
+        for k in 0..count {
+            let next = self.next(i, j);
+            pairs::put_v2(out, at, count, k, next.offset, next.attempt);
+            i += next.left;
+            j += next.right;
+        }
     }
-}
 
-// Writes their snapshot, in version 2, from a position on.
-pub(crate) fn put_counts<'a>(
-    len: usize,
-    carried_len: usize,
-    offsets: &'a [u64; LEASES],
-    slots: &'a [u32; LEASES],
-    deliveries: &'a [u32; LEASES],
-    carried_offsets: &'a [u64; CARRIED],
-    carried_counts: &'a [u32; CARRIED],
-    out: &mut [u8],
-    at: usize,
-)
-    requires { Listed len carried_len offsets.now (through 0 slots.now deliveries.now) carried_offsets.now carried_counts.now × (len + carried_len ≤ 128) × (at + (9 + 12 * (len + carried_len)) ≤ length out.old) × Slotted slots.now }
-    ensures { answer (done (at + (9 + 12 * (len + carried_len)))) out.new ≡ encode_into2 (merge (counted len offsets.now (through 0 slots.now deliveries.now)) (counted carried_len carried_offsets.now carried_counts.now)) at out.old }
-{
-    let count = len + carried_len;
-    pairs::open_v2(count, out, at);
-    put_pairs(
-        len,
-        carried_len,
-        offsets,
-        slots,
-        deliveries,
-        carried_offsets,
-        carried_counts,
-        out,
-        at,
-    );
-    pairs::seal_v2(count, out, at);
+    // Writes their snapshot, in version 2, from a position on.
+    pub fn put(self, out: &mut [u8], at: usize)
+        requires { Storable T.numbers T.narrow self × (self.len + self.carried_len ≤ 128) × (at + (9 + 12 * (self.len + self.carried_len)) ≤ length out.old) }
+        ensures { answer (done (at + (9 + 12 * (self.entry.len + self.entry.carried_len)))) out.new ≡ encode_into2 (merge (leased T.numbers self.entry) (carried T.numbers self.entry)) at out.old }
+    {
+        let count = self.len + self.carried_len;
+        pairs::open_v2(count, out, at);
+        self.put_pairs(out, at);
+        pairs::seal_v2(count, out, at);
+    }
 }

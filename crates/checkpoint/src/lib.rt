@@ -11,7 +11,10 @@ ghost use Rattle.checkpoint.specs.Parts.{unbegun, BegunAs};
 pub mod counts;
 pub mod in_place;
 
+use crate::counts::Columns;
+use crate::in_place::StepNumbers;
 use consumer::Consumer;
+use types::refusals::Refusal;
 
 // The consumer, the number of blocks written, and what is written: the snapshots of the cursor and of all attempt counts, one
 // behind the other at the front of the payload.
@@ -25,34 +28,26 @@ pub struct Writing {
     pub attempt_len: usize,
 }
 
-// What begin answers: the number of block writes, or refusal 38, 39 or 31.
-#[derive(Clone, Copy)]
-pub enum BeginAnswer {
-    Begun { writes: usize },
-    JournalFull,
-    UnknownWorker,
-    NotPermitted,
+// The block that a step wrote, and whether it was the checkpoint's last one, the header's.
+#[derive(Clone, Copy, Debug, PartialEq, Eq)]
+pub struct Wrote {
+    pub block: usize,
+    pub finished: bool,
 }
 
-// What a step answers: the block that it wrote, the last one or not, or refusal 4.
-#[derive(Clone, Copy)]
-pub enum StepAnswer {
-    Wrote { block: usize },
-    Finished { block: usize },
-    BadArea,
-}
-
-// Beside a refusal nothing is begun in the record, which has the very consumer and is not to be stepped.
+// The number of block writes, or refusal 38, 39 or 31: nothing is begun in the record then, which has the very consumer and is not to
+// be stepped.
 #[derive(Clone, Copy)]
 pub struct Begun {
-    pub answer: BeginAnswer,
+    pub answer: Result<usize, Refusal>,
     pub writing: Writing,
 }
 
-// Behind the last write the record's consumer is the one to go on with, and the record is not to be stepped.
+// What a step wrote, or refusal 4. After the last write the record's consumer is the one to go on with, and the record is not to be
+// stepped.
 #[derive(Clone, Copy)]
 pub struct Stepped {
-    pub answer: StepAnswer,
+    pub answer: Result<Wrote, Refusal>,
     pub writing: Writing,
 }
 
@@ -63,14 +58,19 @@ pub fn begin(consumer: Consumer, worker: u64) -> Begun
     ensures { BegunAs result.answer worker (unbegun consumer) result.writing }
 {
     let mut payload = [0u8; 3606];
+    let counts = Columns {
+        len: consumer.table.len,
+        carried_len: consumer.table.carried_len,
+        offsets: &consumer.table.offsets,
+        slots: &consumer.table.slots,
+        deliveries: &consumer.table.deliveries,
+        carried_offsets: &consumer.table.carried_offsets,
+        carried_counts: &consumer.table.carried_counts,
+    };
     let begun = in_place::begin_in_place(
-        0,
-        0,
-        0,
         consumer.cursor.committed,
         consumer.cursor.runs,
-        consumer.table.len,
-        consumer.table.carried_len,
+        counts,
         consumer.next.number,
         consumer.next.block,
         consumer.area_len,
@@ -78,22 +78,27 @@ pub fn begin(consumer: Consumer, worker: u64) -> Begun
         &consumer.settings.rights,
         &consumer.cursor.starts,
         &consumer.cursor.ends,
-        &consumer.table.offsets,
-        &consumer.table.slots,
-        &consumer.table.deliveries,
-        &consumer.table.carried_offsets,
-        &consumer.table.carried_counts,
         &mut payload,
     );
-    let answer = begun.answer;
-    Begun {
-        answer: answer,
-        writing: Writing {
-            consumer: consumer,
-            written: begun.written,
-            payload: payload,
-            cursor_len: begun.cursor_len,
-            attempt_len: begun.attempt_len,
+    let mut writing = Writing {
+        consumer,
+        written: 0,
+        payload,
+        cursor_len: 0,
+        attempt_len: 0,
+    };
+    match begun {
+        Ok(begun) => {
+            writing.cursor_len = begun.cursor_len;
+            writing.attempt_len = begun.attempt_len;
+            Begun {
+                answer: Ok(begun.writes),
+                writing,
+            }
+        }
+        Err(refusal) => Begun {
+            answer: Err(refusal),
+            writing,
         },
     }
 }
@@ -105,28 +110,39 @@ impl Writing {
         requires { SoundWriting self }
         ensures { SteppedIs self area.old result area.new }
     {
-        let after = in_place::step_in_place(
-            self.written,
+        let numbers = StepNumbers {
+            written: self.written,
+            ceiling: self.consumer.ceiling.0,
+            redeliveries: self.consumer.table.redeliveries_since_flush,
+            number: self.consumer.next.number,
+            block: self.consumer.next.block,
+        };
+        let stepped = in_place::step_in_place(
+            numbers,
             self.cursor_len,
             self.attempt_len,
             self.consumer.area_len,
             self.consumer.table.next_generation.0,
-            self.consumer.ceiling.0,
-            self.consumer.table.redeliveries_since_flush,
-            self.consumer.next.number,
-            self.consumer.next.block,
             &self.payload,
             area,
         );
-        self.written = after.written;
-        self.consumer.ceiling.0 = after.ceiling;
-        self.consumer.table.redeliveries_since_flush = after.redeliveries;
-        self.consumer.next.number = after.number;
-        self.consumer.next.block = after.block;
-        let answer = after.answer;
-        Stepped {
-            answer: answer,
-            writing: self,
+        match stepped {
+            Ok(stepped) => {
+                let after = stepped.numbers;
+                self.written = after.written;
+                self.consumer.ceiling.0 = after.ceiling;
+                self.consumer.table.redeliveries_since_flush = after.redeliveries;
+                self.consumer.next.number = after.number;
+                self.consumer.next.block = after.block;
+                Stepped {
+                    answer: Ok(stepped.wrote),
+                    writing: self,
+                }
+            }
+            Err(refusal) => Stepped {
+                answer: Err(refusal),
+                writing: self,
+            },
         }
     }
 
@@ -136,8 +152,12 @@ impl Writing {
         requires { SoundWriting self.now }
         ensures { result ≡ sync_due (view_writing self.now) }
     {
-        let bodies = in_place::bodies_of(self.cursor_len, self.attempt_len);
-        let place = in_place::place_of(self.consumer.area_len, self.consumer.next.block, bodies);
-        place.zeros + bodies <= self.written + 1
+        in_place::is_sync_due(
+            self.written,
+            self.cursor_len,
+            self.attempt_len,
+            self.consumer.area_len,
+            self.consumer.next.block,
+        )
     }
 }

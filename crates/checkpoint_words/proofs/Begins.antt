@@ -1,53 +1,49 @@
--- A begin on words is a begin of the consumer that they are: what its parts are lent, how long both snapshots are, and what comes back.
--- Assumes nothing.
-use Prim.Native.Nat.{ℕ, zero, suc, ◌+◌, ◌-◌, ◌*◌, ◌≤◌, ◌<◌}
+-- A begin on words is a begin of the consumer that they are: what its parts are lent, and what comes back. Assumes nothing.
+use Prim.Native.Nat.{ℕ, ◌≤◌, ◌<◌}
 use native.Mathlib.Omega.{arith}
-use native.Mathlib.Numerals.{add-one}
 use mathlib.Core.Path.{◌≡◌, refl, sym, ap, subst, ◌∙◌}
-use mathlib.Core.List.{List, [], ◌∷◌}
+use mathlib.Core.List.{List}
 use mathlib.Core.Option.{some}
-use borrow.Author.Tests.{le-ltb}
-use lib.ListN.{length, take, drop, set, length-set, length-drop, take-append-drop}
+use lib.Dec.{ltb}
+use borrow.Author.Tests.{ltb-true, ltb-false}
+use lib.ListN.{length, take, drop, get_or, set, length-set, length-drop, take-append-drop}
 use lib.Seq.{get_or-set_same, length-take-le, take-append-le, drop-append-le}
-use Rattle.types.specs.Limits.{MAX32, WORKERS, CARRIED}
-use Rattle.types.specs.Refusal.{Result, done, UnknownWorker, NotPermitted}
-use Rattle.types.specs.Table.{first, Passed, answer}
-use Rattle.types.specs.Keyed.{Entry}
-use Rattle.types.proofs.Table.{passed_none, first_none_before}
+use Rattle.std.specs.Prelude.{Ok, Err}
+use Rattle.std.specs.Prelude as std
+use Rattle.types.specs.Limits.{MAX32, WORKERS, LEASES, CARRIED, RANGES}
+use Rattle.types.specs.Refused.{refusal_of}
+use Rattle.types.specs.Table.{first, Passed}
+use Rattle.types.specs.declared.refusals.Refusal.{Refusal}
+use Rattle.std.proofs.lemmas.List.{get_or_past}
+use Rattle.types.proofs.Cases.{split}
+use Rattle.tables.proofs.Slots.{slot_below}
 use Rattle.words.specs.Columns.{word, column}
 use Rattle.words.proofs.Columns.{column-is, column-at, column-length, number-kept, other-kept}
-use Rattle.cursor.specs.Snapshot.{encode_cursor}
+use Rattle.cursor.specs.View.{ack_cursor}
+use Rattle.cursor.specs.Layout.{COMMITTED, RUNS, STARTS, ENDS}
 use Rattle.cursor.specs.Layout as cursors
 use Rattle.cursor.proofs.Words as cursors-whole
-use Rattle.lease.specs.Layout.{LEN, CARRIED-LEN, table_in}
+use Rattle.lease.specs.Layout.{CARRIED-COUNTS, table_in}
 use Rattle.lease.specs.Layout as leases
+use Rattle.lease.proofs.InWords.{carried_narrow}
 use Rattle.lease.proofs.InWords as leases-whole
-use Rattle.lease.specs.State.{carried_of}
-use Rattle.tables.specs.Merge.{merge}
-use Rattle.attempt.specs.Snapshot.{encode_into2}
 use Rattle.consumer.specs.Rights.{worker_rows, bit_of, checkpointing}
 use Rattle.consumer.specs.Calls.{call_rows}
 use Rattle.consumer.specs.View as consumer
 use Rattle.consumer.specs.declared.Consumer.{Consumer}
-use Rattle.consumer_words.specs.Layout.{CURSOR, TABLE, AREA-LEN, NEXT-BLOCK, RIGHTS, settled_in, leases_in, consumer_in, view}
+use Rattle.consumer_words.specs.Layout.{CURSOR, TABLE, AREA-LEN, NEXT-NUMBER, NEXT-BLOCK, RIGHTS, settled_in, leases_in, consumer_in, view}
 use Rattle.consumer_words.specs.Layout as consumers
-use Rattle.raw.specs.Bytes.{write}
-use Rattle.lease.specs.Counts.{all_attempt_counts}
-use Rattle.consumer.specs.State.{State}
-use Rattle.checkpoint.specs.Checkpoint.{cursor_bytes, attempt_bytes, bodies, zeroed_for, writes, begin_rows, begin}
-use Rattle.checkpoint.specs.Checkpoint as checkpoint
+use Rattle.checkpoint.specs.Checkpoint.{begin, writes}
+use Rattle.checkpoint.specs.Counts.{Narrow}
+use Rattle.checkpoint.specs.Parts.{recording, fitting, counting, Lent, BegunAs, writes_of, begun_by}
+use Rattle.checkpoint.specs.Writing.{begin_of}
 use Rattle.checkpoint.specs.Writing as writing
-use Rattle.checkpoint.specs.Parts.{recording, Lent}
-use Rattle.checkpoint.specs.Writing.{Encoded, begin_of}
 use Rattle.checkpoint.specs.declared.Writing.{Writing}
-use Rattle.checkpoint.specs.declared.BeginAnswer.TheVariants as begins
-use Rattle.journal.specs.Blocks.{bodies_for}
-use Rattle.checkpoint.proofs.Payload.{payload-fits}
-use Rattle.checkpoint.proofs.Merged.{listed, counts-merged}
-use Rattle.checkpoint.proofs.Encoding.{few-counts, attempt_size, both-encoded, bodies-counted, begin-refused, begin-unknown, begin_not_permitted}
-use Rattle.checkpoint_words.specs.Layout.{WRITTEN, CURSOR-LEN, ATTEMPT-LEN, WORDS, PAYLOAD, writing_in, Sound}
-use Rattle.checkpoint_words.specs.Counts.{leased_in, Separate}
-use Rattle.checkpoint_words.specs.InWords.{Begins}
+use Rattle.checkpoint.specs.declared.counts.Columns.{Columns}
+use Rattle.checkpoint.specs.declared.in_place.BegunAt.{BegunAt}
+use Rattle.checkpoint.proofs.Encoding.{begin_unpermitted}
+use Rattle.checkpoint_words.specs.Layout.{WRITTEN, CURSOR-LEN, ATTEMPT-LEN, WORDS, writing_in, Sound}
+use Rattle.checkpoint_words.specs.InWords.{Begins, Counts}
 
 -- ## what is lent
 abbrev pub cursor_part : List ℕ → List ℕ
@@ -57,17 +53,11 @@ abbrev pub table_part : List ℕ → List ℕ
 table_part w = take leases.WORDS (drop TABLE w)
 
 module _ {w : List ℕ} (ok : Sound w) where
-  long : length w ≡ WORDS
-  long = ok.long
-
   cursor-sound : cursors.Sound (settled_in w)
-  cursor-sound = let l = long in record { long = column-length CURSOR cursors.WORDS w (omega arith); cursor = ok.state.cursor }
-
-  pub lent-cursor : cursors.Sound (cursor_part w)
-  lent-cursor = subst cursors.Sound (sym (column-is CURSOR cursors.WORDS w)) cursor-sound
+  cursor-sound = let l = ok.long in record { long = column-length CURSOR cursors.WORDS w (omega arith); cursor = ok.state.cursor }
 
   table-sound : leases.Sound (leases_in w)
-  table-sound = let l = long in record { long = column-length TABLE leases.WORDS w (omega arith); table = ok.state.table; fits = ok.fits }
+  table-sound = let l = ok.long in record { long = column-length TABLE leases.WORDS w (omega arith); table = ok.state.table; fits = ok.fits }
 
   pub lent-table : leases.Sound (table_part w)
   lent-table = subst leases.Sound (sym (column-is TABLE leases.WORDS w)) table-sound
@@ -75,38 +65,42 @@ module _ {w : List ℕ} (ok : Sound w) where
   pub lent_in : Lent (consumer_in w)
   lent_in = record { cursor = cursors-whole.whole cursor-sound; table = (leases-whole.whole table-sound).full; sound = ok.state }
 
-  pub separate : Separate (table_in (table_part w))
-  separate = subst (λ (t : List ℕ). Separate (table_in t)) (sym (column-is TABLE leases.WORDS w)) (listed (consumer_in w) lent_in.table ok.state).apart
+-- the columns of the table's words have numbers of 32 bits where they are read
+module _ {t : List ℕ} (ok : leases.Sound t) (c : Columns ℕ) (h : Counts t c) where
+  slot_narrow : (i : ℕ) → get_or (table_in t).slots i 0 ≤ MAX32
+  slot_narrow i =
+      let long = (leases-whole.whole ok).full.slots in
+      split (ltb i LEASES)
+      (λ q. omega (arith, slot_below ok.table.slots i (omega (arith, long, ltb-true i LEASES q))))
+      (λ q. rw (get_or_past (table_in t).slots i 0 (omega (arith, long, ltb-false i LEASES q))) (omega arith))
 
-  -- how many counts there are
-  pub count_at : word (TABLE + LEN) w + word (TABLE + CARRIED-LEN) w ≡ (consumer_in w).table.len + (consumer_in w).table.carried_len
-  count_at =
-      let l = column-at TABLE leases.WORDS w LEN (omega arith) in
-      let c = column-at TABLE leases.WORDS w CARRIED-LEN (omega arith) in
-      omega (arith, l, c)
+  count_narrow : (i : ℕ) → i < (table_in t).carried_len → get_or (table_in t).carried_counts i 0 ≤ MAX32
+  count_narrow i q = rw (column-at CARRIED-COUNTS CARRIED t i (omega (arith, q, ok.table.carried-len))) (carried_narrow ok i q)
 
-  pub few : word (TABLE + LEN) w + word (TABLE + CARRIED-LEN) w ≤ 128
-  few = omega (arith, count_at, few-counts (consumer_in w) lent_in)
+  pub narrow_in : Narrow (λ (column : List ℕ) (i : ℕ). get_or column i 0 ≤ MAX32) c
+  narrow_in =
+      record {
+        slots = λ i. rw h.slots (slot_narrow i);
+        leased = λ i. rw h.deliveries (ok.fits.counts i);
+        carried = λ i q. rw h.carried-counts (count_narrow i (rw h.carried-len at q));
+      }
 
-  pub few-lent : word LEN (table_part w) + word CARRIED-LEN (table_part w) ≤ CARRIED
-  few-lent = subst (λ (t : List ℕ). word LEN t + word CARRIED-LEN t ≤ CARRIED) (sym (column-is TABLE leases.WORDS w)) (few-counts (consumer_in w) lent_in)
+-- the parts of the consumer that the words are
+module _ (w : List ℕ) (c : Columns ℕ) (h : Counts (table_part w) c) where
+  abbrev pub lent_parts : Consumer → Consumer
+  lent_parts =
+      let k = cursor_part w in
+      fitting (ack_cursor (word COMMITTED k) (take RANGES (drop STARTS k)) (take RANGES (drop ENDS k)) (word RUNS k)) (counting (λ l. l) c) (word NEXT-NUMBER w) (word NEXT-BLOCK w) (word AREA-LEN w)
 
-  -- there is room for them behind the cursor's snapshot
-  pub room : (lc : ℕ) → lc ≡ length (encode_cursor (cursors.view (cursor_part w))) → (b : List ℕ) → length b ≡ PAYLOAD
-      → lc + (9 + 12 * (word LEN (table_part w) + word CARRIED-LEN (table_part w))) ≤ length b
-  room lc e b size =
-      let front : lc ≡ length (cursor_bytes (view w)) = e ∙ ap (λ (t : List ℕ). length (encode_cursor (cursors.view t))) (column-is CURSOR cursors.WORDS w) in
-      omega (arith, front, (payload-fits (view w) ok.state.valid).cursor_high, few-lent, size)
+  pub parts_are : lent_parts (consumer_in w) ≡ consumer_in w
+  parts_are =
+      rw (h.len, h.carried-len, h.offsets, h.slots, h.deliveries, h.carried-offsets, h.carried-counts, column-is STARTS RANGES (cursor_part w), column-is ENDS RANGES (cursor_part w), column-is CURSOR cursors.WORDS w, column-is TABLE leases.WORDS w) refl
 
-  -- ## how many writes
-  module _ (lc la : ℕ) (first : lc ≡ length (cursor_bytes (view w))) (second : la ≡ length (attempt_bytes (view w))) where
-    pub lengths-small : (lc ≤ 4000) × (la ≤ 4000)
-    lengths-small = let f = payload-fits (view w) ok.state.valid in (omega (arith, first, f.cursor_high), omega (arith, second, f.attempt_high))
-
-    pub writes-is : (n z : ℕ) → n ≡ bodies_for (lc + la) → z ≡ zeroed_for (word AREA-LEN w) (word NEXT-BLOCK w) n → z + (n + 1) ≡ writes (view w)
-    writes-is n z e f =
-        let n-is : n ≡ bodies (view w) = e ∙ bodies-counted (consumer_in w) ok.state lc la first second in
-        rw (f, n-is, add-one (bodies (view w)))
+-- what a begin that is permitted says of a consumer
+abbrev pub PermittedAt : std.Result BegunAt Refusal → (before after : List ℕ) → Consumer → Type 0
+PermittedAt r before after x =
+    Lent x → (worker : ℕ) → Passed (call_rows (consumer.view x) worker checkpointing) → (w lc la : ℕ)
+    → BegunAs (writes_of r) worker (recording w lc la before x) (begun_by r w lc la after x)
 
 -- ## the rights, which lie within the consumer's words
 pub rights-within : {w : List ℕ} → Sound w → column RIGHTS WORKERS (take consumers.WORDS (drop CURSOR w)) ≡ column RIGHTS WORKERS w
@@ -153,62 +147,37 @@ module _ (w : List ℕ) (l : length w ≡ WORDS) (lc la : ℕ) where
       ∙ ap (λ (n : ℕ). recording 0 n (word ATTEMPT-LEN (begun lc la w)) p (consumer_in w)) first
       ∙ ap (λ (n : ℕ). recording 0 lc n p (consumer_in w)) second
 
--- a worker who may begins
-begin-opens : (s : State) (worker : ℕ) → Passed (call_rows s worker checkpointing) → s.next.number ≤ MAX32 → begin s worker ≡ done (checkpoint.writing s 0)
-unfolding begin
-begin-opens s worker p h =
-    rw (first_none_before (call_rows s worker checkpointing) (begin_rows s) (passed_none (call_rows s worker checkpointing) p), le-ltb MAX32 s.next.number h)
-
+-- a begin that is permitted, and one that is not
 module _ {w : List ℕ} (ok : Sound w) (worker : ℕ) (p : List ℕ) where
-  pub begun_words : (lc la n : ℕ) (p' : List ℕ) → Passed (call_rows (view w) worker checkpointing) → (view w).next.number ≤ MAX32
-      → Encoded (view w) p' lc la → n ≡ writes (view w) → Begins (begins.Begun n) worker w p (begun lc la w) p'
-  begun_words lc la n p' may h e count =
-      let record_is = begun_record w ok.long lc la p' in
-      let consumer-is = begun-consumer w ok.long lc la in
-      let sound : writing.SoundWriting (recording 0 lc la p' (consumer_in w)) =
-      record { consumer = ok.state; valid = record { state = ok.state.valid; numbered = h; few = omega arith }; encoded = e } in
-      record {
-        is = subst (λ (x : Writing). begin_of (begins.Begun n) x ≡ begin (view w) worker) (sym record_is) (sym (begin-opens (view w) worker may h));
-        sound = (
-          record {
-            long = begun-long w ok.long lc la;
-            writing = subst writing.SoundWriting (sym record_is) sound;
-            fits = subst (λ (c : Consumer). leases.Fits c.table) (sym consumer-is) ok.fits;
-          },
-          count ∙ ap (λ (c : Consumer). writes (consumer.view c)) (sym consumer-is),
-        );
-        same = consumer-is;
-        kept = tt;
-        payload-kept = tt;
-      }
-
-  pub full_words : Passed (call_rows (view w) worker checkpointing) → MAX32 < (view w).next.number → Begins begins.JournalFull worker w p w p
-  full_words may h =
-      let b = begin-refused (consumer_in w) ok.state (word WRITTEN w) (word CURSOR-LEN w) (word ATTEMPT-LEN w) p worker may h in
+  pub unpermitted_words : (r : Refusal) → some (refusal_of r) ≡ first (call_rows (view w) worker checkpointing) → Begins (Err r) worker w p w p
+  unpermitted_words r e =
+      let b = begin_unpermitted (consumer_in w) worker (word WRITTEN w) (word CURSOR-LEN w) (word ATTEMPT-LEN w) p r e in
       record { is = b.begun.is; sound = tt; same = refl; kept = refl; payload-kept = refl }
 
-  pub unknown_words : some UnknownWorker ≡ first (call_rows (view w) worker checkpointing) → Begins begins.UnknownWorker worker w p w p
-  unknown_words e =
-      let b = begin-unknown (consumer_in w) worker (word WRITTEN w) (word CURSOR-LEN w) (word ATTEMPT-LEN w) p e in
-      record { is = b.begun.is; sound = tt; same = refl; kept = refl; payload-kept = refl }
+  module _ (may : Passed (call_rows (view w) worker checkpointing)) (p' : List ℕ) where
+    pub refused_words : (r : Refusal) → PermittedAt (Err r) p p' (consumer_in w) → Begins (Err r) worker w p w p'
+    refused_words r h =
+        let b = h (lent_in ok) worker may (word WRITTEN w) (word CURSOR-LEN w) (word ATTEMPT-LEN w) in
+        record { is = b.begun.is; sound = tt; same = refl; kept = refl; payload-kept = ap (λ (x : Writing). x.payload) b.kept }
 
-  pub not_permitted_words : some NotPermitted ≡ first (call_rows (view w) worker checkpointing) → Begins begins.NotPermitted worker w p w p
-  not_permitted_words e =
-      let b = begin_not_permitted (consumer_in w) worker (word WRITTEN w) (word CURSOR-LEN w) (word ATTEMPT-LEN w) p e in
-      record { is = b.begun.is; sound = tt; same = refl; kept = refl; payload-kept = refl }
-
--- ## both snapshots in a payload
-module _ {w : List ℕ} (ok : Sound w) (b₀ b₁ b₂ : List ℕ) (o₁ o₂ : Result ℕ) (lc la : ℕ) (size : length b₀ ≡ PAYLOAD) where
-  pub encoded_words : lc ≡ length (encode_cursor (cursors.view (cursor_part w))) → la ≡ 9 + 12 * (word (TABLE + LEN) w + word (TABLE + CARRIED-LEN) w)
-      → answer o₁ b₁ ≡ write 0 (encode_cursor (cursors.view (cursor_part w))) b₀
-      → answer o₂ b₂ ≡ encode_into2 (merge (leased_in (table_in (table_part w))) (carried_of (table_in (table_part w)))) lc b₁
-      → Encoded (view w) b₂ lc la
-  encoded_words first second e₁ e₂ =
-      let c = consumer_in w in
-      let front : lc ≡ length (cursor_bytes (view w)) = first ∙ ap (λ (t : List ℕ). length (encode_cursor (cursors.view t))) (column-is CURSOR cursors.WORDS w) in
-      let behind : la ≡ length (attempt_bytes (view w)) = omega (arith, second, count_at ok, attempt_size c (lent_in ok)) in
-      let wrote : answer o₁ b₁ ≡ write 0 (cursor_bytes (view w)) b₀ = e₁ ∙ ap (λ (t : List ℕ). write 0 (encode_cursor (cursors.view t)) b₀) (column-is CURSOR cursors.WORDS w) in
-      let merged : answer o₂ b₂ ≡ encode_into2 (all_attempt_counts (view w).table) lc b₁ =
-      e₂ ∙ ap (λ (t : List ℕ). encode_into2 (merge (leased_in (table_in t)) (carried_of (table_in t))) lc b₁) (column-is TABLE leases.WORDS w)
-      ∙ ap (λ (l : List (Entry ℕ)). encode_into2 l lc b₁) (counts-merged c (lent_in ok).table ok.state) in
-      record { cursor-len = front; attempt_len_lem = behind; payload = both-encoded (view w) ok.state.valid b₀ b₁ b₂ o₁ o₂ lc la size front behind wrote merged }
+    pub begun_words : (b : BegunAt) → PermittedAt (Ok b) p p' (consumer_in w) → Begins (Ok b.writes) worker w p (begun b.cursor_len b.attempt_len w) p'
+    begun_words b h =
+        let s = (h (lent_in ok) worker may (word WRITTEN w) (word CURSOR-LEN w) (word ATTEMPT-LEN w)).begun in
+        let lc = b.cursor_len in
+        let la = b.attempt_len in
+        let record_is = begun_record w ok.long lc la p' in
+        let consumer-is = begun-consumer w ok.long lc la in
+        record {
+          is = subst (λ (x : Writing). begin_of (Ok b.writes) x ≡ begin (view w) worker) (sym record_is) s.is;
+          sound = (
+            record {
+              long = begun-long w ok.long lc la;
+              writing = subst writing.SoundWriting (sym record_is) s.sound.0;
+              fits = subst (λ (x : Consumer). leases.Fits x.table) (sym consumer-is) ok.fits;
+            },
+            s.sound.1 ∙ ap (λ (x : Consumer). writes (consumer.view x)) (sym consumer-is),
+          );
+          same = consumer-is;
+          kept = tt;
+          payload-kept = tt;
+        }

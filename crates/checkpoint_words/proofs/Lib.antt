@@ -1,4 +1,3 @@
-mod Listed
 mod Stores
 mod Steps
 mod Begins

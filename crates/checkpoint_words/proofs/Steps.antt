@@ -2,31 +2,27 @@
 use Prim.Native.Nat.{ℕ, ◌+◌, ◌≤◌}
 use native.Mathlib.Omega.{arith}
 use mathlib.Core.Path.{◌≡◌, refl, sym, ap, subst, ◌∙◌}
-use mathlib.Core.Bool.{Bool, true, false, true≢false}
+use mathlib.Core.Bool.{Bool, true, false}
 use mathlib.Core.List.{List}
-use lib.ListN.{length, get_or}
-use borrow.Author.Tests.{eq-eqb}
+use lib.ListN.{length}
+use Rattle.std.specs.Prelude.{Ok, Err}
+use Rattle.std.specs.Prelude as std
 use Rattle.types.specs.Limits.{MAX32}
-use Rattle.types.specs.Refusal.{Result, refused, done}
-use Rattle.types.specs.Table.{Answer, answer, Kept}
+use Rattle.types.specs.Table.{answer}
+use Rattle.types.specs.declared.refusals.Refusal.{Refusal}
 use Rattle.words.specs.Columns.{word}
 use Rattle.words.proofs.Columns.{column-at}
 use Rattle.lease.specs.Layout.{NEXT, REDELIVERIES, table_in, Fits}
 use Rattle.lease.specs.Layout as leases
-use Rattle.consumer.specs.declared.Consumer.{Consumer}
-use Rattle.consumer_words.specs.Layout.{TABLE, CEILING, NEXT-NUMBER, NEXT-BLOCK, AREA-LEN, leases_in, consumer_in, view}
-use Rattle.checkpoint.specs.Checkpoint.{Left, BlockWritten, Lent, lent, step}
-use Rattle.checkpoint.specs.Parts.{Parts, parts, with_parts, tabled, stepped, Steppable, SteppedIn}
+use Rattle.consumer_words.specs.Layout.{TABLE, CEILING, NEXT-NUMBER, NEXT-BLOCK, AREA-LEN, leases_in, consumer_in}
+use Rattle.checkpoint.specs.Checkpoint.{lent, step}
+use Rattle.checkpoint.specs.Parts.{Parts, parts, with_parts, tabled, wrote_of, stepped, Steppable, SteppedIn}
 use Rattle.checkpoint.specs.Writing.{step_of, left_of, SteppedIs}
 use Rattle.checkpoint.specs.Writing as writing
 use Rattle.checkpoint.specs.declared.Writing.{Writing}
-use Rattle.checkpoint.specs.declared.Stepped.{Stepped}
-use Rattle.checkpoint.specs.declared.StepAnswer.{StepAnswer}
-use Rattle.checkpoint.specs.declared.StepAnswer.TheVariants as steps
 use Rattle.checkpoint.specs.declared.in_place.SteppedAt.{SteppedAt}
-use Rattle.checkpoint.proofs.Steps.{step-refused}
-use Rattle.checkpoint_words.specs.Layout.{WRITTEN, CURSOR-LEN, ATTEMPT-LEN, WORDS, writing_in, view_writing, Sound, SoundWriting}
-use Rattle.checkpoint_words.specs.InWords.{left_in, SoundLeft, stored, Steps}
+use Rattle.checkpoint_words.specs.Layout.{WRITTEN, CURSOR-LEN, ATTEMPT-LEN, WORDS, writing_in, view_writing, SoundWriting}
+use Rattle.checkpoint_words.specs.InWords.{SoundAfter, stored, Steps}
 use Rattle.checkpoint_words.proofs.Stores.{stored-length, stores}
 
 -- ## what is handed in
@@ -60,71 +56,46 @@ pub counter_narrow : {w p : List ℕ} → SoundWriting w p → word (TABLE + RED
 counter_narrow {w} ok = subst (λ (n : ℕ). n ≤ MAX32) (counter_at w) ok.fits.redeliveries
 
 -- ## what comes back
-left_is : (r : StepAnswer) (w p : List ℕ) → left_of r (writing_in w p) ≡ left_in r w p
-left_is (steps.Wrote block) w p = refl
-left_is (steps.Finished block) w p = refl
-left_is steps.BadArea w p = refl
+module _ {w p : List ℕ} (ok : SoundWriting w p) (a a' : List ℕ) where
+  -- the step of the very record
+  came : (r : std.Result SteppedAt Refusal) → SteppedIn (given w p) a r a'
+      → SteppedIs (writing_in w p) a (record { answer = wrote_of r; writing = with_parts (stepped (given w p) r) (writing_in w p) }) a'
+  came r law =
+      subst (λ (x : Writing). SteppedIs x a (record { answer = wrote_of r; writing = with_parts (stepped (given w p) r) (writing_in w p) }) a') (given_is w p)
+      (law (writing_in w p) (given-sound ok))
 
-module _ {w p : List ℕ} (ok : SoundWriting w p) (a a' : List ℕ) (r : SteppedAt) where
-  abbrev after : List ℕ
-  after = stored r.written r.ceiling r.redeliveries r.number r.block w
+  -- a refusal leaves the words
+  pub step-refused_words : (r : Refusal) → SteppedIn (given w p) a (Err r) a' → Steps (Err r) p w a w a'
+  step-refused_words r law =
+      record { is = subst (λ (x : Writing). answer (step_of (Err r)) (lent (left_of (Err r) x) a') ≡ step (view_writing w p) a) (given_is w p) (came (Err r) law).is; sound = ok; kept = refl }
 
-  after_is : with_parts (stepped (given w p) r) (writing_in w p) ≡ writing_in after p
-  after_is =
-      ap (λ (g : ℕ). with_parts (parts r.written (word CURSOR-LEN w) (word ATTEMPT-LEN w) (word AREA-LEN w) g r.ceiling r.redeliveries r.number r.block p) (writing_in w p)) (sym (generation-at w))
-      ∙ sym (stores w ok.long p r.written r.ceiling r.redeliveries r.number r.block)
+  -- a step stores its numbers
+  module _ (s : SteppedAt) where
+    abbrev after : List ℕ
+    after = stored s.numbers.written s.numbers.ceiling s.numbers.redeliveries s.numbers.number s.numbers.block w
 
-  came : SteppedIn (given w p) a r a' → SteppedIs (writing_in w p) a (record { answer = r.answer; writing = writing_in after p }) a'
-  came law =
-      subst (λ (x : Writing). SteppedIs x a (record { answer = r.answer; writing = writing_in after p }) a') (given_is w p)
-      (subst (λ (x : Writing). SteppedIs (with_parts (given w p) (writing_in w p)) a (record { answer = r.answer; writing = x }) a') after_is
-      (law (writing_in w p) (given-sound ok)))
+    after_is : with_parts (stepped (given w p) (Ok s)) (writing_in w p) ≡ writing_in after p
+    after_is =
+        let n = s.numbers in
+        ap (λ (g : ℕ). with_parts (parts n.written (word CURSOR-LEN w) (word ATTEMPT-LEN w) (word AREA-LEN w) g n.ceiling n.redeliveries n.number n.block p) (writing_in w p)) (sym (generation-at w))
+        ∙ sym (stores w ok.long p n.written n.ceiling n.redeliveries n.number n.block)
 
-  long : length after ≡ WORDS
-  long = stored-length r.written r.ceiling r.redeliveries r.number r.block w ∙ ok.long
+    long : length after ≡ WORDS
+    long = let n = s.numbers in stored-length n.written n.ceiling n.redeliveries n.number n.block w ∙ ok.long
 
-  fits : r.redeliveries ≤ MAX32 → Fits (consumer_in after).table
-  fits h =
-      let same : (consumer_in after).table ≡ tabled (table_in (leases_in w)).next_generation.0 r.redeliveries (table_in (leases_in w)) =
-      ap (λ (x : Writing). x.consumer.table) (stores w ok.long p r.written r.ceiling r.redeliveries r.number r.block) in
-      subst Fits (sym same) (record { counts = ok.fits.counts; workers = ok.fits.workers; redeliveries = h })
+    fits : s.numbers.redeliveries ≤ MAX32 → Fits (consumer_in after).table
+    fits h =
+        let n = s.numbers in
+        let same : (consumer_in after).table ≡ tabled (table_in (leases_in w)).next_generation.0 n.redeliveries (table_in (leases_in w)) =
+        ap (λ (x : Writing). x.consumer.table) (stores w ok.long p n.written n.ceiling n.redeliveries n.number n.block) in
+        subst Fits (sym same) (record { counts = ok.fits.counts; workers = ok.fits.workers; redeliveries = h })
 
-  sound-left : (s : StepAnswer) → r.redeliveries ≤ MAX32 → writing.SoundLeft s (writing_in after p) → SoundLeft s after p
-  sound-left (steps.Wrote block) h ok' = record { long = long; writing = ok'; fits = fits h }
-  sound-left (steps.Finished block) h ok' = record { long = long; state = ok'; fits = fits h }
-  sound-left steps.BadArea h ok' = record { long = long; writing = ok'; fits = fits h }
+    sound-after : (last : Bool) → s.numbers.redeliveries ≤ MAX32 → writing.SoundAfter last (writing_in after p) → SoundAfter last after p
+    sound-after true h x = record { long = long; state = x; fits = fits h }
+    sound-after false h x = record { long = long; writing = x; fits = fits h }
 
-  -- on an area of the length that the consumer was started on a step isn't refused
-  abbrev is_refused : Result BlockWritten → Bool
-  is_refused (refused x) = true
-  is_refused (done x) = false
-
-  not_refused : length a ≡ word AREA-LEN w → is_refused (step (view_writing w p) a).outcome ≡ false
-  unfolding step
-  not_refused e = rw (eq-eqb (length a) (word AREA-LEN w) e)
-
-  kept : (s : StepAnswer) → is_refused (step_of s) ≡ false → Kept (step_of s) w after
-  kept (steps.Wrote block) q = tt
-  kept (steps.Finished block) q = tt
-  kept steps.BadArea q = absurd (true≢false q)
-
-  pub stepped_words : length a ≡ word AREA-LEN w → r.redeliveries ≤ MAX32 → SteppedIn (given w p) a r a' → Steps r.answer p w a after a'
-  stepped_words e h law =
-      let c = came law in
-      let is : answer (step_of r.answer) (lent (left_in r.answer after p) a') ≡ step (view_writing w p) a =
-      ap (λ (l : Left). answer (step_of r.answer) (lent l a')) (sym (left_is r.answer after p)) ∙ c.is in
-      record {
-        is = is;
-        sound = sound-left r.answer h c.sound;
-        kept = kept r.answer (ap (λ (x : Answer BlockWritten Lent). is_refused x.outcome) is ∙ not_refused e);
-      }
-
--- an area of another length
-pub step-refused_words : {w p : List ℕ} → SoundWriting w p → (a : List ℕ) → (length a ≡ word AREA-LEN w → ⊥) → Steps steps.BadArea p w a w a
-step-refused_words {w} {p} ok a n =
-    let law = step-refused (given w p) (writing_in w p) (given-sound ok) a n in
-    record {
-      is = subst (λ (x : Writing). answer (step_of steps.BadArea) (lent (left_of steps.BadArea x) a) ≡ step (writing.view_writing x) a) (given_is w p) law.is;
-      sound = ok;
-      kept = refl;
-    }
+    pub stepped_words : s.numbers.redeliveries ≤ MAX32 → SteppedIn (given w p) a (Ok s) a' → Steps (Ok s.wrote) p w a after a'
+    stepped_words h law =
+        let c : SteppedIs (writing_in w p) a (record { answer = Ok s.wrote; writing = writing_in after p }) a' =
+        subst (λ (x : Writing). SteppedIs (writing_in w p) a (record { answer = Ok s.wrote; writing = x }) a') after_is (came (Ok s) law) in
+        record { is = c.is; sound = sound-after s.wrote.finished h c.sound; kept = tt }

@@ -1,17 +1,17 @@
 -- What the stores of a step make of the record that words are. Assumes nothing.
-use Prim.Native.Nat.{ℕ, ◌+◌, ◌≤◌, ◌<◌}
+use Prim.Native.Nat.{ℕ, ◌+◌}
 use native.Mathlib.Omega.{arith}
-use mathlib.Core.Path.{◌≡◌, refl, sym, ap, ◌∙◌}
+use mathlib.Core.Path.{◌≡◌, ap, ◌∙◌}
 use mathlib.Core.List.{List}
-use lib.ListN.{length, get_or, set, length-set}
+use lib.ListN.{length, set, length-set}
 use lib.Seq.{get_or-set_same}
-use Rattle.words.specs.Columns.{word, column}
+use Rattle.words.specs.Columns.{word}
 use Rattle.words.proofs.Columns.{column-length, column-stored, number-kept, other-kept}
 use Rattle.lease.specs.Layout.{REDELIVERIES, table_in}
 use Rattle.lease.specs.Layout as leases
 use Rattle.lease.specs.declared.LeaseTable.{LeaseTable}
 use Rattle.consumer.specs.declared.Consumer.{Consumer}
-use Rattle.consumer_words.specs.Layout.{TABLE, CEILING, NEXT-NUMBER, NEXT-BLOCK, AREA-LEN, leases_in, consumer_in}
+use Rattle.consumer_words.specs.Layout.{TABLE, CEILING, NEXT-NUMBER, NEXT-BLOCK, AREA-LEN, leases_in}
 use Rattle.checkpoint.specs.Parts.{parts, with_parts, tabled}
 use Rattle.checkpoint.specs.declared.Writing.{Writing}
 use Rattle.checkpoint_words.specs.InWords.{stored}

@@ -1,114 +1,100 @@
 // A checkpoint on the words of its record, begin and steps.
 ghost use Rattle.std.specs.Prelude.{◌≡◌, length};
-ghost use Rattle.checkpoint.specs.Checkpoint.{cursor_bytes, attempt_bytes, writes, sync_due};
-ghost use Rattle.checkpoint.specs.Writing.{Encoded};
-ghost use Rattle.consumer_words.specs.Layout.{view};
+ghost use Rattle.lease.specs.Layout as leases;
+ghost use Rattle.checkpoint.specs.Checkpoint.{sync_due};
+ghost use Rattle.checkpoint.specs.Parts.{PermittedIn};
+ghost use Rattle.consumer_words.specs.Layout.{consumer_in};
 ghost use Rattle.checkpoint_words.specs.Layout.{WORDS, PAYLOAD, view_writing, Sound, SoundWriting};
-ghost use Rattle.checkpoint_words.specs.InWords.{Begins, Permitted, stored, Steps};
+ghost use Rattle.checkpoint_words.specs.InWords.{Begins, Counts, stored, Steps};
 
-use crate::counts::put_counts;
 use crate::layout::{ATTEMPT_LEN, CURSOR_LEN, WRITTEN};
-use checkpoint::in_place::{bodies_of, place_of, step_in_place};
-use checkpoint::{BeginAnswer, StepAnswer};
-use consumer::rights::{CHECKPOINT, Permission};
+use checkpoint::counts::Columns;
+use checkpoint::in_place::{BegunAt, StepNumbers};
+use checkpoint::{Wrote, in_place};
+use consumer::rights::CHECKPOINT;
 use consumer_words::layout::{AREA_LEN, CEILING, CURSOR, NEXT_BLOCK, NEXT_NUMBER, TABLE};
 use consumer_words::steps::permission_of;
-use cursor::snapshots;
-use lease::layout::{CARRIED_LEN, LEN, NEXT, REDELIVERIES};
-use types::limits::MAX32;
-use types::numbers;
+use cursor::layout::{COMMITTED, ENDS, RUNS, STARTS};
+use lease::layout::{
+    CARRIED_COUNTS, CARRIED_LEN, CARRIED_OFFSETS, DELIVERIES, GENERATIONS, LEN, NEXT, OFFSETS,
+    REDELIVERIES, SLOTS, WORKERS,
+};
+use types::refusals::Refusal;
 
-// Takes a consumer into a record of the group to be written: both snapshots go into the payload, and nothing is written yet. Refused where
-// the worker may not do that (38, 39), or where the group would have a number above the largest u32 (31).
-pub fn begin(words: &mut [u64], payload: &mut [u8; 3606], worker: u64) -> BeginAnswer
+// Takes a consumer into a record of the group to be written, and answers how many block writes that takes: both snapshots go into the
+// payload, and nothing is written yet. Refused where the worker may not do that (38, 39), or where the group would have a number above
+// the largest u32 (31).
+pub fn begin(words: &mut [u64], payload: &mut [u8; 3606], worker: u64) -> Result<usize, Refusal>
     requires { Sound words.old × (length payload.old ≡ PAYLOAD) }
     ensures { Begins result worker words.old payload.old words.new payload.new }
 {
-    let permission = permission_of(&words[CURSOR..WRITTEN], worker, CHECKPOINT);
-    match permission {
-        Permission::UnknownWorker => BeginAnswer::UnknownWorker,
-        Permission::NotPermitted => BeginAnswer::NotPermitted,
-        Permission::Granted => begin_permitted(words, payload),
-    }
-}
-
-// The same for a worker who may.
-fn begin_permitted(words: &mut [u64], payload: &mut [u8; 3606]) -> BeginAnswer
-    requires { Sound words.old × (length payload.old ≡ PAYLOAD) }
-    ensures { Permitted result words.old payload.old words.new payload.new }
-{
-    if (MAX32 as u64) < words[NEXT_NUMBER] {
-        return BeginAnswer::JournalFull;
-    }
-    let lengths = encode_both(words, payload);
-    let writes = writes_of(words, lengths.cursor, lengths.attempts);
+    permission_of(&words[CURSOR..WRITTEN], worker, CHECKPOINT)?;
+    let begun = begin_permitted(words, payload)?;
     words[WRITTEN] = 0;
-    words[CURSOR_LEN] = lengths.cursor as u64;
-    words[ATTEMPT_LEN] = lengths.attempts as u64;
-    BeginAnswer::Begun { writes }
+    words[CURSOR_LEN] = begun.cursor_len as u64;
+    words[ATTEMPT_LEN] = begun.attempt_len as u64;
+    Ok(begun.writes)
 }
 
-// How long the two snapshots of a payload are.
-#[derive(Clone, Copy)]
-struct Lengths {
-    cursor: usize,
-    attempts: usize,
-}
-
-// Writes the snapshots of the cursor and of all counts at the front of a payload, one behind the other.
-fn encode_both(words: &[u64], payload: &mut [u8; 3606]) -> Lengths
+// The same for a worker who may, on the payload alone.
+fn begin_permitted(words: &[u64], payload: &mut [u8; 3606]) -> Result<BegunAt, Refusal>
     requires { Sound words.now × (length payload.old ≡ PAYLOAD) }
-    ensures { Encoded (view words.now) payload.new result.cursor result.attempts }
+    ensures { PermittedIn result (λ c. consumer_in words.now) payload.old payload.new }
 {
-    let count = words[TABLE + LEN] as usize + words[TABLE + CARRIED_LEN] as usize;
-    let attempts = attempt::snapshot_len(count);
-    let cursor = snapshots::snapshot_len(&words[CURSOR..TABLE]);
-    snapshots::encode_snapshot(&words[CURSOR..TABLE], payload, 0);
-    put_counts(&words[TABLE..CEILING], payload, cursor);
-    Lengths { cursor, attempts }
+    let cursor = &words[CURSOR..TABLE];
+    in_place::begin_permitted(
+        cursor[COMMITTED],
+        cursor[RUNS] as usize,
+        columns_of(&words[TABLE..CEILING]),
+        words[NEXT_NUMBER],
+        words[NEXT_BLOCK] as usize,
+        words[AREA_LEN] as usize,
+        &cursor[STARTS..ENDS],
+        &cursor[ENDS..cursor::layout::WORDS],
+        payload,
+    )
 }
 
-// How many block writes a checkpoint of snapshots of these lengths makes.
-fn writes_of(words: &[u64], cursor: usize, attempts: usize) -> usize
-    requires { Sound words.now × (cursor ≡ length (cursor_bytes (view words.now))) × (attempts ≡ length (attempt_bytes (view words.now))) }
-    ensures { result ≡ writes (view words.now) }
+// The columns of a lease table's words that have its counts.
+fn columns_of(table: &[u64]) -> Columns<u64>
+    requires { length table.now ≡ leases.WORDS }
+    ensures { Counts table.now result }
 {
-    let bodies = bodies_of(cursor, attempts);
-    let place = place_of(words[AREA_LEN] as usize, words[NEXT_BLOCK] as usize, bodies);
-    place.zeros + (bodies + 1)
+    Columns {
+        len: table[LEN] as usize,
+        carried_len: table[CARRIED_LEN] as usize,
+        offsets: &table[OFFSETS..SLOTS],
+        slots: &table[SLOTS..GENERATIONS],
+        deliveries: &table[DELIVERIES..WORKERS],
+        carried_offsets: &table[CARRIED_OFFSETS..CARRIED_COUNTS],
+        carried_counts: &table[CARRIED_COUNTS..lease::layout::WORDS],
+    }
 }
 
 // Makes the next block write, and no other: zeros over the other half, if the group goes there, bodies 1 to n behind the header's place,
 // then the header. An area of another length than the consumer was started on is refused (4).
-pub fn step(words: &mut [u64], payload: &[u8; 3606], area: &mut [u8]) -> StepAnswer
+pub fn step(words: &mut [u64], payload: &[u8; 3606], area: &mut [u8]) -> Result<Wrote, Refusal>
     requires { SoundWriting words.old payload.now }
     ensures { Steps result payload.now words.old area.old words.new area.new }
 {
-    if area.len() != words[AREA_LEN] as usize {
-        return StepAnswer::BadArea;
-    }
-    let after = step_in_place(
-        words[WRITTEN] as usize,
+    let numbers = StepNumbers {
+        written: words[WRITTEN] as usize,
+        ceiling: words[CEILING],
+        redeliveries: words[TABLE + REDELIVERIES] as u32,
+        number: words[NEXT_NUMBER],
+        block: words[NEXT_BLOCK] as usize,
+    };
+    let stepped = in_place::step_in_place(
+        numbers,
         words[CURSOR_LEN] as usize,
         words[ATTEMPT_LEN] as usize,
         words[AREA_LEN] as usize,
         words[TABLE + NEXT],
-        words[CEILING],
-        words[TABLE + REDELIVERIES] as u32,
-        words[NEXT_NUMBER],
-        words[NEXT_BLOCK] as usize,
         payload,
         area,
-    );
-    put(
-        words,
-        after.written,
-        after.ceiling,
-        after.redeliveries,
-        after.number,
-        after.block,
-    );
-    after.answer
+    )?;
+    put(words, stepped.numbers);
+    Ok(stepped.wrote)
 }
 
 // Whether a sync is due after the next block write: after the last block before the header, and after the header, which is the last one.
@@ -116,26 +102,23 @@ pub fn sync_due(words: &[u64], payload: &[u8; 3606]) -> bool
     requires { SoundWriting words.now payload.now }
     ensures { result ≡ sync_due (view_writing words.now payload.now) }
 {
-    let bodies = bodies_of(words[CURSOR_LEN] as usize, words[ATTEMPT_LEN] as usize);
-    let place = place_of(words[AREA_LEN] as usize, words[NEXT_BLOCK] as usize, bodies);
-    place.zeros + bodies <= words[WRITTEN] as usize + 1
+    in_place::is_sync_due(
+        words[WRITTEN] as usize,
+        words[CURSOR_LEN] as usize,
+        words[ATTEMPT_LEN] as usize,
+        words[AREA_LEN] as usize,
+        words[NEXT_BLOCK] as usize,
+    )
 }
 
 // Stores the numbers that steps change.
-fn put(
-    words: &mut [u64],
-    written: usize,
-    ceiling: u64,
-    redeliveries: u32,
-    number: u64,
-    block: usize,
-)
+fn put(words: &mut [u64], numbers: StepNumbers)
     requires { length words.old ≡ WORDS }
-    ensures { words.new ≡ stored written ceiling redeliveries number block words.old }
+    ensures { words.new ≡ stored numbers.written numbers.ceiling numbers.redeliveries numbers.number numbers.block words.old }
 {
-    words[WRITTEN] = written as u64;
-    words[CEILING] = ceiling;
-    words[TABLE + REDELIVERIES] = numbers::wide(redeliveries);
-    words[NEXT_NUMBER] = number;
-    words[NEXT_BLOCK] = block as u64;
+    words[WRITTEN] = numbers.written as u64;
+    words[CEILING] = numbers.ceiling;
+    words[TABLE + REDELIVERIES] = u64::from(numbers.redeliveries);
+    words[NEXT_NUMBER] = numbers.number;
+    words[NEXT_BLOCK] = numbers.block as u64;
 }

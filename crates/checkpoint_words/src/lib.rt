@@ -2,6 +2,5 @@
 // consumer's words, and its payload is lent beside them, for as long as the checkpoint goes.
 #![tactic(auto)]
 
-mod counts;
 pub mod in_words;
 pub mod layout;

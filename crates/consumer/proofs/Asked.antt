@@ -8,6 +8,8 @@ use mathlib.Core.List.{List, [], ◌∷◌, ◌++◌, append_assoc, append-nil}
 use mathlib.Core.Option.{Option, none, some, none-ne-some}
 use lib.ListN.{length, take, drop, get_or, length-append, length-take, length-drop}
 use lib.Seq.{take_all, take-add, take-take, length-take-le, take-append-add, drop-append-add}
+use Rattle.std.specs.Prelude.{Some, None, unwrap_or}
+use Rattle.std.specs.Prelude as std
 use Rattle.types.specs.Limits.{LEASES, CARRIED}
 use Rattle.types.specs.Keyed.{Entry, entry, entries, lookup, Rising}
 use Rattle.types.specs.Zipped.{inserted}
@@ -22,11 +24,12 @@ use Rattle.lease.specs.declared.LeaseTable.{LeaseTable}
 use Rattle.lease.specs.State.{carried_of, leases_of, nil, stored_in, leases_in}
 use Rattle.lease.specs.Operations.{lease_of, times_handed_out}
 use Rattle.lease.specs.Rest.{deliveries_of}
+use Rattle.lease.specs.Answers.{attempts_of}
 use Rattle.lease.specs.Parts.{slot_in}
 use Rattle.lease.specs.Parts as lease
 use Rattle.lease.proofs.Leases.{column-at}
 use Rattle.lease.proofs.Slots.{in_flight_lem, carried-length, stored_at}
-use Rattle.consumer.specs.State.{State}
+use Rattle.consumer.specs.State.{State, count_or0}
 use Rattle.consumer.specs.Questions.{keys_of, waiting_at, count_of}
 use Rattle.consumer.specs.Waiting.{expired_deadlines, longest_first}
 use Rattle.consumer.specs.Valid.{Valid}
@@ -38,9 +41,17 @@ use Rattle.consumer.proofs.CallsReturns.{table-whole}
 use Rattle.consumer.proofs.Waiting.{deadlines_of, keys_inserted, deadlines-inserted, stays_out, comes_in}
 
 -- ## the count of an offset
+-- 0 in place of a count that is missing
+pub unwrapped : (x : std.Option ℕ) → unwrap_or x 0 ≡ count_or0 (attempts_of x)
+unwrapped (Some n) = refl
+unwrapped None = refl
+
 module _ (s : State) (v : Valid s) (o : ℕ) where
   pub no-count : deliveries_of (lease_of s.table o) ≡ none → lookup o s.table.carried ≡ none → 0 ≡ count_of s o
   no-count e f = sym (count-is s v o ∙ rw (no-lease (lease_of s.table o) e, f))
+
+  pub unleased-count : deliveries_of (lease_of s.table o) ≡ none → count_or0 (lookup o s.table.carried) ≡ count_of s o
+  unleased-count e = sym (count-is s v o ∙ rw (no-lease (lease_of s.table o) e))
 
   pub lease-counted : (n : ℕ) → deliveries_of (lease_of s.table o) ≡ some n → count_of s o ≡ n
   lease-counted n e = count-is s v o ∙ go (lease_of s.table o) e

@@ -2,40 +2,53 @@
 -- Assumes nothing.
 use Prim.Native.Nat.{ℕ, ◌+◌, ◌≤◌, ◌<◌}
 use mathlib.Core.Path.{◌≡◌, refl, sym, ap, ◌∙◌}
-use mathlib.Core.Bool.{Bool, true, false, not, ◌&&◌, true≢false}
+use mathlib.Core.Bool.{Bool, true, false, not, cond, ◌&&◌, true≢false}
 use mathlib.Core.List.{List}
 use mathlib.Core.Option.{Option, none, some, none-ne-some}
 use lib.Dec.{leb}
 use lib.ListN.{length}
 use borrow.Author.Tests.{eq-eqb, ne_eqb, le-leb, lt-leb}
+use Rattle.std.specs.Prelude.{Some, None, is_some}
+use Rattle.std.specs.Prelude as std
 use Rattle.types.specs.Limits.{MAX, LEASES, CARRIED}
 use Rattle.types.specs.Refusal.{Refusal, Result, refused, done, LastOffset, Settled, Closed, InFlight, Exhausted, CheckpointDue, Full}
+use Rattle.types.specs.Refused.{option_of}
 use Rattle.types.specs.Table.{Row, first, Passed, Answer, answer}
 use Rattle.types.specs.Keyed.{lookup}
 use Rattle.types.proofs.Table.{first_none, guarded-passed, first-met-before, first_none_before, passed-append}
 use Rattle.cursor.specs.Cursor.{settled}
-use Rattle.delivery.specs.Policy.{Destination, destination}
+use Rattle.delivery.specs.Config.{dispositionOf}
+use Rattle.delivery.specs.Policy.{destination}
+use Rattle.delivery.specs.declared.Disposition.{Disposition}
+use Rattle.delivery.specs.declared.Disposition.TheVariants as dispositions
 use Rattle.hours.specs.Hours.{isOpen, next_opening}
 use Rattle.lease.specs.declared.Lease.{Lease}
 use Rattle.lease.specs.declared.LeaseTable.{LeaseTable}
-use Rattle.lease.specs.declared.LeaseToken.{LeaseToken}
+use Rattle.lease.specs.declared.Grant as code
 use Rattle.lease.specs.State.{Table}
 use Rattle.lease.specs.State as state
-use Rattle.lease.specs.Operations.{Grant, grant_of, granted, grant, lease_of, is_none, running}
+use Rattle.lease.specs.Operations.{Grant, granted, grant, lease_of, is_none, running}
 use Rattle.lease.specs.Operations as leases
+use Rattle.lease.specs.Answers.{grant_in}
 use Rattle.lease.specs.Answers as answers
 use Rattle.consumer.specs.State.{State, with_table}
 use Rattle.consumer.specs.Rights.{claiming}
 use Rattle.consumer.specs.Calls.{call_rows, HandOut, hand_out, is_full, claim_rows, claim_table, claim, claimed}
 use Rattle.consumer.specs.Parts.{handed_out}
-use Rattle.consumer.specs.View.{view, Sound, Answers, holding, hand_out_of, claim_of, as_result}
+use Rattle.consumer.specs.View.{view, Sound, Answers, holding, hand_out_of, destination_of}
 use Rattle.consumer.specs.declared.Consumer.{Consumer}
-use Rattle.consumer.specs.declared.calls.ClaimAnswer.{ClaimAnswer}
 use Rattle.consumer.proofs.Open.{claim_open}
 use Rattle.consumer.proofs.Valid.{claimed-valid}
 use Rattle.consumer.proofs.CallsReturns.{sound-with, refuses, takes_effect}
 
 -- ## 27
+-- whether there is a count, by the code's own test
+pub uncounted : (x : std.Option ℕ) (b : Bool) → is_some x ≡ not b → is_none (option_of (λ n. n) x) ≡ b
+uncounted None true e = refl
+uncounted (Some n) false e = refl
+uncounted None false e = absurd (true≢false (sym e))
+uncounted (Some n) true e = absurd (true≢false e)
+
 both_false : (b : Bool) → (b && false) ≡ false
 both_false true = refl
 both_false false = refl
@@ -56,8 +69,17 @@ module _ (t : Table) (o : ℕ) where
       pub full-counted : (n : ℕ) → lookup o t.carried ≡ some n → false ≡ is_full t o
       full-counted n e = rw (free, lt-leb LEASES (length t.leases) h, e)
 
-      pub full-counts : CARRIED ≤ length t.leases + length t.carried → lookup o t.carried ≡ none → true ≡ is_full t o
-      full-counts k e = rw (free, lt-leb LEASES (length t.leases) h, e, le-leb CARRIED (length t.leases + length t.carried) k)
+      module _ (k : CARRIED ≤ length t.leases + length t.carried) where
+        pub full-counts : lookup o t.carried ≡ none → true ≡ is_full t o
+        full-counts e = rw (free, lt-leb LEASES (length t.leases) h, e, le-leb CARRIED (length t.leases + length t.carried) k)
+
+        -- then it is whether the offset has a count
+        pub full-by-count : is_none (lookup o t.carried) ≡ is_full t o
+        full-by-count = go (lookup o t.carried) refl
+          where
+            go : (x : Option ℕ) → lookup o t.carried ≡ x → is_none x ≡ is_full t o
+            go none e = full-counts e
+            go (some n) e = full-counted n e
 
 -- ## the tests, each after those before it that failed
 -- whether a claim may go on, from what the table calls claimable
@@ -69,13 +91,22 @@ pub unblocked : (b x : Bool) → b ≡ not x → not b ≡ false → x ≡ false
 unblocked b false e h = refl
 unblocked b true e h = absurd (true≢false (sym (ap not e) ∙ h))
 
+-- whether it is open, by when it opens next
+pub open-now : (open_now : Bool) (opening : ℕ) → none ≡ cond open_now none (some opening) → open_now ≡ true
+open-now true opening e = refl
+open-now false opening e = absurd (none-ne-some opening e)
+
+pub opens-later : (open_now : Bool) (opening clock : ℕ) → some clock ≡ cond open_now none (some opening) → (open_now ≡ false) × (clock ≡ opening)
+opens-later true opening clock e = absurd (none-ne-some clock (sym e))
+opens-later false opening clock e = (refl, cc)
+
 module _ (s : State) (o now : ℕ) where
   -- the claim is refused so
   abbrev pub Refuses : Refusal → Type 0
-  Refuses r = ◌≡◌ {A = Option (Result HandOut)} (some (refused r)) (as_result (first (claim_rows s o now)))
+  Refuses r = some r ≡ first (claim_rows s o now)
 
   refuses-with : (r : Refusal) → first (claim_rows s o now) ≡ some r → Refuses r
-  refuses-with r e = sym (ap as_result e)
+  refuses-with r e = sym e
 
   pub is-last : o ≡ MAX → Refuses LastOffset
   is-last h = refuses-with LastOffset (rw (eq-eqb o MAX h))
@@ -115,43 +146,39 @@ module _ (s : State) (o now : ℕ) where
                     refuses-with Full
                     (rw (ne_eqb o MAX last, unsettled, in-hours, not-running, ne_eqb s.table.next_generation MAX left, lt-leb s.ceiling s.table.next_generation below, lt-leb s.settings.policy.flush_redeliveries s.table.redeliveries few) (rw h))
 
-                pub is_open : is_full s.table o ≡ false → ◌≡◌ {A = Option (Result HandOut)} none (as_result (first (claim_rows s o now)))
+                pub is_open : is_full s.table o ≡ false → none ≡ first (claim_rows s o now)
                 is_open h =
                     rw (ne_eqb o MAX last, unsettled, in-hours, not-running, ne_eqb s.table.next_generation MAX left, lt-leb s.ceiling s.table.next_generation below, lt-leb s.settings.policy.flush_redeliveries s.table.redeliveries few) (rw h)
 
 -- ## what the whole test says
 -- the worker's rows, then the claim's own
 module _ (s : State) (w o now : ℕ) where
-  pub claim_unpermitted : (r : Refusal) → some r ≡ first (call_rows s w claiming) → some (refused r) ≡ as_result (first (claim_table s w o now))
-  claim_unpermitted r e = sym (ap as_result (first-met-before (call_rows s w claiming) (claim_rows s o now) r (sym e)))
+  pub claim_unpermitted : (r : Refusal) → some r ≡ first (call_rows s w claiming) → some r ≡ first (claim_table s w o now)
+  claim_unpermitted r e = sym (first-met-before (call_rows s w claiming) (claim_rows s o now) r (sym e))
 
   pub claim-permitted : none ≡ first (call_rows s w claiming) → first (claim_rows s o now) ≡ first (claim_table s w o now)
   claim-permitted e = sym (first_none_before (call_rows s w claiming) (claim_rows s o now) (sym e))
 
-pub open_passed : (ws : List Row) → none ≡ as_result (first ws) → Passed ws
-open_passed ws e = go (first ws) refl
-  where
-    go : (x : Option Refusal) → first ws ≡ x → Passed ws
-    go none q = first_none ws q
-    go (some r) q = absurd (none-ne-some (refused r) (e ∙ ap as_result q))
+pub open_passed : (ws : List Row) → none ≡ first ws → Passed ws
+open_passed ws e = first_none ws (sym e)
 
-pub claim-refused : (c : Consumer) → Sound c → (w o now : ℕ) (a : ClaimAnswer) → some (claim_of a) ≡ as_result (first (claim_table (view c) w o now))
-    → Answers (claim_of a) c c (claim (view c) w o now)
+pub claim-refused : (c : Consumer) → Sound c → (w o now : ℕ) (r : Refusal) → some r ≡ first (claim_table (view c) w o now)
+    → Answers (refused r) c c (claim (view c) w o now)
 unfolding claim
-claim-refused c ok w o now a e = go (first (claim_table (view c) w o now)) refl
-  where
-    go : (x : Option Refusal) → first (claim_table (view c) w o now) ≡ x → Answers (claim_of a) c c (claim (view c) w o now)
-    go none q = absurd (none-ne-some (claim_of a) (sym (e ∙ ap as_result q)))
-    go (some r) q =
-        let both : some (claim_of a) ≡ some (refused r) = e ∙ ap as_result q in
-        let same : claim_of a ≡ refused r = cc in
-        rw same (refuses c ok (claim_table (view c) w o now) r _ q)
+claim-refused c ok w o now r e = refuses c ok (claim_table (view c) w o now) r _ (sym e)
 
 -- ## the grant
 -- the answer has the disposition's destination
-pub handed : (limit : ℕ) (token : LeaseToken) (n : ℕ) {d : Destination} → done d ≡ done (destination limit n)
-    → done (hand_out_of token n d) ≡ handed_out limit (done (grant_of token.offset.0 token.generation.0 n))
-handed limit token n {d} q = let same : d ≡ destination limit n = cc in rw same
+destination-is : (d : Disposition) → dispositionOf d ≡ done (destination_of d)
+destination-is dispositions.Deliver = refl
+destination-is dispositions.DeadLetter = refl
+
+pub handed : (limit : ℕ) (g : code.Grant) (d : Disposition) → dispositionOf d ≡ done (destination limit g.deliveries)
+    → done (hand_out_of (record { token = g.token; deliveries = g.deliveries; disposition = d })) ≡ handed_out limit (done (grant_in g))
+handed limit g d q =
+    let both : done (destination_of d) ≡ done (destination limit g.deliveries) = sym (destination-is d) ∙ q in
+    let same : destination_of d ≡ destination limit g.deliveries = cc in
+    rw same
 
 module _ (c : Consumer) (ok : Sound c) (w o now : ℕ) (fits : o ≤ MAX) (p : Passed (claim_table (view c) w o now)) where
   abbrev t : Table
@@ -174,8 +201,8 @@ module _ (c : Consumer) (ok : Sound c) (w o now : ℕ) (fits : o ≤ MAX) (p : P
 
   -- what the table did is what the claim does
   pub claim-granted : (outcome : Result Grant) (after : LeaseTable) → answers.Answers outcome c.table after (leases.claim t w o now)
-      → (a : ClaimAnswer) → claim_of a ≡ handed_out (view c).settings.policy.maxDeliver outcome
-      → Answers (claim_of a) c (holding c after) (claim (view c) w o now)
+      → (a : Result HandOut) → a ≡ handed_out (view c).settings.policy.maxDeliver outcome
+      → Answers a c (holding c after) (claim (view c) w o now)
   unfolding claim
   claim-granted outcome after e a f =
       let made : answer outcome (state.view after) ≡ answer (done (granted t o)) (grant t w o now) = e.is ∙ table-granted in

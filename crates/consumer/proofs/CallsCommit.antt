@@ -2,12 +2,19 @@
 -- Assumes nothing.
 use Prim.Native.Nat.{ℕ, ◌≤◌, ◌<◌}
 use mathlib.Core.Path.{◌≡◌, refl, sym, ap, ◌∙◌}
-use mathlib.Core.Bool.{Bool, true, false}
+use mathlib.Core.Bool.{Bool, true, false, true≢false}
 use mathlib.Core.Option.{none, some}
-use borrow.Author.Tests.{le-leb, lt-leb}
+use lib.Dec.{ltb}
+use borrow.Author.Tests.{le-leb, lt-leb, ltb-true, ltb-false}
+use Rattle.std.specs.Prelude.{Ok, Err}
+use Rattle.std.specs.Result.{result_unwrap_or}
+use Rattle.std.specs.Prelude as std
+use Rattle.types.specs.Refused.{as_is}
+use Rattle.types.specs.declared.refusals.Refusal as code_refusal
 use Rattle.types.specs.Limits.{MAX}
 use Rattle.types.specs.Refusal.{Refusal, Result, refused, done}
 use Rattle.types.specs.Table.{first, Answer, answer, guarded}
+use Rattle.types.proofs.Cases.{split}
 use Rattle.types.proofs.Table.{guarded-passed, guarded-refused, first_none}
 use Rattle.cursor.specs.Cursor.{Cursor, commit_up_to}
 use Rattle.cursor.specs.Answers as cursor
@@ -19,6 +26,7 @@ use Rattle.lease.specs.Answers as answers
 use Rattle.consumer.specs.State.{State, with_both}
 use Rattle.consumer.specs.Rights.{committing}
 use Rattle.consumer.specs.Calls.{call_rows, with_committed, commit}
+use Rattle.consumer.specs.Parts.{decided}
 use Rattle.consumer.specs.View.{view, Sound, Unmoved, Commits, holding_both}
 use Rattle.consumer.specs.declared.Consumer.{Consumer}
 use Rattle.consumer.proofs.Valid.{committed-valid}
@@ -42,6 +50,25 @@ module _ (s : State) (w bound : ℕ) where
     pub is_open : s.cursor.committed < bound → answer (done true) (with_committed s bound) ≡ commit s w bound
     unfolding commit
     is_open h = rw (in_front_lem _, lt-leb bound s.cursor.committed h)
+
+    -- the test of a worker who may commit
+    pub is_tested : decided (Ok (ltb s.cursor.committed bound)) s bound ≡ commit s w bound
+    is_tested =
+        split (ltb s.cursor.committed bound)
+        (λ e. rw e (is_open (ltb-true s.cursor.committed bound e)))
+        (λ e. rw e (is_unchanged (ltb-false s.cursor.committed bound e)))
+
+  -- what the test answers, by whether it is met
+  module _ (right : Answer Bool State) where
+    pub is_answered : (r : std.Result Bool code_refusal.Refusal) → result_unwrap_or r false ≡ false → decided r s bound ≡ right → answer (as_is r) s ≡ right
+    is_answered (Ok false) h e = e
+    is_answered (Ok true) h e = absurd (true≢false h)
+    is_answered (Err r) h e = e
+
+    pub takes_effect : (r : std.Result Bool code_refusal.Refusal) → result_unwrap_or r false ≡ true → decided r s bound ≡ right → answer (done true) (with_committed s bound) ≡ right
+    takes_effect (Ok true) h e = e
+    takes_effect (Ok false) h e = absurd (true≢false (sym h))
+    takes_effect (Err r) h e = absurd (true≢false (sym h))
 
 -- ## the answer
 -- whatever is answered, the very struct may be given back

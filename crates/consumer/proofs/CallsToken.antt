@@ -196,13 +196,13 @@ module _ (c : Consumer) (ok : Sound c) (w o g now attempt : ℕ) (explicit : Opt
 
   -- what the table did is what the nack does
   pub nack_requeued : (outcome : Result ℕ) (after : LeaseTable) → answers.Answers outcome c.table after (leases.nack (view c).table o g now delay)
-      → (a : Result ℕ) → a ≡ outcome → Answers a c (holding c after) (nack (view c) w o g now explicit)
+      → Answers outcome c (holding c after) (nack (view c) w o g now explicit)
   unfolding nack
-  nack_requeued outcome after e a q =
+  nack_requeued outcome after e =
       let shows : view (holding c after) ≡ nacked (view c) o (nack_deadline (view c) o now explicit) =
       ap (λ (x : Answer ℕ Table). with_table (view c) x.state) (e.is ∙ table-nacked) ∙ ap (nacked (view c) o) deadline-is in
-      let same : a ≡ done (nack_deadline (view c) o now explicit) =
-      q ∙ ap (λ (x : Answer ℕ Table). x.outcome) (e.is ∙ table-nacked) ∙ ap done deadline-is in
+      let same : outcome ≡ done (nack_deadline (view c) o now explicit) =
+      ap (λ (x : Answer ℕ Table). x.outcome) (e.is ∙ table-nacked) ∙ ap done deadline-is in
       rw same
       (takes_effect c ok (nack_table (view c) w o g) (nack_deadline (view c) o now explicit) p shows
       (sound-with c ok ok.cursor e.sound shows
@@ -239,14 +239,14 @@ module _ (c : Consumer) (ok : Sound c) (w o g now : ℕ) where
   -- what the table did, or refused, is what Progress does
   pub progress-is : Passed (token_rows (view c) w extending o g) → (outcome : Result ℕ) (after : LeaseTable)
       → answers.Answers outcome c.table after (leases.extend (view c).table o g now)
-      → (a : Result ℕ) → a ≡ outcome → Answers a c (holding c after) (progress (view c) w o g now)
-  progress-is owned outcome after e a q =
+      → Answers outcome c (holding c after) (progress (view c) w o g now)
+  progress-is owned outcome after e =
       let is : answer outcome (view (holding c after)) ≡ progress (view c) w o g now = ap (on_table (view c)) e.is ∙ as_table (view c) w o g now owned in
-      rw q (record {
+      record {
         is = is;
         sound = sound-with c ok ok.cursor e.sound (ap (λ (x : Answer ℕ State). x.state) is) (progress-valid (view c) w o g now ok.valid);
         kept = kept outcome e.kept;
-      })
+      }
     where
       kept : (x : Result ℕ) → Kept x c.table after → Kept x c (holding c after)
       kept (refused r) k = ap (holding c) k

@@ -4,13 +4,18 @@ use native.Mathlib.Omega.{arith}
 use mathlib.Core.Path.{◌≡◌, sym, ap, ◌∙◌}
 use mathlib.Core.Bool.{false}
 use mathlib.Core.List.{List, ◌++◌}
-use mathlib.Core.Option.{Option, none, some}
+use mathlib.Core.Option.{none, some}
 use lib.Dec.{ltb}
 use lib.ListN.{length, take, drop}
 use lib.Seq.{take-append_seam}
 use borrow.Author.Tests.{lt-ltb, le-ltb}
 use Rattle.types.specs.Limits.{PAIRS}
-use Rattle.types.specs.Refusal.{Refusal, Result, UnknownWorker, NotPermitted}
+use Rattle.std.specs.Prelude.{Ok, Err}
+use Rattle.std.specs.Prelude as std
+use Rattle.types.specs.Refusal.{Result}
+use Rattle.types.specs.Refused.{refusal_of}
+use Rattle.types.specs.declared.refusals.Refusal as code_refusal
+use Rattle.types.specs.declared.refusals.Refusal.TheVariants as code
 use Rattle.types.specs.Table.{first, answer}
 use Rattle.raw.specs.Bytes.{write}
 use Rattle.raw.proofs.Bytes.{wrote}
@@ -22,12 +27,8 @@ use Rattle.consumer.specs.Rights.{looking}
 use Rattle.consumer.specs.Calls.{call_rows}
 use Rattle.consumer.specs.Export.{Snapshots, snapshots, exported, in_front}
 use Rattle.consumer.specs.Questions.{reply, export_to, export}
-use Rattle.consumer.specs.View.{permission_of}
 use Rattle.consumer.specs.Parts.{Exports}
-use Rattle.consumer.specs.declared.snapshots.ExportAnswer.{ExportAnswer}
-use Rattle.consumer.specs.declared.snapshots.ExportAnswer.TheVariants as exports
-use Rattle.consumer.specs.declared.rights.Permission.{Permission}
-use Rattle.consumer.specs.declared.rights.Permission.TheVariants as permission
+use Rattle.consumer.specs.declared.snapshots.Lengths.{Lengths}
 use Rattle.consumer.proofs.Counts.{counts-few}
 
 -- no export meets 19
@@ -46,7 +47,7 @@ module _ (bytes out after : List ℕ) {o : Result ℕ} (is : answer o after ≡ 
 
 -- ## a worker that may look
 module _ (s : State) (w : ℕ) (out : Snapshots) where
-  pub cursor-short : length out.cursor < length (exported s).cursor → Exports s (reply s w (export_to out)) out exports.OutTooShort out
+  pub cursor-short : length out.cursor < length (exported s).cursor → Exports s (reply s w (export_to out)) out (Err code.OutTooShort) out
   cursor-short h =
       let short = lt-ltb (length out.cursor) (length (exported s).cursor) h in
       record { is = rw short; lists = rw short }
@@ -55,7 +56,7 @@ module _ (s : State) (w : ℕ) (out : Snapshots) where
     roomy : ltb (length out.cursor) (length (exported s).cursor) ≡ false
     roomy = le-ltb (length out.cursor) (length (exported s).cursor) room
 
-    pub attempts-short : length out.attempts < length (exported s).attempts → Exports s (reply s w (export_to out)) out exports.OutTooShort out
+    pub attempts-short : length out.attempts < length (exported s).attempts → Exports s (reply s w (export_to out)) out (Err code.OutTooShort) out
     attempts-short h =
         let short = lt-ltb (length out.attempts) (length (exported s).attempts) h in
         record { is = rw (roomy, short); lists = rw (roomy, short) }
@@ -70,7 +71,7 @@ module _ (s : State) (w : ℕ) (out : Snapshots) where
       wrote-counts : answer o₂ attempts ≡ write 0 (exported s).attempts out.attempts
       wrote-counts = e₂ ∙ never_too_many-pairs s v 0 out.attempts
 
-      pub both-written : Exports s (reply s w (export_to out)) out (exports.Exported n k) (snapshots cursor attempts)
+      pub both-written : Exports s (reply s w (export_to out)) out (Ok (record { cursor_len = n; attempt_len = k })) (snapshots cursor attempts)
       both-written =
           record {
             is =
@@ -92,15 +93,9 @@ module _ (s : State) (w : ℕ) (out : Snapshots) where
           }
 
   -- ## by what a worker may
-  module _ (p : Permission) (says : permission_of p ≡ first (call_rows s w looking)) where
-    met_by : {f : Option Refusal} → permission_of p ≡ f → first (call_rows s w looking) ≡ f
-    met_by e = sym says ∙ e
+  pub export-refused : (f : code_refusal.Refusal) → some (refusal_of f) ≡ first (call_rows s w looking) → Exports s (export s w out) out (Err f) out
+  export-refused f e = let met : first (call_rows s w looking) ≡ some (refusal_of f) = sym e in record { is = rw met; lists = rw met }
 
-    pub export-unknown : p ≡ permission.UnknownWorker → Exports s (export s w out) out exports.UnknownWorker out
-    export-unknown e = let met : first (call_rows s w looking) ≡ some UnknownWorker = met_by (ap permission_of e) in record { is = rw met; lists = rw met }
-
-    pub export_not_permitted : p ≡ permission.NotPermitted → Exports s (export s w out) out exports.NotPermitted out
-    export_not_permitted e = let met : first (call_rows s w looking) ≡ some NotPermitted = met_by (ap permission_of e) in record { is = rw met; lists = rw met }
-
-    pub export-permitted : p ≡ permission.Granted → (r : ExportAnswer) (out' : Snapshots) → Exports s (reply s w (export_to out)) out r out' → Exports s (export s w out) out r out'
-    export-permitted e r out' h = let met : first (call_rows s w looking) ≡ none = met_by (ap permission_of e) in rw met h
+  pub export-permitted : none ≡ first (call_rows s w looking) → (r : std.Result Lengths code_refusal.Refusal) (out' : Snapshots) → Exports s (reply s w (export_to out)) out r out'
+      → Exports s (export s w out) out r out'
+  export-permitted e r out' h = let met : first (call_rows s w looking) ≡ none = sym e in rw met h

@@ -15,7 +15,5 @@ pub mod CallsCommit
 pub mod Waiting
 pub mod Questions
 pub mod Asked
-pub mod WaitingHanded
 pub mod Planned
 pub mod Exported
-pub mod Walks

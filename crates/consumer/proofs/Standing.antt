@@ -8,6 +8,8 @@ use mathlib.Core.Option.{Option, none, some}
 use lib.Dec.{leb}
 use lib.ListN.{get_or}
 use borrow.Author.Tests.{lt-ltb, le-ltb}
+use Rattle.std.specs.Prelude.{Some, None}
+use Rattle.std.specs.Prelude as std
 use Rattle.types.specs.Limits.{WORKERS}
 use Rattle.types.specs.Refusal.{Refusal, UnknownWorker, NotPermitted, done}
 use Rattle.types.specs.Table.{◌⇒◌, first, checked}
@@ -16,8 +18,6 @@ use Rattle.cursor.specs.Cursor.{settled}
 use Rattle.lease.specs.Operations.{lease_of, is_none}
 use Rattle.lease.specs.Lookup.{lease_in}
 use Rattle.lease.specs.declared.Lease.{Lease}
-use Rattle.lease.specs.declared.lookup.LeaseAt.{LeaseAt}
-use Rattle.lease.specs.declared.lookup.LeaseAt.TheVariants as leases
 use Rattle.consumer.specs.State.{State, count_or0}
 use Rattle.consumer.specs.Rights.{looking, bit_of, SUPERVISOR, permits, worker_rows}
 use Rattle.consumer.specs.Calls.{call_rows}
@@ -40,7 +40,7 @@ pub supervises-by : (rights : List ℕ) (w : ℕ) {r : Option Refusal} → r ≡
 supervises-by rights w e = marked (leb WORKERS w) (permits rights w SUPERVISOR) ∙ ap is_none (sym e)
 
 -- ## the standing by the lease that was found
-module _ (x : LeaseAt) (l : Lease) (now : ℕ) (e : x ≡ leases.Some l) where
+module _ (x : std.Option Lease) (l : Lease) (now : ℕ) (e : x ≡ Some l) where
   pub before-deadline : now < l.deadline → Held ≡ unsettled_as (lease_in x) now
   before-deadline h = rw (e, lt-ltb now l.deadline h)
 
@@ -51,7 +51,7 @@ module _ (x : LeaseAt) (l : Lease) (now : ℕ) (e : x ≡ leases.Some l) where
       → view_in (views.Leased y (record { attempts = l.deliveries; generation = l.generation; deadline = l.deadline; holder = l.worker })) ≡ in_full (lease_in x) carried now
   is-leased y carried h = rw (h, e)
 
-pub is_unleased : (x : LeaseAt) (now : ℕ) → x ≡ leases.None → {carried : Option ℕ} (n : Option ℕ) → carried ≡ n
+pub is_unleased : (x : std.Option Lease) (now : ℕ) → x ≡ None → {carried : Option ℕ} (n : Option ℕ) → carried ≡ n
     → view_in (views.Unleased (count_or0 n)) ≡ in_full (lease_in x) carried now
 is_unleased x now e n h = rw (e, h)
 

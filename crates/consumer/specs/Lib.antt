@@ -9,4 +9,3 @@ pub mod Questions
 pub mod Valid
 pub mod View
 pub mod Parts
-pub mod Walks

@@ -1,11 +1,13 @@
 -- The parts of a consumer, as the calls in place are lent them: numbers and columns, and the consumers that have them.
 -- SPEC.md, "State".
-use Rattle.std.specs.Prelude.{ℕ, ◌<◌, ◌≡◌, Bool, true, List, [], ◌∷◌, length}
-use Rattle.std.proofs.Math.Option.{Option, none, some}
+use Rattle.std.specs.Prelude.{ℕ, ◌<◌, ◌≡◌, Bool, true, false, Ok, Err, List, [], ◌∷◌, length}
+use Rattle.std.specs.Prelude as std
+use Rattle.std.proofs.Math.Option.{none}
 use Rattle.types.specs.Limits.{WORKERS}
-use Rattle.types.specs.Refusal.{Refusal, Result, refused, done}
-use Rattle.types.specs.Refusal as refusal
-use Rattle.types.specs.Table.{Row, first, checked, Answer, answer}
+use Rattle.types.specs.Refusal.{Result, refused, done}
+use Rattle.types.specs.Refused.{refusal_of, result_of}
+use Rattle.types.specs.declared.refusals.Refusal as code_refusal
+use Rattle.types.specs.Table.{first, checked, Answer, answer}
 use Rattle.types.specs.Lists.{listed, offsets_in}
 use Rattle.types.specs.declared.lent.OffsetList.{OffsetList}
 use Rattle.cursor.specs.View.{ack_cursor}
@@ -15,6 +17,7 @@ use Rattle.delivery.specs.Policy.{destination}
 use Rattle.delivery.specs.declared.DeliveryConfig.{DeliveryConfig}
 use Rattle.hours.specs.declared.Hours.{Hours}
 use Rattle.tables.specs.Search.{Placed}
+use Rattle.tables.specs.declared.Place.{Place}
 use Rattle.lease.specs.declared.LeaseConfig.{LeaseConfig}
 use Rattle.lease.specs.declared.LeaseTable.{LeaseTable}
 use Rattle.lease.specs.Operations.{Grant}
@@ -26,19 +29,11 @@ use Rattle.consumer.specs.Calls.{HandOut, claim_rows, claim_table, token_rows, a
 use Rattle.consumer.specs.Questions.{Question, Plan, reply, look, bytes_after, waiting_at, export_to, export}
 use Rattle.consumer.specs.Standing.{view_of}
 use Rattle.consumer.specs.Export.{Snapshots, exported, snapshots_after}
-use Rattle.consumer.specs.View.{view, Sound, Answers, Commits, holding, holding_both, commit_of, test_of, as_result, plan_of, export_of, view_in}
+use Rattle.consumer.specs.View.{view, Sound, Answers, Commits, holding, holding_both, test_of, plan_of, export_of, view_in}
 use Rattle.consumer.specs.declared.Consumer.{Consumer}
-use Rattle.consumer.specs.declared.plans.PlanAnswer.{PlanAnswer}
-use Rattle.consumer.specs.declared.snapshots.ExportAnswer.{ExportAnswer}
+use Rattle.consumer.specs.declared.snapshots.Lengths.{Lengths}
 use Rattle.consumer.specs.declared.views.View as code
-use Rattle.consumer.specs.declared.steps.ClaimTest.{ClaimTest}
-use Rattle.consumer.specs.declared.steps.ClaimTest.TheVariants as claims
-use Rattle.consumer.specs.declared.steps.TokenRefusal.{TokenRefusal}
-use Rattle.consumer.specs.declared.steps.TokenRefusal.TheVariants as token
-use Rattle.consumer.specs.declared.steps.TokenTest.{TokenTest}
-use Rattle.consumer.specs.declared.steps.TokenTest.TheVariants as test
-use Rattle.consumer.specs.declared.steps.CommitTest.{CommitTest}
-use Rattle.consumer.specs.declared.steps.CommitTest.TheVariants as commits
+use Rattle.consumer.specs.declared.steps.HeldAt.{HeldAt}
 
 -- ## a consumer with other values in the parts that a call looks at
 -- with another ceiling, another policy, another cursor and another table
@@ -198,21 +193,16 @@ abbrev pub ShowsIn : code.View → (Consumer → Consumer) → ℕ → ℕ → �
 ShowsIn r with w o now = (c : Consumer) → Whole (with c) → view_in r ≡ view_of (view (with c)) w o now
 
 -- a plan that is answered so: the reply, and the lent byte list
-pub record Plans (right : Result (List ℕ)) (out : List ℕ) (r : PlanAnswer) (out' : List ℕ) : Type 0 where
+pub record Plans (right : Result (List ℕ)) (out : List ℕ) (r : std.Result ℕ code_refusal.Refusal) (out' : List ℕ) : Type 0 where
   pub is : plan_of r out' ≡ right
   pub bytes : out' ≡ bytes_after right out
 
--- the cursor's answer, with what it left in the lent byte list
-abbrev pub replied_with : Result ℕ → List ℕ → Result (List ℕ)
-replied_with (refused r) out = refused r
-replied_with (done n) out = done (n ∷ out)
-
 -- a worker's plan
-abbrev pub PlansIn : PlanAnswer → (Consumer → Consumer) → ℕ → List ℕ → List ℕ → List ℕ → Type 0
+abbrev pub PlansIn : std.Result ℕ code_refusal.Refusal → (Consumer → Consumer) → ℕ → List ℕ → List ℕ → List ℕ → Type 0
 PlansIn r with w os out out' = (c : Consumer) → Plans (look (view (with c)) w (Plan os (length out))) out r out'
 
 -- an export that is answered so: the reply, and both lent byte lists
-pub record Exports (s : State) (right : Result (List ℕ)) (out : Snapshots) (r : ExportAnswer) (out' : Snapshots) : Type 0 where
+pub record Exports (s : State) (right : Result (List ℕ)) (out : Snapshots) (r : std.Result Lengths code_refusal.Refusal) (out' : Snapshots) : Type 0 where
   pub is : export_of r out' ≡ right
   pub lists : out' ≡ snapshots_after right (exported s) out
 
@@ -223,11 +213,11 @@ pub record Exportable (with : Consumer → Consumer) : Type 0 where
   pub whole : Whole (with consumer)
 
 -- a worker's export, and that of every worker that may look
-abbrev pub ExportsIn : ExportAnswer → (Consumer → Consumer) → ℕ → Snapshots → Snapshots → Type 0
+abbrev pub ExportsIn : std.Result Lengths code_refusal.Refusal → (Consumer → Consumer) → ℕ → Snapshots → Snapshots → Type 0
 ExportsIn r with w out out' =
     (c : Consumer) → Whole (with c) → Exports (view (with c)) (export (view (with c)) w out) out r out'
 
-abbrev pub EncodesIn : ExportAnswer → (Consumer → Consumer) → Snapshots → Snapshots → Type 0
+abbrev pub EncodesIn : std.Result Lengths code_refusal.Refusal → (Consumer → Consumer) → Snapshots → Snapshots → Type 0
 EncodesIn r with out out' =
     (c : Consumer) → Whole (with c) → (w : ℕ) → Exports (view (with c)) (reply (view (with c)) w (export_to out)) out r out'
 
@@ -242,55 +232,41 @@ WaitsIn r with now = (c : Consumer) → Whole (with c) → offsets_in r ≡ wait
 
 -- ## the private functions
 -- the test of a claim that the worker may make
-abbrev pub OpensIn : ClaimTest → (Consumer → Consumer) → ℕ → ℕ → Type 0
-OpensIn r with o now = (c : Consumer) → Whole (with c) → test_of r ≡ as_result (first (claim_rows (view (with c)) o now))
+abbrev pub OpensIn : std.Result Place code_refusal.Refusal → (Consumer → Consumer) → ℕ → ℕ → Type 0
+OpensIn r with o now = (c : Consumer) → Whole (with c) → test_of r ≡ first (claim_rows (view (with c)) o now)
 
 -- the test of a claim; where it is open there is a worker of that number
-pub record TestsIn (r : ClaimTest) (with : Consumer → Consumer) (w o now : ℕ) : Type 0 where
+pub record TestsIn (r : std.Result Place code_refusal.Refusal) (with : Consumer → Consumer) (w o now : ℕ) : Type 0 where
   pub known : test_of r ≡ none → w < WORKERS
-  pub is : (c : Consumer) → Whole (with c) → test_of r ≡ as_result (first (claim_table (view (with c)) w o now))
+  pub is : (c : Consumer) → Whole (with c) → test_of r ≡ first (claim_table (view (with c)) w o now)
 
 -- where the offset of an open claim stands, or belongs
-abbrev pub OpenAt : ℕ → List ℕ → ClaimTest → Type 0
-OpenAt o ks (claims.Open place) = Placed o ks place
-OpenAt o ks (claims.Refused a) = Unit {0}
+abbrev pub OpenAt : ℕ → List ℕ → std.Result Place code_refusal.Refusal → Type 0
+OpenAt o ks (Ok place) = Placed o ks place
+OpenAt o ks (Err r) = Unit {0}
 
 -- the test of a token: how often its lease was handed out, where the worker holds it
-abbrev pub token_refusal_of : TokenRefusal → Refusal
-token_refusal_of token.UnknownWorker = refusal.UnknownWorker
-token_refusal_of token.NotPermitted = refusal.NotPermitted
-token_refusal_of token.Fenced = refusal.Fenced
-token_refusal_of token.ForeignToken = refusal.ForeignToken
-
-abbrev pub token_of : TokenTest → Result ℕ
-token_of (test.Held h) = done h.deliveries
-token_of (test.Refused r) = refused (token_refusal_of r)
+abbrev pub token_of : std.Result HeldAt code_refusal.Refusal → Result ℕ
+token_of = result_of (λ (h : HeldAt). h.deliveries)
 
 -- and where that lease stands
-abbrev pub TokenAt : ℕ → ℕ → List ℕ → List ℕ → List ℕ → TokenTest → Type 0
-TokenAt o g ks slots gs (test.Held h) = OwnedAt o g ks slots gs h.at
-TokenAt o g ks slots gs (test.Refused r) = Unit {0}
+abbrev pub TokenAt : ℕ → ℕ → List ℕ → List ℕ → List ℕ → std.Result HeldAt code_refusal.Refusal → Type 0
+TokenAt o g ks slots gs (Ok h) = OwnedAt o g ks slots gs h.at
+TokenAt o g ks slots gs (Err r) = Unit {0}
 
-abbrev pub TokenIn : TokenTest → (Consumer → Consumer) → ℕ → ℕ → ℕ → ℕ → Type 0
+abbrev pub TokenIn : std.Result HeldAt code_refusal.Refusal → (Consumer → Consumer) → ℕ → ℕ → ℕ → ℕ → Type 0
 TokenIn r with w bit o g =
     (c : Consumer) → Whole (with c) → (op : Operation) → bit_of op ≡ bit
     → token_of r ≡ checked (token_rows (view (with c)) w op o g) (done (attempt_of (view (with c)) o))
 
--- the test of a commit: what it answers at once, or its effect
-abbrev pub decided : CommitTest → State → ℕ → Answer Bool State
-decided commits.Open s bound = answer (done true) (with_committed s bound)
-decided (commits.Answered a) s bound = answer (commit_of a) s
+-- the test of a commit: its effect, or what it answers at once
+abbrev pub decided : std.Result Bool code_refusal.Refusal → State → ℕ → Answer Bool State
+decided (Ok true) s bound = answer (done true) (with_committed s bound)
+decided (Ok false) s bound = answer (done false) s
+decided (Err r) s bound = answer (refused (refusal_of r)) s
 
-abbrev pub DecidesIn : CommitTest → (Consumer → Consumer) → ℕ → ℕ → Type 0
+abbrev pub DecidesIn : std.Result Bool code_refusal.Refusal → (Consumer → Consumer) → ℕ → ℕ → Type 0
 DecidesIn r with w bound = (c : Consumer) → Whole (with c) → decided r (view (with c)) bound ≡ commit (view (with c)) w bound
-
--- a list, where no row refuses
-abbrev pub unless_refused : Option Refusal → List ℕ → List ℕ
-unless_refused none l = l
-unless_refused (some r) l = []
-
-abbrev pub permitted_list : List Row → List ℕ → List ℕ
-permitted_list ws l = unless_refused (first ws) l
 
 -- what a claim answers for the table's answer, a count above the limit being for the dead letters
 abbrev pub handed_out : ℕ → Result Grant → Result HandOut

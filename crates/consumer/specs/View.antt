@@ -1,18 +1,22 @@
 -- What the code's consumer and its answers stand for, the invariant of the struct, and the parts of the contracts.
 -- SPEC.md, "State".
-use Rattle.std.specs.Prelude.{ℕ, ◌≡◌, Bool, true, false, List, ◌∷◌, ◌++◌, take}
+use Rattle.std.specs.Prelude.{ℕ, ◌≡◌, Bool, true, false, Ok, Err, List, ◌∷◌, ◌++◌, take}
+use Rattle.std.specs.Prelude as std
 use Rattle.std.proofs.Math.Option.{Option, none, some}
 use Rattle.types.specs.Refusal.{Refusal, Result, refused, done}
-use Rattle.types.specs.Refusal as refusal
+use Rattle.types.specs.Refused.{refusal_of, result_of, as_is}
+use Rattle.types.specs.declared.refusals.Refusal as code_refusal
 use Rattle.types.specs.Table.{Answer, answer, Kept}
 use Rattle.cursor.specs.View as cursor
 use Rattle.cursor.specs.declared.AckCursor.{AckCursor}
 use Rattle.delivery.specs.Config as delivery
 use Rattle.delivery.specs.Policy.{Destination, Deliver, DeadLetter}
+use Rattle.delivery.specs.declared.Disposition.{Disposition}
+use Rattle.delivery.specs.declared.Disposition.TheVariants as dispositions
 use Rattle.hours.specs.View as hours
 use Rattle.lease.specs.State as lease
 use Rattle.lease.specs.declared.LeaseTable.{LeaseTable}
-use Rattle.lease.specs.declared.LeaseToken.{LeaseToken}
+use Rattle.tables.specs.declared.Place.{Place}
 use Rattle.consumer.specs.State.{State, state_of, next_group_at}
 use Rattle.consumer.specs.State as state
 use Rattle.consumer.specs.Calls.{HandOut}
@@ -22,30 +26,12 @@ use Rattle.consumer.specs.Export.{Snapshots}
 use Rattle.consumer.specs.Valid.{Valid}
 use Rattle.consumer.specs.declared.Settings.{Settings}
 use Rattle.consumer.specs.declared.Consumer.{Consumer}
-use Rattle.consumer.specs.declared.calls.ClaimAnswer.{ClaimAnswer}
-use Rattle.consumer.specs.declared.calls.ClaimAnswer.TheVariants as claim
-use Rattle.consumer.specs.declared.steps.ClaimTest.{ClaimTest}
-use Rattle.consumer.specs.declared.steps.ClaimTest.TheVariants as test
-use Rattle.consumer.specs.declared.calls.SettleAnswer.{SettleAnswer}
-use Rattle.consumer.specs.declared.calls.SettleAnswer.TheVariants as settle
-use Rattle.consumer.specs.declared.calls.NackAnswer.{NackAnswer}
-use Rattle.consumer.specs.declared.calls.NackAnswer.TheVariants as nack
-use Rattle.consumer.specs.declared.calls.ProgressAnswer.{ProgressAnswer}
-use Rattle.consumer.specs.declared.calls.ProgressAnswer.TheVariants as progress
-use Rattle.consumer.specs.declared.calls.CommitAnswer.{CommitAnswer}
-use Rattle.consumer.specs.declared.calls.CommitAnswer.TheVariants as commit
-use Rattle.consumer.specs.declared.queries.WaitingAnswer.{WaitingAnswer}
-use Rattle.consumer.specs.declared.queries.WaitingAnswer.TheVariants as waiting
-use Rattle.consumer.specs.declared.plans.PlanAnswer.{PlanAnswer}
-use Rattle.consumer.specs.declared.plans.PlanAnswer.TheVariants as plans
-use Rattle.consumer.specs.declared.snapshots.ExportAnswer.{ExportAnswer}
-use Rattle.consumer.specs.declared.snapshots.ExportAnswer.TheVariants as exports
+use Rattle.consumer.specs.declared.calls.HandOut as code_claim
+use Rattle.consumer.specs.declared.snapshots.Lengths.{Lengths}
 use Rattle.consumer.specs.declared.views.Standing as code-standing
 use Rattle.consumer.specs.declared.views.Standing.TheVariants as standings
 use Rattle.consumer.specs.declared.views.View as code_view
 use Rattle.consumer.specs.declared.views.View.TheVariants as views
-use Rattle.consumer.specs.declared.rights.Permission.{Permission}
-use Rattle.consumer.specs.declared.rights.Permission.TheVariants as permission
 
 abbrev pub settings_of : Settings → state.Settings
 settings_of s = record { policy = delivery.view s.delivery; rights = s.rights; hours = hours.view s.hours }
@@ -97,91 +83,61 @@ holding_both c cursor table =
 abbrev pub holding : Consumer → LeaseTable → Consumer
 holding c table = holding_both c c.cursor table
 
--- ## the answers for the cases of each enum
--- a permission: nothing, or what the call is refused with
-abbrev pub permission_of : Permission → Option Refusal
-permission_of permission.Granted = none
-permission_of permission.UnknownWorker = some refusal.UnknownWorker
-permission_of permission.NotPermitted = some refusal.NotPermitted
+-- ## the answers
+-- what a result is refused with, if it is
+abbrev pub refusal_in : {T : Type 0} → std.Result T code_refusal.Refusal → Option Refusal
+refusal_in (Ok x) = none
+refusal_in (Err r) = some (refusal_of r)
 
-abbrev pub hand_out_of : LeaseToken → ℕ → Destination → HandOut
-hand_out_of token n d =
-    record { offset = token.offset.0; generation = token.generation.0; deliveries = n; destination = d }
+-- a permission, and the test of a claim: nothing, or what the call is refused with
+abbrev pub permission_of : std.Result (Unit {0}) code_refusal.Refusal → Option Refusal
+permission_of = refusal_in
 
-abbrev pub claim_of : ClaimAnswer → Result HandOut
-claim_of (claim.Deliver token n) = done (hand_out_of token n Deliver)
-claim_of (claim.DeadLetter token n) = done (hand_out_of token n DeadLetter)
-claim_of claim.LastOffset = refused refusal.LastOffset
-claim_of claim.Settled = refused refusal.Settled
-claim_of (claim.Closed opening) = refused (refusal.Closed opening)
-claim_of claim.InFlight = refused refusal.InFlight
-claim_of claim.Exhausted = refused refusal.Exhausted
-claim_of claim.CheckpointDue = refused refusal.CheckpointDue
-claim_of claim.Full = refused refusal.Full
-claim_of claim.UnknownWorker = refused refusal.UnknownWorker
-claim_of claim.NotPermitted = refused refusal.NotPermitted
+abbrev pub test_of : std.Result Place code_refusal.Refusal → Option Refusal
+test_of = refusal_in
 
--- the test of a claim: nothing, or what it is refused with
-abbrev pub test_of : ClaimTest → Option (Result HandOut)
-test_of (test.Open place) = none
-test_of (test.Refused a) = some (claim_of a)
+abbrev pub destination_of : Disposition → Destination
+destination_of dispositions.Deliver = Deliver
+destination_of dispositions.DeadLetter = DeadLetter
 
-abbrev pub as_result : Option Refusal → Option (Result HandOut)
-as_result none = none
-as_result (some r) = some (refused r)
+abbrev pub hand_out_of : code_claim.HandOut → HandOut
+hand_out_of h =
+    record {
+      offset = h.token.offset.0;
+      generation = h.token.generation.0;
+      deliveries = h.deliveries;
+      destination = destination_of h.disposition;
+    }
 
-abbrev pub settle_of : SettleAnswer → Result (Unit {0})
-settle_of settle.Settled = done tt
-settle_of settle.Fenced = refused refusal.Fenced
-settle_of settle.Shed = refused refusal.Shed
-settle_of settle.UnknownWorker = refused refusal.UnknownWorker
-settle_of settle.NotPermitted = refused refusal.NotPermitted
-settle_of settle.ForeignToken = refused refusal.ForeignToken
+abbrev pub claim_of : std.Result code_claim.HandOut code_refusal.Refusal → Result HandOut
+claim_of = result_of hand_out_of
 
-abbrev pub nack_of : NackAnswer → Result ℕ
-nack_of (nack.Requeued deadline) = done deadline
-nack_of nack.Fenced = refused refusal.Fenced
-nack_of nack.Exhausted = refused refusal.Exhausted
-nack_of nack.CheckpointDue = refused refusal.CheckpointDue
-nack_of nack.UnknownWorker = refused refusal.UnknownWorker
-nack_of nack.NotPermitted = refused refusal.NotPermitted
-nack_of nack.ForeignToken = refused refusal.ForeignToken
+abbrev pub settle_of : std.Result (Unit {0}) code_refusal.Refusal → Result (Unit {0})
+settle_of = as_is
 
-abbrev pub progress_of : ProgressAnswer → Result ℕ
-progress_of (progress.Extended deadline) = done deadline
-progress_of progress.Fenced = refused refusal.Fenced
-progress_of progress.CapReached = refused refusal.CapReached
-progress_of progress.UnknownWorker = refused refusal.UnknownWorker
-progress_of progress.NotPermitted = refused refusal.NotPermitted
-progress_of progress.ForeignToken = refused refusal.ForeignToken
+abbrev pub nack_of : std.Result ℕ code_refusal.Refusal → Result ℕ
+nack_of = as_is
 
-abbrev pub commit_of : CommitAnswer → Result Bool
-commit_of commit.Committed = done true
-commit_of commit.Unchanged = done false
-commit_of commit.UnknownWorker = refused refusal.UnknownWorker
-commit_of commit.NotPermitted = refused refusal.NotPermitted
+abbrev pub progress_of : std.Result ℕ code_refusal.Refusal → Result ℕ
+progress_of = as_is
+
+abbrev pub commit_of : std.Result Bool code_refusal.Refusal → Result Bool
+commit_of = as_is
 
 -- the waiting list: how many places were filled
-abbrev pub waiting_of : WaitingAnswer → Result ℕ
-waiting_of (waiting.Filled n) = done n
-waiting_of waiting.OutTooShort = refused refusal.OutTooShort
-waiting_of waiting.UnknownWorker = refused refusal.UnknownWorker
-waiting_of waiting.NotPermitted = refused refusal.NotPermitted
+abbrev pub waiting_of : std.Result ℕ code_refusal.Refusal → Result ℕ
+waiting_of = as_is
 
 -- a plan: the number of looks, and behind it what stands in the lent byte list
-abbrev pub plan_of : PlanAnswer → List ℕ → Result (List ℕ)
-plan_of (plans.Answered n) out = done (n ∷ out)
-plan_of plans.UnequalLengths out = refused refusal.UnequalLengths
-plan_of (plans.Falling place) out = refused (refusal.Falling place)
-plan_of plans.UnknownWorker out = refused refusal.UnknownWorker
-plan_of plans.NotPermitted out = refused refusal.NotPermitted
+abbrev pub plan_of : std.Result ℕ code_refusal.Refusal → List ℕ → Result (List ℕ)
+plan_of r out = result_of (λ n. n ∷ out) r
 
 -- an export: how long both snapshots are, and the bytes of both, which stand at the front of the lent lists
-abbrev pub export_of : ExportAnswer → Snapshots → Result (List ℕ)
-export_of (exports.Exported n k) out = done (n ∷ k ∷ (take n out.cursor ++ take k out.attempts))
-export_of exports.OutTooShort out = refused refusal.OutTooShort
-export_of exports.UnknownWorker out = refused refusal.UnknownWorker
-export_of exports.NotPermitted out = refused refusal.NotPermitted
+abbrev pub exported_by : Snapshots → Lengths → List ℕ
+exported_by out l = l.cursor_len ∷ l.attempt_len ∷ (take l.cursor_len out.cursor ++ take l.attempt_len out.attempts)
+
+abbrev pub export_of : std.Result Lengths code_refusal.Refusal → Snapshots → Result (List ℕ)
+export_of r out = result_of (exported_by out) r
 
 -- what is shown of an offset
 abbrev pub standing_in : code-standing.Standing → Standing

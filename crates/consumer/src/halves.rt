@@ -1,5 +1,5 @@
 // The two halves of an area of so many bytes. Which one is in use is told by the block where the next group would stand.
-ghost use Rattle.std.specs.Prelude.{◌≡◌, cond, ◌-◌, ◌/◌, ◌≤◌};
+ghost use Rattle.std.specs.Prelude.{◌≡◌, ◌-◌, ◌/◌, ◌≤◌};
 ghost use Rattle.consumer.specs.State.{half_blocks, half_in_use, half_end, otherHalf};
 
 // The blocks of a half, which are also the first block of the second one.
@@ -9,35 +9,33 @@ pub fn half_blocks(area_len: usize) -> usize
     area_len / 512 / 2
 }
 
-// One of two numbers.
-fn chosen(first: bool, a: usize, b: usize) -> usize
-    ensures { result ≡ cond first a b }
-{
-    if first { a } else { b }
-}
-
 // The half in use: 0 or 1.
 pub fn half_in_use(area_len: usize, block: usize) -> usize
     ensures { result ≡ half_in_use area_len block }
 {
-    let middle = area_len / 512 / 2;
-    chosen(middle < block, 1, 0)
+    if half_blocks(area_len) < block { 1 } else { 0 }
 }
 
 // The block behind the half in use.
 pub fn half_end(area_len: usize, block: usize) -> usize
     ensures { result ≡ half_end area_len block }
 {
-    let middle = area_len / 512 / 2;
-    chosen(middle < block, area_len / 512, middle)
+    if half_blocks(area_len) < block {
+        area_len / 512
+    } else {
+        half_blocks(area_len)
+    }
 }
 
 // The first block of the other half.
 pub fn other_half(area_len: usize, block: usize) -> usize
     ensures { result ≡ otherHalf area_len block }
 {
-    let middle = area_len / 512 / 2;
-    chosen(middle < block, 0, middle)
+    if half_blocks(area_len) < block {
+        0
+    } else {
+        half_blocks(area_len)
+    }
 }
 
 // The blocks that are left in the half in use.

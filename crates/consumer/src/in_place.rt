@@ -4,7 +4,7 @@
 ghost use Rattle.std.specs.Prelude.{◌≡◌, ◌≤◌, [], ◌∷◌};
 ghost use Rattle.types.specs.Limits.{LEASES, CARRIED};
 ghost use Rattle.types.specs.Refusal.{done};
-ghost use Rattle.types.specs.Lists.{listed_of};
+ghost use Rattle.types.specs.Refused.{as_is};
 ghost use Rattle.cursor.specs.View.{ack_cursor};
 ghost use Rattle.cursor.specs.View as cursor;
 ghost use Rattle.delivery.specs.Config.{delay_of, LentBackoffs};
@@ -15,21 +15,19 @@ ghost use Rattle.consumer.specs.Questions.{CountOf};
 ghost use Rattle.consumer.specs.View.{claim_of, settle_of, nack_of, progress_of, commit_of};
 ghost use Rattle.consumer.specs.Parts.{claiming, settling, nacking, progressing, committing, counting, awaiting, AnswersIn, CommitsIn, RepliesIn, ListsIn};
 
-use crate::calls::{ClaimAnswer, CommitAnswer, NackAnswer, ProgressAnswer, SettleAnswer};
+use crate::calls::HandOut;
 use crate::rights::{EXTEND, NACK, SETTLE};
 use crate::steps;
-use crate::steps::{ClaimTest, CommitTest, TokenTest};
-use delivery::Delay;
 use hours::Hours;
-use lease::{Attempts, LeaseConfig};
+use lease::LeaseConfig;
 use types::lent;
-use types::lent::Listed;
 use types::limits::{CARRIED, LEASES, MAX, RANGES, WORKERS};
+use types::refusals::Refusal;
 
 // What a claim answers, and the numbers of the table after it.
 #[derive(Clone, Copy)]
 pub struct ClaimedAt {
-    pub answer: ClaimAnswer,
+    pub answer: Result<HandOut, Refusal>,
     pub len: usize,
     pub carried_len: usize,
     pub next_generation: u64,
@@ -94,10 +92,10 @@ pub fn claim_in_place<'a>(
         carried_counts,
     );
     let place = match test {
-        ClaimTest::Open(place) => place,
-        ClaimTest::Refused(answer) => {
+        Ok(place) => place,
+        Err(refusal) => {
             return ClaimedAt {
-                answer,
+                answer: Err(refusal),
                 len,
                 carried_len,
                 next_generation,
@@ -125,9 +123,8 @@ pub fn claim_in_place<'a>(
         carried_offsets,
         carried_counts,
     );
-    let outcome = claimed.outcome;
     ClaimedAt {
-        answer: steps::handed_out(max_deliver, outcome),
+        answer: steps::handed_out(max_deliver, claimed.outcome),
         len: claimed.len,
         carried_len: claimed.carried_len,
         next_generation: claimed.next_generation,
@@ -138,7 +135,7 @@ pub fn claim_in_place<'a>(
 // What Ack and Term answer, and the numbers of the cursor and of the leases after them.
 #[derive(Clone, Copy)]
 pub struct SettledAt {
-    pub answer: SettleAnswer,
+    pub answer: Result<(), Refusal>,
     pub committed: u64,
     pub runs: usize,
     pub len: usize,
@@ -182,10 +179,10 @@ pub fn settle_in_place<'a>(
         workers,
     );
     let held = match test {
-        TokenTest::Held(held) => held,
-        TokenTest::Refused(refusal) => {
+        Ok(held) => held,
+        Err(refusal) => {
             return SettledAt {
-                answer: steps::not_settled(refusal),
+                answer: Err(refusal),
                 committed,
                 runs,
                 len,
@@ -193,10 +190,9 @@ pub fn settle_in_place<'a>(
         }
     };
     let noted = cursor::in_place::ack_in_place(committed, starts, ends, runs, offset, RANGES);
-    let outcome = noted.outcome;
-    if steps::is_shed(outcome) {
+    if steps::is_shed(noted.outcome) {
         return SettledAt {
-            answer: SettleAnswer::Shed,
+            answer: Err(Refusal::Shed),
             committed: noted.committed,
             runs: noted.runs,
             len,
@@ -204,7 +200,7 @@ pub fn settle_in_place<'a>(
     }
     let left = lease::in_place::ack_at(held.at, len, offsets, slots);
     SettledAt {
-        answer: SettleAnswer::Settled,
+        answer: Ok(()),
         committed: noted.committed,
         runs: noted.runs,
         len: left,
@@ -214,7 +210,7 @@ pub fn settle_in_place<'a>(
 // What Nack answers, and the next generation after it.
 #[derive(Clone, Copy)]
 pub struct NackedAt {
-    pub answer: NackAnswer,
+    pub answer: Result<u64, Refusal>,
     pub next_generation: u64,
 }
 
@@ -230,7 +226,7 @@ pub fn nack_in_place<'a>(
     offset: u64,
     generation: u64,
     now: u64,
-    delay: Delay,
+    delay: Option<u64>,
     rights: &'a [u8; WORKERS],
     backoff_nanos: &'a [u64; 16],
     offsets: &'a [u64; LEASES],
@@ -260,29 +256,28 @@ pub fn nack_in_place<'a>(
         workers,
     );
     let held = match test {
-        TokenTest::Held(held) => held,
-        TokenTest::Refused(refusal) => {
+        Ok(held) => held,
+        Err(refusal) => {
             return NackedAt {
-                answer: steps::not_nacked(refusal),
+                answer: Err(refusal),
                 next_generation,
             };
         }
     };
     if next_generation == MAX {
         return NackedAt {
-            answer: NackAnswer::Exhausted,
+            answer: Err(Refusal::Exhausted),
             next_generation,
         };
     }
     if ceiling <= next_generation {
         return NackedAt {
-            answer: NackAnswer::CheckpointDue,
+            answer: Err(Refusal::CheckpointDue),
             next_generation,
         };
     }
-    let capped_nanos = delivery::nack_delay_in_place(
-        backoff_nanos,
-        backoff_len,
+    let capped_nanos = delivery::nack_delay(
+        &backoff_nanos[..backoff_len],
         held.deliveries,
         delay,
         config.hard_cap_nanos,
@@ -297,9 +292,8 @@ pub fn nack_in_place<'a>(
         generations,
         deadlines,
     );
-    let outcome = nacked.outcome;
     NackedAt {
-        answer: steps::requeued(outcome),
+        answer: nacked.outcome,
         next_generation: nacked.next_generation,
     }
 }
@@ -320,7 +314,7 @@ pub fn progress_in_place<'a>(
     deadlines: &mut [u64; LEASES],
     deliveries: &'a [u32; LEASES],
     workers: &'a [u32; LEASES],
-) -> ProgressAnswer
+) -> Result<u64, Refusal>
     requires { len ≤ LEASES }
     ensures { AnswersIn (progress_of result)
         (progressing rights.now config len offsets.now slots.now generations.now attempt_starts.now deadlines.old deliveries.now workers.now)
@@ -340,27 +334,14 @@ pub fn progress_in_place<'a>(
         deliveries,
         workers,
     );
-    let held = match test {
-        TokenTest::Held(held) => held,
-        TokenTest::Refused(refusal) => {
-            return steps::not_extended(refusal);
-        }
-    };
-    let outcome = lease::in_place::extend_at(
-        config,
-        held.at,
-        now,
-        slots,
-        attempt_starts,
-        deadlines,
-    );
-    steps::extended(outcome)
+    let held = test?;
+    lease::in_place::extend_at(config, held.at, now, slots, attempt_starts, deadlines)
 }
 
 // What Commit answers, and the numbers of the cursor and of the table after it.
 #[derive(Clone, Copy)]
 pub struct CommittedAt {
-    pub answer: CommitAnswer,
+    pub answer: Result<bool, Refusal>,
     pub committed: u64,
     pub runs: usize,
     pub len: usize,
@@ -390,9 +371,9 @@ pub fn commit_in_place<'a>(
         (λ s. commit s worker bound) }
 {
     let test = steps::commit_test(committed, worker, bound, rights);
-    if let CommitTest::Answered(answer) = test {
+    if !test.unwrap_or(false) {
         return CommittedAt {
-            answer,
+            answer: test,
             committed,
             runs,
             len,
@@ -410,7 +391,7 @@ pub fn commit_in_place<'a>(
         carried_counts,
     );
     CommittedAt {
-        answer: CommitAnswer::Committed,
+        answer: Ok(true),
         committed: moved.committed,
         runs: moved.runs,
         len: released.len,
@@ -433,7 +414,7 @@ pub fn count_in_place<'a>(
     ensures { RepliesIn (done (result ∷ [])) (counting len carried_len offsets.now slots.now deliveries.now carried_offsets.now carried_counts.now) (CountOf offset) }
 {
     let leased = lease::in_place::count_in_place(len, offset, offsets, slots, deliveries);
-    if let Attempts::Some(count) = leased {
+    if let Some(count) = leased {
         return count;
     }
     let carried = lease::in_place::carried_in_place(
@@ -442,10 +423,7 @@ pub fn count_in_place<'a>(
         carried_offsets,
         carried_counts,
     );
-    let Attempts::Some(count) = carried else {
-        return 0;
-    };
-    count
+    carried.unwrap_or(0)
 }
 
 // The waiting list at a clock, into a lent list from its first place on: the carried offsets, then those whose lease's deadline has
@@ -459,9 +437,9 @@ pub fn waiting_in_place<'a>(
     deadlines: &'a [u64; LEASES],
     carried_offsets: &'a [u64; CARRIED],
     out: &mut [u64],
-) -> Listed
+) -> Result<usize, Refusal>
     requires { (len ≤ LEASES) × (carried_len ≤ CARRIED) }
-    ensures { ListsIn (listed_of result) (awaiting len carried_len offsets.now slots.now deadlines.now carried_offsets.now) now out.old out.new }
+    ensures { ListsIn (as_is result) (awaiting len carried_len offsets.now slots.now deadlines.now carried_offsets.now) now out.old out.new }
 {
     let list = steps::waiting_list(
         len,

@@ -42,7 +42,7 @@ pub struct Configuration {
 
 // Where the next checkpoint goes: its group number, and the block of its header.
 #[repr(C)]
-#[derive(Clone, Copy)]
+#[derive(Clone, Copy, Debug, PartialEq, Eq)]
 pub struct NextGroup {
     pub number: u64,
     pub block: usize,

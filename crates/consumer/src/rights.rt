@@ -6,6 +6,7 @@ ghost use Rattle.consumer.specs.Standing.{supervises};
 ghost use Rattle.consumer.specs.View.{permission_of};
 
 use types::limits::WORKERS;
+use types::refusals::Refusal;
 
 // Settle covers Ack and Term, extend covers Progress, checkpoint is asked for at begin, and look covers every question.
 pub const CLAIM: u8 = 1;
@@ -25,38 +26,25 @@ pub const LOOK: u8 = 64;
 // The mark of a supervisor, which permits nothing by itself.
 pub const SUPERVISOR: u8 = 128;
 
-// Whether a worker may do something, or refusal 38 or 39.
-#[derive(Clone, Copy)]
-pub enum Permission {
-    Granted,
-    UnknownWorker,
-    NotPermitted,
-}
-
-// Whether a worker has a bit among the rights; no worker has bit 0. Every call of a worker asks this before all else.
-pub fn permission_of(rights: &[u8; WORKERS], worker: u64, bit: u8) -> Permission
+// Whether a worker has a bit among the rights, or refusal 38 or 39; no worker has bit 0. Every call of a worker asks this before all else.
+pub fn permission_of(rights: &[u8; WORKERS], worker: u64, bit: u8) -> Result<(), Refusal>
     ensures { permission_of result ≡ first (worker_rows rights.now worker bit) }
 {
     if WORKERS as u64 <= worker {
-        return Permission::UnknownWorker;
+        return Err(Refusal::UnknownWorker);
     }
     if bit == 0 {
-        return Permission::NotPermitted;
+        return Err(Refusal::NotPermitted);
     }
     if rights[worker as usize] / bit % 2 == 1 {
-        return Permission::Granted;
+        return Ok(());
     }
-    Permission::NotPermitted
+    Err(Refusal::NotPermitted)
 }
 
 // Whether a worker is marked as a supervisor.
 pub fn is_supervisor(rights: &[u8; WORKERS], worker: u64) -> bool
     ensures { result ≡ supervises rights.now worker }
 {
-    let permission = permission_of(rights, worker, SUPERVISOR);
-    match permission {
-        Permission::Granted => true,
-        Permission::UnknownWorker => false,
-        Permission::NotPermitted => false,
-    }
+    permission_of(rights, worker, SUPERVISOR).is_ok()
 }

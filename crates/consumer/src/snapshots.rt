@@ -4,34 +4,39 @@ ghost use Rattle.types.specs.Table.{answer};
 ghost use Rattle.types.specs.Lists.{counts_in};
 ghost use Rattle.cursor.specs.View.{ack_cursor};
 ghost use Rattle.attempt.specs.Snapshot.{encode_into};
-ghost use Rattle.attempt.specs.Codec.{encode_of};
+ghost use Rattle.types.specs.Refused.{as_is};
 ghost use Rattle.lease.specs.Parts.{listing_all};
 ghost use Rattle.consumer.specs.Export.{snapshots};
 ghost use Rattle.consumer.specs.Questions.{export};
 ghost use Rattle.consumer.specs.View.{view, Sound};
 ghost use Rattle.consumer.specs.Parts.{exporting, encoding, Exportable, Exports, ExportsIn, EncodesIn};
 
-use crate::rights::{LOOK, Permission};
+use crate::rights::LOOK;
 use crate::{Consumer, rights};
-use attempt::Encode;
+use attempt::Version;
 use cursor::AckCursor;
 use cursor::in_place::encode_in_place;
 use lease::in_place::all_counts_in_place;
 use types::lent::AttemptCounts;
 use types::limits::{CARRIED, LEASES, RANGES, WORKERS};
+use types::refusals::Refusal;
 
-// What an export answers: how many bytes each snapshot has, or refusal 38, 39 or 20.
-#[derive(Clone, Copy)]
-pub enum ExportAnswer {
-    Exported { cursor_len: u16, attempt_len: u16 },
-    OutTooShort,
-    UnknownWorker,
-    NotPermitted,
+// How many bytes each snapshot of an export has.
+#[derive(Clone, Copy, Debug, PartialEq, Eq)]
+pub struct Lengths {
+    pub cursor_len: u16,
+    pub attempt_len: u16,
 }
 
 impl Consumer {
-    // A worker's export: each snapshot at the front of its own lent bytes. Where one of them doesn't fit (20) neither is written.
-    pub fn export(self, worker: u64, cursor: &mut [u8], attempts: &mut [u8]) -> ExportAnswer
+    // A worker's export: each snapshot at the front of its own lent bytes. 38, 39, and 20 where one of them doesn't fit; then neither is
+    // written.
+    pub fn export(
+        self,
+        worker: u64,
+        cursor: &mut [u8],
+        attempts: &mut [u8],
+    ) -> Result<Lengths, Refusal>
         requires { Sound self }
         ensures { Exports (view self) (export (view self) worker (snapshots cursor.old attempts.old)) (snapshots cursor.old attempts.old) result (snapshots cursor.new attempts.new) }
     {
@@ -72,31 +77,27 @@ pub fn export_in_place<'a>(
     carried_counts: &'a [u32; CARRIED],
     cursor: &mut [u8],
     attempts: &mut [u8],
-) -> ExportAnswer
+) -> Result<Lengths, Refusal>
     requires { Exportable (exporting rights.now (ack_cursor committed starts.now ends.now runs) (listing_all len carried_len offsets.now slots.now deliveries.now carried_offsets.now carried_counts.now)) }
     ensures { ExportsIn result (exporting rights.now (ack_cursor committed starts.now ends.now runs) (listing_all len carried_len offsets.now slots.now deliveries.now carried_offsets.now carried_counts.now))
         worker (snapshots cursor.old attempts.old) (snapshots cursor.new attempts.new) }
 {
-    let permission = rights::permission_of(rights, worker, LOOK);
-    match permission {
-        Permission::UnknownWorker => ExportAnswer::UnknownWorker,
-        Permission::NotPermitted => ExportAnswer::NotPermitted,
-        Permission::Granted => encode_both(
-            committed,
-            runs,
-            len,
-            carried_len,
-            starts,
-            ends,
-            offsets,
-            slots,
-            deliveries,
-            carried_offsets,
-            carried_counts,
-            cursor,
-            attempts,
-        ),
-    }
+    rights::permission_of(rights, worker, LOOK)?;
+    encode_both(
+        committed,
+        runs,
+        len,
+        carried_len,
+        starts,
+        ends,
+        offsets,
+        slots,
+        deliveries,
+        carried_offsets,
+        carried_counts,
+        cursor,
+        attempts,
+    )
 }
 
 // The same where the worker may look. Both lengths are tested before a byte is written (20).
@@ -114,7 +115,7 @@ fn encode_both<'a>(
     carried_counts: &'a [u32; CARRIED],
     cursor: &mut [u8],
     attempts: &mut [u8],
-) -> ExportAnswer
+) -> Result<Lengths, Refusal>
     requires { Exportable (encoding (ack_cursor committed starts.now ends.now runs) (listing_all len carried_len offsets.now slots.now deliveries.now carried_offsets.now carried_counts.now)) }
     ensures { EncodesIn result (encoding (ack_cursor committed starts.now ends.now runs) (listing_all len carried_len offsets.now slots.now deliveries.now carried_offsets.now carried_counts.now))
         (snapshots cursor.old attempts.old) (snapshots cursor.new attempts.new) }
@@ -131,26 +132,26 @@ fn encode_both<'a>(
     let cursor_len = AckCursor::snapshot_len(runs);
     let attempt_len = attempt::snapshot_len(counts.len);
     if cursor.len() < cursor_len {
-        return ExportAnswer::OutTooShort;
+        return Err(Refusal::OutTooShort);
     }
     if attempts.len() < attempt_len {
-        return ExportAnswer::OutTooShort;
+        return Err(Refusal::OutTooShort);
     }
-    encode_in_place(committed, starts, ends, runs, cursor, 0);
-    encode_counts(counts, attempts);
-    ExportAnswer::Exported {
+    let _ = encode_in_place(committed, starts, ends, runs, cursor, 0);
+    let _ = encode_counts(counts, attempts);
+    Ok(Lengths {
         cursor_len: cursor_len as u16,
         attempt_len: attempt_len as u16,
-    }
+    })
 }
 
 // Writes the snapshot of counts, in version 1, at the front of lent bytes.
-fn encode_counts(counts: AttemptCounts, out: &mut [u8]) -> Encode
+fn encode_counts(counts: AttemptCounts, out: &mut [u8]) -> Result<usize, Refusal>
     requires { counts.len ≤ 192 }
-    ensures { answer (encode_of result) out.new ≡ encode_into (counts_in counts) 0 out.old }
+    ensures { answer (as_is result) out.new ≡ encode_into (counts_in counts) 0 out.old }
 {
     let offsets = counts.offsets;
     let attempts = counts.attempts;
     let n = counts.len;
-    attempt::encode_columns(&offsets[..n], &attempts[..n], out, 0)
+    attempt::encode_columns(Version::One, &offsets[..n], &attempts[..n], out, 0)
 }

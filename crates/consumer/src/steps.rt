@@ -1,9 +1,7 @@
 // The steps of the calls in place: the tests of a claim, of a token and of a commit, what an answer of the cursor or of the table
 // becomes, and the waiting list.
-ghost use Rattle.std.specs.Prelude.{◌≡◌, ◌≤◌, [], take};
+ghost use Rattle.std.specs.Prelude.{◌≡◌, ◌≤◌, take};
 ghost use Rattle.types.specs.Limits.{LEASES, CARRIED, sat64};
-ghost use Rattle.types.specs.Refusal.{refused};
-ghost use Rattle.types.specs.Lists.{offsets_in};
 ghost use Rattle.cursor.specs.View.{ack_cursor};
 ghost use Rattle.cursor.specs.View as cursor;
 ghost use Rattle.cursor.specs.Answers.{ack_of};
@@ -12,30 +10,22 @@ ghost use Rattle.hours.specs.View as opening;
 ghost use Rattle.lease.specs.Answers as answers;
 ghost use Rattle.lease.specs.Parts as lease;
 ghost use Rattle.consumer.specs.Calls.{is_full, is_shed};
-ghost use Rattle.consumer.specs.View.{claim_of, settle_of, nack_of, progress_of};
-ghost use Rattle.consumer.specs.Parts.{testing, permitted, owning, deciding, awaiting, OpensIn, TestsIn, OpenAt, TokenIn, TokenAt, DecidesIn, WaitsIn, handed_out, token_refusal_of};
+ghost use Rattle.consumer.specs.View.{claim_of};
+ghost use Rattle.consumer.specs.Parts.{testing, permitted, owning, deciding, awaiting, OpensIn, TestsIn, OpenAt, TokenIn, TokenAt, DecidesIn, WaitsIn, handed_out};
 
-use crate::calls::{ClaimAnswer, CommitAnswer, NackAnswer, ProgressAnswer, SettleAnswer};
+use crate::calls::HandOut;
 use crate::rights;
-use crate::rights::{CLAIM, COMMIT, Permission};
+use crate::rights::{CLAIM, COMMIT};
 use cursor::BoundedAck;
-use delivery::Disposition;
 use hours::Hours;
-use lease::in_place::Hold;
-use lease::{Attempts, Claim, ExtendOutcome, NackOutcome};
+use lease::Grant;
 use tables::Place;
 use types::lent::OffsetList;
 use types::limits::{CARRIED, LEASES, MAX, RANGES, WORKERS};
-use types::numbers;
+use types::refusals::Refusal;
 
-// A claim is open, its offset at this place or missing there, or what it is refused with.
-#[derive(Clone, Copy)]
-pub enum ClaimTest {
-    Open(Place),
-    Refused(ClaimAnswer),
-}
-
-// What stands against a claim: the first of 38, 39, 21, 22, 35, 23, 25, 26 and 27 that is met.
+// What stands against a claim: the first of 38, 39, 21, 22, 35, 23, 25, 26 and 27 that is met. An open claim has its offset at this
+// place, or missing there.
 pub fn claim_test<'a, 'b>(
     hours: Hours,
     ceiling: u64,
@@ -57,35 +47,31 @@ pub fn claim_test<'a, 'b>(
     deadlines: &'b [u64; LEASES],
     carried_offsets: &'b [u64; CARRIED],
     carried_counts: &'b [u32; CARRIED],
-) -> ClaimTest
+) -> Result<Place, Refusal>
     requires { cursor.Whole (ack_cursor committed starts.now ends.now runs) × (len ≤ LEASES) × (carried_len ≤ CARRIED) }
     ensures { TestsIn result (permitted rights.now (testing hours ceiling threshold (ack_cursor committed starts.now ends.now runs) len carried_len next_generation redeliveries offsets.now slots.now deadlines.now carried_offsets.now carried_counts.now)) worker offset now × OpenAt offset (take len offsets.now) result }
 {
-    let permission = rights::permission_of(rights, worker, CLAIM);
-    match permission {
-        Permission::UnknownWorker => ClaimTest::Refused(ClaimAnswer::UnknownWorker),
-        Permission::NotPermitted => ClaimTest::Refused(ClaimAnswer::NotPermitted),
-        Permission::Granted => offset_test(
-            hours,
-            ceiling,
-            threshold,
-            committed,
-            runs,
-            len,
-            carried_len,
-            next_generation,
-            redeliveries,
-            offset,
-            now,
-            starts,
-            ends,
-            offsets,
-            slots,
-            deadlines,
-            carried_offsets,
-            carried_counts,
-        ),
-    }
+    rights::permission_of(rights, worker, CLAIM)?;
+    offset_test(
+        hours,
+        ceiling,
+        threshold,
+        committed,
+        runs,
+        len,
+        carried_len,
+        next_generation,
+        redeliveries,
+        offset,
+        now,
+        starts,
+        ends,
+        offsets,
+        slots,
+        deadlines,
+        carried_offsets,
+        carried_counts,
+    )
 }
 
 // What stands against a claim that a worker may make: the first of 21, 22, 35, 23, 25, 26 and 27 that is met.
@@ -108,33 +94,31 @@ fn offset_test<'a, 'b>(
     deadlines: &'b [u64; LEASES],
     carried_offsets: &'b [u64; CARRIED],
     carried_counts: &'b [u32; CARRIED],
-) -> ClaimTest
+) -> Result<Place, Refusal>
     requires { cursor.Whole (ack_cursor committed starts.now ends.now runs) × (len ≤ LEASES) × (carried_len ≤ CARRIED) }
     ensures { OpensIn result (testing hours ceiling threshold (ack_cursor committed starts.now ends.now runs) len carried_len next_generation redeliveries offsets.now slots.now deadlines.now carried_offsets.now carried_counts.now) offset now × OpenAt offset (take len offsets.now) result }
 {
     if offset == MAX {
-        return ClaimTest::Refused(ClaimAnswer::LastOffset);
+        return Err(Refusal::LastOffset);
     }
     if cursor::in_place::is_acked_in_place(committed, starts, ends, runs, offset) {
-        return ClaimTest::Refused(ClaimAnswer::Settled);
+        return Err(Refusal::Settled);
     }
-    if !hours.is_open(now) {
-        return ClaimTest::Refused(ClaimAnswer::Closed {
-            opening: hours.next_opening(now),
-        });
+    if let Some(opening) = hours.at(now) {
+        return Err(Refusal::Closed { opening });
     }
     let place = tables::find(offsets, len, offset);
     if !lease::in_place::is_claimable_at(place, now, slots, deadlines) {
-        return ClaimTest::Refused(ClaimAnswer::InFlight);
+        return Err(Refusal::InFlight);
     }
     if next_generation == MAX {
-        return ClaimTest::Refused(ClaimAnswer::Exhausted);
+        return Err(Refusal::Exhausted);
     }
     if ceiling <= next_generation {
-        return ClaimTest::Refused(ClaimAnswer::CheckpointDue);
+        return Err(Refusal::CheckpointDue);
     }
     if threshold <= redeliveries {
-        return ClaimTest::Refused(ClaimAnswer::CheckpointDue);
+        return Err(Refusal::CheckpointDue);
     }
     if is_full(
         place,
@@ -144,9 +128,9 @@ fn offset_test<'a, 'b>(
         carried_offsets,
         carried_counts,
     ) {
-        return ClaimTest::Refused(ClaimAnswer::Full);
+        return Err(Refusal::Full);
     }
-    ClaimTest::Open(place)
+    Ok(place)
 }
 
 // Whether there is no room for a lease of an offset, which stands at a place or belongs there, or for its count.
@@ -176,54 +160,31 @@ fn is_full<'a>(
         carried_offsets,
         carried_counts,
     );
-    match carried {
-        Attempts::Some(_) => false,
-        Attempts::None => true,
-    }
+    carried.is_none()
 }
 
 // What a claim answers for the table's answer: a count above the limit is for the dead letters.
-pub fn handed_out(max_deliver: u32, outcome: Claim) -> ClaimAnswer
+pub fn handed_out(max_deliver: u32, outcome: Result<Grant, Refusal>) -> Result<HandOut, Refusal>
     ensures { claim_of result ≡ handed_out max_deliver (answers.claim_of outcome) }
 {
-    match outcome {
-        Claim::Granted { token, deliveries } => {
-            let disposition = delivery::disposition_of(max_deliver, deliveries);
-            match disposition {
-                Disposition::Deliver => ClaimAnswer::Deliver { token, deliveries },
-                Disposition::DeadLetter => ClaimAnswer::DeadLetter { token, deliveries },
-            }
-        }
-        Claim::InFlight => ClaimAnswer::InFlight,
-        Claim::Exhausted => ClaimAnswer::Exhausted,
-        Claim::Full => ClaimAnswer::Full,
-    }
-}
-
-// What a call with a token is refused with before its own tests: 38, 39, 24 or 40.
-#[derive(Clone, Copy)]
-pub enum TokenRefusal {
-    UnknownWorker,
-    NotPermitted,
-    Fenced,
-    ForeignToken,
+    let grant = outcome?;
+    let disposition = delivery::disposition_of(max_deliver, grant.deliveries);
+    Ok(HandOut {
+        token: grant.token,
+        deliveries: grant.deliveries,
+        disposition,
+    })
 }
 
 // The lease that a token owns: how often it was handed out, and its place.
-#[derive(Clone, Copy)]
+#[derive(Clone, Copy, Debug, PartialEq, Eq)]
 pub struct HeldAt {
     pub deliveries: u32,
     pub at: usize,
 }
 
-// The lease of a token, or what the call is refused with.
-#[derive(Clone, Copy)]
-pub enum TokenTest {
-    Held(HeldAt),
-    Refused(TokenRefusal),
-}
-
-// What stands in front of a call with a token that needs a bit of the rights: a token works for the worker who claimed its lease.
+// What stands in front of a call with a token that needs a bit of the rights, the first of 38, 39, 24 and 40 that is met: a token
+// works for the worker who claimed its lease.
 pub fn token_test<'a, 'b>(
     len: usize,
     worker: u64,
@@ -236,140 +197,58 @@ pub fn token_test<'a, 'b>(
     generations: &'b [u64; LEASES],
     deliveries: &'b [u32; LEASES],
     workers: &'b [u32; LEASES],
-) -> TokenTest
+) -> Result<HeldAt, Refusal>
     requires { len ≤ LEASES }
     ensures { TokenIn result (owning rights.now len offsets.now slots.now generations.now deliveries.now workers.now) worker bit offset generation × TokenAt offset generation (take len offsets.now) slots.now generations.now result }
 {
-    let permission = rights::permission_of(rights, worker, bit);
-    match permission {
-        Permission::UnknownWorker => TokenTest::Refused(TokenRefusal::UnknownWorker),
-        Permission::NotPermitted => TokenTest::Refused(TokenRefusal::NotPermitted),
-        Permission::Granted => {
-            let hold = lease::in_place::hold_in_place(
-                len,
-                offset,
-                generation,
-                offsets,
-                slots,
-                generations,
-                deliveries,
-                workers,
-            );
-            let Hold::Held {
-                deliveries: count,
-                worker: holder,
-                at,
-            } = hold
-            else {
-                return TokenTest::Refused(TokenRefusal::Fenced);
-            };
-            if holder as u64 != worker {
-                return TokenTest::Refused(TokenRefusal::ForeignToken);
-            }
-            TokenTest::Held(HeldAt {
-                deliveries: count,
-                at,
-            })
-        }
+    rights::permission_of(rights, worker, bit)?;
+    let hold = lease::in_place::hold_in_place(
+        len,
+        offset,
+        generation,
+        offsets,
+        slots,
+        generations,
+        deliveries,
+        workers,
+    );
+    let Some(held) = hold else {
+        return Err(Refusal::Fenced);
+    };
+    if held.worker as u64 != worker {
+        return Err(Refusal::ForeignToken);
     }
-}
-
-// What each call with a token answers for such a refusal.
-pub fn not_settled(refusal: TokenRefusal) -> SettleAnswer
-    ensures { settle_of result ≡ refused (token_refusal_of refusal) }
-{
-    match refusal {
-        TokenRefusal::UnknownWorker => SettleAnswer::UnknownWorker,
-        TokenRefusal::NotPermitted => SettleAnswer::NotPermitted,
-        TokenRefusal::Fenced => SettleAnswer::Fenced,
-        TokenRefusal::ForeignToken => SettleAnswer::ForeignToken,
-    }
-}
-
-pub fn not_nacked(refusal: TokenRefusal) -> NackAnswer
-    ensures { nack_of result ≡ refused (token_refusal_of refusal) }
-{
-    match refusal {
-        TokenRefusal::UnknownWorker => NackAnswer::UnknownWorker,
-        TokenRefusal::NotPermitted => NackAnswer::NotPermitted,
-        TokenRefusal::Fenced => NackAnswer::Fenced,
-        TokenRefusal::ForeignToken => NackAnswer::ForeignToken,
-    }
-}
-
-pub fn not_extended(refusal: TokenRefusal) -> ProgressAnswer
-    ensures { progress_of result ≡ refused (token_refusal_of refusal) }
-{
-    match refusal {
-        TokenRefusal::UnknownWorker => ProgressAnswer::UnknownWorker,
-        TokenRefusal::NotPermitted => ProgressAnswer::NotPermitted,
-        TokenRefusal::Fenced => ProgressAnswer::Fenced,
-        TokenRefusal::ForeignToken => ProgressAnswer::ForeignToken,
-    }
+    Ok(HeldAt {
+        deliveries: held.deliveries,
+        at: held.at,
+    })
 }
 
 // Whether the cursor had no room for an ack.
 pub fn is_shed(outcome: BoundedAck) -> bool
     ensures { result ≡ is_shed (ack_of outcome) }
 {
-    match outcome {
-        BoundedAck::Recorded => false,
-        BoundedAck::Duplicate => false,
-        BoundedAck::Shed => true,
-    }
+    matches!(outcome, BoundedAck::Shed)
 }
 
 // The delay of a nack at a clock, which has been capped, with its end moved to the next opening if that falls outside the hours.
 pub fn delay_in_hours(hours: Hours, now: u64, delay_nanos: u64) -> u64
     ensures { sat64 now result ≡ next_opening (opening.view hours) (sat64 now delay_nanos) }
 {
-    hours.next_opening(numbers::saturating_add(now, delay_nanos)) - now
+    hours.next_opening(now.saturating_add(delay_nanos)) - now
 }
 
-// What Nack answers for the table's answer.
-pub fn requeued(outcome: NackOutcome) -> NackAnswer
-    ensures { nack_of result ≡ answers.nack_of outcome }
-{
-    match outcome {
-        NackOutcome::Requeued { deadline } => NackAnswer::Requeued { deadline },
-        NackOutcome::Fenced => NackAnswer::Fenced,
-        NackOutcome::Exhausted => NackAnswer::Exhausted,
-    }
-}
-
-// What Progress answers for the table's answer.
-pub fn extended(outcome: ExtendOutcome) -> ProgressAnswer
-    ensures { progress_of result ≡ answers.extend_of outcome }
-{
-    match outcome {
-        ExtendOutcome::Extended(deadline) => ProgressAnswer::Extended { deadline },
-        ExtendOutcome::CapReached => ProgressAnswer::CapReached,
-        ExtendOutcome::Fenced => ProgressAnswer::Fenced,
-    }
-}
-
-// Whether a commit goes on, or what it answers at once.
-#[derive(Clone, Copy)]
-pub enum CommitTest {
-    Open,
-    Answered(CommitAnswer),
-}
-
-// What a commit answers before it takes effect: 38, 39, Unchanged where the bound is not above committed.
-pub fn commit_test(committed: u64, worker: u64, bound: u64, rights: &[u8; WORKERS]) -> CommitTest
+// Whether a commit takes effect: 38, 39, and not where the bound is not above committed.
+pub fn commit_test(
+    committed: u64,
+    worker: u64,
+    bound: u64,
+    rights: &[u8; WORKERS],
+) -> Result<bool, Refusal>
     ensures { DecidesIn result (deciding rights.now committed) worker bound }
 {
-    let permission = rights::permission_of(rights, worker, COMMIT);
-    match permission {
-        Permission::UnknownWorker => CommitTest::Answered(CommitAnswer::UnknownWorker),
-        Permission::NotPermitted => CommitTest::Answered(CommitAnswer::NotPermitted),
-        Permission::Granted => {
-            if bound <= committed {
-                return CommitTest::Answered(CommitAnswer::Unchanged);
-            }
-            CommitTest::Open
-        }
-    }
+    rights::permission_of(rights, worker, COMMIT)?;
+    Ok(committed < bound)
 }
 
 // The waiting list in an array: the carried offsets, then those of expired leases, the longest waiting first. Each lease, from the first
@@ -390,30 +269,18 @@ pub fn waiting_list<'a>(
     let mut listed = *carried_offsets;
     let mut by_deadline = [0u64; LEASES];
     let mut n: usize = 0;
-    let mut i: usize = 0;
-    while i < len {
+    for i in 0..len {
         let slot = lease::in_place::slot_at(slots, i);
         let deadline = deadlines[slot];
         if deadline <= now {
             let at = tables::position_after(&by_deadline, n, deadline);
-            tables::insert_64(&mut by_deadline, n, at, deadline);
-            tables::insert_128(&mut listed, carried_len + n, carried_len + at, offsets[i]);
+            tables::insert(&mut by_deadline, n, at, deadline);
+            tables::insert(&mut listed, carried_len + n, carried_len + at, offsets[i]);
             n += 1;
         }
-        i += 1;
     }
     OffsetList {
         offsets: listed,
         len: carried_len + n,
-    }
-}
-
-// An empty list in an array.
-pub fn no_offsets() -> OffsetList
-    ensures { offsets_in result ≡ [] }
-{
-    OffsetList {
-        offsets: [0; CARRIED],
-        len: 0,
     }
 }

@@ -11,13 +11,12 @@ ghost use Rattle.consumer.specs.View.{standing_in, view_in};
 ghost use Rattle.consumer.specs.Parts.{showing, ShowsIn};
 
 use crate::rights;
-use lease::Attempts;
-use lease::lookup::LeaseAt;
+use lease::Lease;
 use types::Generation;
 use types::limits::{CARRIED, LEASES, RANGES, WORKERS};
 
 // How an offset stands at a clock: settled, held by a lease whose deadline hasn't come, or all else.
-#[derive(Clone, Copy)]
+#[derive(Clone, Copy, Debug, PartialEq, Eq)]
 pub enum Standing {
     Settled,
     Held,
@@ -25,7 +24,7 @@ pub enum Standing {
 }
 
 // What a supervisor sees of a lease: how often its offset was handed out, and who claimed it under which generation until when.
-#[derive(Clone, Copy)]
+#[derive(Clone, Copy, Debug, PartialEq, Eq)]
 pub struct Holding {
     pub attempts: u32,
     pub generation: Generation,
@@ -34,7 +33,7 @@ pub struct Holding {
 }
 
 // What is shown of an offset; what a reader isn't shown, or what isn't there, is absent.
-#[derive(Clone, Copy)]
+#[derive(Clone, Copy, Debug, PartialEq, Eq)]
 pub enum View {
     // To a worker, and to a supervisor where the offset is settled.
     Plain(Standing),
@@ -45,10 +44,10 @@ pub enum View {
 }
 
 // How an unsettled offset stands, by its lease.
-pub fn standing_of(lease: LeaseAt, now: u64) -> Standing
+pub fn standing_of(lease: Option<Lease>, now: u64) -> Standing
     ensures { standing_in result ≡ unsettled_as (lease_in lease) now }
 {
-    let LeaseAt::Some(lease) = lease else {
+    let Some(lease) = lease else {
         return Standing::Waiting;
     };
     if now < lease.deadline {
@@ -114,7 +113,7 @@ fn in_full<'a>(
     carried_len: usize,
     offset: u64,
     now: u64,
-    lease: LeaseAt,
+    lease: Option<Lease>,
     carried_offsets: &'a [u64; CARRIED],
     carried_counts: &'a [u32; CARRIED],
 ) -> View
@@ -122,7 +121,7 @@ fn in_full<'a>(
     ensures { HoldsIn (carrying carried_len carried_offsets.now carried_counts.now) (λ t. view_in result ≡ in_full (lease_in lease) (lookup offset t.carried) now) }
 {
     let standing = standing_of(lease, now);
-    if let LeaseAt::Some(lease) = lease {
+    if let Some(lease) = lease {
         let generation = lease.generation;
         return View::Leased {
             standing,
@@ -140,8 +139,7 @@ fn in_full<'a>(
         carried_offsets,
         carried_counts,
     );
-    match carried {
-        Attempts::Some(attempts) => View::Unleased { attempts },
-        Attempts::None => View::Unleased { attempts: 0 },
+    View::Unleased {
+        attempts: carried.unwrap_or(0),
     }
 }

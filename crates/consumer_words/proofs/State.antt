@@ -4,19 +4,18 @@ use Prim.Native.Nat.{ℕ, ◌+◌, ◌≤◌, ◌<◌}
 use native.Mathlib.Omega.{arith}
 use mathlib.Core.Path.{◌≡◌, refl, sym, ap, subst, ◌∙◌}
 use mathlib.Core.Bool.{Bool, true, false, cond, ◌&&◌, true≢false}
-use mathlib.Core.List.{List, [], ◌∷◌}
+use mathlib.Core.List.{List}
 use mathlib.Core.Option.{Option, none, some}
 use lib.Dec.{leb}
-use lib.ListN.{length, take, drop, get_or}
-use lib.Seq.{drop-cons}
+use lib.ListN.{length, take, drop}
 use borrow.Author.Tests.{leb-true, leb-false}
 use borrow.Rule.Slice.PartMut.{put_mid, same_len_mid, put_same}
+use Rattle.std.specs.Prelude.{Some}
 use Rattle.types.specs.Limits.{MAX, LEASES, RANGES, WORKERS, sat64}
 use Rattle.types.specs.Refusal.{Refusal, Result, refused, done, Exhausted, CheckpointDue, Shed}
 use Rattle.types.specs.Table.{Answer, answer, Kept, Passed, first}
 use Rattle.types.proofs.Cases.{split}
-use Rattle.tables.specs.declared.Place.TheVariants.{Found}
-use Rattle.words.specs.Columns.{word, column, spliced}
+use Rattle.words.specs.Columns.{word, spliced}
 use Rattle.words.proofs.Columns.{column-is, spliced-is, column-length, column-spliced, column-beside, word-beside, spliced-length}
 use Rattle.cursor.specs.Cursor.{Cursor, ackBounded, commit_up_to}
 use Rattle.cursor.specs.Answers as cursor
@@ -36,15 +35,14 @@ use Rattle.lease.specs.declared.Lease.{Lease}
 use Rattle.consumer.specs.Rights.{settling, nacking, extending, committing}
 use Rattle.consumer.specs.Calls.{HandOut, call_rows, claim_table, claim, token_rows, is_shed, ack, attempt_of, nack_delay, nack_deadline, nack, progress, commit}
 use Rattle.consumer.specs.Parts.{handed_out}
-use Rattle.consumer.specs.View.{holding, holding_both, claim_of, as_result}
+use Rattle.consumer.specs.View.{holding, holding_both}
 use Rattle.consumer.specs.View as consumer
 use Rattle.consumer.specs.State.{State}
 use Rattle.consumer.specs.declared.Consumer.{Consumer}
-use Rattle.consumer.specs.declared.calls.ClaimAnswer.{ClaimAnswer}
 use Rattle.consumer.proofs.CallsClaim.{claim-refused, claim-granted, table-passed}
 use Rattle.consumer.proofs.CallsToken.{ack-refused, ack-shed, ack-settled, nack-refused, nack_exhausted, nack-due, nack-passed, nack_requeued, progress-refused, progress-is}
 use Rattle.consumer.proofs.CallsCommit.{is_unpermitted, is_unchanged, is_open, commit-done}
-use Rattle.consumer_words.specs.Layout.{CURSOR, TABLE, MAX-DELIVER, DAYS, WORDS, settled_in, leases_in, consumer_in, view, Sound}
+use Rattle.consumer_words.specs.Layout.{CURSOR, TABLE, MAX-DELIVER, WORDS, settled_in, leases_in, consumer_in, view, Sound}
 use Rattle.consumer_words.specs.InWords.{Answers, Commits}
 
 -- ## the parts
@@ -72,20 +70,6 @@ leases-sound {w} ok = let l = ok.long in record { long = column-length TABLE lea
 
 pub lent-table : {w : List ℕ} → Sound w → leases.Sound (table_part w)
 lent-table {w} ok = subst leases.Sound (sym (table-part w)) (leases-sound ok)
-
--- the days of the hours
-pub days_are : (w : List ℕ) → length w ≡ WORDS
-    → get_or w DAYS 0 ∷ get_or w (DAYS + 1) 0 ∷ get_or w (DAYS + 2) 0 ∷ get_or w (DAYS + 3) 0 ∷ get_or w (DAYS + 4) 0 ∷ get_or w (DAYS + 5) 0 ∷ get_or w (DAYS + 6) 0 ∷ [] ≡ column DAYS 7 w
-days_are w l =
-    sym (sym (column-is DAYS 7 w)
-    ∙ ap (take 7)
-    (drop-cons w DAYS 0 (omega arith)
-    ∙ ap (λ (r : List ℕ). get_or w DAYS 0 ∷ r) (drop-cons w (DAYS + 1) 0 (omega arith)
-    ∙ ap (λ (r : List ℕ). get_or w (DAYS + 1) 0 ∷ r) (drop-cons w (DAYS + 2) 0 (omega arith)
-    ∙ ap (λ (r : List ℕ). get_or w (DAYS + 2) 0 ∷ r) (drop-cons w (DAYS + 3) 0 (omega arith)
-    ∙ ap (λ (r : List ℕ). get_or w (DAYS + 3) 0 ∷ r) (drop-cons w (DAYS + 4) 0 (omega arith)
-    ∙ ap (λ (r : List ℕ). get_or w (DAYS + 4) 0 ∷ r) (drop-cons w (DAYS + 5) 0 (omega arith)
-    ∙ ap (λ (r : List ℕ). get_or w (DAYS + 5) 0 ∷ r) (drop-cons w (DAYS + 6) 0 (omega arith)))))))))
 
 -- ## what is lent comes back
 -- another table among the words is another table of the consumer, and another cursor another cursor
@@ -141,12 +125,8 @@ pub known-worker : (s : State) (wk o now : ℕ) → Passed (claim_table s wk o n
 known-worker s wk o now p = leb-false WORKERS wk p.0
 
 module _ {w : List ℕ} (ok : Sound w) (wk o now : ℕ) where
-  kept_same : (outcome : Result HandOut) → Kept outcome w w
-  kept_same (refused r) = refl
-  kept_same (done a) = tt
-
-  pub refused_so : (a : ClaimAnswer) → some (claim_of a) ≡ as_result (first (claim_table (view w) wk o now)) → Answers (claim_of a) w w (claim (view w) wk o now)
-  refused_so a e = record { is = (claim-refused (consumer_in w) ok.state wk o now a e).is; sound = ok; kept = kept_same (claim_of a) }
+  pub refused_so : (r : Refusal) → some r ≡ first (claim_table (view w) wk o now) → Answers (refused r) w w (claim (view w) wk o now)
+  refused_so r e = record { is = (claim-refused (consumer_in w) ok.state wk o now r e).is; sound = ok; kept = refl }
 
   module _ (fits : o ≤ MAX) (p : Passed (claim_table (view w) wk o now)) where
     -- the table's own tests failed too
@@ -155,10 +135,10 @@ module _ {w : List ℕ} (ok : Sound w) (wk o now : ℕ) where
         subst (λ (x : List ℕ). Passed (operations.claim_rows (leases.view x) o now)) (sym (table-part w)) (table-passed (consumer_in w) ok.state wk o now fits p)
 
     pub granted_so : (g : Grant) (t : List ℕ) → length t ≡ length (table_part w) → lent.Answers (done g) (table_part w) t (operations.claim (leases.view (table_part w)) wk o now)
-        → (a : ClaimAnswer) → claim_of a ≡ handed_out (word MAX-DELIVER w) (done g) → Answers (claim_of a) w (put_mid TABLE leases.WORDS w t) (claim (view w) wk o now)
+        → (a : Result HandOut) → a ≡ handed_out (word MAX-DELIVER w) (done g) → Answers a w (put_mid TABLE leases.WORDS w t) (claim (view w) wk o now)
     granted_so g t l e a f =
         let granted = subst (λ (x : List ℕ). lent.Answers (done g) x t (operations.claim (leases.view x) wk o now)) (table-part w) e in
-        table-came-back ok t l (claim_of a) granted.sound (rw f tt)
+        table-came-back ok t l a granted.sound (rw f tt)
         (claim-granted (consumer_in w) ok.state wk o now fits p (done g) (table_in t) (on-table (done g) granted) a f)
 
 -- 27: the offset has no lease, so that there is no room where there are 64
@@ -178,7 +158,7 @@ module _ {w : List ℕ} (ok : Sound w) (wk o g now : ℕ) (explicit : Option ℕ
       pub due_so : (view w).ceiling ≤ (view w).table.next_generation → Answers (refused CheckpointDue) w w (nack (view w) wk o g now explicit)
       due_so h = record { is = (nack-due (consumer_in w) ok.state wk o g now explicit owned left h).is; sound = ok; kept = refl }
 
-      pub requeued_so : (view w).table.next_generation < (view w).ceiling → {at : ℕ} → OwnedIn o g (leases_in w) (Found at)
+      pub requeued_so : (view w).table.next_generation < (view w).ceiling → {at : ℕ} → OwnedIn o g (leases_in w) (Some at)
           → (delay : ℕ) → sat64 now delay ≡ nack_deadline (view w) o now explicit
           → (deadline : ℕ) (t : List ℕ) → length t ≡ length (table_part w) → AnswersOwned at (done deadline) (table_part w) t (λ t o g. operations.nack t o g now delay)
           → Answers (done deadline) w (put_mid TABLE leases.WORDS w t) (nack (view w) wk o g now explicit)
@@ -187,19 +167,19 @@ module _ {w : List ℕ} (ok : Sound w) (wk o g now : ℕ) (explicit : Option ℕ
           let e = subst (λ (x : List ℕ). AnswersOwned at (done deadline) x t (λ t o g. operations.nack t o g now delay)) (table-part w) requeues o g p in
           table-came-back ok t l (done deadline) e.sound tt
           (nack_requeued c ok.state wk o g now (attempt_of (view w) o) explicit (nack-passed c ok.state wk o g now explicit owned left below) refl (nack_delay (view w) o explicit) refl delay waits
-          (done deadline) (table_in t) (on-table (done deadline) e) (done deadline) refl)
+          (done deadline) (table_in t) (on-table (done deadline) e))
 
 -- ## Progress
 module _ {w : List ℕ} (ok : Sound w) (wk o g now : ℕ) where
   pub progress-refused_so : (r : Refusal) → first (token_rows (view w) wk extending o g) ≡ some r → Answers (refused r) w w (progress (view w) wk o g now)
   progress-refused_so r e = record { is = (progress-refused (consumer_in w) ok.state wk o g now r e).is; sound = ok; kept = refl }
 
-  pub progress_so : Passed (token_rows (view w) wk extending o g) → {at : ℕ} → OwnedIn o g (leases_in w) (Found at) → (outcome : Result ℕ) (t : List ℕ) → length t ≡ length (table_part w)
-      → AnswersOwned at outcome (table_part w) t (λ t o g. operations.extend t o g now) → (a : Result ℕ) → a ≡ outcome → Answers a w (put_mid TABLE leases.WORDS w t) (progress (view w) wk o g now)
-  progress_so owned {at} p outcome t l extends a q =
+  pub progress_so : Passed (token_rows (view w) wk extending o g) → {at : ℕ} → OwnedIn o g (leases_in w) (Some at) → (outcome : Result ℕ) (t : List ℕ) → length t ≡ length (table_part w)
+      → AnswersOwned at outcome (table_part w) t (λ t o g. operations.extend t o g now) → Answers outcome w (put_mid TABLE leases.WORDS w t) (progress (view w) wk o g now)
+  progress_so owned {at} p outcome t l extends =
       let e = subst (λ (x : List ℕ). AnswersOwned at outcome x t (λ t o g. operations.extend t o g now)) (table-part w) extends o g p in
-      table-came-back ok t l a e.sound (subst (λ (y : Result ℕ). Kept y (leases_in w) t) (sym q) e.kept)
-      (progress-is (consumer_in w) ok.state wk o g now owned outcome (table_in t) (on-table outcome e) a q)
+      table-came-back ok t l outcome e.sound e.kept
+      (progress-is (consumer_in w) ok.state wk o g now owned outcome (table_in t) (on-table outcome e))
 
 -- ## a cursor that came back, and then a table
 module _ {w : List ℕ} (ok : Sound w) (k : List ℕ) (l : length k ≡ length (cursor_part w)) where
@@ -275,7 +255,7 @@ module _ {w : List ℕ} (ok : Sound w) (wk o g : ℕ) where
         let law = ack-shed (consumer_in w) ok.state wk o g owned noted (cursor_in (settled_in w)) (on-cursor noted (settled_in w) (settled_in w) v) s in
         subst (λ (x : List ℕ). Answers (refused Shed) w x (ack (view w) wk o g)) (sym (cursor-same ok k l same)) (record { is = law.is; sound = ok; kept = refl })
 
-    pub settled_so : is_shed noted ≡ false → {at : ℕ} → OwnedIn o g (leases_in w) (Found at)
+    pub settled_so : is_shed noted ≡ false → {at : ℕ} → OwnedIn o g (leases_in w) (Some at)
         → (t : List ℕ) → length t ≡ length (table_part (put_mid CURSOR cursors.WORDS w k)) → AnswersOwned at (done tt) (table_part (put_mid CURSOR cursors.WORDS w k)) t operations.ack
         → Answers (done tt) w (put_mid TABLE leases.WORDS (put_mid CURSOR cursors.WORDS w k) t) (ack (view w) wk o g)
     settled_so s {at} p t m acks =

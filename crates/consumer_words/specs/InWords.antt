@@ -1,22 +1,21 @@
 -- What the functions on a consumer's words promise: the records of consumer/specs/View.antt, of words, and what the tests of a claim and
 -- of a token say.
 -- SPEC.md, "Calls".
-use Rattle.std.specs.Prelude.{ℕ, ◌≡◌, Bool, List}
+use Rattle.std.specs.Prelude.{ℕ, ◌≡◌, Bool, List, Some, Ok, Err}
+use Rattle.std.specs.Prelude as std
 use Rattle.std.proofs.Math.Option.{Option, none}
 use Rattle.types.specs.Limits.{sat64}
 use Rattle.types.specs.Refusal.{Result, done}
 use Rattle.types.specs.Table.{Row, first, checked, Answer, answer, Kept}
-use Rattle.tables.specs.declared.Place.TheVariants.{Found}
+use Rattle.types.specs.declared.refusals.Refusal.{Refusal}
+use Rattle.tables.specs.declared.Place.{Place}
 use Rattle.lease.specs.InWords.{PlacedIn, OwnedIn}
 use Rattle.consumer.specs.State.{State}
 use Rattle.consumer.specs.Rights.{Operation, committing, bit_of}
 use Rattle.consumer.specs.Calls.{call_rows, token_rows, attempt_of, nack_deadline, commit}
 use Rattle.consumer.specs.Parts.{token_of}
-use Rattle.consumer.specs.View.{test_of, as_result, Unmoved}
-use Rattle.consumer.specs.declared.steps.ClaimTest.{ClaimTest}
-use Rattle.consumer.specs.declared.steps.ClaimTest.TheVariants as claims
-use Rattle.consumer.specs.declared.steps.TokenTest.{TokenTest}
-use Rattle.consumer.specs.declared.steps.TokenTest.TheVariants as token
+use Rattle.consumer.specs.View.{test_of, Unmoved}
+use Rattle.consumer.specs.declared.steps.HeldAt.{HeldAt}
 use Rattle.consumer_words.specs.Layout.{leases_in, view, Sound}
 
 -- ## calls
@@ -39,23 +38,23 @@ CommitsFor outcome before after bound =
 
 -- ## the test of a claim
 -- where the offset of an open claim stands, or belongs
-abbrev pub OpenAt : ℕ → List ℕ → ClaimTest → Type 0
-OpenAt o w (claims.Open place) = PlacedIn o (leases_in w) place
-OpenAt o w (claims.Refused a) = Unit {0}
+abbrev pub OpenAt : ℕ → List ℕ → std.Result Place Refusal → Type 0
+OpenAt o w (Ok place) = PlacedIn o (leases_in w) place
+OpenAt o w (Err r) = Unit {0}
 
 -- the first of some rows that is met
-pub record Tests (rows : List Row) (o : ℕ) (w : List ℕ) (r : ClaimTest) : Type 0 where
-  pub is : test_of r ≡ as_result (first rows)
+pub record Tests (rows : List Row) (o : ℕ) (w : List ℕ) (r : std.Result Place Refusal) : Type 0 where
+  pub is : test_of r ≡ first rows
   pub place : OpenAt o w r
 
 -- ## the test of a token of offset o and generation g
 -- where the lease that it owns stands
-abbrev pub TokenAt : ℕ → ℕ → List ℕ → TokenTest → Type 0
-TokenAt o g w (token.Held h) = OwnedIn o g (leases_in w) (Found h.at)
-TokenAt o g w (token.Refused r) = Unit {0}
+abbrev pub TokenAt : ℕ → ℕ → List ℕ → std.Result HeldAt Refusal → Type 0
+TokenAt o g w (Ok h) = OwnedIn o g (leases_in w) (Some h.at)
+TokenAt o g w (Err r) = Unit {0}
 
 -- what stands in front of a call of an operation that needs this bit
-pub record Allows (w : List ℕ) (worker bit o g : ℕ) (r : TokenTest) : Type 0 where
+pub record Allows (w : List ℕ) (worker bit o g : ℕ) (r : std.Result HeldAt Refusal) : Type 0 where
   pub is : (op : Operation) → bit_of op ≡ bit → token_of r ≡ checked (token_rows (view w) worker op o g) (done (attempt_of (view w) o))
   pub at : TokenAt o g w r
 

@@ -8,7 +8,7 @@ ghost use Rattle.cursor.specs.Cursor.{settled};
 ghost use Rattle.lease.specs.Operations.{lease_of};
 ghost use Rattle.lease.specs.Rest.{in_flight};
 ghost use Rattle.lease.specs.Lookup.{lease_in};
-ghost use Rattle.consumer.specs.State.{half_end};
+ghost use Rattle.consumer.specs.State.{half_end, count_or0};
 ghost use Rattle.consumer.specs.Calls.{at_ceiling, at_threshold};
 ghost use Rattle.consumer.specs.Questions.{count_of};
 ghost use Rattle.consumer.specs.Standing.{supervises, in_full, view_of};
@@ -17,13 +17,12 @@ ghost use Rattle.consumer_words.specs.Layout.{WORDS, RIGHTS, view, Sound};
 
 use crate::layout::{AREA_LEN, CEILING, CURSOR, NEXT_BLOCK, TABLE, THRESHOLD};
 use crate::steps;
-use consumer::rights::{Permission, SUPERVISOR};
+use consumer::rights::SUPERVISOR;
 use consumer::views;
 use consumer::views::{Holding, Standing, View};
 use cursor::layout::COMMITTED;
-use lease::Attempts;
-use lease::lookup::LeaseAt;
-use types::{Offset, numbers};
+use lease::Lease;
+use types::Offset;
 
 // The offset below which all are settled.
 pub fn committed(words: &[u64]) -> Offset
@@ -42,7 +41,7 @@ pub fn is_settled(words: &[u64], offset: Offset) -> bool
 }
 
 // The lease of an offset, run out or not.
-pub fn lease_of(words: &[u64], offset: Offset) -> LeaseAt
+pub fn lease_of(words: &[u64], offset: Offset) -> Option<Lease>
     requires { Sound words.now }
     ensures { lease_in result ≡ lease_of (view words.now).table offset.0 }
 {
@@ -54,15 +53,18 @@ pub fn count_of(words: &[u64], offset: Offset) -> u32
     requires { Sound words.now }
     ensures { result ≡ count_of (view words.now) offset.0 }
 {
-    let found = lease_of(words, offset);
-    if let LeaseAt::Some(lease) = found {
+    if let Some(lease) = lease_of(words, offset) {
         return lease.deliveries;
     }
-    let carried = lease::reads::carried_count(&words[TABLE..CEILING], offset);
-    let Attempts::Some(count) = carried else {
-        return 0;
-    };
-    count
+    carried_count(words, offset)
+}
+
+// The carried count of an offset, 0 where there is none.
+fn carried_count(words: &[u64], offset: Offset) -> u32
+    requires { Sound words.now }
+    ensures { result ≡ count_or0 (lookup offset.0 (view words.now).table.carried) }
+{
+    lease::reads::carried_count(&words[TABLE..CEILING], offset).unwrap_or(0)
 }
 
 // How many messages are in flight, their leases run out or not.
@@ -96,7 +98,7 @@ pub fn is_at_threshold(words: &[u64]) -> bool
     ensures { result ≡ at_threshold (view words.now) }
 {
     let count = lease::reads::redeliveries_since_flush(&words[TABLE..CEILING]);
-    words[THRESHOLD] <= numbers::wide(count)
+    words[THRESHOLD] <= u64::from(count)
 }
 
 // The blocks that are left in the half in use.
@@ -112,12 +114,7 @@ fn is_supervisor(words: &[u64], worker: u64) -> bool
     requires { length words.now ≡ WORDS }
     ensures { result ≡ supervises (column RIGHTS WORKERS words.now) worker }
 {
-    let permission = steps::permission_of(words, worker, SUPERVISOR);
-    match permission {
-        Permission::Granted => true,
-        Permission::UnknownWorker => false,
-        Permission::NotPermitted => false,
-    }
+    steps::permission_of(words, worker, SUPERVISOR).is_ok()
 }
 
 // What a worker is shown of an offset at a clock.
@@ -136,12 +133,12 @@ pub fn view_of(words: &[u64], worker: u64, offset: Offset, now: u64) -> View
 }
 
 // What a supervisor is shown of an unsettled offset with this lease.
-fn in_full(words: &[u64], offset: Offset, now: u64, found: LeaseAt) -> View
+fn in_full(words: &[u64], offset: Offset, now: u64, found: Option<Lease>) -> View
     requires { Sound words.now }
     ensures { view_in result ≡ in_full (lease_in found) (lookup offset.0 (view words.now).table.carried) now }
 {
     let standing = views::standing_of(found, now);
-    if let LeaseAt::Some(lease) = found {
+    if let Some(lease) = found {
         let generation = lease.generation;
         return View::Leased {
             standing,
@@ -153,9 +150,7 @@ fn in_full(words: &[u64], offset: Offset, now: u64, found: LeaseAt) -> View
             },
         };
     }
-    let carried = lease::reads::carried_count(&words[TABLE..CEILING], offset);
-    match carried {
-        Attempts::Some(attempts) => View::Unleased { attempts },
-        Attempts::None => View::Unleased { attempts: 0 },
+    View::Unleased {
+        attempts: carried_count(words, offset),
     }
 }

@@ -3,10 +3,15 @@
 use Prim.Native.Nat.{ℕ, zero, suc}
 use native.Mathlib.Omega.{arith}
 use mathlib.Core.Path.{◌≡◌, refl, sym, ap, ◌∙◌}
+use mathlib.Core.Bool.{Bool}
 use mathlib.Core.List.{List, ◌∷◌}
-use mathlib.Core.Option.{Option, none, some}
+use mathlib.Core.Option.{Option, none, some, none-ne-some}
 use lib.ListN.{length}
+use Rattle.std.specs.Prelude as std
+use Rattle.std.specs.Prelude.{Some, None, Ok, Err}
 use Rattle.types.specs.Refusal.{Refusal, Result, refused, done}
+use Rattle.types.specs.declared.refusals.Refusal as code
+use Rattle.types.specs.Refused.{refusal_of}
 use Rattle.types.proofs.Checked.{refused_not_done}
 use Rattle.types.proofs.Table.{checked-done}
 use Rattle.consumer.specs.State.{State}
@@ -14,13 +19,12 @@ use Rattle.consumer.specs.State as state
 use Rattle.consumer.specs.Export.{Snapshots}
 use Rattle.consumer.specs.View.{view}
 use Rattle.consumer.specs.declared.Configuration.{Configuration}
+use Rattle.consumer.specs.declared.snapshots.Lengths.{Lengths}
 use Rattle.consumer.specs.Valid.{Fits}
 use Rattle.checkpoint.specs.declared.Writing.{Writing}
 use Rattle.starts.specs.Starting.{configuration_of, start_fault}
 use Rattle.starts.specs.Restart as restarts
 use Rattle.starts.specs.Restart.{start_table, fresh, start}
-use Rattle.starts.specs.declared.StartAnswer.{StartAnswer}
-use Rattle.starts.specs.declared.StartAnswer.TheVariants as answers
 use Rattle.machine.specs.Answers.{call_of}
 use Rattle.machine.specs.Calls.{Call, step, restart, Event, restarted}
 use Rattle.machine.specs.Transitions.{Phase, idle, After, gives, restarted_as, transition}
@@ -29,16 +33,10 @@ use Rattle.machine.specs.declared.calls.CallAnswer.{CallAnswer}
 use Rattle.machine.specs.declared.calls.CallAnswer.TheVariants as answer
 use Rattle.machine.specs.declared.Machine.{Machine}
 use Rattle.machine.specs.declared.Started.{Started}
-use Rattle.machine.specs.declared.plans.PlanCall.{PlanCall}
-use Rattle.machine.specs.declared.plans.PlanCall.TheVariants as plan
-use Rattle.machine.specs.declared.snapshots.ExportCall.{ExportCall}
-use Rattle.machine.specs.declared.snapshots.ExportCall.TheVariants as export
 use Rattle.machine.proofs.Planned.{plan-is-call}
 use Rattle.machine.proofs.Exported.{export-is-call}
 use Rattle.power_cut.specs.View as power
 use Rattle.power_cut.specs.View.{CutKept}
-use Rattle.power_cut.specs.declared.CutAnswer.{CutAnswer}
-use Rattle.power_cut.specs.declared.CutAnswer.TheVariants as failure
 use Rattle.crash_safety.specs.Runs.{Item, call, step_on, World, world, keeps_journal, next, after, run, ends, fresh_world}
 use Rattle.crash_safety.specs.Demand3.{Demand3}
 use Rattle.crash_safety.specs.Batch.{BatchBound}
@@ -78,10 +76,10 @@ module _ (m m' : Machine) (a : List ℕ) where
   called-leaves q a' out (answer.Restarted x) k = refl
   called-leaves q a' out answer.NotNow k = ap world_of k
 
-  cut-leaves : (a' : List ℕ) (x : CutAnswer) → CutKept x (held m a) (held m' a')
+  cut-leaves : (a' : List ℕ) (x : std.Option Bool) → CutKept x (held m a) (held m' a')
       → Leaves (world (phase_of m) a) (power.after_of x m' a') (world (phase_of m') a')
-  cut-leaves a' (failure.Failed header) k = refl
-  cut-leaves a' failure.NotNow k = ap world_of k
+  cut-leaves a' (Some header) k = refl
+  cut-leaves a' None k = ap world_of k
 
   -- other memory is lent, and the journal stays
   stray_leaves : (q : Call) (b b' out : List ℕ) (x : CallAnswer) → CallKept x (held m b) (held m' b')
@@ -93,14 +91,14 @@ module _ (m m' : Machine) (a : List ℕ) where
   stray_leaves q b b' out answer.NotNow k = ap (λ (h : Held). world (phase_of h.machine) a) k
 
 -- a plan leaves all as it is, and so does an export
-plan-leaves : (m : Machine) (a os : List ℕ) (room : ℕ) (out : List ℕ) (x : PlanCall)
+plan-leaves : (m : Machine) (a os : List ℕ) (room : ℕ) (out : List ℕ) (x : std.Option (std.Result ℕ code.Refusal))
     → Leaves (world (phase_of m) a) (planned_of x m os room out a) (world (phase_of m) a)
-plan-leaves m a os room out (plan.Planned x) = refl
-plan-leaves m a os room out plan.NotNow = refl
+plan-leaves m a os room out (Some x) = refl
+plan-leaves m a os room out None = refl
 
-export-leaves : (m : Machine) (a : List ℕ) (out out' : Snapshots) (x : ExportCall) → Leaves (world (phase_of m) a) (exported_of x m out out' a) (world (phase_of m) a)
-export-leaves m a out out' (export.Exported x) = refl
-export-leaves m a out out' export.NotNow = refl
+export-leaves : (m : Machine) (a : List ℕ) (out out' : Snapshots) (x : std.Option (std.Result Lengths code.Refusal)) → Leaves (world (phase_of m) a) (exported_of x m out out' a) (world (phase_of m) a)
+export-leaves m a out out' (Some x) = refl
+export-leaves m a out out' None = refl
 
 seen-kept : (a : List ℕ) (x : Option After) (es : List Event) → seen (keeps_journal a x) es ≡ seen x es
 seen-kept a none es = refl
@@ -196,7 +194,7 @@ pub record Fresh (s : Configuration) (size : ℕ) (m : Machine) : Type 0 where
   pub phase : phase_of m ≡ idle state
   pub fits : Fits (configuration_of s).settings
 
-pub fresh-from : (s : Configuration) (size : ℕ) (r : Started) → StartedIs s size r → r.answer ≡ answers.Started → Fresh s size r.machine
+pub fresh-from : (s : Configuration) (size : ℕ) (r : Started) → StartedIs s size r → r.answer ≡ Ok tt → Fresh s size r.machine
 fresh-from s size r h e =
     let v : State = view r.machine.writing.consumer in
     let c = configuration_of s in
@@ -205,11 +203,12 @@ fresh-from s size r h e =
     record { state = v; is = is; phase = phase; fits = fresh-fits c size r.machine v is phase h.sound }
 
 -- a restart of a machine that is off is not refused where the journal can be read
-pub not_refused : (c : state.Configuration) (m m' : Machine) (a a' out : List ℕ) (s : State) (x : StartAnswer) (f : Refusal)
+pub not_refused : (c : state.Configuration) (m m' : Machine) (a a' out : List ℕ) (s : State) (x : std.Result (Unit {0}) code.Refusal) (f : Refusal)
     → restarts.restart c a ≡ done s → after_of restart (answer.Restarted x) m' a' out ≡ transition c (phase_of m) a restart → start_fault x ≡ some f → ⊥
 unfolding transition
-not_refused c m m' a a' out s x f reads e g =
-    refused_not_done (same_answer (refused f) (done s) (phase_of m') (idle s) a' a (rw (g, reads) at e))
+not_refused c m m' a a' out s (Ok t) f reads e g = absurd (none-ne-some f g)
+not_refused c m m' a a' out s (Err r) f reads e g =
+    refused_not_done (same_answer (refused (refusal_of r)) (done s) (phase_of m') (idle s) a' a (rw reads at e))
 
 pub demand_3_ran : Demand3Ran
 unfolding Demand3Ran Demand3 BatchBound

@@ -6,7 +6,10 @@ use mathlib.Core.Bool.{true, false}
 use mathlib.Core.List.{List, [], ◌∷◌, ◌++◌, append_assoc}
 use mathlib.Core.Option.{Option, none, some, none-ne-some}
 use lib.ListN.{length}
+use Rattle.std.specs.Prelude as std
+use Rattle.std.specs.Prelude.{Some, None}
 use Rattle.types.specs.Refusal.{Result, refused, done}
+use Rattle.types.specs.declared.refusals.Refusal as code
 use Rattle.journal.proofs.Sound.{differ}
 use Rattle.consumer.specs.State.{State}
 use Rattle.consumer.specs.State as state
@@ -24,8 +27,6 @@ use Rattle.machine.specs.View.{phase_of, Sound, after_of, CallKept, held, Held, 
 use Rattle.machine.specs.declared.calls.CallAnswer.{CallAnswer}
 use Rattle.machine.specs.declared.calls.CallAnswer.TheVariants as answer
 use Rattle.machine.specs.declared.Machine.{Machine}
-use Rattle.machine.specs.declared.plans.PlanCall.{PlanCall}
-use Rattle.machine.specs.declared.plans.PlanCall.TheVariants as plan
 use Rattle.machine.proofs.Planned.{plan-is-call}
 use Rattle.crash_safety.specs.Runs.{keeps_journal}
 use Rattle.crash_safety.specs.Ran.{seen}
@@ -113,10 +114,10 @@ module _ (m m' : Machine) (d : Disk) where
   stray_leaves q b b' out (answer.Restarted x) k = refl
   stray_leaves q b b' out answer.NotNow k = ap (λ (h : Held). on_disk (phase_of h.machine) d) k
 
-plan-leaves : (m : Machine) (d : Disk) (os : List ℕ) (room : ℕ) (out : List ℕ) (x : PlanCall)
+plan-leaves : (m : Machine) (d : Disk) (os : List ℕ) (room : ℕ) (out : List ℕ) (x : std.Option (std.Result ℕ code.Refusal))
     → Leaves (on_disk (phase_of m) d) (leads_as [] d (planned_of x m os room out (area d))) (on_disk (phase_of m) d)
-plan-leaves m d os room out (plan.Planned x) = refl
-plan-leaves m d os room out plan.NotNow = refl
+plan-leaves m d os room out (Some x) = refl
+plan-leaves m d os room out None = refl
 
 stray_seen : (d : Disk) (y : Option After) (es : List Event) → seen_by (leads_as [] d (keeps_journal (area d) y)) es ≡ seen y es
 stray_seen d none es = refl

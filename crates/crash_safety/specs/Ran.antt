@@ -1,15 +1,16 @@
 -- Demand 3 of machines, journals and answers as the code has them: what a program does through `Machine::start`, `Machine::off`,
 -- `call`, `Machine::plan`, `Machine::export` and `cut`, one after the other, in the words of their contracts.
 -- SPEC.md, "Lists".
-use Rattle.std.specs.Prelude.{ℕ, ◌≡◌, true, false, List, [], ◌∷◌, eqb, length, replicate}
+use Rattle.std.specs.Prelude.{ℕ, ◌≡◌, true, false, List, [], ◌∷◌, eqb, length, replicate, Ok}
+use Rattle.std.specs.Prelude as std
 use Rattle.std.proofs.Math.Option.{Option, none, some}
 use Rattle.types.specs.Refusal.{Refusal}
+use Rattle.types.specs.declared.refusals.Refusal as code
 use Rattle.consumer.specs.Export.{Snapshots}
 use Rattle.consumer.specs.Questions.{Plan, export_to}
 use Rattle.consumer.specs.declared.Configuration.{Configuration}
+use Rattle.consumer.specs.declared.snapshots.Lengths.{Lengths}
 use Rattle.starts.specs.Starting.{configuration_of, start_fault}
-use Rattle.starts.specs.declared.StartAnswer.{StartAnswer}
-use Rattle.starts.specs.declared.StartAnswer.TheVariants as start
 use Rattle.machine.specs.Calls.{ask, step, restart, look, u64, question_fits, Event}
 use Rattle.machine.specs.Transitions.{After}
 use Rattle.machine.specs.Answers.{call_of}
@@ -19,8 +20,6 @@ use Rattle.machine.specs.declared.calls.CallAnswer.TheVariants as answer
 use Rattle.machine.specs.declared.Machine.{Machine}
 use Rattle.machine.specs.declared.Called.{Called}
 use Rattle.machine.specs.declared.Started.{Started}
-use Rattle.machine.specs.declared.plans.PlanCall.{PlanCall}
-use Rattle.machine.specs.declared.snapshots.ExportCall.{ExportCall}
 use Rattle.power_cut.specs.View as power
 use Rattle.power_cut.specs.View.{cut_of, CutIs}
 use Rattle.power_cut.specs.declared.Kind.{Kind}
@@ -53,13 +52,13 @@ pub data Ran : Machine → List ℕ → List Item → List Event → Machine →
       → Ran m a (step_on b ∷ is) (seen (after_of step r.answer r.machine b' out') es) last end
   -- a plan, lent a list of offsets, which are u64 as the worker is, and a list of bytes
   plans : {m last : Machine} {a end : List ℕ} {is : List Item} {es : List Event}
-      (w : ℕ) (os out : List ℕ) (r : PlanCall) (out' : List ℕ) → u64 w ≡ true → question_fits (Plan os (length out)) ≡ true
+      (w : ℕ) (os out : List ℕ) (r : std.Option (std.Result ℕ code.Refusal)) (out' : List ℕ) → u64 w ≡ true → question_fits (Plan os (length out)) ≡ true
       → (Sound m → PlannedIs m w os out r out')
       → Ran m a is es last end
       → Ran m a (call (ask w (look (Plan os (length out)))) ∷ is) (seen (planned_of r m os (length out) out' a) es) last end
   -- an export, lent two lists of bytes
   exports : {m last : Machine} {a end : List ℕ} {is : List Item} {es : List Event}
-      (w : ℕ) (out : Snapshots) (r : ExportCall) (out' : Snapshots) → u64 w ≡ true
+      (w : ℕ) (out : Snapshots) (r : std.Option (std.Result Lengths code.Refusal)) (out' : Snapshots) → u64 w ≡ true
       → (Sound m → ExportedIs m w out r out')
       → Ran m a is es last end
       → Ran m a (call (ask w (look (export_to out))) ∷ is) (seen (exported_of r m out out' a) es) last end
@@ -72,7 +71,7 @@ pub data Ran : Machine → List ℕ → List Item → List Event → Machine →
   -- the program ends at any point and is started anew: a machine that is off, with the same configuration, goes on from the journal
   reopens : {m last : Machine} {a end : List ℕ} {is : List Item} {es : List Event}
       (m' : Machine) (out : List ℕ) (r : Called) (a' out' : List ℕ) → OffIs m.configuration m'
-      → (Sound m' → CalledIs m' restart a out r a' out') → r.answer ≡ answer.Restarted start.Started
+      → (Sound m' → CalledIs m' restart a out r a' out') → r.answer ≡ answer.Restarted (Ok tt)
       → Ran r.machine a' is es last end
       → Ran m a (call restart ∷ is) (seen (after_of restart r.answer r.machine a' out') es) last end
 
@@ -98,11 +97,11 @@ pub record HoldsRan (s : Configuration) (is : List Item) (es : List Event) (last
   -- and no machine that is off is refused to go on from the journal
   pub reopened : (m : Machine) (out : List ℕ) (r : Called) (a' out' : List ℕ) → OffIs s m
       → (Sound m → CalledIs m restart end out r a' out')
-      → (x : StartAnswer) (f : Refusal) → r.answer ≡ answer.Restarted x → start_fault x ≡ some f → ⊥
+      → (x : std.Result (Unit {0}) code.Refusal) (f : Refusal) → r.answer ≡ answer.Restarted x → start_fault x ≡ some f → ⊥
 
 -- so demand 3 holds of every program. From every machine that a start gave, on a zeroed journal
 unfoldable pub Demand3Ran : Type 0
 Demand3Ran =
-    (s : Configuration) (size : ℕ) (r : Started) → StartedIs s size r → r.answer ≡ start.Started
+    (s : Configuration) (size : ℕ) (r : Started) → StartedIs s size r → r.answer ≡ Ok tt
     → (is : List Item) (es : List Event) (last : Machine) (end : List ℕ) → Ran r.machine (replicate size 0) is es last end
     → HoldsRan s is es last end

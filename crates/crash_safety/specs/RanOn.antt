@@ -1,16 +1,16 @@
 -- Demand 3 of machines and answers as the code has them, on a disk that keeps no order between two syncs: what a program does through
 -- `Machine::start`, `Machine::off`, `call` and `Machine::plan` in the words of their contracts, with a sync wherever one is due.
 -- SPEC.md, "Disk".
-use Rattle.std.specs.Prelude.{ℕ, ◌≡◌, true, false, List, [], ◌∷◌, ◌++◌, eqb, length, replicate}
+use Rattle.std.specs.Prelude.{ℕ, ◌≡◌, true, false, List, [], ◌∷◌, ◌++◌, eqb, length, replicate, Ok}
+use Rattle.std.specs.Prelude as std
 use Rattle.std.proofs.Math.Option.{some}
 use Rattle.types.specs.Refusal.{Refusal}
+use Rattle.types.specs.declared.refusals.Refusal as code
 use Rattle.consumer.specs.Questions.{Plan}
 use Rattle.consumer.specs.declared.Configuration.{Configuration}
 use Rattle.checkpoint.specs.Writing.{step_of}
-use Rattle.checkpoint.specs.declared.StepAnswer.{StepAnswer}
+use Rattle.checkpoint.specs.declared.Wrote.{Wrote}
 use Rattle.starts.specs.Starting.{configuration_of, start_fault}
-use Rattle.starts.specs.declared.StartAnswer.{StartAnswer}
-use Rattle.starts.specs.declared.StartAnswer.TheVariants as start
 use Rattle.machine.specs.Calls.{ask, step, restart, look, u64, question_fits, Event, failed}
 use Rattle.machine.specs.Answers.{call_of}
 use Rattle.machine.specs.View.{phase_of, Sound, StartedIs, OffIs, after_of, CalledIs, planned_of, PlannedIs}
@@ -19,7 +19,6 @@ use Rattle.machine.specs.declared.calls.CallAnswer.TheVariants as answer
 use Rattle.machine.specs.declared.Machine.{Machine}
 use Rattle.machine.specs.declared.Called.{Called}
 use Rattle.machine.specs.declared.Started.{Started}
-use Rattle.machine.specs.declared.plans.PlanCall.{PlanCall}
 use Rattle.power_cut.specs.Cut.{Cut}
 use Rattle.crash_safety.specs.Ran.{seen}
 use Rattle.crash_safety.specs.Disk.{Disk, disk, area, synced, has_header, answers, survivors, failed_by}
@@ -37,14 +36,14 @@ pub data RanOn : Machine → Disk → List DiskItem → List Event → Machine �
       → RanOn m d (does (call_of (length out) q) ∷ is) (seen (after_of (call_of (length out) q) r.answer r.machine a' out') es) last end
   -- a plan, likewise; its numbers are u64
   plans : {m last : Machine} {d end : Disk} {is : List DiskItem} {es : List Event}
-      (w : ℕ) (os out : List ℕ) (r : PlanCall) (out' : List ℕ) → u64 w ≡ true → question_fits (Plan os (length out)) ≡ true
+      (w : ℕ) (os out : List ℕ) (r : std.Option (std.Result ℕ code.Refusal)) (out' : List ℕ) → u64 w ≡ true → question_fits (Plan os (length out)) ≡ true
       → has_header d.pending ≡ false
       → (Sound m → PlannedIs m w os out r out')
       → RanOn m d is es last end
       → RanOn m d (does (ask w (look (Plan os (length out)))) ∷ is) (seen (planned_of r m os (length out) out' (area d)) es) last end
   -- a step, the header's only when nothing is pending; its block is written to the disk
   steps : {m last : Machine} {d end : Disk} {is : List DiskItem} {es : List Event}
-      (out : List ℕ) (r : Called) (a' out' : List ℕ) (x : StepAnswer) → too_early (phase_of m) d ≡ false
+      (out : List ℕ) (r : Called) (a' out' : List ℕ) (x : std.Result Wrote code.Refusal) → too_early (phase_of m) d ≡ false
       → (Sound m → CalledIs m step (area d) out r a' out') → r.answer ≡ answer.Stepped x
       → RanOn r.machine (with_block d (step_of x) a') is es last end
       → RanOn m d (does step ∷ is) (step_seen (step_of x) ++ es) last end
@@ -78,7 +77,7 @@ pub data RanOn : Machine → Disk → List DiskItem → List Event → Machine �
   -- the program ends at any point and is started anew: a machine that is off, with the same configuration, does so
   reopens : {m last : Machine} {d end : Disk} {is : List DiskItem} {es : List Event}
       (m' : Machine) (out : List ℕ) (r : Called) (a' out' : List ℕ) → OffIs m.configuration m'
-      → (Sound m' → CalledIs m' restart (area d) out r a' out') → r.answer ≡ answer.Restarted start.Started
+      → (Sound m' → CalledIs m' restart (area d) out r a' out') → r.answer ≡ answer.Restarted (Ok tt)
       → RanOn r.machine (synced d) is es last end
       → RanOn m d (does restart ∷ is) (answers d.pending ++ seen (after_of restart r.answer r.machine a' out') es) last end
 
@@ -103,11 +102,11 @@ pub record HoldsRanOn (s : Configuration) (is : List DiskItem) (es : List Event)
   -- and no machine that is off is refused to go on from what is there after a sync
   pub reopened : (m : Machine) (out : List ℕ) (r : Called) (a' out' : List ℕ) → OffIs s m
       → (Sound m → CalledIs m restart (area end) out r a' out')
-      → (x : StartAnswer) (f : Refusal) → r.answer ≡ answer.Restarted x → start_fault x ≡ some f → ⊥
+      → (x : std.Result (Unit {0}) code.Refusal) (f : Refusal) → r.answer ≡ answer.Restarted x → start_fault x ≡ some f → ⊥
 
 -- so demand 3 holds of every such program. From every machine that a start gave, on a zeroed disk
 unfoldable pub UnorderedRan : Type 0
 UnorderedRan =
-    (s : Configuration) (size : ℕ) (r : Started) → StartedIs s size r → r.answer ≡ start.Started
+    (s : Configuration) (size : ℕ) (r : Started) → StartedIs s size r → r.answer ≡ Ok tt
     → (is : List DiskItem) (es : List Event) (last : Machine) (end : Disk) → RanOn r.machine (disk (replicate size 0) []) is es last end
     → HoldsRanOn s is es last end

@@ -22,10 +22,8 @@ fn after_few(first: u32, bytes: &[u8], end: usize) -> u32
     ensures { feed (bits 32 result) (drop end bytes.now) ≡ feed (bits 32 first) bytes.now }
 {
     let mut register = first;
-    let mut i: usize = 0;
-    while i < end {
+    for i in 0..end {
         register = after_one(register, bytes[i]);
-        i += 1;
     }
     register
 }
@@ -50,10 +48,8 @@ fn after_half(register: u32, half: u32) -> u32
 {
     let x = half ^ register;
     let mut sum: u32 = 0;
-    let mut z: u32 = 0;
-    while z < 8 {
-        sum = sum ^ passed(x, z);
-        z += 1;
+    for z in 0..8 {
+        sum ^= passed(x, z);
     }
     sum
 }

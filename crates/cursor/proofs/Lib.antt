@@ -6,8 +6,8 @@ pub mod Search
 pub mod Answers
 pub mod Snapshot
 pub mod Reading
+pub mod Refusals
 pub mod Writing
-pub mod Taking
 pub mod Walking
 pub mod Edits
 pub mod Unsettled

@@ -16,7 +16,7 @@ use Rattle.types.specs.Table.{first, Passed, answer}
 use Rattle.types.proofs.Cases.{split}
 use Rattle.types.proofs.Table.{first_none}
 use Rattle.cursor.specs.Ranges.{range, Above, inside}
-use Rattle.cursor.specs.Cursor.{Cursor, cursor, Valid, settled}
+use Rattle.cursor.specs.Cursor.{Cursor, cursor, Valid}
 use Rattle.cursor.specs.Plan.{plan_bytes, compared, stepped_to, looks_from, looks, fall_rows, pair_rows, plan, starts_by, bytes_from, StepIs}
 use Rattle.cursor.specs.declared.Range.{Range}
 use Rattle.cursor.specs.View.{view, Whole}
@@ -159,9 +159,9 @@ module _ (g : AckCursor) (w : Whole g) where
       let t = lt-ltb o g.committed k in
       record { within = λ h. rw a h; left = rw (a, t); looks = rw (l, t); byte = rw (b, t) }
 
-  module _ (at o to looks : ℕ) (s : Stepping at o to looks) (k : g.committed ≤ o) (r : Step) (a : r.at ≡ to) where
-    pub step-on : to < g.runs → o < get_or g.ends to 0 → r.looks ≡ looks + 1 → r.byte ≡ cond (leb (get_or g.starts to 0) o) 1 0 → StepIs (view g) at o r
-    step-on h below l b =
+  module _ (at o to looks : ℕ) (s : Stepping at o to looks) (k : g.committed ≤ o) (r : Step) where
+    pub step-on : r.at ≡ to → to < g.runs → o < get_or g.ends to 0 → r.looks ≡ looks + 1 → r.byte ≡ cond (leb (get_or g.starts to 0) o) 1 0 → StepIs (view g) at o r
+    step-on a h below l b =
         let t = le-ltb o g.committed k in
         let stands = sym (on-stepped o to h below) ∙ s.stepped-is in
         record {
@@ -171,15 +171,16 @@ module _ (g : AckCursor) (w : Whole g) where
           byte = rw (b, t, ← stands, on-byte o to h);
         }
 
-    pub step-over : g.runs ≤ to → r.looks ≡ looks → r.byte ≡ 0 → StepIs (view g) at o r
-    step-over h l b =
+    pub step-over : r.at ≡ g.runs → g.runs ≤ to → r.looks ≡ looks → r.byte ≡ 0 → StepIs (view g) at o r
+    step-over a h l b =
         let t = le-ltb o g.committed k in
-        let none_left = ranges-over g.runs g.starts g.ends (long-starts g w) (long-ends g w) to h in
+        let over = ranges-over g.runs g.starts g.ends (long-starts g w) (long-ends g w) in
+        let none_left = over to h in
         let all : looks + 0 ≡ compared o (drop at ahead) = rw none_left at s.compared_is in
         let stands : [] ≡ stepped_to o (drop at ahead) = rw none_left at s.stepped-is in
         record {
-          within = λ i. rw (a, runs-is g w) (s.within (omega (arith, runs-is g w, i)));
-          left = rw (a, t, none_left) stands;
+          within = λ i. rw (a, runs-is g w) (omega arith);
+          left = rw (a, t, over g.runs (omega arith)) stands;
           looks = rw (l, t) (omega (arith, all));
           byte = rw (b, t, ← stands);
         }

@@ -16,6 +16,11 @@ use Rattle.types.proofs.Cases.{split, neither}
 use Rattle.cursor.specs.Ranges.{range, Above, inside, touches, joined, insert, offsets}
 use Rattle.cursor.specs.declared.Range.{Range}
 
+-- the end of the last range, or what stands before them
+abbrev pub last_end : ℕ → List Range → ℕ
+last_end n [] = n
+last_end n (r ∷ rs) = last_end r.end rs
+
 -- a test of an offset that lies at a bound or on one of its sides
 abbrev within : ℕ → ℕ → ℕ → Bool
 within start end o = leb start o && ltb o end

@@ -1,25 +1,24 @@
 -- What the decoder's functions answer, over plain values. Assumes nothing.
 use Prim.Native.Nat.{ℕ, zero, suc, ◌+◌, ◌-◌, ◌*◌, ◌%◌, ◌≤◌, ◌<◌}
 use native.Mathlib.Omega.{arith}
-use mathlib.Core.Path.{◌≡◌, refl, sym, subst}
+use Rattle.std.specs.Prelude.{Ok, Err}
+use mathlib.Core.Path.{◌≡◌, sym, subst}
 use mathlib.Core.Bool.{true, false}
-use mathlib.Core.List.{List, [], ◌∷◌, ◌++◌}
+use mathlib.Core.List.{List, ◌++◌}
 use mathlib.Core.Option.{none, some}
 use lib.ListN.{length, get_or}
 use borrow.Author.Tests.{lt-ltb, le-ltb, eq-eqb, ne_eqb, ltb-false}
 use Rattle.types.specs.Refusal.{CursorTruncated, CursorBadLength, CursorUnsupportedVersion, CursorBadCrc}
 use Rattle.types.specs.Table.{first}
 use Rattle.types.proofs.Table.{first_none, first-met-before, first_none_before}
-use Rattle.raw.specs.Bytes.{IsBytes, number_at}
+use Rattle.raw.specs.Bytes.{IsBytes}
 use Rattle.crc.specs.Seal.{is_sealed}
-use Rattle.cursor.specs.Ranges.{range}
 use Rattle.cursor.specs.Cursor.{Valid, resume_table}
 use Rattle.cursor.specs.Snapshot.{read_ranges, range_count, cursor_in, frame_table, decode_table, decode_cursor}
-use Rattle.cursor.specs.View.{view, empty}
-use Rattle.cursor.specs.Answers.{snapshot_error, decode_fault, DecodedIs}
+use Rattle.cursor.specs.View.{view}
+use Rattle.cursor.specs.Answers.{snapshot_error, DecodedIs}
 use Rattle.cursor.specs.declared.AckCursor.{AckCursor}
 use Rattle.cursor.specs.declared.SnapshotError.{SnapshotError}
-use Rattle.cursor.specs.declared.Decode.TheVariants.{Restored, Refused}
 use Rattle.cursor.proofs.Snapshot.{length-read, accepted, read-valid}
 
 -- n ranges in the bytes, and more behind them
@@ -32,11 +31,6 @@ read_more (suc n) more pos bytes =
     let s : suc n + more ≡ suc (n + more) = omega arith in
     let p : pos + 16 * suc n ≡ pos + 16 + 16 * n = omega arith in
     rw (s, p, read_more n more (pos + 16) bytes)
-
--- the loop of `check_ranges`: one range more
-module _ (i pos : ℕ) (bytes : List ℕ) (at : pos ≡ 9 + 16 * i) where
-  pub one_more : (start end : ℕ) → start ≡ number_at 8 pos bytes → end ≡ number_at 8 (pos + 8) bytes → read_ranges i 9 bytes ++ range start end ∷ [] ≡ read_ranges (i + 1) 9 bytes
-  one_more start end s e = sym (rw (s, e, at) (read_more i 1 9 bytes))
 
 -- the rows that `check_frame` goes down
 module _ (bytes : List ℕ) where
@@ -59,11 +53,11 @@ module _ (bytes : List ℕ) where
         framed h = rw (le-ltb _ _ long, eq-eqb _ _ whole, eq-eqb _ _ version, h)
 
   -- what `decode_snapshot` answers
-  pub decode_refused : (e : SnapshotError) → decode_fault (Refused e) ≡ first (decode_table bytes) → DecodedIs bytes (record { outcome = Refused e; cursor = empty 0 })
+  pub decode_refused : (e : SnapshotError) → some (snapshot_error e) ≡ first (decode_table bytes) → DecodedIs bytes (Err e)
   unfolding decode_cursor
-  decode_refused e t = record { is = rw (← t); sound = record { few = omega arith; valid = record { fits = omega arith; above = tt; few = omega arith } }; kept = refl }
+  decode_refused e t = record { is = rw (← t); sound = tt }
 
-  pub decode_restored : IsBytes bytes → decode_fault Restored ≡ first (decode_table bytes) → (c : AckCursor) → c.runs ≡ range_count bytes → view c ≡ cursor_in bytes → DecodedIs bytes (record { outcome = Restored; cursor = c })
+  pub decode_restored : IsBytes bytes → none ≡ first (decode_table bytes) → (c : AckCursor) → c.runs ≡ range_count bytes → view c ≡ cursor_in bytes → DecodedIs bytes (Ok c)
   unfolding decode_cursor
   decode_restored h t c n e =
       let a = accepted bytes (first_none (decode_table bytes) (sym t)) in
@@ -71,14 +65,13 @@ module _ (bytes : List ℕ) where
       record {
         is = rw (← t, e);
         sound = record { few = rw (n, ← length-read (range_count bytes) 9 bytes) v.few; valid = subst Valid (sym e) v };
-        kept = tt;
       }
 
   -- a fault of the frame comes before those of the ranges
-  pub frame_refused : (e : SnapshotError) → decode_fault (Refused e) ≡ first (frame_table bytes) → decode_fault (Refused e) ≡ first (decode_table bytes)
+  pub frame_refused : (e : SnapshotError) → some (snapshot_error e) ≡ first (frame_table bytes) → some (snapshot_error e) ≡ first (decode_table bytes)
   frame_refused e h = sym (first-met-before (frame_table bytes) (resume_table (cursor_in bytes).committed (cursor_in bytes).ahead) (snapshot_error e) (sym h))
 
-  module _ (h : decode_fault Restored ≡ first (frame_table bytes)) where
+  module _ (h : none ≡ first (frame_table bytes)) where
     pub ranges-left : first (decode_table bytes) ≡ first (resume_table (cursor_in bytes).committed (cursor_in bytes).ahead)
     ranges-left = first_none_before (frame_table bytes) (resume_table (cursor_in bytes).committed (cursor_in bytes).ahead) (sym h)
 

@@ -18,10 +18,9 @@ use Rattle.raw.specs.Bytes.{IsBytes, le, number_at}
 use Rattle.raw.proofs.Bytes.{bytes-append, bytes_le, unle-le, number_lt, le-number}
 use Rattle.crc.specs.Seal.{sealed, is_sealed}
 use Rattle.crc.proofs.Seal.{length-sealed, bytes-sealed, sealed_ok, sealed-of}
-use Rattle.cursor.specs.Ranges.{Above}
+use Rattle.cursor.specs.Ranges.{Above, EndsFit}
 use Rattle.cursor.specs.Cursor.{Cursor, cursor, Valid, ranges_table, resume_table, resume_with_ahead}
 use Rattle.cursor.specs.Snapshot.{range_bytes, ranges_bytes, body_bytes, encode_cursor, read_ranges, range_count, cursor_in, frame_table, decode_table, decode_cursor}
-use Rattle.cursor.specs.Taking.{EndsFit}
 use Rattle.cursor.specs.declared.Range.{Range}
 
 -- ## lengths

@@ -4,24 +4,25 @@ use Prim.Native.Nat.{ℕ, zero, suc, ◌+◌, ◌-◌, ◌*◌, ◌/◌, ◌≤�
 use native.Mathlib.Omega.{arith}
 use native.Mathlib.Nat.{suc_inj, le_of_suc-le-suc}
 use mathlib.Core.Path.{◌≡◌, refl, sym, ap, subst, ◌∙◌}
-use mathlib.Core.Bool.{Bool, true, false, cond, not, ◌&&◌, ◌||◌, and-false, or-true, true≢false}
+use mathlib.Core.Bool.{Bool, true, false, cond, not, ◌&&◌, ◌||◌, and-false, true≢false}
 use mathlib.Core.List.{List, [], ◌∷◌}
 use lib.Dec.{ltb, leb}
 use lib.ListN.{length, take, drop, get_or, set, take-append-drop}
 use lib.Seq.{take-length}
 use borrow.Author.Tests.{ltb-true, ltb-false, leb-true, leb-false, lt-ltb, le-ltb, le-leb, lt-leb}
 use Rattle.types.specs.Refusal.{Result, refused, done, BoundsReversed, OutTooShort}
-use Rattle.types.specs.Table.{Answer, answer, checked}
+use Rattle.types.specs.Table.{answer}
 use Rattle.types.specs.Lists.{listed}
 use Rattle.types.specs.Zipped.{zipped}
 use Rattle.types.specs.Sorted.{upTo}
 use Rattle.types.proofs.Cases.{split}
+use Rattle.types.proofs.Listing.{Written, all-written}
 use Rattle.types.proofs.Loops.{Filling, filling-more}
 use Rattle.cursor.specs.Ranges.{range, Above, inside}
 use Rattle.cursor.specs.Cursor.{Cursor, cursor, Valid, settled}
 use Rattle.cursor.specs.View.{view, Whole}
 use Rattle.cursor.specs.Place.{rangeAt}
-use Rattle.cursor.specs.Unsettled.{open_in, Apart, AreStretches, IsNearest, in_front, left_by, stretches, beyond, nearest_open, bounds, bounds_table, filled, open_between, open_numbers}
+use Rattle.cursor.specs.Unsettled.{open_in, Apart, AreStretches, IsNearest, in_front, left_by, stretches, beyond, nearest_open, bounds, filled, open_between, open_numbers}
 use Rattle.cursor.specs.declared.Range.{Range}
 use Rattle.cursor.specs.declared.AckCursor.{AckCursor}
 use Rattle.cursor.proofs.Ranges.{inside-above}
@@ -405,12 +406,19 @@ module _ (c : Cursor) (a b : ℕ) (out : List ℕ) where
     numbers-put n after e k f =
         rw (le-ltb b a h, le-ltb (length out / 2) (length (stretches c a b)) (omega arith), all-put (stretches c a b) out after (rw e at f), e, bounds-length (stretches c a b))
 
--- a list that is empty where the bounds are reversed is listed with nothing written, so that 32 can be answered after it
-pub records_put : (c : Cursor) (a b : ℕ) (out after : List Range) (x y : Result ℕ) → answer x after ≡ listed (stretches c a b) out → y ≡ checked (bounds_table a b) x → answer y after ≡ open_between c a b out
-unfolding open_between
-records_put c a b out after x y e f =
-    split (ltb b a)
-    (λ t. let none = stretches_none c a b (omega (arith, ltb-true b a t)) in
-    let kept : after ≡ out = ap (λ (z : Answer ℕ (List Range)). z.state) (rw (none, le-ltb (length out) 0 (omega arith)) at e) in
-    rw t (rw kept (ap (λ (z : Result ℕ). answer z out) (rw t at f))))
-    (λ t. rw t (ap (λ (z : Result ℕ). answer z after) (rw t at f) ∙ e))
+-- the same as records
+module _ (l out : List Range) where
+  pub records-short : length out < length l → answer (refused OutTooShort) out ≡ listed l out
+  records-short h = rw (lt-ltb (length out) (length l) h)
+
+  pub records-listed : (n : ℕ) (after : List Range) → n ≡ length l → n ≤ length out → Written l out n n after → answer (done n) after ≡ listed l out
+  records-listed n after e h w = all-written l out n after (done n) (rw (e, le-ltb (length out) (length l) (omega (arith, e)))) refl w
+
+module _ (c : Cursor) (a b : ℕ) (out : List Range) where
+  pub records_reversed : b < a → answer (refused BoundsReversed) out ≡ open_between c a b out
+  unfolding open_between
+  records_reversed h = rw (lt-ltb b a h)
+
+  pub records_put : a ≤ b → (after : List Range) (x : Result ℕ) → answer x after ≡ listed (stretches c a b) out → answer x after ≡ open_between c a b out
+  unfolding open_between
+  records_put h after x e = rw (le-ltb b a h) e

@@ -17,7 +17,6 @@ use Rattle.types.proofs.Cases.{split}
 use Rattle.types.proofs.Sorted.{up_to-next}
 use Rattle.types.proofs.Zipped.{zipped-length, zipped_get_d, zipped-set-left, zipped-set-right, zipped-inserted, zipped-removed}
 use Rattle.cursor.specs.Ranges.{range, Above}
-use Rattle.cursor.specs.Cursor.{cursor}
 use Rattle.cursor.specs.Place.{rangeAt}
 use Rattle.cursor.specs.declared.Range.{Range}
 use Rattle.cursor.proofs.Place.{place, end_before, next_at}

@@ -1,16 +1,19 @@
 -- Walks over ranges that store none of them: a walk has seen the first of the ranges, without a fault, and knows the end of the last.
 -- And the columns of a snapshot's ranges. Assumes nothing.
-use Prim.Native.Nat.{ℕ, zero, suc, ◌+◌, ◌-◌, ◌*◌, ◌<◌, ◌≤◌, min}
+use Prim.Native.Nat.{ℕ, zero, suc, ◌+◌, ◌*◌, ◌<◌, ◌≤◌, min}
 use native.Mathlib.Omega.{arith}
 use mathlib.Core.Path.{◌≡◌, refl, sym, ap, ◌∙◌}
+use native.Mathlib.Numerals.{add-one}
+use Rattle.std.specs.Prelude.{Ok, Err}
+use Rattle.std.specs.Prelude as std
 use mathlib.Core.List.{List, [], ◌∷◌, ◌++◌, map}
 use mathlib.Core.Option.{none, some}
-use lib.ListN.{length, take, drop, get_or, set, replicate, take-append-drop}
-use lib.Seq.{take_all, take-append_seam}
+use lib.ListN.{length, take, drop, get_or, set, take-append-drop}
+use lib.Seq.{take_all, take-suc, take-append_seam}
 use borrow.Author.Tests.{lt-ltb, le-ltb}
 use Rattle.types.specs.Limits.{RANGES}
 use Rattle.types.specs.Refusal.{Refusal, TooManyRuns, done}
-use Rattle.types.specs.Table.{first}
+use Rattle.types.specs.Table.{first, unless}
 use Rattle.types.specs.Zipped.{zipped}
 use Rattle.types.proofs.Table.{first_none, first-met-before, first_none_before}
 use Rattle.types.proofs.Loops.{Filling, filling-more}
@@ -19,54 +22,101 @@ use Rattle.cursor.specs.Ranges.{range}
 use Rattle.cursor.specs.Cursor.{range_table, ranges_table, resume_table}
 use Rattle.cursor.specs.Snapshot.{read_ranges, column_from, range_count, cursor_in, decode_table, decode_cursor}
 use Rattle.cursor.specs.View.{ack_cursor}
-use Rattle.cursor.specs.Answers.{decode_fault, decode_of, DecodedIs, CheckedIs}
-use Rattle.cursor.specs.Taking.{last_end}
+use Rattle.cursor.specs.Place.{rangeAt}
+use Rattle.cursor.specs.Answers.{decode_fault, DecodedIs, CheckedIs}
 use Rattle.cursor.specs.declared.Range.{Range}
-use Rattle.cursor.specs.declared.Decode.{Decode}
-use Rattle.cursor.specs.declared.Decode.TheVariants.{Restored, Refused}
-use Rattle.cursor.specs.declared.columns.Checked.{Checked}
+use Rattle.cursor.specs.declared.SnapshotError.{SnapshotError}
+use Rattle.cursor.specs.declared.columns.Figures.{Figures}
+use Rattle.cursor.proofs.Ranges.{last_end}
 use Rattle.cursor.proofs.Snapshot.{length-read, passed-few, accepted}
-use Rattle.cursor.proofs.Taking.{table_more, last_more}
-use Rattle.cursor.proofs.Reading.{read_more, decode_refused, decode_restored}
+use Rattle.cursor.proofs.Reading.{decode_restored}
 
 -- ## a walk
-module _ (n : ℕ) (l : List Range) where
-  pub walk-fault : (rest : List Range) (q : Refusal) → first (ranges_table n l) ≡ some q → first (resume_table n (l ++ rest)) ≡ some q
-  walk-fault rest q e =
-      first-met-before (ranges_table n (l ++ rest)) _ q
-      (ap first (table_more n l rest) ∙ first-met-before (ranges_table n l) (ranges_table (last_end n l) rest) q e)
+-- ranges behind others
+table_more : (n : ℕ) (l rest : List Range) → ranges_table n (l ++ rest) ≡ ranges_table n l ++ ranges_table (last_end n l) rest
+table_more n [] rest = refl
+table_more n (p ∷ l) rest = rw (table_more p.end l rest)
 
-  module _ (clear : first (ranges_table n l) ≡ none) where
-    pub walk-on : (r : Range) → first (ranges_table n (l ++ r ∷ [])) ≡ first (range_table (last_end n l) r)
-    walk-on r = ap first (table_more n l (r ∷ [])) ∙ first_none_before (ranges_table n l) (range_table (last_end n l) r) clear
+last_more : (n : ℕ) (l : List Range) (r : Range) → last_end n (l ++ r ∷ []) ≡ r.end
+last_more n [] r = refl
+last_more n (p ∷ l) r = last_more p.end l r
 
-    pub walk-many : RANGES < length l → first (resume_table n l) ≡ some TooManyRuns
-    walk-many h = first_none_before (ranges_table n l) _ clear ∙ rw (lt-ltb RANGES (length l) h)
+-- a walk stands before the range at i: those before it have no fault, and `last` is the end of the last of them
+pub record Walked (n : ℕ) (all : List Range) (i last : ℕ) : Type 0 where
+  pub ends : last ≡ last_end n (take i all)
+  pub clear : first (ranges_table n (take i all)) ≡ none
 
-    pub walk-few : length l ≤ RANGES → first (resume_table n l) ≡ none
-    walk-few h = first_none_before (ranges_table n l) _ clear ∙ rw (le-ltb RANGES (length l) h)
+pub walked-none : (n : ℕ) (all : List Range) → Walked n all 0 n
+walked-none n all = record { ends = refl; clear = refl }
 
--- the end of the range that was seen last
-pub walk-last : (n : ℕ) (l : List Range) (r : Range) → r.end ≡ last_end n (l ++ r ∷ [])
-walk-last n l r = sym (last_more n l r)
+module _ {n : ℕ} {all : List Range} {i last : ℕ} (w : Walked n all i last) where
+  -- the range at i
+  module _ (r : Range) (h : i < length all) (is : r ≡ rangeAt i all) where
+    one-more : take (suc i) all ≡ take i all ++ r ∷ []
+    one-more = rw is (take-suc all i (range 0 0) h)
 
+    fault-here : first (ranges_table n (take (suc i) all)) ≡ first (range_table last r)
+    fault-here =
+        ap (λ (l : List Range). first (ranges_table n l)) one-more
+        ∙ ap first (table_more n (take i all) (r ∷ []))
+        ∙ first_none_before (ranges_table n (take i all)) (range_table (last_end n (take i all)) r) w.clear
+        ∙ ap (λ (e : ℕ). first (range_table e r)) (sym w.ends)
+
+    pub walked-more : none ≡ first (range_table last r) → Walked n all (i + 1) r.end
+    walked-more f =
+        rw add-one (record {
+          ends = sym (ap (last_end n) one-more ∙ last_more n (take i all) r);
+          clear = fault-here ∙ sym f;
+        })
+
+    pub walked-fault : (q : Refusal) → some q ≡ first (range_table last r) → some q ≡ first (resume_table n all)
+    walked-fault q f =
+        let l = take (suc i) all in
+        let rest = drop (suc i) all in
+        let here : first (ranges_table n all) ≡ some q = ap (λ (x : List Range). first (ranges_table n x)) (sym (take-append-drop (suc i) all)) ∙ ap first (table_more n l rest) ∙ first-met-before (ranges_table n l) (ranges_table (last_end n l) rest) q (fault-here ∙ sym f) in
+        sym (first-met-before (ranges_table n all) _ q here)
+
+  -- all of them
+  module _ (over : length all ≤ i) where
+    whole : first (ranges_table n all) ≡ none
+    whole = ap (λ (l : List Range). first (ranges_table n l)) (sym (take_all i all over)) ∙ w.clear
+
+    pub walked-many : RANGES < length all → some TooManyRuns ≡ first (resume_table n all)
+    walked-many h = sym (first_none_before (ranges_table n all) _ whole ∙ rw (lt-ltb RANGES (length all) h))
+
+    pub walked-few : length all ≤ RANGES → none ≡ first (resume_table n all)
+    walked-few h = sym (first_none_before (ranges_table n all) _ whole ∙ rw (le-ltb RANGES (length all) h))
+
+-- ## the ranges of two columns
 -- as many ranges as the shorter of two columns has places
 pub columns-size : (xs ys : List ℕ) → length (zipped range xs ys) ≡ min (length xs) (length ys)
 columns-size [] ys = omega arith
 columns-size (x ∷ xs) [] = omega arith
 columns-size (x ∷ xs) (y ∷ ys) = omega (arith, columns-size xs ys)
 
--- the ranges in bytes, those that a walk has seen and the others
-pub read-split : (k n : ℕ) (bytes : List ℕ) → k ≤ n
-    → read_ranges n 9 bytes ≡ read_ranges k 9 bytes ++ read_ranges (n - k) (9 + 16 * k) bytes
-read-split k n bytes h =
-    let e : k + (n - k) ≡ n = omega arith in
-    rw e at (read_more k (n - k) 9 bytes)
+pub columns-at : (k : ℕ) (xs ys : List ℕ) → k < length xs → k < length ys → range (get_or xs k 0) (get_or ys k 0) ≡ rangeAt k (zipped range xs ys)
+columns-at k [] ys hx hy = absurd (omega arith)
+columns-at k (x ∷ xs) [] hx hy = absurd (omega arith)
+columns-at zero (x ∷ xs) (y ∷ ys) hx hy = refl
+columns-at (suc k) (x ∷ xs) (y ∷ ys) hx hy = columns-at k xs ys (omega arith) (omega arith)
+
+pub columns-all : (k : ℕ) (xs ys : List ℕ) → min (length xs) (length ys) ≤ k → take k (zipped range xs ys) ≡ zipped range xs ys
+columns-all k xs ys h = take_all k (zipped range xs ys) (omega (arith, columns-size xs ys))
+
+-- ## the ranges in bytes
+pub read-at : (i n pos : ℕ) (bytes : List ℕ) → i < n → range (number_at 8 (pos + 16 * i) bytes) (number_at 8 (pos + 16 * i + 8) bytes) ≡ rangeAt i (read_ranges n pos bytes)
+read-at i zero pos bytes h = absurd (omega arith)
+read-at zero (suc n) pos bytes h =
+    let e : pos + 16 * 0 ≡ pos = omega arith in
+    rw e
+read-at (suc i) (suc n) pos bytes h =
+    let e : pos + 16 * suc i ≡ pos + 16 + 16 * i = omega arith in
+    rw e (read-at i n (pos + 16) bytes (omega arith))
 
 -- the test of a snapshot says what the bytes hold
-pub checked-cursor : (bytes : List ℕ) (o : Decode) → decode_fault o ≡ first (decode_table bytes) → decode_of o (cursor_in bytes) ≡ decode_cursor bytes
+pub checked-cursor : {T : Type 0} (bytes : List ℕ) (r : std.Result T SnapshotError) → decode_fault r ≡ first (decode_table bytes) → unless (decode_fault r) (done (cursor_in bytes)) ≡ decode_cursor bytes
 unfolding decode_cursor
-checked-cursor bytes o e = rw e
+checked-cursor bytes r e = rw e
 
 -- ## columns
 module _ (bytes : List ℕ) where
@@ -118,31 +168,15 @@ module _ (bytes : List ℕ) where
         rw (← front, ← rest, take-append-drop n out)
 
 -- ## a snapshot that was tested
-module _ (bytes : List ℕ) (r : Checked) (is : CheckedIs bytes r) where
-  pub checked-few : r.runs ≤ 128
-  checked-few = go r.outcome refl
-    where
-      go : (o : Decode) → r.outcome ≡ o → r.runs ≤ 128
-      go Restored q =
-          let a = accepted bytes (first_none (decode_table bytes) (sym (rw q at is.fault))) in
-          let n = rw q at is.numbers in
-          omega (arith, n.1, length-read (range_count bytes) 9 bytes, passed-few (cursor_in bytes).committed (cursor_in bytes).ahead a.ranges)
-      go (Refused error) q = let n = rw q at is.numbers in omega (arith, n.1)
+module _ (bytes : List ℕ) (f : Figures) (is : CheckedIs bytes (Ok f)) where
+  pub checked-few : f.runs ≤ 128
+  checked-few =
+      let a = accepted bytes (first_none (decode_table bytes) (sym is.fault)) in
+      omega (arith, is.figures.runs, length-read (range_count bytes) 9 bytes, passed-few (cursor_in bytes).committed (cursor_in bytes).ahead a.ranges)
 
   -- its columns, whatever stands behind them, are those of the cursor that the bytes hold
-  pub columns-restored : IsBytes bytes → r.outcome ≡ Restored → (starts ends behind behind' : List ℕ) → starts ≡ column_from r.runs 9 bytes ++ behind → ends ≡ column_from r.runs 17 bytes ++ behind'
-      → DecodedIs bytes (record { outcome = Restored; cursor = ack_cursor r.committed starts ends r.runs })
-  columns-restored h q starts ends behind behind' s e =
-      let n = rw q at is.numbers in
-      decode_restored bytes h (rw q at is.fault) _ n.1 (rw (s, e, column-front bytes r.runs 9 behind, column-front bytes r.runs 17 behind', n.0, n.1, columns-read bytes (range_count bytes) 9))
-
-  -- read into zeros, they are those that stand beside a refusal too
-  pub columns-decoded : IsBytes bytes → (starts ends : List ℕ) → starts ≡ column_from r.runs 9 bytes ++ drop r.runs (replicate 128 0) → ends ≡ column_from r.runs 17 bytes ++ drop r.runs (replicate 128 0)
-      → DecodedIs bytes (record { outcome = r.outcome; cursor = ack_cursor r.committed starts ends r.runs })
-  columns-decoded h starts ends s e = go r.outcome refl
-    where
-      go : (o : Decode) → r.outcome ≡ o → DecodedIs bytes (record { outcome = r.outcome; cursor = ack_cursor r.committed starts ends r.runs })
-      go Restored q = rw q (columns-restored h q starts ends _ _ s e)
-      go (Refused error) q =
-          let n = rw q at is.numbers in
-          rw (q, s, e, n.0, n.1) (decode_refused bytes error (rw q at is.fault))
+  pub columns-restored : IsBytes bytes → (starts ends behind behind' : List ℕ) → starts ≡ column_from f.runs 9 bytes ++ behind → ends ≡ column_from f.runs 17 bytes ++ behind'
+      → DecodedIs bytes (Ok (ack_cursor f.committed starts ends f.runs))
+  columns-restored h starts ends behind behind' s e =
+      let n = is.figures in
+      decode_restored bytes h is.fault _ n.runs (rw (s, e, column-front bytes f.runs 9 behind, column-front bytes f.runs 17 behind', n.committed, n.runs, columns-read bytes (range_count bytes) 9))

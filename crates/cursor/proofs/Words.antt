@@ -2,7 +2,6 @@
 -- Assumes nothing.
 use Prim.Native.Nat.{ℕ, ◌+◌, ◌-◌, ◌≤◌, ◌<◌}
 use native.Mathlib.Omega.{arith}
-use native.Mathlib.Numerals.{add-one}
 use mathlib.Core.Path.{◌≡◌, refl, sym, ap, subst, ◌∙◌}
 use mathlib.Core.Bool.{Bool, true, false}
 use mathlib.Core.List.{List, ◌∷◌, ◌++◌}
@@ -12,16 +11,12 @@ use borrow.Rule.Slice.PartMut.{put_mid, same_len_mid}
 use Rattle.types.specs.Limits.{RANGES}
 use Rattle.types.specs.Refusal.{Result, refused, done}
 use Rattle.types.specs.Table.{Answer}
-use Rattle.types.specs.Sorted.{below, upTo}
-use Rattle.tables.specs.Search.{Boundary}
-use Rattle.tables.proofs.Search.{boundary_below}
 use Rattle.words.specs.Columns.{word, column, spliced}
 use Rattle.words.proofs.Columns.{column-is, spliced-is, column-length, column-spliced, column-beside, word-beside, spliced-length, number-kept, other-kept}
 use Rattle.cursor.specs.Ranges.{offsets}
 use Rattle.cursor.specs.Cursor.{Cursor, ackBounded, commit_up_to}
 use Rattle.cursor.specs.Place.{rangeAt}
 use Rattle.cursor.specs.View.{ack_cursor, Whole}
-use Rattle.cursor.specs.View as cursor
 use Rattle.cursor.specs.Answers.{ack_of}
 use Rattle.cursor.specs.Answers as answers
 use Rattle.cursor.specs.Edits.{edited, AckPlanned, CommitPlanned}
@@ -30,7 +25,6 @@ use Rattle.cursor.specs.declared.Range.{Range}
 use Rattle.cursor.specs.declared.in_place.AckPlan.{AckPlan}
 use Rattle.cursor.specs.declared.in_place.CommitPlan.{CommitPlan}
 use Rattle.cursor.proofs.Ranges.{nonempty_at, sum-from}
-use Rattle.cursor.proofs.Search.{starts_rise, place-within}
 use Rattle.cursor.proofs.Edits.{ack-made, commit-made}
 use Rattle.cursor.specs.Layout.{COMMITTED, RUNS, STARTS, ENDS, WORDS, cursor_in, view, Sound}
 use Rattle.cursor.specs.Words.{KeptUnlessNew, Updated}
@@ -41,11 +35,14 @@ whole {w} ok =
     record { starts = column-length STARTS RANGES w (omega arith); ends = column-length ENDS RANGES w (omega arith); sound = ok.cursor }
 
 -- ## both columns lent to be read
-pub parts_are : (w : List ℕ) → ack_cursor (word COMMITTED w) (take RANGES (drop STARTS w)) (take RANGES (drop ENDS w)) (word RUNS w) ≡ cursor_in w
+abbrev parts : List ℕ → AckCursor
+parts w = ack_cursor (word COMMITTED w) (take RANGES (drop STARTS w)) (take RANGES (drop ENDS w)) (word RUNS w)
+
+pub parts_are : (w : List ℕ) → parts w ≡ cursor_in w
 unfolding column
 parts_are w = refl
 
-pub parts_whole : {w : List ℕ} → Sound w → Whole (ack_cursor (word COMMITTED w) (take RANGES (drop STARTS w)) (take RANGES (drop ENDS w)) (word RUNS w))
+pub parts_whole : {w : List ℕ} → Sound w → Whole (parts w)
 parts_whole {w} ok = subst Whole (sym (parts_are w)) (whole ok)
 
 -- ## words that are the same cursor are the same
@@ -69,19 +66,6 @@ kept_words (done false) v w a b k = same_words b a k
 -- from what holds of the cursor to what holds of the words
 updated : (outcome : Result Bool) (v w : List ℕ) {right : Answer Bool Cursor} → length v ≡ WORDS → length w ≡ WORDS → answers.Updated (cursor_in v) outcome (cursor_in w) right → Updated outcome v w right
 updated outcome v w a b u = record { is = u.is; sound = record { long = b; cursor = u.sound }; kept = kept_words outcome v w a b u.kept }
-
--- ## the place of an offset
-module _ {w : List ℕ} (ok : Sound w) (x i : ℕ) (b : Boundary (x + 1) (take (word RUNS w) (take RANGES (drop STARTS w))) i) where
-  pub placed : i ≡ upTo x (take (word RUNS w) (column STARTS RANGES w))
-  placed =
-      boundary_below (x + 1) i 0 (take (word RUNS w) (column STARTS RANGES w)) (starts_rise (cursor_in w) (whole ok)) (rw (column-is STARTS RANGES w) at b)
-      ∙ ap (λ (k : ℕ). below k (take (word RUNS w) (column STARTS RANGES w))) (add-one x)
-
-  pub place-used : i ≤ word RUNS w
-  place-used = place-within (cursor_in w) (whole ok) x i placed
-
-  pub place-low : i ≤ RANGES
-  place-low = omega (arith, place-used, ok.cursor.few)
 
 -- ## the range at a place
 module _ {w : List ℕ} (ok : Sound w) (i : ℕ) (h : i < length (view w).ahead) (r : Range) (is : r ≡ rangeAt i (view w).ahead) where
@@ -158,18 +142,18 @@ module _ (w : List ℕ) (l : length w ≡ WORDS) (s : List ℕ) (ls : length s �
       length-set (set both COMMITTED committed) RUNS runs ∙ length-set both COMMITTED committed ∙ both_long
 
   -- a plan that is made among the words
-  pub ack-answers : (x limit : ℕ) (p : AckPlan) → AckPlanned (cursor_in w) x limit p
+  pub ack-answers : (x limit : ℕ) (p : AckPlan) → AckPlanned (parts w) x limit p
       → s ≡ edited (word RUNS w) p.starts (take RANGES (drop STARTS w)) → e ≡ edited (word RUNS w) p.ends (take RANGES (drop ENDS (put_mid STARTS RANGES w s)))
       → Updated (ack_of p.noted.outcome) w (stored w s e p.noted.committed p.noted.runs) (ackBounded (view w) x limit)
   ack-answers x limit p planned a b =
-      let law = ack-made (cursor_in w) x limit p s e planned (a ∙ ap (edited (word RUNS w) p.starts) (column-is STARTS RANGES w)) (b ∙ ap (edited (word RUNS w) p.ends) ends-kept) in
+      let law = ack-made (cursor_in w) x limit p s e (subst (λ (g : AckCursor). AckPlanned g x limit p) (parts_are w) planned) (a ∙ ap (edited (word RUNS w) p.starts) (column-is STARTS RANGES w)) (b ∙ ap (edited (word RUNS w) p.ends) ends-kept) in
       updated (ack_of p.noted.outcome) w (stored w s e p.noted.committed p.noted.runs) l (stored-long p.noted.committed p.noted.runs)
       (subst (λ (c : AckCursor). answers.Updated (cursor_in w) (ack_of p.noted.outcome) c (ackBounded (view w) x limit)) (sym (stored_is p.noted.committed p.noted.runs)) law)
 
-  pub commit-answers : (b : ℕ) (p : CommitPlan) → CommitPlanned (cursor_in w) b p
+  pub commit-answers : (b : ℕ) (p : CommitPlan) → CommitPlanned (parts w) b p
       → s ≡ edited (word RUNS w) p.both (take RANGES (drop STARTS w)) → e ≡ edited (word RUNS w) p.both (take RANGES (drop ENDS (put_mid STARTS RANGES w s)))
       → Updated (done p.moved.advanced) w (stored w s e p.moved.committed p.moved.runs) (commit_up_to (view w) b)
   commit-answers x p planned a b =
-      let law = commit-made (cursor_in w) x p s e planned (a ∙ ap (edited (word RUNS w) p.both) (column-is STARTS RANGES w)) (b ∙ ap (edited (word RUNS w) p.both) ends-kept) in
+      let law = commit-made (cursor_in w) x p s e (subst (λ (g : AckCursor). CommitPlanned g x p) (parts_are w) planned) (a ∙ ap (edited (word RUNS w) p.both) (column-is STARTS RANGES w)) (b ∙ ap (edited (word RUNS w) p.both) ends-kept) in
       updated (done p.moved.advanced) w (stored w s e p.moved.committed p.moved.runs) l (stored-long p.moved.committed p.moved.runs)
       (subst (λ (c : AckCursor). answers.Updated (cursor_in w) (done p.moved.advanced) c (commit_up_to (view w) x)) (sym (stored_is p.moved.committed p.moved.runs)) law)

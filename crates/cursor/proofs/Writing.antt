@@ -19,18 +19,22 @@ use Rattle.cursor.proofs.Snapshot.{length-body, cursor-length}
 use Rattle.cursor.proofs.View.{ranges-from, ranges-over}
 
 -- the loop of `write_ranges`: the ranges that are left, written from the next place on
-module _ (n : ℕ) (s e : List ℕ) (hs : n ≤ length s) (he : n ≤ length e) (i pos : ℕ) (out : List ℕ) where
+module _ (n : ℕ) (s e : List ℕ) (hs : n ≤ length s) (he : n ≤ length e) (i at : ℕ) (out : List ℕ) where
+  abbrev pos : ℕ
+  pos = at + 16 * i
+
   abbrev left : ℕ → List ℕ
   left k = ranges_bytes (drop k (zipped range (take n s) (take n e)))
 
   pub put-more : (o₁ o₂ : List ℕ) {r₁ r₂ : Result ℕ} → i < n → pos + 16 ≤ length out
       → answer r₁ o₁ ≡ write pos (le 8 (get_or s i 0)) out → answer r₂ o₂ ≡ write (pos + 8) (le 8 (get_or e i 0)) o₁
-      → overwrite (pos + 16) (left (i + 1)) o₂ ≡ overwrite pos (left i) out
+      → overwrite (at + 16 * (i + 1)) (left (i + 1)) o₂ ≡ overwrite pos (left i) out
   put-more o₁ o₂ h room p q =
       let r : Range = range (get_or s i 0) (get_or e i 0) in
       let first : o₁ ≡ overwrite pos (le 8 (get_or s i 0)) out = wrote pos (le 8 (get_or s i 0)) out p (omega arith) in
       let both : o₂ ≡ overwrite pos (range_bytes r) out = wrote-behind (pos + 8) (le 8 (get_or e i 0)) o₁ q pos (le 8 (get_or s i 0)) out refl first (omega arith) in
-      rw (both, ranges-from n s e hs he i h) (overwrite-append pos (range_bytes r) (left (i + 1)) out room)
+      let next : at + 16 * (i + 1) ≡ pos + 16 = omega arith in
+      rw (next, both, ranges-from n s e hs he i h) (overwrite-append pos (range_bytes r) (left (i + 1)) out room)
 
   pub put-end : n ≤ i → overwrite pos (left i) out ≡ out
   put-end h = rw (ranges-over n s e hs he i h) (overwrite_none pos out)

@@ -1,13 +1,14 @@
 -- The outcomes and refusals for the cases of the code's enums, and the parts of the contracts.
 -- SPEC.md, "Cursor".
-use Rattle.std.specs.Prelude.{ℕ, ◌*◌, ◌≤◌, ◌≡◌, Bool, true, false, List, length}
+use Rattle.std.specs.Prelude.{ℕ, ◌*◌, ◌≤◌, ◌≡◌, Bool, true, false, List, length, Ok, Err}
+use Rattle.std.specs.Prelude as std
 use Rattle.std.proofs.Math.Option.{Option, none, some}
 use Rattle.types.specs.Refusal.{Refusal, Result, refused, done}
 use Rattle.types.specs.Refusal as refusal
-use Rattle.types.specs.Table.{Answer, answer, first, unless, Kept}
+use Rattle.types.specs.Table.{Answer, answer, first}
 use Rattle.cursor.specs.Cursor.{Cursor, resume_with_ahead}
 use Rattle.cursor.specs.Snapshot.{range_count, cursor_in, decode_table, decode_cursor}
-use Rattle.cursor.specs.View.{view, Sound, empty}
+use Rattle.cursor.specs.View.{view, Sound}
 use Rattle.cursor.specs.declared.AckCursor.{AckCursor}
 use Rattle.cursor.specs.declared.BoundedAck.{BoundedAck}
 use Rattle.cursor.specs.declared.BoundedAck.TheVariants.{Recorded, Duplicate, Shed}
@@ -15,14 +16,8 @@ use Rattle.cursor.specs.declared.AckCursorError.{AckCursorError}
 use Rattle.cursor.specs.declared.AckCursorError.TheVariants.{EmptyRange, NotSortedDisjointAndAboveCommitted, TooManyRuns}
 use Rattle.cursor.specs.declared.SnapshotError.{SnapshotError}
 use Rattle.cursor.specs.declared.SnapshotError.TheVariants.{Truncated, BadLength, UnsupportedVersion, BadCrc, Ranges}
-use Rattle.cursor.specs.declared.Resume.{Resume}
-use Rattle.cursor.specs.declared.Resume.TheVariants as resumes
-use Rattle.cursor.specs.declared.Resumed.{Resumed}
 use Rattle.cursor.specs.declared.Range.{Range}
-use Rattle.cursor.specs.declared.Decode.{Decode}
-use Rattle.cursor.specs.declared.Decode.TheVariants as decodes
-use Rattle.cursor.specs.declared.Decoded.{Decoded}
-use Rattle.cursor.specs.declared.columns.Checked.{Checked}
+use Rattle.cursor.specs.declared.columns.Figures.{Figures}
 
 abbrev pub ack_of : BoundedAck → Result Bool
 ack_of Recorded = done true
@@ -54,40 +49,49 @@ snapshot_error BadCrc = refusal.CursorBadCrc
 snapshot_error (Ranges error) = ranges_error error
 
 -- the refusal that an answer is, if it is one
-abbrev pub resume_fault : Resume → Option Refusal
-resume_fault resumes.Resumed = none
-resume_fault (resumes.Refused error) = some (ranges_error error)
+abbrev pub resume_fault : {T : Type 0} → std.Result T AckCursorError → Option Refusal
+resume_fault (Ok x) = none
+resume_fault (Err error) = some (ranges_error error)
 
-abbrev pub decode_fault : Decode → Option Refusal
-decode_fault decodes.Restored = none
-decode_fault (decodes.Refused error) = some (snapshot_error error)
+abbrev pub decode_fault : {T : Type 0} → std.Result T SnapshotError → Option Refusal
+decode_fault (Ok x) = none
+decode_fault (Err error) = some (snapshot_error error)
 
--- the answer, with the cursor that stands beside it
-abbrev pub resume_of : Resume → Cursor → Result Cursor
-resume_of r c = unless (resume_fault r) (done c)
+-- the answer of a call that makes a cursor
+abbrev pub resume_of : std.Result AckCursor AckCursorError → Result Cursor
+resume_of (Ok c) = done (view c)
+resume_of (Err error) = refused (ranges_error error)
 
-abbrev pub decode_of : Decode → Cursor → Result Cursor
-decode_of d c = unless (decode_fault d) (done c)
+abbrev pub decode_of : std.Result AckCursor SnapshotError → Result Cursor
+decode_of (Ok c) = done (view c)
+decode_of (Err error) = refused (snapshot_error error)
 
--- ranges are resumed as the definition says; beside a refusal stands the cursor that `new` gives
-pub record ResumedIs (committed : ℕ) (ahead : List Range) (r : Resumed) : Type 0 where
-  pub is : resume_of r.outcome (view r.cursor) ≡ resume_with_ahead committed ahead
-  pub sound : Sound r.cursor
-  pub kept : Kept (resume_of r.outcome (view r.cursor)) (empty 0) r.cursor
+-- what was made is a cursor
+abbrev pub SoundIn : {E : Type 0} → std.Result AckCursor E → Type 0
+SoundIn (Ok c) = Sound c
+SoundIn (Err error) = Unit {0}
 
--- a snapshot is decoded as the definition says; beside a refusal stands the cursor that `new` gives
-pub record DecodedIs (bytes : List ℕ) (r : Decoded) : Type 0 where
-  pub is : decode_of r.outcome (view r.cursor) ≡ decode_cursor bytes
-  pub sound : Sound r.cursor
-  pub kept : Kept (decode_of r.outcome (view r.cursor)) (empty 0) r.cursor
+-- ranges are resumed as the definition says
+pub record ResumedIs (committed : ℕ) (ahead : List Range) (r : std.Result AckCursor AckCursorError) : Type 0 where
+  pub is : resume_of r ≡ resume_with_ahead committed ahead
+  pub sound : SoundIn r
 
--- the numbers beside the answer to the test of a snapshot: zeros beside a refusal
-abbrev pub NumbersIn : List ℕ → Decode → ℕ → ℕ → Type 0
-NumbersIn bytes decodes.Restored committed runs = (committed ≡ (cursor_in bytes).committed) × (runs ≡ range_count bytes)
-NumbersIn bytes (decodes.Refused error) committed runs = (committed ≡ 0) × (runs ≡ 0)
+-- a snapshot is decoded as the definition says
+pub record DecodedIs (bytes : List ℕ) (r : std.Result AckCursor SnapshotError) : Type 0 where
+  pub is : decode_of r ≡ decode_cursor bytes
+  pub sound : SoundIn r
+
+-- the figures of a snapshot are those of the cursor in it
+pub record FiguresOf (bytes : List ℕ) (f : Figures) : Type 0 where
+  pub committed : f.committed ≡ (cursor_in bytes).committed
+  pub runs : f.runs ≡ range_count bytes
+  pub within : 16 * f.runs ≤ length bytes
+
+abbrev pub FiguresIn : List ℕ → std.Result Figures SnapshotError → Type 0
+FiguresIn bytes (Ok f) = FiguresOf bytes f
+FiguresIn bytes (Err error) = Unit {0}
 
 -- a snapshot is tested as the definition says
-pub record CheckedIs (bytes : List ℕ) (r : Checked) : Type 0 where
-  pub fault : decode_fault r.outcome ≡ first (decode_table bytes)
-  pub numbers : NumbersIn bytes r.outcome r.committed r.runs
-  pub within : 16 * r.runs ≤ length bytes
+pub record CheckedIs (bytes : List ℕ) (r : std.Result Figures SnapshotError) : Type 0 where
+  pub fault : decode_fault r ≡ first (decode_table bytes)
+  pub figures : FiguresIn bytes r

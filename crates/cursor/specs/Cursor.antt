@@ -1,7 +1,7 @@
 -- The ack cursor: the offset below which all are settled, and the ranges that are settled ahead of it; what an ack, a
 -- commit and a resumption answer (cursor.rs).
 -- SPEC.md, "Cursor".
-use Rattle.std.specs.Prelude.{ℕ, ◌+◌, ◌≤◌, min, Bool, true, false, cond, not, ◌&&◌, ◌||◌, List, [], ◌∷◌, ◌++◌, ltb, leb, eqb, length}
+use Rattle.std.specs.Prelude.{ℕ, ◌≤◌, min, Bool, true, false, cond, not, ◌&&◌, ◌||◌, List, [], ◌∷◌, ◌++◌, ltb, leb, eqb, length}
 use Rattle.types.specs.Limits.{MAX, RANGES}
 use Rattle.types.specs.Refusal.{Result, done, EmptyRange, NotSortedDisjointAndAboveCommitted, TooManyRuns, Shed}
 use Rattle.types.specs.Table.{Row, ◌⇒◌, Answer, answer, checked, guarded}

@@ -3,7 +3,6 @@ pub mod Cursor
 pub mod Snapshot
 pub mod View
 pub mod Answers
-pub mod Taking
 pub mod Place
 pub mod Examples
 pub mod Edits

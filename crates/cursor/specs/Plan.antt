@@ -2,15 +2,10 @@
 -- takes: how often an offset is compared with one of the ranges ahead.
 -- SPEC.md, "Plan".
 use Rattle.std.specs.Prelude.{ℕ, ◌+◌, ◌≤◌, ◌≡◌, cond, not, List, [], ◌∷◌, map, ltb, leb, eqb, length, drop}
-use Rattle.std.proofs.Math.Option.{Option, none, some}
-use Rattle.types.specs.Refusal.{Refusal, Result, refused, done, UnequalLengths, Falling}
+use Rattle.types.specs.Refusal.{done, UnequalLengths, Falling}
 use Rattle.types.specs.Table.{Row, ◌⇒◌, Answer, answer, guarded}
 use Rattle.cursor.specs.Cursor.{Cursor, settled}
 use Rattle.cursor.specs.declared.Range.{Range}
-use Rattle.cursor.specs.declared.plans.PlanAnswer.{PlanAnswer}
-use Rattle.cursor.specs.declared.plans.PlanAnswer.TheVariants as plans
-use Rattle.cursor.specs.declared.plans.Fall.{Fall}
-use Rattle.cursor.specs.declared.plans.Fall.TheVariants as falls
 use Rattle.cursor.specs.declared.plans.Step.{Step}
 
 -- ## the answers
@@ -64,16 +59,6 @@ plan_table os room = not (eqb (length os) room) ⇒ UnequalLengths ∷ pair_rows
 -- the number of looks, and the lent list
 unfoldable pub plan : Cursor → List ℕ → List ℕ → Answer ℕ (List ℕ)
 plan c os out = guarded (plan_table os (length out)) out (answer (done (looks c os)) (plan_bytes c os))
-
--- ## the code's answers
-abbrev pub plan_of : PlanAnswer → Result ℕ
-plan_of (plans.Answered n) = done n
-plan_of plans.UnequalLengths = refused UnequalLengths
-plan_of (plans.Falling place) = refused (Falling place)
-
-abbrev pub fall_of : Fall → Option Refusal
-fall_of falls.None = none
-fall_of (falls.At place) = some (Falling place)
 
 -- ## the walk, as the code makes it: it answers by the range that it stands on
 abbrev pub starts_by : ℕ → List Range → ℕ

@@ -12,6 +12,11 @@ abbrev pub Above : ℕ → List Range → Type 0
 Above lo [] = Unit {0}
 Above lo (r ∷ rs) = (lo < r.start) × (r.start < r.end) × (r.end ≤ MAX) × Above r.end rs
 
+-- each end is a u64
+abbrev pub EndsFit : List Range → Type 0
+EndsFit [] = Unit {0}
+EndsFit (r ∷ rs) = (r.end ≤ MAX) × EndsFit rs
+
 -- the offset lies in one of the ranges
 abbrev pub inside : ℕ → List Range → Bool
 inside o [] = false

@@ -1,17 +1,12 @@
 -- The reverse of what is settled: the unsettled stretches between two numbers, and the nearest unsettled offset; what each is, and
 -- how it is found in the ranges.
 -- SPEC.md, "Open offsets".
-use Rattle.std.specs.Prelude.{ℕ, suc, ◌/◌, ◌≤◌, ◌<◌, min, max, ◌≡◌, Bool, true, false, cond, not, ◌&&◌, List, [], ◌∷◌, ◌++◌, ltb, leb, length, take, drop}
-use Rattle.types.specs.Refusal.{Result, refused, done, BoundsReversed, OutTooShort}
+use Rattle.std.specs.Prelude.{ℕ, suc, ◌/◌, ◌≤◌, ◌<◌, min, max, ◌≡◌, Bool, true, false, cond, not, ◌&&◌, List, [], ◌∷◌, ◌++◌, ltb, leb, length, drop}
+use Rattle.types.specs.Refusal.{done, BoundsReversed, OutTooShort}
 use Rattle.types.specs.Table.{Row, ◌⇒◌, Answer, answer, guarded}
-use Rattle.types.specs.Sorted.{upTo}
 use Rattle.cursor.specs.Ranges.{range, inside}
 use Rattle.cursor.specs.Cursor.{Cursor, settled}
-use Rattle.cursor.specs.View.{view, Sound}
 use Rattle.cursor.specs.declared.Range.{Range}
-use Rattle.cursor.specs.declared.open.Between.{Between}
-use Rattle.cursor.specs.declared.open.OpenAnswer.{OpenAnswer}
-use Rattle.cursor.specs.declared.open.OpenAnswer.TheVariants as opened
 
 -- ## what they are
 -- the offset lies in [a, b) and is not settled
@@ -82,18 +77,3 @@ bounds (r ∷ rs) = r.start ∷ r.end ∷ bounds rs
 unfoldable pub open_numbers : Cursor → ℕ → ℕ → List ℕ → Answer ℕ (List ℕ)
 open_numbers c a b out =
     guarded (open_table c a b (length out / 2)) out (answer (done (length (bounds (stretches c a b)))) (filled (bounds (stretches c a b)) out))
-
--- ## the code's answers
-abbrev pub open_of : OpenAnswer → Result ℕ
-open_of (opened.Filled n) = done n
-open_of opened.BoundsReversed = refused BoundsReversed
-open_of opened.OutTooShort = refused OutTooShort
-
--- stretches that were found and are to be listed: which they are, the place of the first range that starts above a, and how many
-abbrev pub found_in : Between → List Range
-found_in f = stretches (view f.cursor) f.a f.b
-
-pub record Found (f : Between) : Type 0 where
-  pub sound : Sound f.cursor
-  pub first : f.first ≡ upTo f.a (take f.cursor.runs f.cursor.starts)
-  pub count : f.count ≡ length (found_in f)

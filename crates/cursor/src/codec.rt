@@ -1,8 +1,9 @@
 // The snapshot of a cursor: version 1, committed, the ranges as two numbers each, and the check of all before it.
 ghost use Rattle.std.specs.Prelude.{◌≡◌, ◌+◌, ◌*◌, ◌≤◌, length, take};
+ghost use Rattle.types.specs.Refused.{as_is};
 ghost use Rattle.types.specs.Table.{answer, first};
 ghost use Rattle.types.specs.Zipped.{zipped};
-ghost use Rattle.raw.specs.Bytes.{overwrite, write, outcome_of};
+ghost use Rattle.raw.specs.Bytes.{overwrite, write};
 ghost use Rattle.cursor.specs.Ranges.{range};
 ghost use Rattle.cursor.specs.Snapshot.{ranges_bytes, body_bytes, encode_cursor, frame_table};
 ghost use Rattle.cursor.specs.View.{ack_cursor, view, Sound};
@@ -10,9 +11,9 @@ ghost use Rattle.cursor.specs.Answers.{decode_fault, DecodedIs};
 
 use crate::columns::{check_snapshot, read_column};
 use crate::in_place::encode_in_place;
-use crate::{AckCursor, Decode, Decoded, SnapshotError};
-use raw::Write;
-use types::limits::RANGES;
+use crate::{AckCursor, SnapshotError};
+use types::Offset;
+use types::refusals::Refusal;
 
 const SNAPSHOT_VERSION: u8 = 1;
 
@@ -32,9 +33,9 @@ impl AckCursor {
     }
 
     // Writes the snapshot from a position on, and answers the position behind it. Refused without room (20).
-    pub fn encode_snapshot(self, out: &mut [u8], at: usize) -> Write
+    pub fn encode_snapshot(self, out: &mut [u8], at: usize) -> Result<usize, Refusal>
         requires { Sound self }
-        ensures { answer (outcome_of result) out.new ≡ write at (encode_cursor (view self)) out.old }
+        ensures { answer (as_is result) out.new ≡ write at (encode_cursor (view self)) out.old }
     {
         encode_in_place(self.committed, &self.starts, &self.ends, self.runs, out, at)
     }
@@ -42,25 +43,16 @@ impl AckCursor {
     // The cursor of a snapshot. Refused in this order: too short (6), no whole number of ranges (7), another version (8), a
     // wrong check (9), range by range an empty one (10) or one not above the end before it (11), over 128 ranges (12). A refused
     // snapshot is torn or worn: go back to the one before it, and trust no part of this one.
-    pub fn decode_snapshot(input: &[u8]) -> Decoded
+    pub fn decode_snapshot(input: &[u8]) -> Result<AckCursor, SnapshotError>
         ensures { DecodedIs input.now result }
     {
-        let checked = check_snapshot(input);
-        let outcome = checked.outcome;
-        let runs = checked.runs;
-        let mut starts = [0; RANGES];
-        let mut ends = [0; RANGES];
-        read_column(input, 9, runs, &mut starts);
-        read_column(input, 17, runs, &mut ends);
-        Decoded {
-            outcome,
-            cursor: AckCursor {
-                committed: checked.committed,
-                starts,
-                ends,
-                runs,
-            },
-        }
+        let figures = check_snapshot(input)?;
+        let runs = figures.runs;
+        let mut cursor = AckCursor::resume(Offset(figures.committed));
+        read_column(input, 9, runs, &mut cursor.starts);
+        read_column(input, 17, runs, &mut cursor.ends);
+        cursor.runs = runs;
+        Ok(cursor)
     }
 }
 
@@ -77,7 +69,7 @@ pub(crate) fn write_body<'a>(
     ensures { out.new ≡ overwrite at (body_bytes (view (ack_cursor committed starts.now ends.now n))) out.old }
 {
     out[at] = SNAPSHOT_VERSION;
-    raw::write_u64(out, at + 1, committed);
+    let _ = raw::write_u64(out, at + 1, committed);
     write_ranges(starts, ends, n, out, at + 9);
 }
 
@@ -86,34 +78,31 @@ fn write_ranges<'a>(starts: &'a [u64], ends: &'a [u64], n: usize, out: &mut [u8]
     requires { (n ≤ length starts.now) × (n ≤ length ends.now) × (at + 16 * n ≤ length out.old) }
     ensures { out.new ≡ overwrite at (ranges_bytes (zipped range (take n starts.now) (take n ends.now))) out.old }
 {
-    let mut pos = at;
-    let mut i: usize = 0;
-    while i < n {
-        raw::write_u64(out, pos, starts[i]);
-        raw::write_u64(out, pos + 8, ends[i]);
-        pos += RANGE_LEN;
-        i += 1;
+    for i in 0..n {
+        let pos = at + RANGE_LEN * i;
+        let _ = raw::write_u64(out, pos, starts[i]);
+        let _ = raw::write_u64(out, pos + 8, ends[i]);
     }
 }
 
 // Whether bytes are framed as a snapshot: their length, version and check.
-pub(crate) fn check_frame(input: &[u8]) -> Decode
+pub(crate) fn check_frame(input: &[u8]) -> Result<(), SnapshotError>
     ensures { decode_fault result ≡ first (frame_table input.now) }
 {
     let len = input.len();
     if len < AckCursor::SNAPSHOT_MIN_LEN {
-        return Decode::Refused(SnapshotError::Truncated);
+        return Err(SnapshotError::Truncated);
     }
     let ranges_len = len - AckCursor::SNAPSHOT_MIN_LEN;
     if ranges_len % RANGE_LEN != 0 {
-        return Decode::Refused(SnapshotError::BadLength { len });
+        return Err(SnapshotError::BadLength { len });
     }
     let version = input[0];
     if version != SNAPSHOT_VERSION {
-        return Decode::Refused(SnapshotError::UnsupportedVersion(version));
+        return Err(SnapshotError::UnsupportedVersion(version));
     }
     if !crc::is_sealed(input) {
-        return Decode::Refused(SnapshotError::BadCrc);
+        return Err(SnapshotError::BadCrc);
     }
-    Decode::Restored
+    Ok(())
 }

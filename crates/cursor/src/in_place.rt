@@ -4,9 +4,10 @@
 // make the same plans, and lend its own columns one at a time.
 ghost use Rattle.std.specs.Prelude.{◌≡◌, ◌-◌, ◌≤◌, ◌<◌, ◌&&◌, ◌∷◌, ltb, eqb, length, take, get_or};
 ghost use Rattle.types.specs.Refusal.{done};
+ghost use Rattle.types.specs.Refused.{as_is};
 ghost use Rattle.types.specs.Table.{answer};
 ghost use Rattle.types.specs.Sorted.{Ascending, upTo};
-ghost use Rattle.raw.specs.Bytes.{write, outcome_of};
+ghost use Rattle.raw.specs.Bytes.{write};
 ghost use Rattle.cursor.specs.Cursor.{settled, ackBounded, commit_up_to};
 ghost use Rattle.cursor.specs.View.{ack_cursor, view, Whole};
 ghost use Rattle.cursor.specs.Answers.{ack_of, Updated};
@@ -14,11 +15,10 @@ ghost use Rattle.cursor.specs.Place.{Spotted};
 ghost use Rattle.cursor.specs.Edits.{edited, ack_plan, stretch_plan, join_plan, AckPlanned, CommitPlanned};
 ghost use Rattle.cursor.specs.Snapshot.{encode_cursor};
 
+use crate::BoundedAck;
 use crate::columns::encode_columns;
-use crate::{BoundedAck, in_words};
-use raw::Write;
 use types::limits::{MAX, RANGES};
-use types::numbers::larger;
+use types::refusals::Refusal;
 
 // What an ack answers, beside the columns.
 #[derive(Clone, Copy)]
@@ -79,8 +79,8 @@ pub fn commit_in_place(
 // `is_acked` on the parts of a cursor.
 pub fn is_acked_in_place<'a>(
     committed: u64,
-    starts: &'a [u64; RANGES],
-    ends: &'a [u64; RANGES],
+    starts: &'a [u64],
+    ends: &'a [u64],
     runs: usize,
     offset: u64,
 ) -> bool
@@ -94,20 +94,20 @@ pub fn is_acked_in_place<'a>(
 // `encode_snapshot` on the parts of a cursor.
 pub fn encode_in_place<'a>(
     committed: u64,
-    starts: &'a [u64; RANGES],
-    ends: &'a [u64; RANGES],
+    starts: &'a [u64],
+    ends: &'a [u64],
     runs: usize,
     out: &mut [u8],
     at: usize,
-) -> Write
+) -> Result<usize, Refusal>
     requires { Whole (ack_cursor committed starts.now ends.now runs) }
-    ensures { answer (outcome_of result) out.new ≡ write at (encode_cursor (view (ack_cursor committed starts.now ends.now runs))) out.old }
+    ensures { answer (as_is result) out.new ≡ write at (encode_cursor (view (ack_cursor committed starts.now ends.now runs))) out.old }
 {
     encode_columns(committed, starts, ends, runs, out, at)
 }
 
 // What becomes of a column of which the first places are in use.
-#[derive(Clone, Copy)]
+#[derive(Clone, Copy, Debug, PartialEq, Eq)]
 pub(crate) enum Edit {
     Keep,
     // This number is set at a place.
@@ -119,10 +119,19 @@ pub(crate) enum Edit {
 }
 
 // Changes a column where it lies. An edit at a place that the column doesn't have changes nothing.
-pub(crate) fn apply(column: &mut [u64; RANGES], runs: usize, edit: Edit)
+pub(crate) fn apply(column: &mut [u64], runs: usize, edit: Edit)
     ensures { column.new ≡ edited runs edit column.old }
 {
-    in_words::apply(column, runs, edit);
+    match edit {
+        Edit::Keep => {}
+        Edit::Set { at, x } => {
+            if at < column.len() {
+                column[at] = x;
+            }
+        }
+        Edit::Insert { at, x } => tables::insert(column, runs, at, x),
+        Edit::Remove { from, to } => tables::remove(column, runs, from, to),
+    }
 }
 
 // What an ack answers, and what becomes of each column.
@@ -136,8 +145,8 @@ pub(crate) struct AckPlan {
 // What an ack does. Nothing is changed yet.
 pub(crate) fn plan_ack<'a>(
     committed: u64,
-    starts: &'a [u64; RANGES],
-    ends: &'a [u64; RANGES],
+    starts: &'a [u64],
+    ends: &'a [u64],
     runs: usize,
     offset: u64,
     max_runs: usize,
@@ -155,15 +164,14 @@ pub(crate) fn plan_ack<'a>(
             recorded(committed, runs, at_start, Edit::Keep)
         }
         Spot::Apart(i) => {
-            if runs < max_runs {
-                if runs < RANGES {
-                    let start = Edit::Insert { at: i, x: offset };
-                    let end = Edit::Insert {
-                        at: i,
-                        x: offset + 1,
-                    };
-                    return recorded(committed, runs + 1, start, end);
-                }
+            let limit = max_runs.min(RANGES);
+            if runs < limit {
+                let start = Edit::Insert { at: i, x: offset };
+                let end = Edit::Insert {
+                    at: i,
+                    x: offset + 1,
+                };
+                return recorded(committed, runs + 1, start, end);
             }
             keeping(BoundedAck::Shed, committed, runs)
         }
@@ -171,7 +179,7 @@ pub(crate) fn plan_ack<'a>(
 }
 
 // An ack that changes nothing.
-pub(crate) fn keeping(outcome: BoundedAck, committed: u64, runs: usize) -> AckPlan
+fn keeping(outcome: BoundedAck, committed: u64, runs: usize) -> AckPlan
     ensures { result ≡ ack_plan outcome committed runs Edit.Keep Edit.Keep }
 {
     AckPlan {
@@ -186,7 +194,7 @@ pub(crate) fn keeping(outcome: BoundedAck, committed: u64, runs: usize) -> AckPl
 }
 
 // An ack that is recorded.
-pub(crate) fn recorded(committed: u64, runs: usize, starts: Edit, ends: Edit) -> AckPlan
+fn recorded(committed: u64, runs: usize, starts: Edit, ends: Edit) -> AckPlan
     ensures { result ≡ ack_plan BoundedAck.Recorded committed runs starts ends }
 {
     AckPlan {
@@ -201,7 +209,7 @@ pub(crate) fn recorded(committed: u64, runs: usize, starts: Edit, ends: Edit) ->
 }
 
 // The end before a place moves, which is committed at the first place.
-pub(crate) fn stretch(committed: u64, runs: usize, at: usize, end: u64) -> AckPlan
+fn stretch(committed: u64, runs: usize, at: usize, end: u64) -> AckPlan
     ensures { result ≡ stretch_plan committed runs at end }
 {
     if at == 0 {
@@ -213,8 +221,8 @@ pub(crate) fn stretch(committed: u64, runs: usize, at: usize, end: u64) -> AckPl
 
 // The range at a place becomes part of what ends before it: its start goes, and the end before it, for which at the first place
 // committed is its end.
-fn join(committed: u64, ends: &[u64; RANGES], runs: usize, at: usize) -> AckPlan
-    requires { (at < runs) × (runs ≤ 128) }
+fn join(committed: u64, ends: &[u64], runs: usize, at: usize) -> AckPlan
+    requires { (at < runs) × (runs ≤ length ends.now) }
     ensures { result ≡ join_plan committed ends.now runs at }
 {
     let start = Edit::Remove {
@@ -241,8 +249,8 @@ pub(crate) struct CommitPlan {
 // What a commit does. Nothing is changed yet.
 pub(crate) fn plan_commit<'a>(
     committed: u64,
-    starts: &'a [u64; RANGES],
-    ends: &'a [u64; RANGES],
+    starts: &'a [u64],
+    ends: &'a [u64],
     runs: usize,
     bound: u64,
 ) -> CommitPlan
@@ -264,7 +272,7 @@ pub(crate) fn plan_commit<'a>(
     CommitPlan {
         moved: Moved {
             advanced: true,
-            committed: larger(bound, end),
+            committed: bound.max(end),
             runs: runs - k,
         },
         both: Edit::Remove { from: 0, to: k },
@@ -272,8 +280,8 @@ pub(crate) fn plan_commit<'a>(
 }
 
 // Where an offset stands. Places count from 0, and committed is the end before place 0.
-#[derive(Clone, Copy)]
-pub(crate) enum Spot {
+#[derive(Clone, Copy, Debug, PartialEq, Eq)]
+enum Spot {
     // Acked before, or the last offset of all.
     Settled,
     // At the end before this place.
@@ -287,7 +295,7 @@ pub(crate) enum Spot {
 }
 
 // Where offset x stands.
-fn locate(committed: u64, starts: &[u64; RANGES], ends: &[u64; RANGES], runs: usize, x: u64) -> Spot
+fn locate(committed: u64, starts: &[u64], ends: &[u64], runs: usize, x: u64) -> Spot
     requires { Whole (ack_cursor committed starts.now ends.now runs) }
     ensures { Spotted (view (ack_cursor committed starts.now ends.now runs)) x result }
 {
@@ -317,22 +325,15 @@ pub(crate) fn end_before(committed: u64, ends: &[u64], at: usize) -> u64
     requires { at ≤ length ends.now }
     ensures { result ≡ get_or (committed ∷ ends.now) at 0 }
 {
-    if at == 0 {
-        return committed;
-    }
-    let k = at - 1;
-    ends[k]
+    if at == 0 { committed } else { ends[at - 1] }
 }
 
 // Whether x stands at a place of the first n numbers of a column.
-fn stands_at(column: &[u64; RANGES], n: usize, at: usize, x: u64) -> bool
-    requires { n ≤ 128 }
+fn stands_at(column: &[u64], n: usize, at: usize, x: u64) -> bool
+    requires { n ≤ length column.now }
     ensures { result ≡ (ltb at n && eqb (get_or column.now at 0) x) }
 {
-    if at < n {
-        return column[at] == x;
-    }
-    false
+    at < n && column[at] == x
 }
 
 // How many of the first n numbers of a column, which rise, are at most x.

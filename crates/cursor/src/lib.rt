@@ -4,25 +4,26 @@
 // and comes back; nothing is kept elsewhere, and an ack or a commit shifts its ranges within its own columns.
 #![tactic(auto)]
 
-ghost use Rattle.std.specs.Prelude.{◌≡◌, ℕ, ◌+◌, ◌<◌, min, List, [], ◌∷◌, ◌++◌, length, set};
+ghost use Rattle.std.specs.Prelude.{◌≡◌, ◌<◌, ◌≤◌, length, IfOk};
+ghost use Rattle.types.specs.Limits.{MAX};
 ghost use Rattle.types.specs.Identifiers.{offset};
 ghost use Rattle.types.specs.Refusal.{done};
-ghost use Rattle.types.specs.Lists.{listed, roomFor, listed_of};
+ghost use Rattle.types.specs.Refused.{refusal_of, as_is};
+ghost use Rattle.types.specs.Lists.{listed};
 ghost use Rattle.types.specs.Table.{answer, first};
 ghost use Rattle.types.specs.Zipped.{zipped};
-ghost use Rattle.cursor.specs.Ranges.{range, offsets};
-ghost use Rattle.cursor.specs.Cursor.{settled, ackBounded, commit_up_to, range_table};
+ghost use Rattle.cursor.specs.Ranges.{range, EndsFit, offsets};
+ghost use Rattle.cursor.specs.Cursor.{settled, ackBounded, commit_up_to, range_table, resume_table};
 ghost use Rattle.cursor.specs.View.{view, Sound, Fresh};
-ghost use Rattle.cursor.specs.Answers.{ack_of, Updated, resume_fault, ResumedIs};
-ghost use Rattle.cursor.specs.Taking.{Taken};
-ghost use Rattle.cursor.specs.declared.Range.{Range};
+ghost use Rattle.cursor.specs.Answers.{ack_of, ranges_error, snapshot_error, Updated, resume_fault, ResumedIs};
 ghost use Rattle.cursor.specs.Place.{rangeAt};
+ghost use Rattle.cursor.specs.declared.SnapshotError.TheVariants.{Ranges};
 
+use crate::columns::check_columns;
 use crate::in_place::{apply, is_acked_in_place, plan_ack, plan_commit};
-use types::lent::Listed;
+use types::Offset;
 use types::limits::RANGES;
-use types::numbers::shorter;
-use types::{Offset, lent};
+use types::refusals::Refusal;
 
 // `encode_snapshot` and `decode_snapshot`; the same over lent columns.
 mod codec;
@@ -58,7 +59,7 @@ pub struct AckCursor {
 // What a bounded ack answers. Recorded: it was new. Duplicate: the offset was acked before, or is the last of all, which
 // is never acked. Shed, refusal 29: it would have made a range more than the limit; the offset still reads as unacked
 // and comes again later, a duplicate and no loss. A caller should count these: many of them say that acks leave too many gaps.
-#[derive(Clone, Copy)]
+#[derive(Clone, Copy, Debug, PartialEq, Eq)]
 pub enum BoundedAck {
     Recorded,
     Duplicate,
@@ -80,7 +81,7 @@ pub struct Committed {
 }
 
 // Ranges that no cursor has: refusals 10, 11 and 12.
-#[derive(Clone, Copy)]
+#[derive(Clone, Copy, Debug, PartialEq, Eq)]
 pub enum AckCursorError {
     // start is not below end.
     EmptyRange { start: u64, end: u64 },
@@ -91,7 +92,7 @@ pub enum AckCursorError {
 }
 
 // Bytes that are no snapshot: refusals 6 to 9, and those of the ranges.
-#[derive(Clone, Copy)]
+#[derive(Clone, Copy, Debug, PartialEq, Eq)]
 pub enum SnapshotError {
     // Shorter than a snapshot without ranges.
     Truncated,
@@ -104,32 +105,50 @@ pub enum SnapshotError {
     Ranges(AckCursorError),
 }
 
-// Whether ranges are those of a cursor.
-#[derive(Clone, Copy)]
-pub enum Resume {
-    Resumed,
-    Refused(AckCursorError),
+impl From<AckCursorError> for SnapshotError {
+    ghost from_gives = { λ error e. e ≡ Ranges error };
+
+    fn from(error: AckCursorError) -> SnapshotError {
+        SnapshotError::Ranges(error)
+    }
 }
 
-// Beside a refusal stands the cursor that `new` gives.
-#[derive(Clone, Copy)]
-pub struct Resumed {
-    pub outcome: Resume,
-    pub cursor: AckCursor,
+impl From<AckCursorError> for Refusal {
+    ghost from_gives = { λ error r. refusal_of r ≡ ranges_error error };
+
+    fn from(error: AckCursorError) -> Refusal {
+        match error {
+            AckCursorError::EmptyRange { start, end } => Refusal::EmptyRange { start, end },
+            AckCursorError::NotSortedDisjointAndAboveCommitted { start, prev_end } => {
+                Refusal::NotSortedDisjointAndAboveCommitted { start, prev_end }
+            }
+            AckCursorError::TooManyRuns => Refusal::TooManyRuns,
+        }
+    }
 }
 
-// Whether bytes are a snapshot.
-#[derive(Clone, Copy)]
-pub enum Decode {
-    Restored,
-    Refused(SnapshotError),
+impl From<SnapshotError> for Refusal {
+    ghost from_gives = { λ error r. refusal_of r ≡ snapshot_error error };
+
+    fn from(error: SnapshotError) -> Refusal {
+        match error {
+            SnapshotError::Truncated => Refusal::CursorTruncated,
+            SnapshotError::BadLength { len } => Refusal::CursorBadLength { len },
+            SnapshotError::UnsupportedVersion(version) => {
+                Refusal::CursorUnsupportedVersion { version }
+            }
+            SnapshotError::BadCrc => Refusal::CursorBadCrc,
+            SnapshotError::Ranges(error) => Refusal::from(error),
+        }
+    }
 }
 
-// Beside a refusal stands the cursor that `new` gives.
-#[derive(Clone, Copy)]
-pub struct Decoded {
-    pub outcome: Decode,
-    pub cursor: AckCursor,
+impl Default for AckCursor {
+    fn default() -> AckCursor
+        ensures { Fresh 0 result }
+    {
+        AckCursor::new()
+    }
 }
 
 impl AckCursor {
@@ -138,13 +157,6 @@ impl AckCursor {
         ensures { Fresh 0 result }
     {
         AckCursor::resume(Offset::ZERO)
-    }
-
-    // The same.
-    pub fn default() -> AckCursor
-        ensures { Fresh 0 result }
-    {
-        AckCursor::new()
     }
 
     // A cursor at a committed offset with nothing acked ahead of it.
@@ -162,48 +174,53 @@ impl AckCursor {
     // A cursor at a committed offset with ranges ahead of it, of which there may be any number. Refused range by range: an
     // empty one (10), one not above the end before it (11); then over 128 ranges (12). A caller whose ranges are refused can still
     // `resume` at committed: what was acked ahead of it comes again.
-    pub fn resume_with_ahead(committed: Offset, ahead: &[Range]) -> Resumed
+    pub fn resume_with_ahead(
+        committed: Offset,
+        ahead: &[Range],
+    ) -> Result<AckCursor, AckCursorError>
         ensures { ResumedIs committed.0 ahead.now result }
     {
-        let n = ahead.len();
-        let mut under_way = begin(committed.0);
-        let mut i: usize = 0;
-        while i < n {
-            let r = ahead[i];
-            under_way = take_range(under_way, r.start, r.end);
-            i += 1;
+        check_ahead(committed.0, ahead)?;
+        let mut cursor = AckCursor::resume(committed);
+        for (i, range) in ahead.iter().enumerate() {
+            cursor.starts[i] = range.start;
+            cursor.ends[i] = range.end;
         }
-        finish(under_way)
+        cursor.runs = ahead.len();
+        Ok(cursor)
     }
 
     // The same with the starts and the ends in columns of their own, a range for each place that both have.
-    pub fn resume_with_columns<'a>(committed: Offset, starts: &'a [u64], ends: &'a [u64]) -> Resumed
+    pub fn resume_with_columns<'a>(
+        committed: Offset,
+        starts: &'a [u64],
+        ends: &'a [u64],
+    ) -> Result<AckCursor, AckCursorError>
         ensures { ResumedIs committed.0 (zipped range starts.now ends.now) result }
     {
-        let n = shorter(starts.len(), ends.len());
-        let mut under_way = begin(committed.0);
-        let mut i: usize = 0;
-        while i < n {
-            under_way = take_range(under_way, starts[i], ends[i]);
-            i += 1;
-        }
-        finish(under_way)
+        check_columns(committed.0, starts, ends)?;
+        let runs = starts.len().min(ends.len());
+        let mut cursor = AckCursor::resume(committed);
+        tables::copy(&mut cursor.starts, 0, starts, runs);
+        tables::copy(&mut cursor.ends, 0, ends, runs);
+        cursor.runs = runs;
+        Ok(cursor)
     }
 
     // Lists the ranges ahead from the first place on and answers their number; later places stay. Refused, with the list
     // as it was, where they don't fit (20).
-    pub fn ahead_ranges(self, out: &mut [Range]) -> Listed
+    pub fn ahead_ranges(self, out: &mut [Range]) -> Result<usize, Refusal>
         requires { Sound self }
-        ensures { answer (listed_of result) out.new ≡ listed (view self).ahead out.old }
+        ensures { answer (as_is result) out.new ≡ listed (view self).ahead out.old }
     {
-        let outcome = self.room_for(out.len());
-        let n = lent::count_of(outcome);
-        let mut i: usize = 0;
-        while i < n {
-            out[i] = self.range_at(i);
-            i += 1;
+        let runs = self.runs;
+        if out.len() < runs {
+            return Err(Refusal::OutTooShort);
         }
-        outcome
+        for i in 0..runs {
+            out[i] = self.range_at(i);
+        }
+        Ok(runs)
     }
 
     // The offset below which all are acked.
@@ -234,10 +251,8 @@ impl AckCursor {
     {
         let runs = self.runs;
         let mut sum: u64 = 0;
-        let mut i: usize = 0;
-        while i < runs {
+        for i in 0..runs {
             sum += self.ends[i] - self.starts[i];
-            i += 1;
         }
         sum
     }
@@ -310,14 +325,6 @@ impl AckCursor {
         }
     }
 
-    // Whether the ranges fit into a list of this length.
-    fn room_for(self, len: usize) -> Listed
-        requires { Sound self }
-        ensures { listed_of result ≡ roomFor (length (view self).ahead) len }
-    {
-        lent::room_for(self.runs, RANGES, len)
-    }
-
     // The range at a place.
     fn range_at(self, at: usize) -> Range
         requires { Sound self × (at < length (view self).ahead) }
@@ -330,116 +337,32 @@ impl AckCursor {
     }
 }
 
-// A resumption under way: whether the ranges so far are those of a cursor, the first 128 of them, how many they are, up to
-// 129, and their last end, which is committed before the first.
-#[derive(Clone, Copy)]
-struct Resuming {
-    outcome: Resume,
-    committed: u64,
-    starts: [u64; RANGES],
-    ends: [u64; RANGES],
-    taken: usize,
-    last: u64,
-}
-
-// A resumption that has taken no range yet.
-fn begin(committed: u64) -> Resuming
-    ensures { Taken committed [] result }
+// Whether ranges may stand ahead of committed: all of them are tested before their number is.
+fn check_ahead(committed: u64, ahead: &[Range]) -> Result<(), AckCursorError>
+    ensures fault { resume_fault result ≡ first (resume_table committed ahead.now) }
+    ensures fits { IfOk result (λ x. EndsFit ahead.now) }
 {
-    Resuming {
-        outcome: Resume::Resumed,
-        committed,
-        starts: [0; RANGES],
-        ends: [0; RANGES],
-        taken: 0,
-        last: committed,
+    let mut last = committed;
+    for range in ahead {
+        check_range(last, range.start, range.end)?;
+        last = range.end;
     }
-}
-
-// Takes one range more.
-fn take_range(under_way: Resuming, start: u64, end: u64) -> Resuming
-    ensures { (n : ℕ) (ranges : List Range) → Taken n ranges under_way → Taken n (ranges ++ range start end ∷ []) result }
-{
-    let outcome = under_way.outcome;
-    let Resume::Resumed = outcome else {
-        return under_way;
-    };
-    let checked = check_range(under_way.last, start, end);
-    let mut starts = under_way.starts;
-    let mut ends = under_way.ends;
-    let taken = note_range(&mut starts, &mut ends, under_way.taken, start, end);
-    Resuming {
-        outcome: checked,
-        committed: under_way.committed,
-        starts,
-        ends,
-        taken,
-        last: end,
+    if RANGES < ahead.len() {
+        return Err(AckCursorError::TooManyRuns);
     }
-}
-
-// The cursor of the ranges that were taken, or the first refusal.
-fn finish(all: Resuming) -> Resumed
-    ensures { (n : ℕ) (ranges : List Range) → Taken n ranges all → ResumedIs n ranges result }
-{
-    let outcome = all.outcome;
-    let taken = all.taken;
-    let Resume::Resumed = outcome else {
-        return Resumed {
-            outcome,
-            cursor: AckCursor::new(),
-        };
-    };
-    if RANGES < taken {
-        return Resumed {
-            outcome: Resume::Refused(AckCursorError::TooManyRuns),
-            cursor: AckCursor::new(),
-        };
-    }
-    let starts = all.starts;
-    let ends = all.ends;
-    Resumed {
-        outcome,
-        cursor: AckCursor {
-            committed: all.committed,
-            starts,
-            ends,
-            runs: taken,
-        },
-    }
+    Ok(())
 }
 
 // Whether a range may stand behind an end.
-fn check_range(prev_end: u64, start: u64, end: u64) -> Resume
-    ensures { resume_fault result ≡ first (range_table prev_end (range start end)) }
+fn check_range(prev_end: u64, start: u64, end: u64) -> Result<(), AckCursorError>
+    ensures fault { resume_fault result ≡ first (range_table prev_end (range start end)) }
+    ensures fits { end ≤ MAX }
 {
     if end <= start {
-        return Resume::Refused(AckCursorError::EmptyRange { start, end });
+        return Err(AckCursorError::EmptyRange { start, end });
     }
     if start <= prev_end {
-        return Resume::Refused(AckCursorError::NotSortedDisjointAndAboveCommitted {
-            start,
-            prev_end,
-        });
+        return Err(AckCursorError::NotSortedDisjointAndAboveCommitted { start, prev_end });
     }
-    Resume::Resumed
-}
-
-// Puts a range at a place of the columns, if they have that place. Answers how many there are then, up to 129.
-fn note_range(
-    starts: &mut [u64; RANGES],
-    ends: &mut [u64; RANGES],
-    at: usize,
-    start: u64,
-    end: u64,
-) -> usize
-    requires { (length starts.old ≡ 128) × (length ends.old ≡ 128) }
-    ensures { (result ≡ min (at + 1) 129) × (starts.new ≡ set starts.old at start) × (ends.new ≡ set ends.old at end) }
-{
-    if at < RANGES {
-        starts[at] = start;
-        ends[at] = end;
-        return at + 1;
-    }
-    RANGES + 1
+    Ok(())
 }

@@ -1,44 +1,19 @@
 // The reverse of what is settled: the unsettled stretches between two numbers, and the nearest unsettled offset. Ranges don't touch, so
 // there is just one stretch before each: from the end before it up to its start. The first is found by a search, their number by
 // another, and no range before the first or behind the last is looked at.
-ghost use Rattle.std.specs.Prelude.{◌≡◌, ◌≤◌, ◌<◌, min, max, ◌∷◌, length, take, get_or};
+ghost use Rattle.std.specs.Prelude.{◌≡◌, ◌≤◌, min, max, ◌∷◌, length, take, get_or};
 ghost use Rattle.types.specs.Identifiers.{offset};
 ghost use Rattle.types.specs.Sorted.{upTo};
-ghost use Rattle.types.specs.Table.{answer, checked};
-ghost use Rattle.types.specs.Lists.{listed, roomFor, listed_of};
+ghost use Rattle.types.specs.Refused.{as_is};
+ghost use Rattle.types.specs.Table.{answer};
 ghost use Rattle.cursor.specs.Ranges.{range};
 ghost use Rattle.cursor.specs.View.{ack_cursor, view, Sound, Whole};
-ghost use Rattle.cursor.specs.Place.{rangeAt};
-ghost use Rattle.cursor.specs.Unsettled.{stretches, nearest_open, open_between, open_numbers, open_of, bounds_table, found_in, Found};
+ghost use Rattle.cursor.specs.Unsettled.{stretches, nearest_open, open_between, open_numbers};
 
 use crate::in_place::{end_before, partition_point};
 use crate::{AckCursor, Range};
-use types::lent::Listed;
-use types::limits::RANGES;
-use types::numbers::larger;
-use types::{Offset, lent};
-
-// The longest answer: a stretch before each range and one behind the last.
-const STRETCHES: usize = RANGES + 1;
-
-// What the list of stretches answers: how many places of the lent list were filled, or refusal 32 or 20.
-#[derive(Clone, Copy)]
-pub enum OpenAnswer {
-    Filled(usize),
-    BoundsReversed,
-    OutTooShort,
-}
-
-// Stretches that were found and are to be listed: those of a cursor between a and b. `first` is the place of the first range that starts
-// above a, `count` how many stretches there are.
-#[derive(Clone, Copy)]
-struct Between {
-    cursor: AckCursor,
-    a: u64,
-    b: u64,
-    first: usize,
-    count: usize,
-}
+use types::Offset;
+use types::refusals::Refusal;
 
 // Where the stretches begin, and how many they are.
 #[derive(Clone, Copy)]
@@ -51,12 +26,31 @@ impl AckCursor {
     // Lists the unsettled stretches within [a, b) from the first place on, and answers their number; later places stay. They rise, none
     // touches the next, and they are clipped at both bounds. Refused, with the list as it was: a above b (32); then where they don't
     // fit (20).
-    pub fn open_between(self, a: u64, b: u64, out: &mut [Range]) -> OpenAnswer
+    pub fn open_between(self, a: u64, b: u64, out: &mut [Range]) -> Result<usize, Refusal>
         requires { Sound self }
-        ensures { answer (open_of result) out.new ≡ open_between (view self) a b out.old }
+        ensures { answer (as_is result) out.new ≡ open_between (view self) a b out.old }
     {
-        let listed = list_open(self.between(a, b), out);
-        open_answer(a, b, listed)
+        if b < a {
+            return Err(Refusal::BoundsReversed);
+        }
+        let gaps = find_open(self.committed, &self.starts, &self.ends, self.runs, a, b);
+        let first = gaps.first;
+        let count = gaps.count;
+        if out.len() < count {
+            return Err(Refusal::OutTooShort);
+        }
+        for i in 0..count {
+            out[i] = stretch_at(
+                self.committed,
+                &self.starts,
+                &self.ends,
+                self.runs,
+                a,
+                b,
+                first + i,
+            );
+        }
+        Ok(count)
     }
 
     // The least offset at or above the given one that is not settled. The last offset of all is never settled, so that there is one.
@@ -66,93 +60,10 @@ impl AckCursor {
     {
         Offset(nearest_in_place(self.committed, &self.starts, &self.ends, self.runs, from.0))
     }
-
-    // Finds the stretches within [a, b), of which there are none where a is not below b.
-    fn between(self, a: u64, b: u64) -> Between
-        requires { Sound self }
-        ensures { Found result × (found_in result ≡ stretches (view self) a b) }
-    {
-        let gaps = find_open(self.committed, &self.starts, &self.ends, self.runs, a, b);
-        Between {
-            cursor: self,
-            a,
-            b,
-            first: gaps.first,
-            count: gaps.count,
-        }
-    }
-}
-
-// Lists stretches that were found.
-fn list_open(found: Between, out: &mut [Range]) -> Listed
-    requires { Found found }
-    ensures { answer (listed_of result) out.new ≡ listed (found_in found) out.old }
-{
-    let outcome = open_fits(found, out.len());
-    let n = lent::count_of(outcome);
-    let mut i: usize = 0;
-    while i < n {
-        out[i] = open_at(found, i);
-        i += 1;
-    }
-    outcome
-}
-
-// Whether they fit into a list of some length, and the one at a place.
-fn open_fits(found: Between, room: usize) -> Listed
-    requires { Found found }
-    ensures { listed_of result ≡ roomFor (length (found_in found)) room }
-{
-    lent::room_for(found.count, STRETCHES, room)
-}
-
-fn open_at(found: Between, at: usize) -> Range
-    requires { Found found × (at < length (found_in found)) }
-    ensures { result ≡ rangeAt at (found_in found) }
-{
-    let cursor = found.cursor;
-    stretch_at(
-        cursor.committed,
-        &cursor.starts,
-        &cursor.ends,
-        cursor.runs,
-        found.a,
-        found.b,
-        found.first + at,
-    )
-}
-
-// What the list is answered, by what the listing answered.
-fn open_answer(a: u64, b: u64, listed: Listed) -> OpenAnswer
-    ensures { open_of result ≡ checked (bounds_table a b) (listed_of listed) }
-{
-    if b < a {
-        return OpenAnswer::BoundsReversed;
-    }
-    match listed {
-        Listed::Filled(n) => OpenAnswer::Filled(n),
-        Listed::OutTooShort => OpenAnswer::OutTooShort,
-    }
 }
 
 // `open_between` on the parts of a cursor, into a list of numbers: a stretch takes two of its places, its start and its end.
 pub fn open_between_in_place<'a>(
-    committed: u64,
-    starts: &'a [u64; RANGES],
-    ends: &'a [u64; RANGES],
-    runs: usize,
-    a: u64,
-    b: u64,
-    out: &mut [u64],
-) -> OpenAnswer
-    requires { Whole (ack_cursor committed starts.now ends.now runs) }
-    ensures { answer (open_of result) out.new ≡ open_numbers (view (ack_cursor committed starts.now ends.now runs)) a b out.old }
-{
-    open_columns(committed, starts, ends, runs, a, b, out)
-}
-
-// The same on columns of a length that isn't in their type.
-pub(crate) fn open_columns<'a>(
     committed: u64,
     starts: &'a [u64],
     ends: &'a [u64],
@@ -160,35 +71,32 @@ pub(crate) fn open_columns<'a>(
     a: u64,
     b: u64,
     out: &mut [u64],
-) -> OpenAnswer
+) -> Result<usize, Refusal>
     requires { Whole (ack_cursor committed starts.now ends.now runs) }
-    ensures { answer (open_of result) out.new ≡ open_numbers (view (ack_cursor committed starts.now ends.now runs)) a b out.old }
+    ensures { answer (as_is result) out.new ≡ open_numbers (view (ack_cursor committed starts.now ends.now runs)) a b out.old }
 {
     if b < a {
-        return OpenAnswer::BoundsReversed;
+        return Err(Refusal::BoundsReversed);
     }
     let gaps = find_open(committed, starts, ends, runs, a, b);
     let first = gaps.first;
     let count = gaps.count;
     if out.len() / 2 < count {
-        return OpenAnswer::OutTooShort;
+        return Err(Refusal::OutTooShort);
     }
-    let mut i: usize = 0;
-    while i < count {
+    for i in 0..count {
         let stretch = stretch_at(committed, starts, ends, runs, a, b, first + i);
         out[2 * i] = stretch.start;
         out[2 * i + 1] = stretch.end;
-        i += 1;
     }
-    let filled = 2 * count;
-    OpenAnswer::Filled(filled)
+    Ok(2 * count)
 }
 
 // `nearest_open` on the parts of a cursor.
 pub fn nearest_in_place<'a>(
     committed: u64,
-    starts: &'a [u64; RANGES],
-    ends: &'a [u64; RANGES],
+    starts: &'a [u64],
+    ends: &'a [u64],
     runs: usize,
     offset: u64,
 ) -> u64
@@ -196,7 +104,7 @@ pub fn nearest_in_place<'a>(
     ensures { result ≡ nearest_open (view (ack_cursor committed starts.now ends.now runs)) offset }
 {
     let i = partition_point(starts, runs, offset);
-    larger(offset, end_before(committed, ends, i))
+    offset.max(end_before(committed, ends, i))
 }
 
 // Finds the stretches within [a, b): the first is the one before the first range that starts above a; the last is before the first range
@@ -240,7 +148,7 @@ fn stretch_at<'a>(
     ensures { result ≡ range (max a (get_or (committed ∷ ends.now) at 0)) (min b (get_or (take runs starts.now) at b)) }
 {
     Range {
-        start: larger(a, end_before(committed, ends, at)),
+        start: a.max(end_before(committed, ends, at)),
         end: start_below(starts, runs, at, b),
     }
 }
@@ -250,11 +158,5 @@ fn start_below(starts: &[u64], n: usize, at: usize, b: u64) -> u64
     requires { n ≤ length starts.now }
     ensures { result ≡ min b (get_or (take n starts.now) at b) }
 {
-    if at < n {
-        let start = starts[at];
-        if start < b {
-            return start;
-        }
-    }
-    b
+    if at < n { starts[at].min(b) } else { b }
 }

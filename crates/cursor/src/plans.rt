@@ -1,32 +1,22 @@
 // A whole plan in one walk: a list of offsets that don't fall, each answered settled or open into a lent byte list, and the number of
 // looks that this took. The walk goes over the ranges once, since an offset is never below the one before it.
 ghost use Rattle.std.specs.Prelude.{◌≡◌, length};
+ghost use Rattle.types.specs.Refusal.{Falling};
+ghost use Rattle.types.specs.Refused.{as_is, option_of};
 ghost use Rattle.types.specs.Table.{first, answer};
 ghost use Rattle.cursor.specs.View.{ack_cursor, view, Sound, Whole};
-ghost use Rattle.cursor.specs.Plan.{plan, plan_of, fall_of, pair_rows, looks, bytes_from, StepIs};
+ghost use Rattle.cursor.specs.Plan.{plan, pair_rows, looks, bytes_from, StepIs};
 
 use crate::AckCursor;
-use types::limits::RANGES;
-
-// What a plan is answered. The number of looks is at most that of the offsets and the ranges together, and offsets in memory are fewer
-// than 2^60, so it is no number that a usize couldn't hold.
-#[derive(Clone, Copy)]
-pub enum PlanAnswer {
-    // The list is filled: how many looks that took.
-    Answered(usize),
-    // The lists are of unequal length: refusal 36.
-    UnequalLengths,
-    // The place of the first offset that is below the one before it, from 0: refusal 37.
-    Falling(usize),
-}
+use types::refusals::Refusal;
 
 impl AckCursor {
     // Answers each offset of a list, 1 where it is acked and 0 where it isn't, and how many comparisons of an offset with a range that
     // took. Refused, with the lent list as it was, where the two lists are of unequal length (36), then where an offset is below the
     // one before it (37).
-    pub fn plan(self, offsets: &[u64], out: &mut [u8]) -> PlanAnswer
+    pub fn plan(self, offsets: &[u64], out: &mut [u8]) -> Result<usize, Refusal>
         requires { Sound self }
-        ensures { answer (plan_of result) out.new ≡ plan (view self) offsets.now out.old }
+        ensures { answer (as_is result) out.new ≡ plan (view self) offsets.now out.old }
     {
         plan_in_place(
             self.committed,
@@ -39,67 +29,40 @@ impl AckCursor {
     }
 }
 
-// `plan` on the parts of a cursor.
+// `plan` on the parts of a cursor. The number of looks is at most that of the offsets and the ranges together, and offsets in memory are
+// fewer than 2^60, so it is no number that a usize couldn't hold.
 pub fn plan_in_place<'a>(
-    committed: u64,
-    starts: &'a [u64; RANGES],
-    ends: &'a [u64; RANGES],
-    runs: usize,
-    offsets: &[u64],
-    out: &mut [u8],
-) -> PlanAnswer
-    requires { Whole (ack_cursor committed starts.now ends.now runs) }
-    ensures { answer (plan_of result) out.new ≡ plan (view (ack_cursor committed starts.now ends.now runs)) offsets.now out.old }
-{
-    plan_columns(committed, starts, ends, runs, offsets, out)
-}
-
-// The same on columns of a length that isn't in their type.
-pub(crate) fn plan_columns<'a>(
     committed: u64,
     starts: &'a [u64],
     ends: &'a [u64],
     runs: usize,
     offsets: &[u64],
     out: &mut [u8],
-) -> PlanAnswer
+) -> Result<usize, Refusal>
     requires { Whole (ack_cursor committed starts.now ends.now runs) }
-    ensures { answer (plan_of result) out.new ≡ plan (view (ack_cursor committed starts.now ends.now runs)) offsets.now out.old }
+    ensures { answer (as_is result) out.new ≡ plan (view (ack_cursor committed starts.now ends.now runs)) offsets.now out.old }
 {
     if offsets.len() != out.len() {
-        return PlanAnswer::UnequalLengths;
+        return Err(Refusal::UnequalLengths);
     }
-    let fall = first_fall(offsets);
-    match fall {
-        Fall::At(place) => PlanAnswer::Falling(place),
-        Fall::None => PlanAnswer::Answered(answer_all(committed, starts, ends, runs, offsets, out)),
+    if let Some(place) = first_fall(offsets) {
+        return Err(Refusal::Falling { place });
     }
+    Ok(answer_all(committed, starts, ends, runs, offsets, out))
 }
 
-// Where a list falls first.
-#[derive(Clone, Copy)]
-enum Fall {
-    None,
-    // The place of the second member of a pair.
-    At(usize),
-}
-
-// The first offset that is below the one before it.
-fn first_fall(offsets: &[u64]) -> Fall
-    ensures { fall_of result ≡ first (pair_rows offsets.now) }
+// The place of the first offset that is below the one before it, from 0.
+fn first_fall(offsets: &[u64]) -> Option<usize>
+    ensures { option_of Falling result ≡ first (pair_rows offsets.now) }
 {
-    let n = offsets.len();
     let mut before: u64 = 0;
-    let mut i: usize = 0;
-    while i < n {
-        let offset = offsets[i];
-        if offset < before {
-            return Fall::At(i);
+    for (i, offset) in offsets.iter().enumerate() {
+        if *offset < before {
+            return Some(i);
         }
-        before = offset;
-        i += 1;
+        before = *offset;
     }
-    Fall::None
+    None
 }
 
 // The walk: fills the list, and answers how many looks that took.
@@ -117,13 +80,11 @@ fn answer_all<'a>(
     let n = offsets.len();
     let mut at: usize = 0;
     let mut looks: usize = 0;
-    let mut i: usize = 0;
-    while i < n {
-        let step = step_columns(committed, starts, ends, runs, at, offsets[i]);
+    for i in 0..n {
+        let step = step_to(committed, starts, ends, runs, at, offsets[i]);
         at = step.at;
         looks += step.looks;
         out[i] = step.byte;
-        i += 1;
     }
     looks
 }
@@ -138,21 +99,6 @@ pub struct Step {
 
 // Compares an offset with the range that the walk stands on, and steps to the next as long as the offset is at or past the end.
 pub fn step_to<'a>(
-    committed: u64,
-    starts: &'a [u64; RANGES],
-    ends: &'a [u64; RANGES],
-    runs: usize,
-    at: usize,
-    offset: u64,
-) -> Step
-    requires { Whole (ack_cursor committed starts.now ends.now runs) }
-    ensures { StepIs (view (ack_cursor committed starts.now ends.now runs)) at offset result }
-{
-    step_columns(committed, starts, ends, runs, at, offset)
-}
-
-// The same on columns of a length that isn't in their type.
-pub(crate) fn step_columns<'a>(
     committed: u64,
     starts: &'a [u64],
     ends: &'a [u64],
@@ -170,9 +116,8 @@ pub(crate) fn step_columns<'a>(
             byte: 1,
         };
     }
-    let mut to = at;
     let mut looks: usize = 0;
-    while to < runs {
+    for to in at..runs {
         looks += 1;
         if offset < ends[to] {
             let byte = if starts[to] <= offset { 1 } else { 0 };
@@ -182,10 +127,9 @@ pub(crate) fn step_columns<'a>(
                 byte,
             };
         }
-        to += 1;
     }
     Step {
-        at: to,
+        at: runs,
         looks,
         byte: 0,
     }

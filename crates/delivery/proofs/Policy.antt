@@ -4,7 +4,7 @@
 use Prim.Native.Nat.{ℕ, ◌-◌, ◌<◌, ◌≤◌, min, max}
 use native.Mathlib.Omega.{arith}
 use mathlib.Core.Path.{◌≡◌, sym, ◌∙◌}
-use mathlib.Core.Bool.{Bool, true, false, not, ◌&&◌}
+use mathlib.Core.Bool.{Bool, false, not, ◌&&◌}
 use mathlib.Core.List.{List}
 use lib.ListN.{length, take, get_or}
 use lib.Seq.{get_or-take, length-take-le}
@@ -12,43 +12,6 @@ use borrow.Author.Tests.{ltb-false, eq-eqb, ne_eqb, lt-ltb, le-ltb}
 use Rattle.types.specs.Limits.{STEPS}
 use Rattle.types.specs.Table.{Passed}
 use Rattle.delivery.specs.Policy.{unlimited, policy_table, destination, Deliver, DeadLetter, scheduled}
-use Rattle.delivery.specs.Config.{Sound, defaults, ConfiguredIs, RefusedIs}
-use Rattle.delivery.specs.declared.Configured.{Configured}
-use Rattle.delivery.specs.declared.ConfigOutcome.TheVariants.{Built, UnlimitedDeliverNotAllowed, TooManySteps}
-
-defaults-sound : Sound defaults
-defaults-sound = record { few = omega arith }
-
-module _ (m : ℕ) (u : Bool) (b : List ℕ) where
-  -- the answer that holds b at the front of an array
-  abbrev of : List ℕ → Configured
-  of all = record {
-    outcome = Built;
-    config = record {
-      max_deliver = m;
-      allow_unlimited = u;
-      backoff_nanos = all;
-      backoff_len = length b;
-      attempts_flush_redeliveries = 1;
-    };
-  }
-
-  pub not_allowed : (r : Configured) → (unlimited m && not u) ≡ true → RefusedIs UnlimitedDeliverNotAllowed r
-      → ConfiguredIs m u b r
-  not_allowed r t e =
-      record { is = rw (e.outcome, t); sound = rw e.config defaults-sound; kept = rw e.outcome e.config }
-
-  module _ (passed : (unlimited m && not u) ≡ false) where
-    pub too_many : (r : Configured) → 16 < length b → RefusedIs TooManySteps r → ConfiguredIs m u b r
-    too_many r h e =
-        record {
-          is = rw (e.outcome, passed, lt-ltb 16 (length b) h);
-          sound = rw e.config defaults-sound;
-          kept = rw e.outcome e.config;
-        }
-
-    pub built : (all : List ℕ) → length b ≤ 16 → take (length b) all ≡ b → ConfiguredIs m u b (of all)
-    built all h e = record { is = rw (passed, le-ltb 16 (length b) h, e); sound = record { few = h }; kept = tt }
 
 -- what an accepted policy says
 pub record Allowed (m : ℕ) (u : Bool) (b : List ℕ) : Type 0 where

@@ -1,21 +1,17 @@
 -- How the code's types stand for the policy and for answers, and the parts of the contracts.
 -- SPEC.md, "Delivery".
-use Rattle.std.specs.Prelude.{ℕ, ◌≤◌, ◌≡◌, Bool, false, List, length, take, replicate}
-use Rattle.std.proofs.Math.Option.{Option, none, some}
-use Rattle.types.specs.Refusal.{Result, refused, done}
-use Rattle.types.specs.Refusal as refusal
-use Rattle.types.specs.Table.{Kept}
+use Rattle.std.specs.Prelude.{ℕ, ◌≤◌, ◌≡◌, Bool, false, List, length, take, replicate, Option, IfOk}
+use Rattle.std.specs.Prelude as std
+use Rattle.std.proofs.Math.Option as math
+use Rattle.types.specs.Refusal.{Result, done}
+use Rattle.types.specs.Refused.{result_of, option_of}
+use Rattle.types.specs.declared.refusals.Refusal.{Refusal}
 use Rattle.delivery.specs.Policy.{Policy, policy, new_policy, with_flush_redeliveries, Destination}
 use Rattle.delivery.specs.Policy.{DEFAULT_MAX_DELIVER, DEFAULT_ATTEMPTS_FLUSH_REDELIVERIES}
 use Rattle.delivery.specs.Policy as policies
 use Rattle.delivery.specs.declared.DeliveryConfig.{DeliveryConfig}
-use Rattle.delivery.specs.declared.Configured.{Configured}
-use Rattle.delivery.specs.declared.ConfigOutcome.{ConfigOutcome}
-use Rattle.delivery.specs.declared.ConfigOutcome.TheVariants.{Built, UnlimitedDeliverNotAllowed, TooManySteps}
 use Rattle.delivery.specs.declared.Disposition.{Disposition}
 use Rattle.delivery.specs.declared.Disposition.TheVariants.{Deliver, DeadLetter}
-use Rattle.delivery.specs.declared.Delay.{Delay}
-use Rattle.delivery.specs.declared.Delay.TheVariants.{Explicit, Schedule}
 
 -- the backoffs of a config, and the policy that it is
 abbrev pub backoffs : DeliveryConfig → List ℕ
@@ -33,24 +29,19 @@ pub record LentBackoffs (nanos : List ℕ) (len : ℕ) : Type 0 where
   pub full : length nanos ≡ 16
   pub few : len ≤ 16
 
--- the answers for the cases of each enum
-abbrev pub outcome_of : ConfigOutcome → Policy → Result Policy
-outcome_of Built p = done p
-outcome_of UnlimitedDeliverNotAllowed p = refused refusal.UnlimitedDeliverNotAllowed
-outcome_of TooManySteps p = refused refusal.TooManySteps
-
-abbrev pub configured_of : Configured → Result Policy
-configured_of r = outcome_of r.outcome (view r.config)
+-- making a config: a refusal, or the policy that it is
+abbrev pub configured_of : std.Result DeliveryConfig Refusal → Result Policy
+configured_of = result_of view
 
 abbrev pub dispositionOf : Disposition → Result Destination
 dispositionOf Deliver = done policies.Deliver
 dispositionOf DeadLetter = done policies.DeadLetter
 
-abbrev pub delay_of : Delay → Option ℕ
-delay_of (Explicit nanos) = some nanos
-delay_of Schedule = none
+-- the delay of a nack: the consumer's own, or none where the schedule's holds
+abbrev pub delay_of : Option ℕ → math.Option ℕ
+delay_of = option_of (λ n. n)
 
--- the config that stands beside a refusal
+-- the config of the defaults
 abbrev pub defaults : DeliveryConfig
 defaults = record {
   max_deliver = DEFAULT_MAX_DELIVER;
@@ -60,15 +51,9 @@ defaults = record {
   attempts_flush_redeliveries = DEFAULT_ATTEMPTS_FLUSH_REDELIVERIES;
 }
 
--- making a config
-pub record ConfiguredIs (maxDeliver : ℕ) (allowUnlimited : Bool) (backoff : List ℕ) (r : Configured) : Type 0 where
+pub record ConfiguredIs (maxDeliver : ℕ) (allowUnlimited : Bool) (backoff : List ℕ) (r : std.Result DeliveryConfig Refusal) : Type 0 where
   pub is : configured_of r ≡ new_policy maxDeliver allowUnlimited backoff
-  pub sound : Sound r.config
-  pub kept : Kept (configured_of r) defaults r.config
-
-pub record RefusedIs (o : ConfigOutcome) (r : Configured) : Type 0 where
-  pub outcome : r.outcome ≡ o
-  pub config : r.config ≡ defaults
+  pub sound : IfOk r Sound
 
 -- a config with another flush threshold, every other field as it was
 abbrev pub flushing_after : DeliveryConfig → ℕ → DeliveryConfig

@@ -2,7 +2,7 @@
 -- SPEC.md, "Interface".
 use Rattle.std.specs.Prelude.{ℕ, List, [], ◌∷◌, ◌++◌, map, ltb, length, drop}
 use Rattle.types.specs.Refusal.{Result, refused, done, OutTooShort}
-use Rattle.types.specs.Table.{◌⇒◌, Answer, answer, guarded}
+use Rattle.types.specs.Table.{Row, ◌⇒◌, Answer, answer, guarded}
 use Rattle.types.specs.Keyed.{Entry}
 use Rattle.raw.specs.Bytes.{write}
 use Rattle.cursor.specs.Cursor.{Cursor, resume_with_ahead}
@@ -34,6 +34,10 @@ values_of = map (λ e. e.value)
 -- a column of numbers at the front of lent memory, whose other places stay
 abbrev pub front : List ℕ → List ℕ → List ℕ
 front column lent = column ++ drop (length column) lent
+
+-- n numbers don't fit into one of two columns of these lengths
+abbrev pub room_rows : (n left right : ℕ) → List Row
+room_rows n left right = ltb left n ⇒ OutTooShort ∷ ltb right n ⇒ OutTooShort ∷ []
 
 -- two columns at the front of lent ones; 20 where one of these is too short
 abbrev pub fill : List ℕ → Columns → Columns → Answer (List ℕ) Columns

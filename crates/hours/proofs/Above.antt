@@ -1,27 +1,29 @@
--- Days with a bit above 47, looked for day by day. Assumes nothing.
-use Prim.Native.Nat.{ℕ, suc, zero, ◌≤◌, ◌<◌}
+-- Days with a bit above 47: a test of each is the definition's. Assumes nothing.
+use Prim.Native.Nat.{ℕ, suc, zero, ◌≤◌}
 use native.Mathlib.Omega.{arith}
-use mathlib.Core.Path.{◌≡◌, refl}
+use native.Mathlib.Numerals.{add-one}
+use mathlib.Core.Path.{◌≡◌, refl, sym, ap, ◌∙◌}
 use mathlib.Core.Bool.{Bool, true, false, ◌||◌}
 use mathlib.Core.List.{List}
-use lib.Dec.{leb, ltb}
-use lib.ListN.{get_or}
-use borrow.Author.Tests.{ltb-true, ltb-false, le-leb, lt-leb}
-use Rattle.types.proofs.Cases.{split}
+use lib.Dec.{leb}
+use lib.ListN.{length, take, get_or}
+use lib.Seq.{take-length}
+use Rattle.std.specs.List.{list_any}
+use Rattle.std.proofs.lemmas.List.Folds.{list_any_more}
 use Rattle.hours.specs.Hours.{anyAbove}
 
-pub above-found : (days : List ℕ) (d n : ℕ) → d < n → 281474976710656 ≤ get_or days d 0 → anyAbove days n ≡ true
-above-found days d zero l h = absurd (omega arith)
-above-found days d (suc n) l h =
-    split (ltb d n)
-    (λ t. rw (above-found days d n (ltb-true d n t) h) (or_true (leb 281474976710656 (get_or days n 0))))
-    (λ t.
-    let e : d ≡ n = omega (arith, ltb-false d n t) in
-    rw (le-leb 281474976710656 (get_or days n 0) (rw e at h)))
-  where
-    or_true : (p : Bool) → (p || true) ≡ true
-    or_true true = refl
-    or_true false = refl
+or_swap : (a b : Bool) → (a || b) ≡ (b || a)
+or_swap true true = refl
+or_swap true false = refl
+or_swap false true = refl
+or_swap false false = refl
 
-pub above_more : (days : List ℕ) (d : ℕ) → get_or days d 0 < 281474976710656 → anyAbove days d ≡ false → anyAbove days (suc d) ≡ false
-above_more days d l e = rw (lt-leb 281474976710656 (get_or days d 0) l) e
+any-first : (days : List ℕ) (n : ℕ) → n ≤ length days → list_any (leb 281474976710656) (take n days) ≡ anyAbove days n
+any-first days zero h = refl
+any-first days (suc n) h =
+    rw (← add-one n, list_any_more (leb 281474976710656) days n 0 (omega arith), any-first days n (omega arith)) (or_swap (anyAbove days n) (leb 281474976710656 (get_or days n 0)))
+
+pub tested : (days : List ℕ) → length days ≡ 7 → list_any (leb 281474976710656) days ≡ anyAbove days 7
+tested days size =
+    let all : take 7 days ≡ days = rw (← size) (take-length days) in
+    ap (list_any (leb 281474976710656)) (sym all) ∙ any-first days 7 (omega arith)

@@ -3,43 +3,29 @@ use Prim.Native.Nat.{ℕ, ◌-◌, ◌*◌, ◌%◌, ◌≤◌, ◌<◌}
 use mathlib.Core.Path.{◌≡◌, refl, sym, ap, ◌∙◌}
 use mathlib.Core.Bool.{true, false}
 use mathlib.Core.Option.{Option, none, some}
+use Rattle.std.specs.Prelude as std
+use Rattle.std.specs.Prelude.{Some, None}
 use native.Mathlib.Omega.{arith}
 use borrow.Author.Tests.{le-leb, lt-leb, eq-eqb, ne_eqb}
 use Rattle.types.specs.Limits.{sat64}
-use Rattle.types.specs.Refusal.{BadHours, NeverOpen}
-use Rattle.types.specs.Table.{first}
+use Rattle.types.specs.Refusal.{refused, done, BadHours, NeverOpen}
+use Rattle.types.specs.Table.{checked}
 use Rattle.types.proofs.Cases.{split}
-use Rattle.hours.specs.Hours.{Week, week_of, open_at, HALF_HOUR, WEEK, HALF_HOURS, firstOpen, anyAbove, isOpen, next_opening, hours_rows}
-use Rattle.hours.specs.View.{view, closed_until}
+use Rattle.hours.specs.Hours.{Week, week_of, open_at, HALF_HOUR, WEEK, HALF_HOURS, firstOpen, anyAbove, next_opening, hours_rows}
+use Rattle.hours.specs.View.{view, closed_until, opening_of}
 use Rattle.hours.specs.declared.Hours.{Hours}
 use Rattle.hours.proofs.Openings as openings
 
--- whether it is open and the next opening, by what is answered at the clock
-pub is_open_now : (h : Option Week) (now : ℕ) → none ≡ closed_until h now → true ≡ isOpen h now
-is_open_now h now s =
-    split (isOpen h now) (λ t. sym t) (λ t. absurd (never_none (rw t at s)))
-  where
-    never_none : none ≡ some (next_opening h now) → ⊥
-    never_none e = let z : ◌≡◌ {A = ℕ} 0 1 = cc in omega arith
-
-pub is_open_later : (h : Option Week) (now clock : ℕ) → some clock ≡ closed_until h now → false ≡ isOpen h now
-is_open_later h now clock s =
-    split (isOpen h now) (λ t. absurd (never-some (rw t at s))) (λ t. sym t)
-  where
-    never-some : some clock ≡ none → ⊥
-    never-some e = let z : ◌≡◌ {A = ℕ} 0 1 = cc in omega arith
-
-pub opening-is-now : (h : Option Week) (now : ℕ) → none ≡ closed_until h now → now ≡ next_opening h now
-opening-is-now none now s = refl
-opening-is-now (some w) now s =
+-- the next opening, by what is answered at the clock
+pub opening-or-now : (h : Option Week) (now : ℕ) (r : std.Option ℕ) → opening_of r ≡ closed_until h now → std.unwrap_or r now ≡ next_opening h now
+opening-or-now none now None s = refl
+opening-or-now none now (Some clock) s = absurd (let z : ◌≡◌ {A = ℕ} 0 1 = cc in omega arith)
+opening-or-now (some w) now None s =
     split (open_at w now) (λ t. sym (openings.opening-now w now t)) (λ t. absurd (never_none (rw t at s)))
   where
     never_none : none ≡ some (next_opening (some w) now) → ⊥
     never_none e = let z : ◌≡◌ {A = ℕ} 0 1 = cc in omega arith
-
-pub opening-is-later : (h : Option Week) (now clock : ℕ) → some clock ≡ closed_until h now → clock ≡ next_opening h now
-opening-is-later none now clock s = let z : ◌≡◌ {A = ℕ} 0 1 = cc in absurd (omega arith)
-opening-is-later (some w) now clock s =
+opening-or-now (some w) now (Some clock) s =
     split (open_at w now) (λ t. absurd (never-some (rw t at s))) (λ t. same (rw t at s))
   where
     never-some : some clock ≡ none → ⊥
@@ -75,20 +61,20 @@ module _ (h : Hours) where
       later d r s = rw (given e) (ap some (s ∙ rw is refl) ∙ sym (openings.open_later week now (λ t. d (is ∙ t))))
 
   -- ## 33, 34
-  pub none_tested : h.given ≡ false → none ≡ first (hours_rows (view h))
+  pub none_tested : h.given ≡ false → done tt ≡ checked {A = Unit {0}} (hours_rows (view h)) (done tt)
   none_tested e = rw (without e)
 
   module _ (e : h.given ≡ true) where
-    pub bits_above : anyAbove h.days 7 ≡ true → some BadHours ≡ first (hours_rows (view h))
+    pub bits_above : anyAbove h.days 7 ≡ true → refused BadHours ≡ checked {A = Unit {0}} (hours_rows (view h)) (done tt)
     bits_above a = rw (given e, a)
 
     module _ (a : anyAbove h.days 7 ≡ false) where
-      pub shift-above : WEEK ≤ h.shift → some BadHours ≡ first (hours_rows (view h))
+      pub shift-above : WEEK ≤ h.shift → refused BadHours ≡ checked {A = Unit {0}} (hours_rows (view h)) (done tt)
       shift-above s = rw (given e, a, le-leb WEEK h.shift s)
 
       module _ (s : h.shift < WEEK) where
-        pub never : firstOpen h.days 0 HALF_HOURS ≡ HALF_HOURS → some NeverOpen ≡ first (hours_rows (view h))
+        pub never : firstOpen h.days 0 HALF_HOURS ≡ HALF_HOURS → refused NeverOpen ≡ checked {A = Unit {0}} (hours_rows (view h)) (done tt)
         never f = rw (given e, a, lt-leb WEEK h.shift s, eq-eqb _ HALF_HOURS f)
 
-        pub accepted : (firstOpen h.days 0 HALF_HOURS ≡ HALF_HOURS → ⊥) → none ≡ first (hours_rows (view h))
+        pub accepted : (firstOpen h.days 0 HALF_HOURS ≡ HALF_HOURS → ⊥) → done tt ≡ checked {A = Unit {0}} (hours_rows (view h)) (done tt)
         accepted f = rw (given e, a, lt-leb WEEK h.shift s, ne_eqb _ HALF_HOURS f)

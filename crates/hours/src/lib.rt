@@ -3,11 +3,13 @@
 #![tactic(auto)]
 
 ghost use Rattle.std.specs.Prelude.{◌≡◌, ◌/◌, ◌%◌, ◌^◌, ◌<◌};
-ghost use Rattle.types.specs.Table.{first};
+ghost use Rattle.types.specs.Refusal.{done};
+ghost use Rattle.types.specs.Refused.{as_is};
+ghost use Rattle.types.specs.Table.{checked};
 ghost use Rattle.hours.specs.Hours.{firstOpen, anyAbove, isOpen, next_opening, hours_rows};
-ghost use Rattle.hours.specs.View.{view, closed_until, opening_of, test_of};
+ghost use Rattle.hours.specs.View.{view, closed_until, opening_of};
 
-use types::numbers;
+use types::refusals::Refusal;
 
 pub const HALF_HOUR: u64 = 1800000000000;
 
@@ -33,21 +35,6 @@ pub struct Hours {
     pub days: [u64; 7],
 }
 
-// Whether hours are accepted, or what they are refused with: 33, 34.
-#[derive(Clone, Copy)]
-pub enum HoursTest {
-    Accepted,
-    BadHours,
-    NeverOpen,
-}
-
-// Whether it is open at a clock, or else the clock at which it opens next.
-#[derive(Clone, Copy)]
-pub enum Opening {
-    Now,
-    At(u64),
-}
-
 // The half hours of a day from one on, that one as bit 0.
 fn remaining(day: u64, half: u64) -> u64
     requires { half < 48 }
@@ -66,8 +53,8 @@ fn first_open(days: &[u64; 7], from: u64) -> u64
     while at < from + WEEK_HALVES {
         let day = (at / DAY_HALVES % DAYS) as usize;
         let rest = remaining(days[day], at % DAY_HALVES);
-        if u64::count_ones(rest) != 0 {
-            return at + numbers::wide(u64::trailing_zeros(rest));
+        if rest != 0 {
+            return at + u64::from(rest.trailing_zeros());
         }
         at = at - at % DAY_HALVES + DAY_HALVES;
     }
@@ -78,71 +65,53 @@ fn first_open(days: &[u64; 7], from: u64) -> u64
 fn any_above(days: &[u64; 7]) -> bool
     ensures { result ≡ anyAbove days.now 7 }
 {
-    let mut day: usize = 0;
-    while day < 7 {
-        if PAST_BITS <= days[day] {
-            return true;
-        }
-        day += 1;
-    }
-    false
+    days.iter().any(|day| PAST_BITS <= *day)
 }
 
 impl Hours {
     // What stands against hours: bits above 47 or a shift of a week or more (33), then a week with no open half hour (34).
-    pub fn test(self) -> HoursTest
-        ensures { test_of result ≡ first (hours_rows (view self)) }
+    pub fn test(self) -> Result<(), Refusal>
+        ensures { as_is result ≡ checked (hours_rows (view self)) (done tt) }
     {
         if !self.given {
-            return HoursTest::Accepted;
+            return Ok(());
         }
-        if any_above(&self.days) {
-            return HoursTest::BadHours;
-        }
-        if WEEK <= self.shift {
-            return HoursTest::BadHours;
+        if any_above(&self.days) || WEEK <= self.shift {
+            return Err(Refusal::BadHours);
         }
         if first_open(&self.days, 0) == WEEK_HALVES {
-            return HoursTest::NeverOpen;
+            return Err(Refusal::NeverOpen);
         }
-        HoursTest::Accepted
+        Ok(())
     }
 
-    // Whether it is open at a clock, or when it opens next: the largest number where that lies beyond.
-    pub fn at(self, now: u64) -> Opening
+    // None where it is open at a clock, or else the clock at which it opens next: the largest number where that lies beyond.
+    pub fn at(self, now: u64) -> Option<u64>
         ensures { opening_of result ≡ closed_until (view self) now }
     {
         if !self.given {
-            return Opening::Now;
+            return None;
         }
         let time = (now % WEEK + self.shift % WEEK) % WEEK;
         let half = time / HALF_HOUR;
         let first = first_open(&self.days, half);
         if first == half {
-            return Opening::Now;
+            return None;
         }
-        Opening::At(numbers::saturating_add(now, (first - half) * HALF_HOUR - time % HALF_HOUR))
+        Some(now.saturating_add((first - half) * HALF_HOUR - time % HALF_HOUR))
     }
 
     // Whether it is open at a clock.
     pub fn is_open(self, now: u64) -> bool
         ensures { result ≡ isOpen (view self) now }
     {
-        let opening = self.at(now);
-        match opening {
-            Opening::Now => true,
-            Opening::At(_) => false,
-        }
+        self.at(now).is_none()
     }
 
     // The first open clock from a given one on.
     pub fn next_opening(self, now: u64) -> u64
         ensures { result ≡ next_opening (view self) now }
     {
-        let opening = self.at(now);
-        match opening {
-            Opening::Now => now,
-            Opening::At(clock) => clock,
-        }
+        self.at(now).unwrap_or(now)
     }
 }

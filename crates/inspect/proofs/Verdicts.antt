@@ -13,12 +13,11 @@ use Rattle.journal.specs.Blocks.{bodies_for, kind_of, group_of, body_count, curs
 use Rattle.journal.specs.Sound.{zeros_at, sound_header, sound_body}
 use Rattle.journal.proofs.Sound.{Header, Body, kind-says, says-kind, header-says, says-header, body-says, says-body}
 use Rattle.inspect.specs.declared.faults.Fault.{Fault}
-use Rattle.inspect.specs.declared.faults.Verdict.{Verdict}
-use Rattle.inspect.specs.declared.faults.Verdict.TheVariants.{Sound, Unsound}
-use Rattle.inspect.specs.Verdicts.{Row, verdict, is_sound, opening_table, header_rest_table, body_rest_table, opening_verdict, header_verdict, body_verdict}
+use Rattle.std.specs.Prelude.{Ok, Err}
+use Rattle.inspect.specs.Verdicts.{Verdict, Row, verdict, is_sound, opening_table, header_rest_table, body_rest_table, opening_verdict, header_verdict, body_verdict}
 
 -- a fault is no soundness
-pub no-fault : {f : Fault} → Unsound f ≡ Sound → ⊥
+pub no-fault : {f : Fault} → ◌≡◌ {A = Verdict} (Err f) (Ok tt) → ⊥
 no-fault e = true≢false (sym (ap is_sound e))
 
 -- every test of a table finds nothing
@@ -26,19 +25,19 @@ abbrev pub Passed : List Row → Type 0
 Passed [] = Unit {0}
 Passed (w ∷ ws) = (w.test ≡ false) × Passed ws
 
-pub passed : (ws : List Row) → verdict ws ≡ Sound → Passed ws
+pub passed : (ws : List Row) → verdict ws ≡ Ok tt → Passed ws
 passed [] e = tt
 passed (w ∷ ws) e =
     split w.test
-    (λ t. let q : verdict (w ∷ ws) ≡ Unsound w.fault = rw t in absurd (no-fault (sym q ∙ e)))
+    (λ t. let q : verdict (w ∷ ws) ≡ Err w.fault = rw t in absurd (no-fault (sym q ∙ e)))
     (λ f. let q : verdict (w ∷ ws) ≡ verdict ws = rw f in (f, passed ws (sym q ∙ e)))
 
-pub passes : (ws : List Row) → Passed ws → verdict ws ≡ Sound
+pub passes : (ws : List Row) → Passed ws → verdict ws ≡ Ok tt
 passes [] p = refl
 passes (w ∷ ws) p = rw p.0 (passes ws p.1)
 
 -- so a block whose first tests find nothing has 512 bytes
-pub opened : (kind k : ℕ) (b : List ℕ) → opening_verdict kind k b ≡ Sound → length b ≡ 512
+pub opened : (kind k : ℕ) (b : List ℕ) → opening_verdict kind k b ≡ Ok tt → length b ≡ 512
 unfolding opening_verdict
 opened kind k b e = eqb-true (length b) 512 (not-false _ (passed (opening_table kind k b) e).0)
 
@@ -49,9 +48,9 @@ equally : (a b : ℕ) → a ≡ b → not (eqb a b) ≡ false
 equally a b e = rw (eq-eqb a b e)
 
 -- two answers are the same where each is right if the other is
-same_test : (v : Verdict) (t : Bool) → (v ≡ Sound → t ≡ true) → (t ≡ true → v ≡ Sound) → is_sound v ≡ t
-same_test Sound t f g = sym (f refl)
-same_test (Unsound x) t f g = split t (λ e. absurd (no-fault (g e))) (λ e. sym e)
+same_test : (v : Verdict) (t : Bool) → (v ≡ Ok tt → t ≡ true) → (t ≡ true → v ≡ Ok tt) → is_sound v ≡ t
+same_test (Ok u) t f g = sym (f refl)
+same_test (Err x) t f g = split t (λ e. absurd (no-fault (g e))) (λ e. sym e)
 
 module _ (hi k i : ℕ) (b : List ℕ) where
   header-passed : Passed (opening_table 1 k b ++ header_rest_table hi i b) → Header hi k i b

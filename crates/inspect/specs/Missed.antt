@@ -3,6 +3,8 @@
 -- groups in front of an unsound body.
 -- SPEC.md, "Programs".
 use Rattle.std.specs.Prelude.{ℕ, zero, suc, max, ◌≡◌, Bool, cond, ◌||◌, List, [], ◌∷◌, length}
+use Rattle.std.specs.Prelude as std
+use Rattle.std.specs.Prelude.{Err}
 use Rattle.std.proofs.Math.Option.{Option, none, some}
 use Rattle.types.specs.Refusal.{Result}
 use Rattle.journal.specs.Area.{block_at, blocks}
@@ -10,21 +12,16 @@ use Rattle.journal.specs.Answers.{walk_in, walked_of}
 use Rattle.journal.specs.Blocks.{group_of}
 use Rattle.journal.specs.Sound.{has_header_kind, is_kind}
 use Rattle.journal.specs.Walks.{Stop}
-use Rattle.journal.specs.declared.Walked.{Walked}
-use Rattle.journal.specs.declared.Walked.TheVariants as walked
+use Rattle.journal.specs.declared.Stop as code
+use Rattle.types.specs.declared.refusals.Refusal as refusals
+use Rattle.types.specs.declared.refusals.Refusal.TheVariants as refusal
 use Rattle.starts.specs.Restart.{origin}
-use Rattle.inspect.specs.declared.missed.FirstHeader.{FirstHeader}
-use Rattle.inspect.specs.declared.missed.FirstHeader.TheVariants.{At, None}
 use Rattle.inspect.specs.declared.missed.Headers.{Headers}
 
 -- the first header among m blocks from block i on
 unfoldable pub first_header : List ℕ → ℕ → ℕ → Option ℕ
 first_header a zero i = none
 first_header a (suc m) i = cond (has_header_kind (block_at a i)) (some i) (first_header a m (suc i))
-
-abbrev pub first_of : FirstHeader → Option ℕ
-first_of (At i) = some i
-first_of None = none
 
 -- the groups that the headers among m blocks from block i on name
 unfoldable pub named : List ℕ → ℕ → ℕ → List ℕ
@@ -58,7 +55,6 @@ abbrev pub highest_named : List ℕ → ℕ
 highest_named a = highest_from a (blocks a) 0
 
 -- a walk, or where it met an unsound body, the one that no group may pass into that body's block
-abbrev pub in_front : List ℕ → Walked → Result Stop
-in_front a (walked.Stopped last k i) = walked_of (walked.Stopped last k i)
-in_front a walked.BadArea = walked_of walked.BadArea
-in_front a (walked.Damaged j) = walk_in j (origin a).number (origin a).block a
+abbrev pub in_front : List ℕ → std.Result code.Stop refusals.Refusal → Result Stop
+in_front a (Err (refusal.Damaged j)) = walk_in j (origin a).number (origin a).block a
+in_front a w = walked_of w

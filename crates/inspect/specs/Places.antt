@@ -2,18 +2,19 @@
 -- bodies, and behind these the next group's header; nothing behind a block that is no sound header where one is expected, nor anywhere
 -- in a half that isn't in use and isn't opened by a header.
 -- SPEC.md, "Programs".
-use Rattle.std.specs.Prelude.{ℕ, zero, suc, ◌+◌, cond, List, ltb, eqb, length}
+use Rattle.std.specs.Prelude.{ℕ, zero, suc, ◌+◌, cond, Result, List, ltb, eqb, length}
 use Rattle.types.specs.Limits.{MAX}
 use Rattle.journal.specs.Area.{block_at}
 use Rattle.journal.specs.Blocks.{bodies_for, group_of, payload_length, used_in}
 use Rattle.journal.specs.Sound.{sound_header, sound_but_number}
 use Rattle.consumer.specs.State.{half_blocks}
 use Rattle.starts.specs.Restart.{origin}
-use Rattle.inspect.specs.Verdicts.{header_verdict, body_verdict, seen}
+use Rattle.inspect.specs.Verdicts.{header_verdict, body_verdict, seen_of, seen}
+use Rattle.inspect.specs.declared.faults.Fault.{Fault}
+use Rattle.inspect.specs.declared.faults.Seen.{Seen}
+use Rattle.inspect.specs.declared.faults.Seen.TheVariants as seens
 use Rattle.inspect.specs.declared.places.Place.{Place}
 use Rattle.inspect.specs.declared.places.Place.TheVariants.{Header, Body, Behind, Free}
-use Rattle.inspect.specs.declared.places.Judged.{Judged}
-use Rattle.inspect.specs.declared.places.Judged.TheVariants as judges
 
 -- the end of the half that begins at block i, which no group of it may pass
 abbrev pub end_of : List ℕ → ℕ → ℕ
@@ -31,12 +32,12 @@ first a i = cond (eqb i (origin a).block) (Header (origin a).number) (opened_by 
 abbrev pub otherHalf : List ℕ → ℕ
 otherHalf a = cond (eqb (origin a).block 0) (half_blocks (length a)) 0
 
--- a block i, judged as what is expected there
-abbrev pub judged : Place → ℕ → ℕ → List ℕ → Judged
-judged (Header k) hi i b = judges.Header (header_verdict hi k i b)
-judged (Body k j n t) hi i b = judges.Body (body_verdict k j (used_in j n t) b)
-judged (Behind k) hi i b = judges.Behind (seen hi i b)
-judged Free hi i b = judges.Behind (seen hi i b)
+-- a block i, judged as what is expected there, or seen by itself where nothing is
+abbrev pub judged : Place → ℕ → ℕ → List ℕ → Result Seen Fault
+judged (Header k) hi i b = seen_of (header_verdict hi k i b) seens.Header
+judged (Body k j n t) hi i b = seen_of (body_verdict k j (used_in j n t) b) seens.Body
+judged (Behind k) hi i b = seen hi i b
+judged Free hi i b = seen hi i b
 
 -- behind body j of n, the next one or the next group's header; no group has the number MAX
 abbrev pub behind_body : ℕ → ℕ → ℕ → ℕ → Place

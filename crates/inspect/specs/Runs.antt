@@ -2,15 +2,13 @@
 -- SPEC.md, "Programs".
 use Rattle.std.specs.Prelude.{ℕ, ◌-◌, ◌<◌, ◌≤◌, ◌≡◌, cond, List, [], ◌∷◌, eqb}
 use Rattle.inspect.specs.Places.{place_at}
-use Rattle.inspect.specs.declared.said.Said.{Said}
+use Rattle.text.specs.Output.{ascii}
+use Rattle.text.specs.Templates.{filled}
 use Rattle.inspect.specs.declared.listing.Run.{Run}
 
 -- one block, or the first and the last of several: those from block i up to the one before block j
-abbrev pub blocks_said : ℕ → ℕ → Said
-blocks_said i j =
-    cond (eqb i (j - 1))
-    (record { template = 0; numbers = i ∷ 0 ∷ 0 ∷ 0 ∷ [] })
-    (record { template = 1; numbers = i ∷ (j - 1) ∷ 0 ∷ 0 ∷ [] })
+abbrev pub blocks_said : ℕ → ℕ → List (List ℕ)
+blocks_said i j = cond (eqb i (j - 1)) (filled (ascii "block #: ") (i ∷ [])) (filled (ascii "blocks # to #: ") (i ∷ (j - 1) ∷ []))
 
 -- a run has a block, passes none of the n blocks of its half, and what is expected behind it is said
 pub record ReachesTo (a : List ℕ) (half m n : ℕ) (r : Run) : Type 0 where

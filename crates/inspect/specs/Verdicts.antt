@@ -1,7 +1,7 @@
 -- Which test a block fails first ("Sound blocks": kind, check, group number, zeros as laid down, lengths, body count, fit),
 -- as a list of tests in that order. That a block has 512 bytes comes before all.
 -- SPEC.md, "Programs".
-use Rattle.std.specs.Prelude.{ℕ, ◌+◌, ◌-◌, max, min, Bool, true, false, not, cond, List, [], ◌∷◌, ◌++◌, leb, ltb, eqb, length}
+use Rattle.std.specs.Prelude.{ℕ, ◌+◌, ◌-◌, max, min, Bool, true, false, not, cond, Result, Ok, Err, List, [], ◌∷◌, ◌++◌, leb, ltb, eqb, length}
 use Rattle.raw.specs.Bytes.{all_zero}
 use Rattle.crc.specs.Seal.{is_sealed}
 use Rattle.journal.specs.Blocks.{
@@ -30,10 +30,12 @@ use Rattle.inspect.specs.declared.faults.Fault.TheVariants.{
   Index,
   Used,
 }
-use Rattle.inspect.specs.declared.faults.Verdict.{Verdict}
-use Rattle.inspect.specs.declared.faults.Verdict.TheVariants.{Sound, Unsound}
 use Rattle.inspect.specs.declared.faults.Seen.{Seen}
 use Rattle.inspect.specs.declared.faults.Seen.TheVariants as seens
+
+-- a block is sound, or has a fault
+abbrev pub Verdict : Type 0
+Verdict = Result (Unit {0}) Fault
 
 -- a test that finds a fault
 pub record Row : Type 0 where
@@ -46,8 +48,8 @@ abbrev pub ◌⇒◌ : Bool → Fault → Row
 infix 70 ◌⇒◌
 -- the first fault that is found
 abbrev pub verdict : List Row → Verdict
-verdict [] = Sound
-verdict (w ∷ ws) = cond w.test (Unsound w.fault) (verdict ws)
+verdict [] = Ok tt
+verdict (w ∷ ws) = cond w.test (Err w.fault) (verdict ws)
 
 -- the last tests of a header at block i, where no group may pass block hi
 abbrev pub sizes_table : ℕ → ℕ → List ℕ → List Row
@@ -102,22 +104,22 @@ unfoldable pub body_verdict : ℕ → ℕ → ℕ → List ℕ → Verdict
 body_verdict k j used b = verdict (opening_table 2 k b ++ body_rest_table j used b)
 
 abbrev pub is_sound : Verdict → Bool
-is_sound Sound = true
-is_sound (Unsound f) = false
+is_sound (Ok u) = true
+is_sound (Err f) = false
 
-abbrev pub seen_of : Verdict → Seen → Seen
-seen_of Sound s = s
-seen_of (Unsound f) s = seens.Unsound f
+abbrev pub seen_of : Verdict → Seen → Result Seen Fault
+seen_of (Ok u) s = Ok s
+seen_of (Err f) s = Err f
 
 -- the body of group k that a block says it is; none has the index 0, nor uses more than 500 bytes
 abbrev pub own_body_verdict : ℕ → List ℕ → Verdict
 own_body_verdict k b = body_verdict k (max (index_of b) 1) (min (used_of b) 500) b
 
 -- zeros, or sound as the header or the body that it says it is, of the group that it names
-abbrev pub seen : ℕ → ℕ → List ℕ → Seen
+abbrev pub seen : ℕ → ℕ → List ℕ → Result Seen Fault
 seen hi i b =
-    cond (not (eqb (length b) 512)) (seens.Unsound Length)
-    (cond (all_zero b) seens.Empty
+    cond (not (eqb (length b) 512)) (Err Length)
+    (cond (all_zero b) (Ok seens.Empty)
     (cond (eqb (kind_of b) 2)
     (seen_of (own_body_verdict (group_of b) b) seens.Body)
     (seen_of (header_verdict hi (group_of b) i b) seens.Header)))

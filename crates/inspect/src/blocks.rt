@@ -2,178 +2,164 @@
 ghost use Rattle.std.specs.Prelude.{◌≡◌, ◌+◌, ◌*◌, ◌≤◌, length};
 ghost use Rattle.inspect.specs.Places.{place_at};
 
-use crate::faults::{Fault, Seen, or_fault};
+use crate::faults::{Fault, Seen};
 use crate::places;
-use crate::places::{Judged, Place};
-use crate::said::{Said, byte, same, says};
+use crate::places::Place;
+use crate::said::{Said, byte, says};
 use consumer::halves::half_blocks;
-use std::io::Stdout;
-use text::templates::fill;
+use text::output::Output;
 
 // What a block is, and how that is what is expected at its place.
-#[derive(Clone, Copy)]
+#[derive(Clone, Copy, PartialEq, Eq)]
 pub struct Row {
     pub what: Said,
     pub rest: Said,
 }
 
-// What a block is. Behind the texts of a header and a body stands a row for each fault, and last those of the kind of the other.
-fn put_what(stdout: Stdout, out: &mut [u8], at: usize, what: Said) -> usize {
-    let numbers = what.numbers;
-    fill(
-        stdout,
-        out,
-        at,
-        b"empty|\
-        header of group #, ceiling #, cursor snapshot # bytes, attempt snapshot # bytes|\
-        body # of group #, # bytes used|\
-        unsound: it has no 512 bytes|\
-        unsound: of kind #, which neither a header nor a body has|\
-        unsound: wrong check|\
-        unsound: it names group #|\
-        unsound: bytes that are to be zero are not|\
-        unsound: it says a cursor snapshot of # bytes, not 13 to 2061|\
-        unsound: it says an attempt snapshot of # bytes, not 9 to 1545|\
-        unsound: it counts # bodies, which its lengths don't make|\
-        unsound: its bodies pass the end of its half|\
-        unsound: it says that it is body #|\
-        unsound: it says # bytes used|\
-        unsound: of the kind of a header|\
-        unsound: of the kind of a body",
-        what.template,
-        numbers,
-    )
-}
-
-// The end of a line: how many bodies a header has, and what of the block is not as expected.
-fn put_rest(stdout: Stdout, out: &mut [u8], at: usize, rest: Said) -> usize {
-    let numbers = rest.numbers;
-    fill(
-        stdout,
-        out,
-        at,
-        b"\n|\
-        , bodies #\n|\
-        , bodies #; behind the groups\n|\
-        ; the groups end here, where the header of group # would stand\n|\
-        ; no sound body # of group #\n|\
-        ; behind the groups\n|\
-        ; behind the groups, of the group that would come next\n",
-        rest.template,
-        numbers,
-    )
-}
-
 // A kind that isn't the one expected.
 fn kind_said(kind: u64) -> Said {
     match kind {
-        1 => says(14, 0, 0),
-        2 => says(15, 0, 0),
-        _ => says(4, kind, 0),
+        1 => says(b"unsound: of the kind of a header", 0, 0),
+        2 => says(b"unsound: of the kind of a body", 0, 0),
+        _ => says(
+            b"unsound: of kind #, which neither a header nor a body has",
+            kind,
+            0,
+        ),
+    }
+}
+
+// A length or a count that a header can't have.
+fn size_said(block: &[u8], fault: Fault) -> Said {
+    let header = journal::read_header(block);
+    match fault {
+        Fault::CursorLength => says(
+            b"unsound: it says a cursor snapshot of # bytes, not 13 to 2061",
+            u64::from(header.cursor_len),
+            0,
+        ),
+        Fault::AttemptLength => says(
+            b"unsound: it says an attempt snapshot of # bytes, not 9 to 1545",
+            u64::from(header.attempt_len),
+            0,
+        ),
+        Fault::Count => says(
+            b"unsound: it counts # bodies, which its lengths don't make",
+            byte(block, 1),
+            0,
+        ),
+        _ => says(b"unsound: its bodies pass the end of its half", 0, 0),
     }
 }
 
 // The test that a block fails, with what it has there.
 fn fault_said(block: &[u8], fault: Fault) -> Said {
-    let header = journal::read_header(block);
     match fault {
-        Fault::Length => says(3, 0, 0),
+        Fault::Length => says(b"unsound: it has no 512 bytes", 0, 0),
         Fault::Kind => kind_said(byte(block, 0)),
-        Fault::Check => says(5, 0, 0),
-        Fault::Number => says(6, header.number as u64, 0),
-        Fault::Zeros => says(7, 0, 0),
-        Fault::CursorLength => says(8, header.cursor_len as u64, 0),
-        Fault::AttemptLength => says(9, header.attempt_len as u64, 0),
-        Fault::Count => says(10, byte(block, 1), 0),
-        Fault::Fit => says(11, 0, 0),
-        Fault::Index => says(12, byte(block, 1), 0),
-        Fault::Used => says(13, raw::read_u16(block, 2) as u64, 0),
+        Fault::Check => says(b"unsound: wrong check", 0, 0),
+        Fault::Number => {
+            let header = journal::read_header(block);
+            says(b"unsound: it names group #", u64::from(header.number), 0)
+        }
+        Fault::Zeros => says(b"unsound: bytes that are to be zero are not", 0, 0),
+        Fault::Index => says(b"unsound: it says that it is body #", byte(block, 1), 0),
+        Fault::Used => says(
+            b"unsound: it says # bytes used",
+            u64::from(raw::read_u16(block, 2)),
+            0,
+        ),
+        Fault::CursorLength | Fault::AttemptLength | Fault::Count | Fault::Fit => {
+            size_said(block, fault)
+        }
+    }
+}
+
+// A sound header.
+fn header_said(block: &[u8]) -> Said {
+    let header = journal::read_header(block);
+    Said {
+        text: b"header of group #, ceiling #, cursor snapshot # bytes, attempt snapshot # bytes",
+        numbers: [
+            u64::from(header.number),
+            header.ceiling,
+            u64::from(header.cursor_len),
+            u64::from(header.attempt_len),
+        ],
+    }
+}
+
+// A sound body.
+fn body_said(block: &[u8]) -> Said {
+    let header = journal::read_header(block);
+    let used = raw::read_u16(block, 2);
+    Said {
+        text: b"body # of group #, # bytes used",
+        numbers: [byte(block, 1), u64::from(header.number), u64::from(used), 0],
     }
 }
 
 // What a block is.
-fn what_said(block: &[u8], seen: Seen) -> Said {
-    let header = journal::read_header(block);
-    let number = header.number as u64;
+fn what_said(block: &[u8], seen: Result<Seen, Fault>) -> Said {
     match seen {
-        Seen::Empty => says(0, 0, 0),
-        Seen::Header => Said {
-            template: 1,
-            numbers: [
-                number,
-                header.ceiling,
-                header.cursor_len as u64,
-                header.attempt_len as u64,
-            ],
-        },
-        Seen::Body => Said {
-            template: 2,
-            numbers: [byte(block, 1), number, raw::read_u16(block, 2) as u64, 0],
-        },
-        Seen::Unsound(fault) => fault_said(block, fault),
+        Ok(Seen::Empty) => says(b"empty", 0, 0),
+        Ok(Seen::Header) => header_said(block),
+        Ok(Seen::Body) => body_said(block),
+        Err(fault) => fault_said(block, fault),
     }
 }
 
-// How many bodies a header has, by this template.
-fn header_rest(template: usize, block: &[u8]) -> Said {
+// The end of a line of which nothing more is said.
+fn nothing_more() -> Said {
+    says(b"\n", 0, 0)
+}
+
+// How many bodies a header has, in this text.
+fn bodies_said(text: &'static [u8], block: &[u8]) -> Said {
     let header = journal::read_header(block);
     let bodies = journal::bodies_for(header.cursor_len, header.attempt_len);
-    says(template, bodies as u64, 0)
+    says(text, u64::from(bodies), 0)
 }
 
 // Behind the groups, where the header of group `number` was expected last. A restart only looks whether a header stands there.
-fn behind_rest(number: u64, block: &[u8], seen: Seen) -> Said {
+fn behind_rest(number: u64, block: &[u8], seen: Result<Seen, Fault>) -> Said {
     match seen {
-        Seen::Empty => says(0, 0, 0),
-        Seen::Header => header_rest(2, block),
-        Seen::Body => {
-            if raw::read_u32(block, 4) as u64 == number {
-                return says(6, 0, 0);
-            }
-            says(5, 0, 0)
-        }
-        Seen::Unsound(_) => says(5, 0, 0),
+        Ok(Seen::Empty) => nothing_more(),
+        Ok(Seen::Header) => bodies_said(b", bodies #; behind the groups\n", block),
+        Ok(Seen::Body) if u64::from(raw::read_u32(block, 4)) == number => says(
+            b"; behind the groups, of the group that would come next\n",
+            0,
+            0,
+        ),
+        _ => says(b"; behind the groups\n", 0, 0),
     }
-}
-
-// A block of a half without groups.
-fn free_rest(block: &[u8], seen: Seen) -> Said {
-    if let Seen::Header = seen {
-        return header_rest(1, block);
-    }
-    says(0, 0, 0)
 }
 
 // How a block is what is expected at its place.
-fn rest_said(place: Place, block: &[u8], seen: Seen) -> Said {
-    match place {
-        Place::Header { number } => {
-            if let Seen::Header = seen {
-                return header_rest(1, block);
-            }
-            says(3, number, 0)
+fn rest_said(place: Place, block: &[u8], seen: Result<Seen, Fault>) -> Said {
+    match (place, seen) {
+        (Place::Header { .. } | Place::Free, Ok(Seen::Header)) => {
+            bodies_said(b", bodies #\n", block)
         }
-        Place::Body { number, index, .. } => {
-            if let Seen::Body = seen {
-                return says(0, 0, 0);
-            }
-            says(4, index as u64, number)
+        (Place::Body { .. }, Ok(Seen::Body)) | (Place::Free, _) => nothing_more(),
+        (Place::Header { number }, _) => says(
+            b"; the groups end here, where the header of group # would stand\n",
+            number,
+            0,
+        ),
+        (Place::Body { number, index, .. }, _) => {
+            says(b"; no sound body # of group #\n", index as u64, number)
         }
-        Place::Behind { number } => behind_rest(number, block, seen),
-        Place::Free => free_rest(block, seen),
+        (Place::Behind { number }, _) => behind_rest(number, block, seen),
     }
 }
 
 // What a block that was judged is shown as: no block of zeros is called unsound.
-fn seen_in(block: &[u8], judged: Judged) -> Seen {
+fn seen_in(block: &[u8], judged: Result<Seen, Fault>) -> Result<Seen, Fault> {
     if raw::all_zero(block) {
-        return Seen::Empty;
+        return Ok(Seen::Empty);
     }
-    match judged {
-        Judged::Header(verdict) => or_fault(verdict, Seen::Header),
-        Judged::Body(verdict) => or_fault(verdict, Seen::Body),
-        Judged::Behind(seen) => seen,
-    }
+    judged
 }
 
 // Of block `m` of the half of an area that begins at block `half`, where `place` is what is expected there.
@@ -192,18 +178,8 @@ pub fn row_at(area: &[u8], half: usize, m: usize, place: Place) -> Row
     }
 }
 
-// Whether the same is said.
-pub fn same_row(a: Row, b: Row) -> bool {
-    let what = a.what;
-    let rest = a.rest;
-    if same(what, b.what) {
-        return same(rest, b.rest);
-    }
-    false
-}
-
 // The end of a line, behind the blocks that it is of.
-pub fn put_row(stdout: Stdout, out: &mut [u8], at: usize, row: Row) -> usize {
-    let next = put_what(stdout, out, at, row.what);
-    put_rest(stdout, out, next, row.rest)
+pub fn put_row(out: &mut Output, row: Row) {
+    row.what.put(out);
+    row.rest.put(out);
 }

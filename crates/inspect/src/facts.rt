@@ -4,12 +4,10 @@ ghost use Rattle.std.specs.Prelude.{◌≡◌};
 ghost use Rattle.journal.specs.Answers.{walked_of};
 ghost use Rattle.inspect.specs.Missed.{in_front};
 
-use crate::said::{Said, less, says};
 use consumer::halves::half_blocks;
-use journal::{LastGroup, Walked};
-use std::io::Stdout;
-use text::output::put;
-use text::templates::fill;
+use journal::Stop;
+use text::output::Output;
+use types::refusals::Refusal;
 
 // How a journal lies in its file: as its blocks, side by side; or, as one of several journals, with a block in each sector.
 #[derive(Clone, Copy)]
@@ -31,168 +29,113 @@ fn bytes_of(layout: Layout, len: usize) -> u64 {
 }
 
 // How long the file is, and the bytes that are no whole block, where there are any.
-fn file(stdout: Stdout, out: &mut [u8], at: usize, bytes: u64, len: usize) -> usize {
-    let rest = len % 512;
-    let mut template: usize = 0;
-    if rest != 0 {
-        template = 1;
+fn file(out: &mut Output, bytes: u64, len: usize) {
+    let blocks = (len / 512) as u64;
+    let half = half_blocks(len) as u64;
+    let rest = (len % 512) as u64;
+    if rest == 0 {
+        out.say(
+            b"\nfile: # bytes, # blocks of 512 bytes in two halves of #\n",
+            &[bytes, blocks, half],
+        );
+    } else {
+        out.say(
+            b"\nfile: # bytes, # blocks of 512 bytes in two halves of #, and # bytes behind the last whole block\n",
+            &[bytes, blocks, half, rest],
+        );
     }
-    fill(
-        stdout,
-        out,
-        at,
-        b"\nfile: # bytes, # blocks of 512 bytes in two halves of #\n|\
-        \nfile: # bytes, # blocks of 512 bytes in two halves of #, and # bytes behind the last whole block\n",
-        template,
-        [
-            bytes,
-            (len / 512) as u64,
-            half_blocks(len) as u64,
-            rest as u64,
-        ],
-    )
-}
-
-// What form a file in sectors has, and what that asks of the disk.
-fn form(stdout: Stdout, out: &mut [u8], at: usize, said: Said) -> usize {
-    let numbers = said.numbers;
-    fill(
-        stdout,
-        out,
-        at,
-        b"form: journal # of #, a block in each sector of 4096 bytes, for any disk that writes such a sector whole, or tears only the one \
-        being written\n|\
-        form: a block in each sector of 4096 bytes, for any disk that writes such a sector whole, or tears only the one being written\n",
-        said.template,
-        numbers,
-    )
 }
 
 // What a file of several journals is, with an empty line in front.
-pub fn shape(
-    stdout: Stdout,
-    out: &mut [u8],
-    at: usize,
-    bytes: u64,
-    journals: u64,
-    blocks: u64,
-) -> usize {
-    let next = fill(
-        stdout,
-        out,
-        at,
+pub fn shape(out: &mut Output, bytes: u64, journals: u64, blocks: u64) {
+    out.say(
         b"\nfile: # bytes, # journals of # blocks of 512 bytes\n",
-        0,
-        [bytes, journals, blocks, 0],
+        &[bytes, journals, blocks],
     );
-    form(stdout, out, next, says(1, 0, 0))
+    out.put(
+        b"form: a block in each sector of 4096 bytes, for any disk that writes such a sector whole, or tears only the one being written\n",
+    );
+}
+
+// What form a file in sectors has, and what that asks of the disk.
+fn form(out: &mut Output, number: u64, journals: u64) {
+    out.say(
+        b"form: journal # of #, a block in each sector of 4096 bytes, for any disk that writes such a sector whole, or tears only the one \
+        being written\n",
+        &[number, journals],
+    );
 }
 
 // Which half is in use: the one that begins at block `first`, and ends before block `hi`.
-fn half(stdout: Stdout, out: &mut [u8], at: usize, first: u64, hi: u64) -> usize {
-    let mut template: usize = 0;
-    if first != 0 {
-        template = 1;
+fn half(out: &mut Output, first: u64, hi: u64) {
+    let blocks = [first, hi.saturating_sub(1)];
+    if first == 0 {
+        out.say(b"half in use: the first, blocks # to #", &blocks);
+    } else {
+        out.say(b"half in use: the second, blocks # to #", &blocks);
     }
-    fill(
-        stdout,
-        out,
-        at,
-        b"half in use: the first, blocks # to #|half in use: the second, blocks # to #",
-        template,
-        [first, less(hi, 1), 0, 0],
-    )
 }
 
 // How much of it is left from the block on where the walk ended.
-fn left_said(hi: u64, walked: Walked) -> Said {
-    if let Walked::Stopped { block, .. } = walked {
-        return says(1, less(hi, block as u64), 0);
+fn left(out: &mut Output, hi: u64, walked: Result<Stop, Refusal>) {
+    match walked {
+        Ok(stop) => out.say(
+            b"; blocks left in it: #, and a checkpoint takes 2 to 9\n",
+            &[hi.saturating_sub(stop.block as u64)],
+        ),
+        Err(_) => out.put(b"\n"),
     }
-    says(0, 0, 0)
-}
-
-fn left(stdout: Stdout, out: &mut [u8], at: usize, said: Said) -> usize {
-    let numbers = said.numbers;
-    fill(
-        stdout,
-        out,
-        at,
-        b"\n|; blocks left in it: #, and a checkpoint takes 2 to 9\n",
-        said.template,
-        numbers,
-    )
 }
 
 // The walk over the groups in front: those before the one whose body is unsound, where the walk met one. That one passes the body's block,
 // and no group before it does.
-pub fn good_walk(area: &[u8], walked: Walked) -> Walked
+pub fn good_walk(area: &[u8], walked: Result<Stop, Refusal>) -> Result<Stop, Refusal>
     ensures { walked_of result ≡ in_front area.now walked }
 {
     match walked {
-        Walked::Stopped { .. } => walked,
-        Walked::BadArea => walked,
-        Walked::Damaged(body) => {
+        Err(Refusal::Damaged { block }) => {
             let from = starts::origin(area);
-            journal::walk(area, body, from.number, from.block)
+            journal::walk(area, block, from.number, from.block)
         }
+        _ => walked,
     }
 }
 
-// The groups of the half in use, which begins with group `first`: all, or those in front.
-fn groups_said(first: u64, walked: Walked, good: Walked) -> Said {
-    let Walked::Stopped {
-        last,
-        number,
-        block,
-    } = good
-    else {
-        return says(4, 0, 0);
-    };
-    let said = stop_said(first, last, number, block as u64);
-    let Walked::Damaged(_) = walked else {
-        return said;
-    };
-    good_said(said)
-}
-
-fn good_said(said: Said) -> Said {
-    let numbers = said.numbers;
-    if said.template == 0 {
-        return Said {
-            template: 2,
-            numbers: numbers,
-        };
-    }
-    Said {
-        template: 3,
-        numbers: numbers,
+// The groups of the half in use, which begins with group `first`.
+fn all_groups(out: &mut Output, first: u64, stop: Stop) {
+    let next = stop.number;
+    let block = stop.block as u64;
+    match stop.last {
+        Some(header) => out.say(
+            b"groups in it: #; the last is group #, with its header at block #; the next would stand at block #\n",
+            &[
+                next.saturating_sub(first),
+                next.saturating_sub(1),
+                header as u64,
+                block,
+            ],
+        ),
+        None => out.say(
+            b"groups in it: none; group # would be the first, at block #\n",
+            &[next, block],
+        ),
     }
 }
 
-fn stop_said(first: u64, last: LastGroup, number: u64, block: u64) -> Said {
-    match last {
-        LastGroup::At(header) => Said {
-            template: 0,
-            numbers: [less(number, first), less(number, 1), header as u64, block],
-        },
-        LastGroup::None => says(1, number, block),
+// Those of them in front of one whose body is unsound.
+fn groups_in_front(out: &mut Output, first: u64, stop: Stop) {
+    let next = stop.number;
+    match stop.last {
+        Some(header) => out.say(
+            b"groups in it before the unsound body's: #; the last is group #, with its header at block #\n",
+            &[
+                next.saturating_sub(first),
+                next.saturating_sub(1),
+                header as u64,
+            ],
+        ),
+        None => out.put(b"groups in it before the unsound body's: none\n"),
     }
-}
-
-fn groups(stdout: Stdout, out: &mut [u8], at: usize, said: Said) -> usize {
-    let numbers = said.numbers;
-    fill(
-        stdout,
-        out,
-        at,
-        b"groups in it: #; the last is group #, with its header at block #; the next would stand at block #\n|\
-        groups in it: none; group # would be the first, at block #\n|\
-        groups in it before the unsound body's: #; the last is group #, with its header at block #\n|\
-        groups in it before the unsound body's: none\n|",
-        said.template,
-        numbers,
-    )
 }
 
 // The ceiling that the header at a block has; 0 where there is no such block.
@@ -207,66 +150,49 @@ fn ceiling_at(area: &[u8], i: usize) -> u64 {
 }
 
 // The ceiling of the last group in front.
-fn ceiling_said(area: &[u8], good: Walked) -> Said {
-    let Walked::Stopped { last, .. } = good else {
-        return says(0, 0, 0);
-    };
-    match last {
-        LastGroup::At(header) => says(1, ceiling_at(area, header), 0),
-        LastGroup::None => says(2, 0, 0),
+fn ceiling(out: &mut Output, area: &[u8], stop: Stop) {
+    match stop.last {
+        Some(header) => out.say(
+            b"ceiling: #, of that group; where a higher one was seen, a restart from it goes back over checkpoints\n\n",
+            &[ceiling_at(area, header)],
+        ),
+        None => out.put(
+            b"ceiling: 0, as no such group is found; where a higher one was seen, a restart goes back over checkpoints\n\n",
+        ),
     }
 }
 
-fn ceiling(stdout: Stdout, out: &mut [u8], at: usize, said: Said) -> usize {
-    let numbers = said.numbers;
-    fill(
-        stdout,
-        out,
-        at,
-        b"\n|\
-        ceiling: #, of that group; where a higher one was seen, a restart from it goes back over checkpoints\n\n|\
-        ceiling: 0, as no such group is found; where a higher one was seen, a restart goes back over checkpoints\n\n",
-        said.template,
-        numbers,
-    )
-}
-
 // The half in use, how much of it is left, its groups and its ceiling.
-fn contents(stdout: Stdout, out: &mut [u8], at: usize, area: &[u8], walked: Walked) -> usize {
+fn contents(out: &mut Output, area: &[u8], walked: Result<Stop, Refusal>) {
     let from = starts::origin(area);
     let hi = starts::limit(area) as u64;
-    let mut next = half(stdout, out, at, from.block as u64, hi);
-    next = left(stdout, out, next, left_said(hi, walked));
-    let good = good_walk(area, walked);
-    next = groups(stdout, out, next, groups_said(from.number, walked, good));
-    ceiling(stdout, out, next, ceiling_said(area, good))
+    half(out, from.block as u64, hi);
+    left(out, hi, walked);
+    let Ok(stop) = good_walk(area, walked) else {
+        out.put(b"\n");
+        return;
+    };
+    match walked {
+        Ok(_) => all_groups(out, from.number, stop),
+        Err(_) => groups_in_front(out, from.number, stop),
+    }
+    ceiling(out, area, stop);
 }
 
 // Of an area, the walk over it and how it lies in its file, with an empty line in front and behind.
-pub fn facts(
-    stdout: Stdout,
-    out: &mut [u8],
-    at: usize,
-    area: &[u8],
-    walked: Walked,
-    layout: Layout,
-) -> usize {
-    let mut next = file(stdout, out, at, bytes_of(layout, area.len()), area.len());
+pub fn facts(out: &mut Output, area: &[u8], walked: Result<Stop, Refusal>, layout: Layout) {
+    file(out, bytes_of(layout, area.len()), area.len());
     if let Layout::InSectors {
         journals,
         number,
         ..
     } = layout
     {
-        next = form(stdout, out, next, says(0, number, journals));
+        form(out, number, journals);
     }
-    if let Walked::BadArea = walked {
-        return put(
-            stdout,
-            out,
-            next,
-            b"blocks: listed in halves as if it were a journal\n\n",
-        );
+    if let Err(Refusal::BadArea) = walked {
+        out.put(b"blocks: listed in halves as if it were a journal\n\n");
+        return;
     }
-    contents(stdout, out, next, area, walked)
+    contents(out, area, walked);
 }

@@ -5,31 +5,20 @@ use crate::listing::listed;
 use crate::missed::{highest_named, lost, missed};
 use crate::other::{other, other_unsound};
 use crate::refusals::{journal_advice, refused};
-use crate::said::{Said, less, says};
-use answers::Numbers;
 use consumer::{Configuration, Settings};
 use delivery::DeliveryConfig;
 use hours::Hours;
-use journal::{LastGroup, Walked};
+use journal::Stop;
 use lease::LeaseConfig;
-use starts::StartAnswer;
-use std::io::Stdout;
-use text::output::put;
-use text::templates::fill;
+use text::output::Output;
 use types::limits::WORKERS;
+use types::refusals::Refusal;
 
 // A configuration that every start accepts. What a restart finds doesn't depend on it.
 fn configuration() -> Configuration {
-    let lease = LeaseConfig::default();
     Configuration {
         settings: Settings {
-            delivery: DeliveryConfig {
-                max_deliver: 1,
-                allow_unlimited: false,
-                backoff_nanos: [0; 16],
-                backoff_len: 0,
-                attempts_flush_redeliveries: 1,
-            },
+            delivery: DeliveryConfig::default(),
             rights: [0; WORKERS],
             hours: Hours {
                 given: false,
@@ -37,47 +26,33 @@ fn configuration() -> Configuration {
                 days: [0; 7],
             },
         },
-        lease: lease,
+        lease: LeaseConfig::default(),
     }
 }
 
-// That a restart finds the last group of a walk, whatever its number, or none.
-fn found_said(walked: Walked) -> Said {
-    let Walked::Stopped { last, number, .. } = walked else {
-        return says(0, 0, 0);
-    };
-    match last {
-        LastGroup::At(_) => says(1, less(number, 1), 0),
-        LastGroup::None => says(0, 0, 0),
+// The last group of a walk, whatever its number, if there is one.
+fn last_group(walked: Result<Stop, Refusal>) -> Option<u64> {
+    let stop = walked.ok()?;
+    stop.last?;
+    Some(stop.number.saturating_sub(1))
+}
+
+fn finds(out: &mut Output, walked: Result<Stop, Refusal>) {
+    match last_group(walked) {
+        Some(group) => out.say(b"a restart finds the checkpoint of group #\n", &[group]),
+        None => { out.put(b"a restart finds no checkpoint, and begins as a fresh start does\n") }
     }
 }
 
-fn finds(stdout: Stdout, out: &mut [u8], at: usize, said: Said) -> usize {
-    let numbers = said.numbers;
-    fill(
-        stdout,
-        out,
-        at,
-        b"a restart finds no checkpoint, and begins as a fresh start does\n|\
-        a restart finds the checkpoint of group #\n",
-        said.template,
-        numbers,
-    )
-}
-
-fn no_restart(stdout: Stdout, out: &mut [u8], at: usize, numbers: Numbers) -> usize {
-    let number = [numbers.0, 0, 0, 0];
-    let mut next = fill(stdout, out, at, b"a restart is refused: # ", 0, number);
-    next = refused(stdout, out, next, numbers);
-    journal_advice(stdout, out, next, numbers.0)
+fn no_restart(out: &mut Output, refusal: Refusal) {
+    out.put(b"a restart is refused: ");
+    refused(out, refusal);
+    journal_advice(out, refusal);
 }
 
 // Whether a walk below block `hi` ended at the header of group `number`, sound in all but its fit.
 fn is_unfit(area: &[u8], hi: usize, number: u64, block: usize) -> bool {
-    if hi <= block {
-        return false;
-    }
-    if area.len() / 512 <= block {
+    if hi <= block || area.len() / 512 <= block {
         return false;
     }
     let from = 512 * block;
@@ -94,189 +69,122 @@ fn highest_unsaid(area: &[u8], hi: usize, block: usize) -> u64 {
     highest_named(area)
 }
 
-// What a walk below block `hi` that ended at a block, where group `number` would come next, should not have ended at, and what the
-// other half has.
-fn ended(
-    stdout: Stdout,
-    out: &mut [u8],
-    at: usize,
-    area: &[u8],
-    hi: usize,
-    number: u64,
-    block: usize,
-) -> usize {
+// What a walk that ended at a block, where a group would come next, should not have ended at, and what the other half has.
+fn ended(out: &mut Output, area: &[u8], stop: Stop) {
+    let hi = starts::limit(area);
+    let number = stop.number;
+    let block = stop.block;
     if is_unfit(area, hi, number, block) {
-        return fill(
-            stdout,
-            out,
-            at,
+        out.say(
             b"why: group #, at block #, passes the end of its half, as groups may in a journal from before there were halves: \
             see the section on such journals in rust/README.md\n",
-            0,
-            [number, block as u64, 0, 0],
+            &[number, block as u64],
         );
+        return;
     }
-    let next = missed(stdout, out, at, area, hi, number, block);
-    other(
-        stdout,
-        out,
-        next,
-        area,
-        number,
-        highest_unsaid(area, hi, block),
-    )
+    missed(out, area, hi, number, block);
+    other(out, area, number, highest_unsaid(area, hi, block));
 }
 
 // Whose body at a block is unsound, what is out of reach with it, and what the other half has.
-fn unsound(stdout: Stdout, out: &mut [u8], at: usize, area: &[u8], body: usize) -> usize {
-    let Walked::Stopped { number, block, .. } = good_walk(area, Walked::Damaged(body)) else {
-        return at;
+fn unsound(out: &mut Output, area: &[u8], body: usize) {
+    let Ok(stop) = good_walk(area, Err(Refusal::Damaged { block: body })) else {
+        return;
     };
-    let mut next = fill(
-        stdout,
-        out,
-        at,
+    out.say(
         b"why: the header of group #, at block #, is sound, and its body at block # is not\n",
-        0,
-        [number, block as u64, body as u64, 0],
+        &[stop.number, stop.block as u64, body as u64],
     );
-    next = lost(stdout, out, next, area, number);
-    other_unsound(stdout, out, next, area)
+    lost(out, area, stop.number);
+    other_unsound(out, area);
 }
 
 // Why the groups end where they should not, and warnings.
-fn reasons(stdout: Stdout, out: &mut [u8], at: usize, area: &[u8], walked: Walked) -> usize {
+fn reasons(out: &mut Output, area: &[u8], walked: Result<Stop, Refusal>) {
     match walked {
-        Walked::Stopped { number, block, .. } => {
-            ended(stdout, out, at, area, starts::limit(area), number, block)
-        }
-        Walked::Damaged(block) => unsound(stdout, out, at, area, block),
-        Walked::BadArea => at,
+        Ok(stop) => ended(out, area, stop),
+        Err(Refusal::Damaged { block }) => unsound(out, area, block),
+        Err(_) => {}
     }
 }
 
 // What a restart would find, or its refusal, and what else is to be known before it.
-fn verdict(stdout: Stdout, out: &mut [u8], at: usize, area: &[u8], walked: Walked) -> usize {
+fn verdict(out: &mut Output, area: &[u8], walked: Result<Stop, Refusal>) {
     let started = starts::restart(configuration(), area);
-    let answer = started.answer;
-    let StartAnswer::Started = answer else {
-        let refusal = no_restart(stdout, out, at, answers::of_start(answer));
-        return reasons(stdout, out, refusal, area, walked);
-    };
-    let consumer = started.consumer;
-    let mut next = finds(stdout, out, at, found_said(walked));
-    next = reasons(stdout, out, next, area, walked);
-    shown::state(stdout, out, next, consumer)
-}
-
-// Whether a consumer can be started on so many bytes.
-fn is_length(len: usize) -> bool {
-    let started = starts::start(configuration(), len);
-    let answer = started.answer;
-    match answer {
-        StartAnswer::Started => true,
-        _ => false,
+    match started.answer {
+        Ok(()) => {
+            finds(out, walked);
+            reasons(out, area, walked);
+            shown::state(out, started.consumer);
+        }
+        Err(refusal) => {
+            no_restart(out, refusal);
+            reasons(out, area, walked);
+        }
     }
 }
 
-// The walk over the half in use, where the length is one of a journal.
-fn walk(area: &[u8]) -> Walked {
-    if !is_length(area.len()) {
-        return Walked::BadArea;
+// The walk over the half in use, where a consumer can be started on so many bytes.
+fn walk(area: &[u8]) -> Result<Stop, Refusal> {
+    if starts::start(configuration(), area.len()).answer.is_err() {
+        return Err(Refusal::BadArea);
     }
     let from = starts::origin(area);
     journal::walk(area, starts::limit(area), from.number, from.block)
 }
 
 // A journal of any length, which lies in its file so, and of which these blocks can't be read.
-pub fn journal(
-    stdout: Stdout,
-    out: &mut [u8],
-    at: usize,
-    area: &[u8],
-    layout: Layout,
-    unread: &[u8; 128],
-) -> usize {
+pub fn journal(out: &mut Output, area: &[u8], layout: Layout, unread: &[u8; 128]) {
     let walked = walk(area);
-    let mut next = verdict(stdout, out, at, area, walked);
-    next = unread_blocks(stdout, out, next, unread);
-    next = facts(stdout, out, next, area, walked, layout);
-    listed(stdout, out, next, area)
+    verdict(out, area, walked);
+    unread_blocks(out, unread);
+    facts(out, area, walked, layout);
+    listed(out, area);
 }
 
 // The first blocks of a file that is longer than any journal: a restart on it is 4.
-pub fn oversized(stdout: Stdout, out: &mut [u8], at: usize, area: &[u8]) -> usize {
-    let mut next = no_restart(stdout, out, at, answers::of_start(StartAnswer::BadArea));
-    next = put(
-        stdout,
-        out,
-        next,
+pub fn oversized(out: &mut Output, area: &[u8]) {
+    no_restart(out, Refusal::BadArea);
+    out.put(
         b"\nfile: more than 65536 bytes, which the longest journal has; its first blocks follow, in halves as if they were all\n\n",
     );
-    listed(stdout, out, next, area)
+    listed(out, area);
 }
 
-// Whether there is something to be known before a restart that isn't refused.
-fn is_odd(stdout: Stdout, area: &[u8], walked: Walked, unread: &[u8; 128]) -> bool {
-    let mut aside = [0u8; 4096];
-    if 0 < reasons(stdout, &mut aside, 0, area, walked) {
-        return true;
+// Whether there is something to be known before a restart that isn't refused: something would be said of it, or a part can't be read.
+fn is_odd(out: &Output, area: &[u8], walked: Result<Stop, Refusal>, unread: &[u8; 128]) -> bool {
+    let mut aside = Output::new(out.stdout);
+    reasons(&mut aside, area, walked);
+    0 < aside.at || !raw::all_zero(unread)
+}
+
+// What a restart finds of one of several journals, with the ceiling.
+fn finds_briefly(out: &mut Output, walked: Result<Stop, Refusal>, ceiling: u64) {
+    match last_group(walked) {
+        Some(group) => out.say(
+            b"a restart finds the checkpoint of group #, ceiling #\n",
+            &[group, ceiling],
+        ),
+        None => { out.put(b"a restart finds no checkpoint, and begins as a fresh start does\n") }
     }
-    !raw::all_zero(unread)
-}
-
-// What is said of a restart in one line: of which group it finds the checkpoint, with this ceiling, or none.
-fn summary_said(said: Said, ceiling: u64) -> Said {
-    let numbers = said.numbers;
-    says(said.template, numbers[0], ceiling)
 }
 
 // A journal of several in one line: its number, and what a restart finds, with the ceiling, or its refusal. A line more where it wants
 // a look.
-pub fn summary(
-    stdout: Stdout,
-    out: &mut [u8],
-    at: usize,
-    area: &[u8],
-    number: u64,
-    unread: &[u8; 128],
-) -> usize {
+pub fn summary(out: &mut Output, area: &[u8], number: u64, unread: &[u8; 128]) {
     let walked = walk(area);
     let started = starts::restart(configuration(), area);
-    let answer = started.answer;
-    let mut next = fill(stdout, out, at, b"journal #: ", 0, [number, 0, 0, 0]);
-    let StartAnswer::Started = answer else {
-        let numbers = answers::of_start(answer);
-        next = fill(
-            stdout,
-            out,
-            next,
-            b"a restart is refused: # ",
-            0,
-            [numbers.0, 0, 0, 0],
-        );
-        return refused(stdout, out, next, numbers);
-    };
-    let consumer = started.consumer;
-    let said = summary_said(found_said(walked), consumer.ceiling.0);
-    let found = said.numbers;
-    next = fill(
-        stdout,
-        out,
-        next,
-        b"a restart finds no checkpoint, and begins as a fresh start does\n|a restart finds the checkpoint of group #, ceiling #\n",
-        said.template,
-        found,
-    );
-    if !is_odd(stdout, area, walked, unread) {
-        return next;
+    out.say(b"journal #: ", &[number]);
+    if let Err(refusal) = started.answer {
+        out.put(b"a restart is refused: ");
+        refused(out, refusal);
+        return;
     }
-    fill(
-        stdout,
-        out,
-        next,
-        b"beware: journal # wants a look before a restart: inspect it by its number\n",
-        0,
-        [number, 0, 0, 0],
-    )
+    finds_briefly(out, walked, started.consumer.ceiling.0);
+    if is_odd(out, area, walked, unread) {
+        out.say(
+            b"beware: journal # wants a look before a restart: inspect it by its number\n",
+            &[number],
+        );
+    }
 }

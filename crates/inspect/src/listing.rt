@@ -1,16 +1,14 @@
 // The blocks of a journal in lines. Blocks one behind the other of which the same is said share a line.
 ghost use Rattle.std.specs.Prelude.{◌≡◌, ◌+◌, ◌*◌, ◌≤◌, ◌<◌, length};
+ghost use Rattle.text.specs.Output.{Says};
 ghost use Rattle.inspect.specs.Places.{place_at};
 ghost use Rattle.inspect.specs.Runs.{blocks_said, ReachesTo};
 
 use crate::blocks::Row;
 use crate::places::Place;
-use crate::said::{Said, less};
 use crate::{blocks, places};
 use consumer::halves::half_blocks;
-use std::io::Stdout;
-use text::templates::fill;
-use types::numbers::saturating_add;
+use text::output::Output;
 
 // Where a run of blocks ends of which the same is said: the block behind it, counted in its half, and what is expected there.
 #[derive(Clone, Copy)]
@@ -20,38 +18,24 @@ pub struct Run {
 }
 
 // Which blocks a line is of: those from `from` up to the one before `to`.
-fn blocks_said(from: usize, to: usize) -> Said
+fn blocks_said(out: &mut Output, from: usize, to: usize)
     requires { from < to }
-    ensures { result ≡ blocks_said from to }
+    ensures { Says (blocks_said from to) out.old out.new }
 {
     let last = to - 1;
     if from == last {
-        return Said {
-            template: 0,
-            numbers: [from as u64, 0, 0, 0],
-        };
-    }
-    Said {
-        template: 1,
-        numbers: [from as u64, last as u64, 0, 0],
+        out.say(b"block #: ", &[from as u64]);
+    } else {
+        out.say(b"blocks # to #: ", &[from as u64, last as u64]);
     }
 }
 
 // A line for the blocks from `from` up to the one before `to`.
-fn line(stdout: Stdout, out: &mut [u8], at: usize, from: usize, to: usize, row: Row) -> usize
+fn line(out: &mut Output, from: usize, to: usize, row: Row)
     requires { from < to }
 {
-    let blocks = blocks_said(from, to);
-    let numbers = blocks.numbers;
-    let next = fill(
-        stdout,
-        out,
-        at,
-        b"block #: |blocks # to #: ",
-        blocks.template,
-        numbers,
-    );
-    blocks::put_row(stdout, out, next, row)
+    blocks_said(out, from, to);
+    blocks::put_row(out, row);
 }
 
 // What is expected behind block `m` of the half that begins at block `half`, where `place` is what is expected at that block.
@@ -72,101 +56,73 @@ fn run_from(area: &[u8], half: usize, count: usize, m: usize, place: Place, said
     ensures { ReachesTo area.now half m count result }
 {
     let mut after = behind_block(area, half, m, place);
-    let mut end = m + 1;
-    while end < count {
-        let next = blocks::row_at(area, half, end, after);
-        if !blocks::same_row(next, said) {
-            break;
+    for end in m + 1..count {
+        if blocks::row_at(area, half, end, after) != said {
+            return Run { end, place: after };
         }
         after = behind_block(area, half, end, after);
-        end += 1;
     }
     Run {
-        end: end,
+        end: count,
         place: after,
     }
 }
 
 // Lines for `count` blocks of an area from block `half` on, where a half begins.
-fn lines(stdout: Stdout, out: &mut [u8], at: usize, area: &[u8], half: usize, count: usize) -> usize
+fn lines(out: &mut Output, area: &[u8], half: usize, count: usize)
     requires { 512 * (half + count) ≤ length area.now }
 {
     if count == 0 {
-        return at;
+        return;
     }
-    let mut next = at;
     let mut place = places::first(area, half);
     let mut m: usize = 0;
     while m < count {
         let said = blocks::row_at(area, half, m, place);
         let reached = run_from(area, half, count, m, place, said);
-        let end = reached.end;
-        next = line(stdout, out, next, half + m, half + end, said);
+        line(out, half + m, half + reached.end, said);
         place = reached.place;
-        m = end;
+        m = reached.end;
     }
-    next
 }
 
-// The template for a half that begins at block `half`, where the one in use begins at block `used`.
-fn half_template(half: usize, used: usize) -> usize {
-    if half == 0 {
-        if used == 0 {
-            return 0;
-        }
-        return 1;
+// Which half begins at block `half`, and whether it is in use.
+fn half_name(area: &[u8], half: usize) -> &'static [u8] {
+    let in_use = starts::origin(area).block == half;
+    match (half, in_use) {
+        (0, true) => b"the first half, in use: blocks # to #",
+        (0, false) => b"the first half, not in use: blocks # to #",
+        (_, true) => b"the second half, in use: blocks # to #",
+        (_, false) => b"the second half, not in use: blocks # to #",
     }
-    if used == half {
-        return 2;
-    }
-    3
 }
 
 // The end of a heading: behind the second half, where the number of blocks is odd, stands one that is in neither.
-fn heading_end(stdout: Stdout, out: &mut [u8], at: usize, area: &[u8], half: usize) -> usize {
+fn heading_end(out: &mut Output, area: &[u8], half: usize) {
     let blocks = area.len() / 512;
-    let mut template: usize = 0;
-    if half != 0 {
-        template = blocks % 2;
+    if half == 0 || blocks % 2 == 0 {
+        out.put(b"\n");
+    } else {
+        out.say(b"; block # is in neither half\n", &[(blocks - 1) as u64]);
     }
-    let last = less(blocks as u64, 1);
-    fill(
-        stdout,
-        out,
-        at,
-        b"\n|; block # is in neither half\n",
-        template,
-        [last, 0, 0, 0],
-    )
 }
 
 // Which half begins at block `half`, whether it is in use, and its blocks.
-fn half_heading(stdout: Stdout, out: &mut [u8], at: usize, area: &[u8], half: usize) -> usize {
+fn half_heading(out: &mut Output, area: &[u8], half: usize) {
     let blocks = half_blocks(area.len());
     if blocks == 0 {
-        return at;
+        return;
     }
-    let used = starts::origin(area).block;
-    let last = saturating_add(half as u64, (blocks - 1) as u64);
-    let next = fill(
-        stdout,
-        out,
-        at,
-        b"the first half, in use: blocks # to #|\
-        the first half, not in use: blocks # to #|\
-        the second half, in use: blocks # to #|\
-        the second half, not in use: blocks # to #",
-        half_template(half, used),
-        [half as u64, last, 0, 0],
-    );
-    heading_end(stdout, out, next, area, half)
+    let last = (half as u64).saturating_add((blocks - 1) as u64);
+    out.say(half_name(area, half), &[half as u64, last]);
+    heading_end(out, area, half);
 }
 
 // The whole blocks of an area, half by half. A block more than the halves have stands behind the second.
-pub fn listed(stdout: Stdout, out: &mut [u8], at: usize, area: &[u8]) -> usize {
+pub fn listed(out: &mut Output, area: &[u8]) {
     let middle = half_blocks(area.len());
-    let mut next = half_heading(stdout, out, at, area, 0);
-    next = lines(stdout, out, next, area, 0, middle);
-    next = half_heading(stdout, out, next, area, middle);
-    lines(stdout, out, next, area, middle, area.len() / 512 - middle)
+    half_heading(out, area, 0);
+    lines(out, area, 0, middle);
+    half_heading(out, area, middle);
+    lines(out, area, middle, area.len() / 512 - middle);
 }

@@ -3,15 +3,14 @@
 #![tactic(auto)]
 
 use facts::Layout;
-use files::{Asked, Behind};
 use std::alloc::Global;
 use std::env::VarError;
 use std::fs::{File, Files};
 use std::io::{Stderr, Stdout};
 use std::{env, fs, io};
 use text::failures::fail;
-use text::output;
-use text::words::{Number, parse_number, same};
+use text::output::Output;
+use text::words::parse_number;
 
 mod blocks;
 mod facts;
@@ -27,17 +26,17 @@ mod refusals;
 mod said;
 mod snapshots;
 
-// What a file is printed as: what the first argument names, and of a file that is longer than the buffer the first blocks where it
-// is to be a journal.
-#[derive(Clone, Copy)]
+// What a file is to be, as the first argument names it.
+#[derive(Clone, Copy, PartialEq, Eq)]
 enum Kind {
     Journal,
     Cursor,
     Attempts,
-    Oversized,
-    TooLong,
-    None,
 }
+
+// JOURNAL_NUMBER is no number.
+#[derive(Clone, Copy)]
+struct NoNumber;
 
 fn usage(stderr: Stderr) -> io::Result<()> {
     stderr.write_all(
@@ -51,105 +50,69 @@ fn usage(stderr: Stderr) -> io::Result<()> {
     )
 }
 
-// What the first of two arguments names.
-fn kind_of(count: usize, word: &[u8]) -> Kind {
-    if count != 3 {
-        return Kind::None;
+// What a word names.
+fn kind_of(word: &[u8]) -> Option<Kind> {
+    match word {
+        b"journal" => Some(Kind::Journal),
+        b"cursor" => Some(Kind::Cursor),
+        b"attempts" => Some(Kind::Attempts),
+        _ => None,
     }
-    if same(word, b"journal") {
-        return Kind::Journal;
-    }
-    if same(word, b"cursor") {
-        return Kind::Cursor;
-    }
-    if same(word, b"attempts") {
-        return Kind::Attempts;
-    }
-    Kind::None
 }
 
 // Which journal is asked for by its number, in the environment's JOURNAL_NUMBER: none in particular where it isn't there. A snapshot has none.
-fn asked_by(kind: Kind, word: Result<String, VarError>) -> Asked {
-    let Kind::Journal = kind else {
-        return Asked::All;
-    };
-    let word = match word {
-        Ok(word) => word,
-        Err(VarError::NotPresent) => return Asked::All,
-        Err(_) => return Asked::None,
-    };
-    if 32 < word.len() {
-        return Asked::None;
+fn number_asked(kind: Kind, word: Result<String, VarError>) -> Result<Option<u64>, NoNumber> {
+    if kind != Kind::Journal {
+        return Ok(None);
     }
-    let Number::Value(number) = parse_number(word.as_bytes()) else {
-        return Asked::None;
-    };
-    Asked::One(number)
+    match word {
+        Ok(word) if word.len() <= 32 => {
+            let number = parse_number(word.as_bytes()).ok_or(NoNumber)?;
+            Ok(Some(number))
+        }
+        Err(VarError::NotPresent) => Ok(None),
+        _ => Err(NoNumber),
+    }
 }
 
 fn no_number(stderr: Stderr) -> io::Result<()> {
     stderr.write_all(b"inspect: JOURNAL_NUMBER is no number of a journal\n")
 }
 
-fn printed_as(kind: Kind, behind: Behind) -> Kind {
-    let Behind::More = behind else {
-        return kind;
-    };
-    if let Kind::Journal = kind {
-        return Kind::Oversized;
-    }
-    Kind::TooLong
-}
-
-fn report_of(kind: Kind, bytes: &[u8], stdout: Stdout, out: &mut [u8]) -> usize {
+// What a file has whose first bytes these are; there are more where it is longer than the buffer.
+fn report(out: &mut Output, kind: Kind, bytes: &[u8], more: bool) {
     match kind {
-        Kind::Journal => {
-            let unread = [0u8; 128];
-            journals::journal(stdout, out, 0, bytes, Layout::SideBySide, &unread)
-        }
-        Kind::Cursor => snapshots::cursor(stdout, out, 0, bytes),
-        Kind::Attempts => snapshots::attempts(stdout, out, 0, bytes),
-        Kind::Oversized => journals::oversized(stdout, out, 0, bytes),
-        Kind::TooLong => output::put(
-            stdout,
-            out,
-            0,
+        Kind::Journal if more => journals::oversized(out, bytes),
+        Kind::Journal => journals::journal(out, bytes, Layout::SideBySide, &[0; 128]),
+        _ if more => out.put(
             b"refused: it has more than 65536 bytes, and no snapshot has more than 2061\n",
         ),
-        Kind::None => 0,
+        Kind::Cursor => snapshots::cursor(out, bytes),
+        Kind::Attempts => snapshots::attempts(out, bytes),
     }
 }
 
 fn show(
+    out: &mut Output,
     kind: Kind,
     path: &str,
     file: &mut File,
     alloc: Global,
-    stdout: Stdout,
     stderr: Stderr,
 ) -> io::Result<()> {
     let mut buf = [0u8; 65536];
-    let mut out = [0u8; 65536];
     let read = files::read_full(file, &mut buf);
     let n = read.len;
-    let rest = files::read_on(file, n == 65536, read.failed);
-    if let Behind::Failed(error) = rest {
-        return fail(stderr, alloc, path, error);
+    match files::read_on(file, n == 65536, read.failed) {
+        Ok(more) => report(out, kind, &buf[..n], more),
+        Err(error) => return fail(stderr, alloc, path, error),
     }
-    let at = report_of(printed_as(kind, rest), &buf[..n], stdout, &mut out);
-    output::flush(stdout, &out, at);
     Ok(())
 }
 
 // Whether a file can be one of several journals: it is to be a journal, and one is asked for by its number, or it is in sectors.
-fn has_journals(kind: Kind, asked: Asked, file: &File) -> bool {
-    let Kind::Journal = kind else {
-        return false;
-    };
-    if let Asked::All = asked {
-        return files::is_in_sectors(file);
-    }
-    true
+fn has_journals(kind: Kind, asked: Option<u64>, file: &File) -> bool {
+    kind == Kind::Journal && (asked.is_some() || files::is_in_sectors(file))
 }
 
 // What a failure names: the file, or where its name is too long that it is the name.
@@ -163,7 +126,7 @@ fn told_as(path: &str) -> &str {
 fn inspect<R: Files<File = File>>(
     rt: &R,
     kind: Kind,
-    asked: Asked,
+    asked: Option<u64>,
     path: &str,
     alloc: Global,
     stdout: Stdout,
@@ -173,30 +136,28 @@ fn inspect<R: Files<File = File>>(
         Ok(file) => file,
         Err(error) => return fail(stderr, alloc, told_as(path), error),
     };
-    if has_journals(kind, asked, &file) {
-        return files::show_journal(asked, path, &mut file, alloc, stdout, stderr);
-    }
-    show(kind, path, &mut file, alloc, stdout, stderr)
+    let mut out = Output::new(stdout);
+    let done = if has_journals(kind, asked, &file) {
+        files::show_journal(&mut out, asked, path, &mut file, alloc, stderr)
+    } else {
+        show(&mut out, kind, path, &mut file, alloc, stderr)
+    };
+    out.flush();
+    done
 }
 
 fn main(rt: HostRuntime) -> io::Result<()> {
     let alloc = rt.alloc();
     let args: Vec<String> = env::args(&rt)?.collect(alloc)?;
-    let count = args.len();
-    let kind = match args.get(1) {
-        Some(word) => kind_of(count, word.as_bytes()),
-        None => Kind::None,
-    };
-    let Some(path) = args.get(2) else {
+    let [_, word, path] = args.as_slice() else {
         return usage(rt.stderr());
     };
-    if let Kind::None = kind {
+    let Some(kind) = kind_of(word.as_bytes()) else {
         return usage(rt.stderr());
-    }
-    let asked = asked_by(kind, env::var(&rt, "JOURNAL_NUMBER"));
-    if let Asked::None = asked {
+    };
+    let Ok(asked) = number_asked(kind, env::var(&rt, "JOURNAL_NUMBER")) else {
         return no_number(rt.stderr());
-    }
+    };
     inspect(
         &rt,
         kind,

@@ -4,14 +4,11 @@
 ghost use Rattle.std.specs.Prelude.{◌≡◌};
 ghost use Rattle.inspect.specs.Places.{otherHalf};
 
-use crate::missed::headers_behind;
+use crate::missed::{Headers, headers_behind};
 use crate::places;
 use crate::places::Place;
-use crate::said::{Said, says};
 use consumer::halves::half_blocks;
-use std::io::Stdout;
-use text::templates::fill;
-use types::numbers::saturating_add;
+use text::output::Output;
 
 // The block that it begins at.
 fn other_half(area: &[u8]) -> usize
@@ -23,85 +20,75 @@ fn other_half(area: &[u8]) -> usize
     0
 }
 
+// The headers in it.
+fn other_headers(area: &[u8]) -> Headers {
+    let other = other_half(area);
+    if other == 0 {
+        return headers_behind(area, 0, half_blocks(area.len()));
+    }
+    headers_behind(area, other, area.len() / 512)
+}
+
 // Whether it is opened under the number that the half in use begins with.
-fn opened_alike(area: &[u8], other: usize) -> bool {
+fn opened_alike(area: &[u8]) -> bool {
+    let other = other_half(area);
     if area.len() / 512 <= other {
         return false;
     }
-    let Place::Header { number } = places::first(area, other) else {
-        return false;
-    };
-    number == starts::origin(area).number
+    match places::first(area, other) {
+        Place::Header { number } => number == starts::origin(area).number,
+        _ => false,
+    }
 }
 
-// What is said of it, where group `next` is the first that would be later than those of the half in use: in template `later`, if it
-// names such a group, and nothing if it has only earlier ones.
-fn other_said(area: &[u8], other: usize, next: u64, later: usize) -> Said {
-    let mut end = half_blocks(area.len());
-    if other != 0 {
-        end = area.len() / 512;
-    }
-    let headers = headers_behind(area, other, end);
-    if next <= headers.number {
-        return says(later, headers.number, next);
-    }
-    if opened_alike(area, other) {
-        return says(2, starts::origin(area).number, 0);
-    }
-    says(0, 0, 0)
+// That both halves begin with the same group.
+fn begin_alike(out: &mut Output, area: &[u8]) {
+    out.say(
+        b"beware: both halves begin with group #, which no checkpoint leaves; the first is in use\n",
+        &[starts::origin(area).number],
+    );
 }
 
-fn warned(stdout: Stdout, out: &mut [u8], at: usize, said: Said) -> usize {
-    let numbers = said.numbers;
-    fill(
-        stdout,
-        out,
-        at,
-        b"|\
-        beware: the half that isn't in use names group #, and in the half in use group # would come next. The first block of the other \
-        may be worn: then a restart goes back over checkpoints, and may give generations a second time. Keep a copy of this file\n|\
-        beware: both halves begin with group #, which no checkpoint leaves; the first is in use\n|\
-        beware: the half that isn't in use names group #, and the half in use neither group # nor a later one. The first block of the \
-        other may be worn: then the half in use is the older one. Keep a copy of this file\n|\
-        beware: a block names group #, and group # would come next, which no checkpoint and no power failure leaves. A header is worn: a \
-        restart goes back over checkpoints, and may give generations a second time; checkpoints a restart can't reach: at least #. Keep a copy of this file, \
-        and stop all workers before a restart\n",
-        said.template,
-        numbers,
-    )
-}
-
-// What is said of the other half; and where that is nothing, that a block names group `highest`, if that is later than group `next`,
-// which would come next.
-fn or_above(said: Said, next: u64, highest: u64) -> Said {
-    if said.template != 0 {
-        return said;
-    }
-    if highest <= next {
-        return said;
-    }
-    Said {
-        template: 4,
-        numbers: [highest, next, highest - next, 0],
+// That a block names group `highest`, if that is later than group `next`, which would come next.
+fn above(out: &mut Output, next: u64, highest: u64) {
+    if next < highest {
+        out.say(
+            b"beware: a block names group #, and group # would come next, which no checkpoint and no power failure leaves. A header is worn: a \
+            restart goes back over checkpoints, and may give generations a second time; checkpoints a restart can't reach: at least #. Keep a copy of this file, \
+            and stop all workers before a restart\n",
+            &[highest, next, highest - next],
+        );
     }
 }
 
 // Of a walk that ended where group `next` would come next, on an area whose blocks name groups up to `highest`.
-pub fn other(
-    stdout: Stdout,
-    out: &mut [u8],
-    at: usize,
-    area: &[u8],
-    next: u64,
-    highest: u64,
-) -> usize {
-    let said = other_said(area, other_half(area), next, 1);
-    warned(stdout, out, at, or_above(said, next, highest))
+pub fn other(out: &mut Output, area: &[u8], next: u64, highest: u64) {
+    let headers = other_headers(area);
+    if next <= headers.number {
+        out.say(
+            b"beware: the half that isn't in use names group #, and in the half in use group # would come next. The first block of the other \
+            may be worn: then a restart goes back over checkpoints, and may give generations a second time. Keep a copy of this file\n",
+            &[headers.number, next],
+        );
+    } else if opened_alike(area) {
+        begin_alike(out, area);
+    } else {
+        above(out, next, highest);
+    }
 }
 
 // Of a walk that met an unsound body: all headers of the half in use count, those behind that body too.
-pub fn other_unsound(stdout: Stdout, out: &mut [u8], at: usize, area: &[u8]) -> usize {
+pub fn other_unsound(out: &mut Output, area: &[u8]) {
     let used = headers_behind(area, starts::origin(area).block, starts::limit(area));
-    let next = saturating_add(used.number, 1);
-    warned(stdout, out, at, other_said(area, other_half(area), next, 3))
+    let next = used.number.saturating_add(1);
+    let headers = other_headers(area);
+    if next <= headers.number {
+        out.say(
+            b"beware: the half that isn't in use names group #, and the half in use neither group # nor a later one. The first block of the \
+            other may be worn: then the half in use is the older one. Keep a copy of this file\n",
+            &[headers.number, next],
+        );
+    } else if opened_alike(area) {
+        begin_alike(out, area);
+    }
 }

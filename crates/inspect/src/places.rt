@@ -5,7 +5,7 @@ ghost use Rattle.std.specs.Prelude.{◌≡◌, ◌+◌, ◌*◌, ◌≤◌, leng
 ghost use Rattle.journal.specs.Blocks.{used_in};
 ghost use Rattle.inspect.specs.Places.{opened_by, first as firstPlace, judged, behind_body, behind_header, place_after};
 
-use crate::faults::{Seen, Verdict, body_verdict, by_itself, header_verdict};
+use crate::faults::{Fault, Seen, body_verdict, by_itself, header_verdict};
 use consumer::halves::half_blocks;
 
 // The header of group `number`; body `index`, from 1, of the `bodies` of a group whose snapshots have `total` bytes; nothing, where
@@ -27,21 +27,13 @@ pub enum Place {
     Free,
 }
 
-// A block judged as what is expected at its place, or seen by itself where nothing is.
-#[derive(Clone, Copy)]
-pub enum Judged {
-    Header(Verdict),
-    Body(Verdict),
-    Behind(Seen),
-}
-
 // The place of a block that begins a half which isn't in use, by what it opens that half with; no group of it may pass block `hi`.
 fn opened_by(block: &[u8], hi: usize, at: usize) -> Place
     ensures { result ≡ opened_by hi at block.now }
 {
     if journal::is_sound_but_number(block, hi, at) {
         let number = raw::read_u32(block, 4) as u64;
-        return Place::Header { number: number };
+        return Place::Header { number };
     }
     Place::Free
 }
@@ -78,20 +70,25 @@ fn used_in(index: usize, bodies: usize, total: usize) -> usize
     total - 500 * (bodies - 1)
 }
 
-// A block at `at`, where no group may pass block `hi`.
-pub fn judge(place: Place, block: &[u8], hi: usize, at: usize) -> Judged
+// A block at `at`, where no group may pass block `hi`: judged as what is expected at its place, or seen by itself where nothing is.
+pub fn judge(place: Place, block: &[u8], hi: usize, at: usize) -> Result<Seen, Fault>
     ensures { result ≡ judged place hi at block.now }
 {
     match place {
-        Place::Header { number } => Judged::Header(header_verdict(block, hi, number, at)),
+        Place::Header { number } => {
+            header_verdict(block, hi, number, at)?;
+            Ok(Seen::Header)
+        }
         Place::Body {
             number,
             index,
             bodies,
             total,
-        } => Judged::Body(body_verdict(block, number, index, used_in(index, bodies, total))),
-        Place::Behind { number: _ } => Judged::Behind(by_itself(block, hi, at)),
-        Place::Free => Judged::Behind(by_itself(block, hi, at)),
+        } => {
+            body_verdict(block, number, index, used_in(index, bodies, total))?;
+            Ok(Seen::Body)
+        }
+        Place::Behind { .. } | Place::Free => by_itself(block, hi, at),
     }
 }
 
@@ -101,14 +98,14 @@ fn behind_body(number: u64, index: usize, bodies: usize, total: usize) -> Place
 {
     if index < bodies {
         return Place::Body {
-            number: number,
+            number,
             index: index + 1,
-            bodies: bodies,
-            total: total,
+            bodies,
+            total,
         };
     }
     if number == u64::MAX {
-        return Place::Behind { number: number };
+        return Place::Behind { number };
     }
     Place::Header { number: number + 1 }
 }
@@ -120,7 +117,7 @@ fn behind_header(number: u64, block: &[u8]) -> Place
     let header = journal::read_header(block);
     let bodies = journal::bodies_for(header.cursor_len, header.attempt_len);
     Place::Body {
-        number: number,
+        number,
         index: 1,
         bodies: bodies as usize,
         total: header.cursor_len as usize + header.attempt_len as usize,
@@ -136,7 +133,7 @@ pub fn after(place: Place, block: &[u8], hi: usize, at: usize) -> Place
             if journal::is_sound_header(block, hi, number, at) {
                 return behind_header(number, block);
             }
-            Place::Behind { number: number }
+            Place::Behind { number }
         }
         Place::Body {
             number,
@@ -144,7 +141,6 @@ pub fn after(place: Place, block: &[u8], hi: usize, at: usize) -> Place
             bodies,
             total,
         } => behind_body(number, index, bodies, total),
-        Place::Behind { number: _ } => place,
-        Place::Free => place,
+        Place::Behind { .. } | Place::Free => place,
     }
 }

@@ -1,92 +1,114 @@
-// Refusals for people: the name of each number (SPEC.md, "Refusals"), and the values.
-use answers::Numbers;
-use std::io::Stdout;
-use text::templates::fill;
+// Refusals for people: the number and the name of each (SPEC.md, "Refusals"), with its values, and what to do.
+use text::output::Output;
+use types::refusals::Refusal;
 
-// The line's end behind a refusal's number. There is a row for each number, from 0 on, which is no refusal.
-pub fn refused(stdout: Stdout, out: &mut [u8], at: usize, numbers: Numbers) -> usize {
-    fill(
-        stdout,
-        out,
-        at,
-        b"|\
-        UnlimitedDeliverNotAllowed\n|\
-        TooManySteps\n|\
-        ZeroThreshold\n|\
-        BadArea\n|\
-        Damaged: block #\n|\
-        Cursor Truncated\n|\
-        Cursor BadLength: length #\n|\
-        Cursor UnsupportedVersion: version #\n|\
-        Cursor BadCrc\n|\
-        EmptyRange: start #, end #\n|\
-        NotSortedDisjointAndAboveCommitted: start #, previous end #\n|\
-        TooManyRuns\n|\
-        Attempt Truncated\n|\
-        Attempt UnsupportedVersion: version #\n|\
-        Attempt BadLength: length #\n|\
-        CountMismatch: declared #, actual #\n|\
-        Attempt BadCrc\n|\
-        NotSorted: offset #, previous offset #\n|\
-        TooManyPairs\n|\
-        OutTooShort\n|\
-        LastOffset\n|\
-        Settled\n|\
-        InFlight\n|\
-        Fenced\n|\
-        Exhausted\n|\
-        CheckpointDue\n|\
-        Full\n|\
-        CapReached\n|\
-        Shed\n|\
-        Held\n|\
-        JournalFull\n",
-        numbers.0 as usize,
-        [numbers.2, numbers.3, 0, 0],
-    )
+// The name of a refusal that has no values.
+fn name_of(refusal: Refusal) -> &'static [u8] {
+    match refusal {
+        Refusal::UnlimitedDeliverNotAllowed => b"UnlimitedDeliverNotAllowed\n",
+        Refusal::TooManySteps => b"TooManySteps\n",
+        Refusal::ZeroThreshold => b"ZeroThreshold\n",
+        Refusal::BadArea => b"BadArea\n",
+        Refusal::CursorTruncated => b"Cursor Truncated\n",
+        Refusal::CursorBadCrc => b"Cursor BadCrc\n",
+        Refusal::TooManyRuns => b"TooManyRuns\n",
+        Refusal::AttemptTruncated => b"Attempt Truncated\n",
+        Refusal::AttemptBadCrc => b"Attempt BadCrc\n",
+        Refusal::TooManyPairs => b"TooManyPairs\n",
+        Refusal::OutTooShort => b"OutTooShort\n",
+        Refusal::LastOffset => b"LastOffset\n",
+        Refusal::Settled => b"Settled\n",
+        Refusal::InFlight => b"InFlight\n",
+        Refusal::Fenced => b"Fenced\n",
+        Refusal::Exhausted => b"Exhausted\n",
+        Refusal::CheckpointDue => b"CheckpointDue\n",
+        Refusal::Full => b"Full\n",
+        Refusal::CapReached => b"CapReached\n",
+        Refusal::Shed => b"Shed\n",
+        Refusal::JournalFull => b"JournalFull\n",
+        // No journal and no snapshot is refused so.
+        _ => b"",
+    }
 }
 
-// Which advice a journal's refusal gets: that of 4, of 5, of a version that isn't known, or of bytes that nobody here writes.
-fn advice_template(number: u64) -> usize {
-    match number {
-        4 => 0,
-        5 => 1,
-        8 | 14 => 2,
-        _ => 3,
+// The line's end behind the number of a refusal of ranges or pairs that are out of order; of any other, its name.
+fn named(out: &mut Output, refusal: Refusal) {
+    match refusal {
+        Refusal::EmptyRange { start, end } => {
+            out.say(b"EmptyRange: start #, end #\n", &[start, end])
+        }
+        Refusal::NotSortedDisjointAndAboveCommitted { start, prev_end } => out.say(
+            b"NotSortedDisjointAndAboveCommitted: start #, previous end #\n",
+            &[start, prev_end],
+        ),
+        Refusal::CountMismatch { declared, actual } => out.say(
+            b"CountMismatch: declared #, actual #\n",
+            &[u64::from(declared), actual],
+        ),
+        Refusal::NotSorted {
+            offset,
+            prev_offset,
+        } => out.say(
+            b"NotSorted: offset #, previous offset #\n",
+            &[offset, prev_offset],
+        ),
+        _ => out.put(name_of(refusal)),
+    }
+}
+
+// The number of a refusal, its name and its values, to the line's end.
+pub fn refused(out: &mut Output, refusal: Refusal) {
+    out.say(b"# ", &[answers::of_refusal(refusal).0]);
+    match refusal {
+        Refusal::Damaged { block } => out.say(b"Damaged: block #\n", &[block as u64]),
+        Refusal::CursorBadLength { len } => {
+            out.say(b"Cursor BadLength: length #\n", &[len as u64])
+        }
+        Refusal::CursorUnsupportedVersion { version } => out.say(
+            b"Cursor UnsupportedVersion: version #\n",
+            &[u64::from(version)],
+        ),
+        Refusal::AttemptUnsupportedVersion { version } => out.say(
+            b"Attempt UnsupportedVersion: version #\n",
+            &[u64::from(version)],
+        ),
+        Refusal::AttemptBadLength { len } => {
+            out.say(b"Attempt BadLength: length #\n", &[len as u64])
+        }
+        _ => named(out, refusal),
     }
 }
 
 // What to do about a refusal of a journal.
-pub fn journal_advice(stdout: Stdout, out: &mut [u8], at: usize, number: u64) -> usize {
-    fill(
-        stdout,
-        out,
-        at,
-        b"to do: see that the file is whole: a journal has an even number of blocks of 512 bytes, from 18 to 128. One from before there \
-        were halves may have another length: see the section on such journals in rust/README.md\n|\
-        to do: keep a copy of this file, and stop all workers before anything else; then see docs/OPERATING.md, After a fault of the disk\n|\
-        to do: keep a copy of this file, and stop all workers before anything else; then see who wrote it: this reader doesn't know that \
-        version of a snapshot\n|\
-        to do: keep a copy of this file, and stop all workers before anything else; then see who wrote it: no checkpoint leaves such \
-        snapshots\n",
-        advice_template(number),
-        [0, 0, 0, 0],
-    )
+pub fn journal_advice(out: &mut Output, refusal: Refusal) {
+    match refusal {
+        Refusal::BadArea => out.put(
+            b"to do: see that the file is whole: a journal has an even number of blocks of 512 bytes, from 18 to 128. One from before there \
+            were halves may have another length: see the section on such journals in rust/README.md\n",
+        ),
+        Refusal::Damaged { .. } => out.put(
+            b"to do: keep a copy of this file, and stop all workers before anything else; then see docs/OPERATING.md, After a fault of the disk\n",
+        ),
+        Refusal::CursorUnsupportedVersion { .. } | Refusal::AttemptUnsupportedVersion { .. } =>
+            out.put(
+                b"to do: keep a copy of this file, and stop all workers before anything else; then see who wrote it: this reader doesn't know that \
+            version of a snapshot\n",
+            ),
+        _ => out.put(
+            b"to do: keep a copy of this file, and stop all workers before anything else; then see who wrote it: no checkpoint leaves such \
+            snapshots\n",
+        ),
+    }
 }
 
 // What to do about a refusal of a snapshot.
-pub fn snapshot_advice(stdout: Stdout, out: &mut [u8], at: usize, number: u64) -> usize {
-    let mut template: usize = 1;
-    if advice_template(number) == 2 {
-        template = 0;
+pub fn snapshot_advice(out: &mut Output, refusal: Refusal) {
+    match refusal {
+        Refusal::CursorUnsupportedVersion { .. } | Refusal::AttemptUnsupportedVersion { .. } => {
+            out.put(b"to do: see who wrote it: this reader doesn't know that version\n")
+        }
+        _ => out.put(
+            b"to do: see who wrote it, and have a snapshot sent again: no checkpoint and no encoder leaves such bytes\n",
+        ),
     }
-    fill(
-        stdout,
-        out,
-        at,
-        b"to do: see who wrote it: this reader doesn't know that version\n|\
-        to do: see who wrote it, and have a snapshot sent again: no checkpoint and no encoder leaves such bytes\n",
-        template,
-        [0, 0, 0, 0],
-    )
 }

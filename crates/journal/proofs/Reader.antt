@@ -4,11 +4,11 @@ use Prim.Native.Nat.{ℕ, zero, suc, ◌+◌, ◌*◌, ◌-◌, ◌≤◌, ◌<�
 use native.Mathlib.Omega.{arith}
 use native.Mathlib.Numerals.{add-one}
 use native.Mathlib.Nat.{zero-add, add-zero, sub-zero}
-use mathlib.Core.Path.{◌≡◌, refl, sym, ap, ◌∙◌}
+use mathlib.Core.Path.{◌≡◌, sym, ap, ◌∙◌}
 use mathlib.Core.Bool.{true, false}
 use mathlib.Core.List.{List, ◌++◌, append_assoc}
 use lib.ListN.{length, take, drop, length-take, length-drop}
-use lib.Seq.{length-take-le, take_all, take-add, take_at, take-take, take-append-le, drop-append-add, drop-drop}
+use lib.Seq.{length-take-le, take-add, take_at, take-take, take-append-le, drop-append-add, drop-drop}
 use borrow.Author.Tests.{lt-ltb, le-ltb}
 use Rattle.types.specs.Refusal.{Result, refused, done}
 use Rattle.types.specs.Refusal as refusal
@@ -18,25 +18,12 @@ use Rattle.raw.specs.Bytes.{overwrite, write}
 use Rattle.raw.proofs.Bytes.{part-part, length-overwrite, wrote}
 use Rattle.journal.specs.declared.Header.{Header}
 use Rattle.journal.specs.Area.{outside, block_at}
-use Rattle.journal.specs.Blocks.{
-  bodies_for,
-  group_of,
-  ceiling_of,
-  cursor_length,
-  attempt_length,
-  payload_length,
-  content_of,
-}
+use Rattle.journal.specs.Blocks.{bodies_for, payload_length, content_of}
 use Rattle.journal.specs.Walks.{contents, payload}
 use Rattle.journal.specs.Answers.{read_payload, header_in}
 use Rattle.journal.proofs.Area.{inside-says, says-inside, part_at, part-is, block-length}
 use Rattle.journal.proofs.Sound.{differ}
 use Rattle.journal.proofs.Group.{contents-length}
-
-pub header_read : (b : List ℕ) (k ceiling lc la : ℕ)
-    → k ≡ group_of b → ceiling ≡ ceiling_of b → lc ≡ cursor_length b → la ≡ attempt_length b
-    → record { number = k; ceiling = ceiling; cursor_len = lc; attempt_len = la } ≡ header_in b
-header_read b k ceiling lc la e f g h = rw (e, f, g, h)
 
 -- ## Contents
 module _ (a : List ℕ) where
@@ -112,17 +99,9 @@ module _ (a : List ℕ) (first total : ℕ) (before : List ℕ)
   all-length : length all ≡ total
   all-length = simp length-take (omega (arith, contents-length a (bodies_for total) first fits))
 
-  pub copy_none : Copied a first total before before first 0
-  copy_none = record { from = omega arith; place = omega arith; same = refl; front = refl }
-
   module _ (out : List ℕ) (at copied : ℕ) (s : Copied a first total before out at copied) where
     pub copy_within : copied < total → at < first + bodies_for total
     copy_within h = omega (arith, s.place, s.from)
-
-    pub copied_all : total ≤ copied → out ≡ all ++ drop total before
-    copied_all h =
-        let e : copied ≡ total = omega (arith, s.place) in
-        rw e at s.front ∙ ap (λ l. l ++ drop total before) (take_all total all (omega (arith, all-length)))
 
     -- the part of the area that is copied next
     module _ (size : ℕ) (h : copied < total) (e : size ≡ min 500 (total - copied)) where
@@ -183,9 +162,6 @@ module _ (a : List ℕ) (i : ℕ) (out : List ℕ) where
     read-outside t = rw (size_is, ← count, t)
 
     module _ (there : outside (length a) (i + n) ≡ false) where
-      pub read_fits : 512 * (i + 1 + bodies_for size) ≤ length a
-      read_fits = rw (← count) (omega (arith, (inside-says (length a) (i + n) there).fits))
-
       pub read_short : length out < size → answer (refused refusal.OutTooShort) out ≡ read_payload i a out
       unfolding read_payload
       read_short s = rw (size_is, ← count, there, lt-ltb (length out) size s)

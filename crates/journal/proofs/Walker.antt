@@ -6,34 +6,19 @@ use Prim.Native.Nat.{ℕ, suc, ◌+◌, ◌*◌, ◌-◌, ◌/◌, ◌≤◌, �
 use native.Mathlib.Omega.{arith}
 use native.Mathlib.Decide.{dec_lt}
 use native.Mathlib.Numerals.{add-one}
-use mathlib.Core.Path.{◌≡◌, sym, ◌∙◌}
+use mathlib.Core.Path.{◌≡◌, refl, sym, ap, ◌∙◌}
 use mathlib.Core.Bool.{Bool, true, false}
 use mathlib.Core.List.{List}
-use mathlib.Core.Option.{Option, some}
+use mathlib.Core.Option.{Option, none, some}
 use lib.ListN.{length, drop, length-take, length-drop}
-use Rattle.types.specs.Refusal.{Result, refused, BadArea}
+use Rattle.types.specs.Refusal.{Refusal, Result, refused, done, BadArea, Damaged}
 use Rattle.raw.specs.Bytes.{IsBytes}
 use Rattle.raw.proofs.Bytes.{bytes_take, bytes_drop, number_lt}
 use Rattle.journal.specs.Area.{bad_length, blocks, block_at}
 use Rattle.journal.specs.Blocks.{Counted, used_in, body_count, cursor_length, attempt_length}
 use Rattle.journal.specs.Sound.{has_header_kind, sound_header, sound_body}
-use Rattle.journal.specs.Walks.{
-  first_unsound,
-  Found,
-  nothing,
-  unsound,
-  group,
-  or_unsound,
-  group_at,
-  Stop,
-  stop,
-  damaged,
-  after,
-  walk_from,
-  walk,
-  header_behind,
-}
-use Rattle.journal.specs.Answers.{walk_in}
+use Rattle.journal.specs.Walks.{first_unsound, Found, nothing, unsound, group, or_unsound, group_at, Stop, stop, after, walk_from, walk, header_behind}
+use Rattle.journal.specs.Answers.{turn_of, walk_in}
 use Rattle.journal.proofs.Area.{part_at, part-is}
 use Rattle.journal.proofs.Sound.{Header, header-says, well_formed_counted, no_kind}
 use Rattle.journal.proofs.Walks.{says_nothing, says-bodies, group-says, past_end, walk_turn, none-behind, some-behind}
@@ -45,11 +30,6 @@ module _ (a : List ℕ) (k i n t : ℕ) where
     pub first : 1 ≤ j
     pub most : j ≤ n + 1
     pub rest : first_unsound a k i n t (n + 1 - j) j ≡ first_unsound a k i n t n 1
-
-  pub scan_none : Scanned 1
-  scan_none =
-      let e : n + 1 - 1 ≡ n = omega arith in
-      record { first = omega arith; most = omega arith; rest = rw e }
 
   module _ (j : ℕ) (s : Scanned j) where
     -- what the test of body j found
@@ -68,14 +48,8 @@ module _ (a : List ℕ) (k i n t : ℕ) where
           let q : j + 1 ≡ suc j = omega arith in
           record { first = omega arith; most = omega arith; rest = rw (m, q) (rw (left, tested, e) at s.rest) }
 
-      pub scan_unsound : u ≡ false → unsound (i + j) ≡ or_unsound (first_unsound a k i n t n 1) (i + suc n)
+      pub scan_unsound : u ≡ false → refused (Damaged (i + j)) ≡ turn_of (or_unsound (first_unsound a k i n t n 1) (i + suc n))
       scan_unsound e = rw (← s.rest, left, tested, e)
-
-    pub scan_all : n < j → group (i + j) ≡ or_unsound (first_unsound a k i n t n 1) (i + suc n)
-    scan_all h =
-        let m : n + 1 - j ≡ 0 = omega arith in
-        let q : j ≡ suc n = omega (arith, s.most) in
-        rw (← s.rest, m, q)
 
 -- ## A turn
 module _ (a : List ℕ) (hi k i : ℕ) where
@@ -86,8 +60,8 @@ module _ (a : List ℕ) (hi k i : ℕ) where
     tested-header : sound_header hi k i (block_at a i) ≡ u
     tested-header = sym (test ∙ rw (part-is a i))
 
-    pub turn-nothing : u ≡ false → nothing ≡ group_at a hi k i
-    turn-nothing e = sym (says_nothing a hi k i (tested-header ∙ e))
+    pub turn-nothing : u ≡ false → done none ≡ turn_of (group_at a hi k i)
+    turn-nothing e = rw (says_nothing a hi k i (tested-header ∙ e))
 
     module _ (e : u ≡ true) (lc la : ℕ) (c : lc ≡ cursor_length part) (t : la ≡ attempt_length part) where
       sound : Header hi k i part
@@ -98,10 +72,21 @@ module _ (a : List ℕ) (hi k i : ℕ) where
           → Counted (body_count part) (lc + la) × (512 * (i + 1 + body_count part) ≤ length a)
       turn-counted h = (rw (c, t) (well_formed_counted part sound.form), omega (arith, sound.fits))
 
-      pub turn-bodies : (f : Found)
-          → f ≡ or_unsound (first_unsound a k i (body_count part) (lc + la) (body_count part) 1) (i + suc (body_count part))
-          → f ≡ group_at a hi k i
-      turn-bodies f q = q ∙ rw (c, t, part-is a i) (sym (says-bodies a hi k i (tested-header ∙ e)))
+      pub turn-bodies : (r : Result (Option ℕ))
+          → r ≡ turn_of (or_unsound (first_unsound a k i (body_count part) (lc + la) (body_count part) 1) (i + suc (body_count part)))
+          → r ≡ turn_of (group_at a hi k i)
+      turn-bodies r q = q ∙ rw (c, t, part-is a i) (sym (ap turn_of (says-bodies a hi k i (tested-header ∙ e))))
+
+-- what a turn answered is what it found
+pub found-nothing : (f : Found) → done none ≡ turn_of f → f ≡ nothing
+found-nothing nothing h = refl
+found-nothing (unsound j) h = absurd (cc)
+found-nothing (group e) h = absurd (cc)
+
+pub found-group : (f : Found) (e : ℕ) → done (some e) ≡ turn_of f → f ≡ group e
+found-group nothing e h = absurd (cc)
+found-group (unsound j) e h = absurd (cc)
+found-group (group g) e h = cc
 
 -- ## The walk
 module _ (a : List ℕ) (hi : ℕ) (last : Option ℕ) (k i : ℕ) (w : Result Stop) (so_far : walk_from a hi last k i ≡ w) where
@@ -114,8 +99,16 @@ module _ (a : List ℕ) (hi : ℕ) (last : Option ℕ) (k i : ℕ) (w : Result S
   pub walk-past : hi ≤ i → stop last k i ≡ w
   walk-past h = walk_ends (past_end a hi k i h)
 
-  pub walk_breaks : (j : ℕ) → group_at a hi k i ≡ unsound j → damaged j ≡ w
-  walk_breaks j e = rw e at turned
+  pub walk_breaks : (r : Refusal) → refused r ≡ turn_of (group_at a hi k i) → refused r ≡ w
+  walk_breaks r h = go (group_at a hi k i) refl
+    where
+      go : (f : Found) → group_at a hi k i ≡ f → refused r ≡ w
+      go nothing e = absurd (let n = rw e at h in cc)
+      go (unsound j) e =
+          let n : ◌≡◌ {A = Result (Option ℕ)} (refused r) (refused (Damaged j)) = rw e at h in
+          let same : r ≡ Damaged j = cc in
+          rw same (rw e at turned)
+      go (group g) e = absurd (let n = rw e at h in cc)
 
   pub walk-goes : (e : ℕ) → group_at a hi k i ≡ group e → walk_from a hi (some i) (k + 1) e ≡ w
   walk-goes e g = rw add-one (rw g at turned)

@@ -2,10 +2,13 @@
 -- of another length, an area of a length that no area has, a block behind its end.
 -- SPEC.md, "Journal".
 use Rattle.std.specs.Prelude.{ℕ, ◌+◌, min, not, List, [], ◌∷◌, ◌++◌, ltb, eqb, length, drop}
+use Rattle.std.specs.Prelude as std
 use Rattle.std.proofs.Math.Option.{Option, none, some}
 use Rattle.types.specs.Refusal.{Result, refused, done}
 use Rattle.types.specs.Refusal as refusal
+use Rattle.types.specs.Refused.{result_of, option_of}
 use Rattle.types.specs.Table.{◌⇒◌, Answer, answer, checked, guarded}
+use Rattle.types.specs.declared.refusals.Refusal.{Refusal}
 use Rattle.journal.specs.Area.{bad_length, blocks, outside, block_at, write_at}
 use Rattle.journal.specs.Blocks.{
   bodies_for,
@@ -22,21 +25,9 @@ use Rattle.journal.specs.Blocks.{
 use Rattle.journal.specs.declared.Block.{Block}
 use Rattle.journal.specs.declared.Block.TheVariants as block
 use Rattle.journal.specs.declared.Block.TheVariants.{Body, Zeros}
-use Rattle.journal.specs.declared.Filled.{Filled}
-use Rattle.journal.specs.declared.Filled.TheVariants as filled
-use Rattle.journal.specs.declared.Filled.TheVariants.{Written}
-use Rattle.journal.specs.declared.LastGroup.{LastGroup}
-use Rattle.journal.specs.declared.LastGroup.TheVariants.{At, None}
 use Rattle.journal.specs.declared.Header.{Header}
-use Rattle.journal.specs.declared.Payload.{Payload}
-use Rattle.journal.specs.declared.Payload.TheVariants as read
-use Rattle.journal.specs.declared.Payload.TheVariants.{Read, OutTooShort}
-use Rattle.journal.specs.declared.GroupAt.{GroupAt}
-use Rattle.journal.specs.declared.GroupAt.TheVariants.{Nothing, Unsound, Group}
-use Rattle.journal.specs.declared.Walked.{Walked}
-use Rattle.journal.specs.declared.Walked.TheVariants as walked
-use Rattle.journal.specs.declared.Walked.TheVariants.{Stopped, Damaged}
-use Rattle.journal.specs.Walks.{Found, nothing, unsound, group, Stop, stop, damaged, walk, payload}
+use Rattle.journal.specs.declared.Stop as code
+use Rattle.journal.specs.Walks.{Found, nothing, unsound, group, Stop, walk, payload}
 
 -- a part of the area is filled with a block
 unfoldable pub fill : List ℕ → List ℕ → Answer (Unit {0}) (List ℕ)
@@ -80,25 +71,15 @@ block_of (block.Header h) payload = header_bytes h
 block_of (Body k j) payload = body_block k j (chunk_of j payload)
 block_of Zeros payload = zero_block
 
-abbrev pub filled_of : Filled → Result (Unit {0})
-filled_of Written = done tt
-filled_of filled.BadArea = refused refusal.BadArea
+-- what a turn of the walk answers for what it found: the block behind a sound group, if there is one
+abbrev pub turn_of : Found → Result (Option ℕ)
+turn_of nothing = done none
+turn_of (unsound j) = refused (refusal.Damaged j)
+turn_of (group e) = done (some e)
 
-abbrev pub found_of : GroupAt → Found
-found_of Nothing = nothing
-found_of (Unsound j) = unsound j
-found_of (Group e) = group e
+-- where a walk ended
+abbrev pub stop_of : code.Stop → Stop
+stop_of s = record { last = option_of (λ n. n) s.last; number = s.number; block = s.block }
 
-abbrev pub last_of : LastGroup → Option ℕ
-last_of (At i) = some i
-last_of None = none
-
-abbrev pub walked_of : Walked → Result Stop
-walked_of (Stopped last k i) = stop (last_of last) k i
-walked_of walked.BadArea = refused refusal.BadArea
-walked_of (Damaged j) = damaged j
-
-abbrev pub payload_read : Payload → Result ℕ
-payload_read (Read n) = done n
-payload_read read.BadArea = refused refusal.BadArea
-payload_read OutTooShort = refused refusal.OutTooShort
+abbrev pub walked_of : std.Result code.Stop Refusal → Result Stop
+walked_of = result_of stop_of

@@ -5,14 +5,16 @@
 
 ghost use Rattle.std.specs.Prelude.{◌≡◌, suc, ◌+◌, ◌*◌, ◌-◌, ◌≤◌, ◌<◌, min, length, take, drop, replicate, ◌++◌};
 ghost use Rattle.types.specs.Table.{answer};
+ghost use Rattle.types.specs.Refused.{as_is, result_of, option_of};
 ghost use Rattle.crc.specs.Seal.{sealed};
 ghost use Rattle.journal.specs.Blocks.{bodies_for, Counted, used_in, chunk_of, opening, body_block, zero_block};
 ghost use Rattle.journal.specs.Area.{bad_length, outside};
 ghost use Rattle.journal.specs.Sound.{is_kind, has_header_kind, well_formed, sound_but_fit, sound_but_number, sound_header, sound_body};
+ghost use Rattle.std.proofs.Math.Option.{some};
 ghost use Rattle.journal.specs.Walks.{first_unsound, or_unsound, group_at, header_behind, contents};
-ghost use Rattle.journal.specs.Answers.{fill, write_block, walk_in, read_payload, header_in, header_bytes, block_of, filled_of, found_of, walked_of, payload_read};
+ghost use Rattle.journal.specs.Answers.{fill, write_block, walk_in, read_payload, header_in, header_bytes, block_of, turn_of, walked_of};
 
-use types::numbers::shorter;
+use types::refusals::Refusal;
 
 // What the header of a group says: its number, the generation ceiling, and the lengths of the cursor snapshot and of
 // the attempt snapshot.
@@ -33,46 +35,13 @@ pub enum Block {
     Zeros,
 }
 
-// What writing a block answers: it is written, or refusal 4.
+// Where a walk ended: the header block of the last group, if there was one, the number expected next, and the block where it would
+// stand.
 #[derive(Clone, Copy)]
-pub enum Filled {
-    Written,
-    BadArea,
-}
-
-// The header block of the last group of a walk, if there was one.
-#[derive(Clone, Copy)]
-pub enum LastGroup {
-    At(usize),
-    None,
-}
-
-// What a walk answers: the last group, the number expected next and the block where it would stand, or refusals 4 and 5.
-#[derive(Clone, Copy)]
-pub enum Walked {
-    Stopped {
-        last: LastGroup,
-        number: u64,
-        block: usize,
-    },
-    BadArea,
-    Damaged(usize),
-}
-
-// What reading a payload answers: the number of its bytes, or refusals 4 and 20.
-#[derive(Clone, Copy)]
-pub enum Payload {
-    Read(usize),
-    BadArea,
-    OutTooShort,
-}
-
-// What one turn of the walk finds: no sound header, an unsound body's block, or the block behind a sound group.
-#[derive(Clone, Copy)]
-enum GroupAt {
-    Nothing,
-    Unsound(usize),
-    Group(usize),
+pub struct Stop {
+    pub last: Option<usize>,
+    pub number: u64,
+    pub block: usize,
 }
 
 // Whether an area of this length is refused.
@@ -104,7 +73,7 @@ fn seal(block: &mut [u8])
     ensures { block.new ≡ sealed (take 508 block.old) }
 {
     let check = crc::crc32c(&block[..508]);
-    raw::write_u32(block, 508, check);
+    let _ = raw::write_u32(block, 508, check);
 }
 
 // Fills a block with its first eight bytes, and zeros behind them.
@@ -115,24 +84,24 @@ fn open_block(block: &mut [u8], kind: u8, second: u8, third: u16, number: u32)
     raw::clear(block);
     block[0] = kind;
     block[1] = second;
-    raw::write_u16(block, 2, third);
-    raw::write_u32(block, 4, number);
+    let _ = raw::write_u16(block, 2, third);
+    let _ = raw::write_u32(block, 4, number);
 }
 
 // Fills a block with the header of a group. A part of another length than 512 bytes is refused as 4.
-fn write_header(block: &mut [u8], header: Header) -> Filled
-    ensures { answer (filled_of result) block.new ≡ fill (header_bytes header) block.old }
+fn write_header(block: &mut [u8], header: Header) -> Result<(), Refusal>
+    ensures { answer (as_is result) block.new ≡ fill (header_bytes header) block.old }
 {
     if block.len() != 512 {
-        return Filled::BadArea;
+        return Err(Refusal::BadArea);
     }
     let bodies = bodies_for(header.cursor_len, header.attempt_len);
     open_block(block, 1, (bodies % 256) as u8, 0, header.number);
-    raw::write_u64(block, 8, header.ceiling);
-    raw::write_u16(block, 16, header.cursor_len);
-    raw::write_u16(block, 18, header.attempt_len);
+    let _ = raw::write_u64(block, 8, header.ceiling);
+    let _ = raw::write_u16(block, 16, header.cursor_len);
+    let _ = raw::write_u16(block, 18, header.attempt_len);
     seal(block);
-    Filled::Written
+    Ok(())
 }
 
 // Fills a block with a body that has these payload bytes.
@@ -141,43 +110,43 @@ fn put_body(block: &mut [u8], number: u32, index: u8, chunk: &[u8])
     ensures { block.new ≡ body_block number index chunk.now }
 {
     open_block(block, 2, index, chunk.len() as u16, number);
-    raw::write_bytes(block, 8, chunk);
+    let _ = raw::write_bytes(block, 8, chunk);
     seal(block);
 }
 
 // Fills a block with body `index`, counted from 1, of a payload: 500 of its bytes, or what is left of them behind those
 // of the bodies before. Index 0, which no body has, takes the bytes of body 1. A part of another length than 512 bytes
 // is refused as 4.
-fn write_body(block: &mut [u8], number: u32, index: u8, payload: &[u8]) -> Filled
-    ensures { answer (filled_of result) block.new ≡ fill (body_block number index (chunk_of index payload.now)) block.old }
+fn write_body(block: &mut [u8], number: u32, index: u8, payload: &[u8]) -> Result<(), Refusal>
+    ensures { answer (as_is result) block.new ≡ fill (body_block number index (chunk_of index payload.now)) block.old }
 {
     if block.len() != 512 {
-        return Filled::BadArea;
+        return Err(Refusal::BadArea);
     }
     let from = chunk_start(index, payload.len());
-    let to = shorter(from + 500, payload.len());
+    let to = (from + 500).min(payload.len());
     put_body(block, number, index, &payload[from..to]);
-    Filled::Written
+    Ok(())
 }
 
 // Fills a block with zeros. A part of another length than 512 bytes is refused as 4.
-fn write_zeros(block: &mut [u8]) -> Filled
-    ensures { answer (filled_of result) block.new ≡ fill zero_block block.old }
+fn write_zeros(block: &mut [u8]) -> Result<(), Refusal>
+    ensures { answer (as_is result) block.new ≡ fill zero_block block.old }
 {
     if block.len() != 512 {
-        return Filled::BadArea;
+        return Err(Refusal::BadArea);
     }
     raw::clear(block);
-    Filled::Written
+    Ok(())
 }
 
 // Fills block `at` of an area: the writer is handed its 512 bytes and nothing more. An area of a length that is refused,
 // and one that has no such block, is 4.
-pub fn write_block(area: &mut [u8], at: usize, block: Block, payload: &[u8]) -> Filled
-    ensures { answer (filled_of result) area.new ≡ write_block at (block_of block payload.now) area.old }
+pub fn write_block(area: &mut [u8], at: usize, block: Block, payload: &[u8]) -> Result<(), Refusal>
+    ensures { answer (as_is result) area.new ≡ write_block at (block_of block payload.now) area.old }
 {
     if outside(area.len(), at) {
-        return Filled::BadArea;
+        return Err(Refusal::BadArea);
     }
     let start = 512 * at;
     let end = start + 512;
@@ -295,7 +264,7 @@ pub fn is_sound_body(block: &[u8], number: u64, index: u8, used: u16) -> bool
     if bytes != used {
         return false;
     }
-    let from = shorter(8 + used as usize, 508);
+    let from = (8 + used as usize).min(508);
     raw::all_zero(&block[from..508])
 }
 
@@ -310,96 +279,89 @@ fn used_in(index: usize, bodies: usize, total: usize) -> u16
     (total - 500 * (bodies - 1)) as u16
 }
 
-// The bodies of the group whose header stands at block `at`: the first unsound one, or the block behind them.
-fn bodies_at(area: &[u8], number: u64, at: usize, bodies: usize, total: usize) -> GroupAt
+// The block after the bodies of the group whose header stands at block `at`: the first unsound one of them is 5.
+fn bodies_at(
+    area: &[u8],
+    number: u64,
+    at: usize,
+    bodies: usize,
+    total: usize,
+) -> Result<usize, Refusal>
     requires { Counted bodies total × (512 * (at + 1 + bodies) ≤ length area.now) }
-    ensures { found_of result ≡ or_unsound (first_unsound area.now number at bodies total bodies 1) (at + suc bodies) }
+    ensures { result_of (λ e. some e) result ≡ turn_of (or_unsound (first_unsound area.now number at bodies total bodies 1) (at + suc bodies)) }
 {
-    let mut j: usize = 1;
-    while j <= bodies {
+    for j in 1..bodies + 1 {
         let from = 512 * (at + j);
         let to = from + 512;
         let used = used_in(j, bodies, total);
         if !is_sound_body(&area[from..to], number, j as u8, used) {
-            return GroupAt::Unsound(at + j);
+            return Err(Refusal::Damaged { block: at + j });
         }
-        j += 1;
     }
-    GroupAt::Group(at + j)
+    Ok(at + 1 + bodies)
 }
 
-// What stands at block `at`, where group `number` is expected: one turn of the walk.
-fn group_at(area: &[u8], hi: usize, number: u64, at: usize) -> GroupAt
+// The block after the group that stands at block `at`, where group `number` is expected: one turn of the walk. No sound header is
+// none, and a sound one that counts an unsound body is 5.
+fn group_at(area: &[u8], hi: usize, number: u64, at: usize) -> Result<Option<usize>, Refusal>
     requires { (at < hi) × (512 * hi ≤ length area.now) }
-    ensures { found_of result ≡ group_at area.now hi number at }
+    ensures { result_of (option_of (λ e. e)) result ≡ turn_of (group_at area.now hi number at) }
 {
     let from = 512 * at;
     let to = from + 512;
     let block = &area[from..to];
     if !is_sound_header(block, hi, number, at) {
-        return GroupAt::Nothing;
+        return Ok(None);
     }
     let bodies = block[1] as usize;
     let cursor_len = raw::read_u16(block, 16) as usize;
     let attempt_len = raw::read_u16(block, 18) as usize;
-    bodies_at(area, number, at, bodies, cursor_len + attempt_len)
+    let behind = bodies_at(area, number, at, bodies, cursor_len + attempt_len)?;
+    Ok(Some(behind))
 }
 
 // The walk from a block on, where a number is expected first; no group may pass block `hi` or the area's end. It ends
 // where no sound header stands; a sound header that counts an unsound body is 5, an area of a length that is refused 4.
 // A turn tests its header and the bodies that it counts, and the next one begins behind them: no check is computed twice.
-pub fn walk(area: &[u8], hi: usize, first_number: u64, first_block: usize) -> Walked
+pub fn walk(area: &[u8], hi: usize, first_number: u64, first_block: usize) -> Result<Stop, Refusal>
     ensures { walked_of result ≡ walk_in hi first_number first_block area.now }
 {
     if bad_length(area.len()) {
-        return Walked::BadArea;
+        return Err(Refusal::BadArea);
     }
-    let end = shorter(hi, area.len() / 512);
-    let mut last = LastGroup::None;
+    let end = hi.min(area.len() / 512);
+    let mut last = None;
     let mut number = first_number;
     let mut at = first_block;
     while at < end {
-        match group_at(area, end, number, at) {
-            GroupAt::Nothing => {
-                return Walked::Stopped {
-                    last: last,
-                    number: number,
-                    block: at,
-                };
-            }
-            GroupAt::Unsound(block) => {
-                return Walked::Damaged(block);
-            }
-            GroupAt::Group(behind) => {
-                last = LastGroup::At(at);
-                number += 1;
-                at = behind;
-            }
-        }
+        let Some(behind) = group_at(area, end, number, at)? else {
+            break;
+        };
+        last = Some(at);
+        number += 1;
+        at = behind;
     }
-    Walked::Stopped {
-        last: last,
-        number: number,
+    Ok(Stop {
+        last,
+        number,
         block: at,
-    }
+    })
 }
 
 // Whether a block behind block `at`, and before block `hi`, has kind 1 and a right check.
 pub fn header_behind(area: &[u8], hi: usize, at: usize) -> bool
     ensures { result ≡ header_behind area.now hi at }
 {
-    let end = shorter(hi, area.len() / 512);
+    let end = hi.min(area.len() / 512);
     if end <= at {
         return false;
     }
-    let mut i = at + 1;
-    while i < end {
+    for i in at + 1..end {
         let from = 512 * i;
         let to = from + 512;
         if is_head(&area[from..to]) {
             return true;
         }
-        i += 1;
     }
     false
 }
@@ -413,10 +375,10 @@ pub fn read_header(block: &[u8]) -> Header
     let cursor_len = raw::read_u16(block, 16);
     let attempt_len = raw::read_u16(block, 18);
     Header {
-        number: number,
-        ceiling: ceiling,
-        cursor_len: cursor_len,
-        attempt_len: attempt_len,
+        number,
+        ceiling,
+        cursor_len,
+        attempt_len,
     }
 }
 
@@ -428,10 +390,10 @@ fn copy_payload(area: &[u8], first: usize, total: usize, out: &mut [u8])
     let mut at = first;
     let mut copied: usize = 0;
     while copied < total {
-        let size = shorter(500, total - copied);
+        let size = (total - copied).min(500);
         let from = 512 * at + 8;
         let to = from + size;
-        raw::write_bytes(out, copied, &area[from..to]);
+        let _ = raw::write_bytes(out, copied, &area[from..to]);
         copied += size;
         at += 1;
     }
@@ -440,11 +402,11 @@ fn copy_payload(area: &[u8], first: usize, total: usize, out: &mut [u8])
 // Reads the payload of the group whose header stands at block `at` to the front of `out`, and answers how many bytes it
 // has. It goes by the header's lengths and tests no check. A group that does not lie in the area is 4; a shorter `out`
 // is 20, and keeps what it held.
-pub fn read_payload(area: &[u8], at: usize, out: &mut [u8]) -> Payload
-    ensures { answer (payload_read result) out.new ≡ read_payload at area.now out.old }
+pub fn read_payload(area: &[u8], at: usize, out: &mut [u8]) -> Result<usize, Refusal>
+    ensures { answer (as_is result) out.new ≡ read_payload at area.now out.old }
 {
     if outside(area.len(), at) {
-        return Payload::BadArea;
+        return Err(Refusal::BadArea);
     }
     let from = 512 * at;
     let to = from + 512;
@@ -452,13 +414,13 @@ pub fn read_payload(area: &[u8], at: usize, out: &mut [u8]) -> Payload
     let total = header.cursor_len as usize + header.attempt_len as usize;
     let bodies = bodies_for(header.cursor_len, header.attempt_len);
     if outside(area.len(), at + bodies as usize) {
-        return Payload::BadArea;
+        return Err(Refusal::BadArea);
     }
     if out.len() < total {
-        return Payload::OutTooShort;
+        return Err(Refusal::OutTooShort);
     }
     copy_payload(area, at + 1, total, out);
-    Payload::Read(total)
+    Ok(total)
 }
 
 // Bodies for the two snapshots of a group.
@@ -475,5 +437,5 @@ fn chunk_start(index: u8, len: usize) -> usize
     if index == 0 {
         return 0;
     }
-    shorter(500 * (index as usize - 1), len)
+    (500 * (index as usize - 1)).min(len)
 }

@@ -1,45 +1,12 @@
--- Places of leases: that one is within its column, and that its place in memory is a number of its type. The needs of the
--- functions cite these laws, since a search for bounds among all that is known at a place takes long.
--- Assumes nothing.
-use Prim.Native.Nat.{ℕ, ◌+◌, ◌*◌, ◌-◌, ◌≤◌, ◌<◌}
+-- Places of leases: that one is within its column, and how far what is in use goes. Assumes nothing.
+use Prim.Native.Nat.{ℕ, ◌+◌, ◌≤◌, ◌<◌}
 use native.Mathlib.Omega.{arith}
 use mathlib.Core.Path.{◌≡◌}
-use mir.Syntax.{w64}
-use mir.Val.{Fits}
 use Rattle.types.specs.Limits.{LEASES}
 
--- ## a place of the leases' columns
-pub one_more : {i : ℕ} → i < LEASES → Fits w64 (i + 1)
-one_more h = record { fits = omega (arith, h) }
-
--- a slot: a time, a count
-module _ {i : ℕ} (h : i < LEASES) where
-  pub time_at : Fits w64 (i * 8)
-  time_at = record { fits = omega (arith, h) }
-
-  pub count_at : Fits w64 (i * 4)
-  count_at = record { fits = omega (arith, h) }
-
--- before the end of what is in use: an offset, a time, a count
-module _ {i n : ℕ} (h : i < n) (k : n ≤ LEASES) where
-  pub in_use : i < LEASES
-  in_use = omega (arith, h, k)
-
-  pub in_list : i < 192
-  in_list = omega (arith, h, k)
-
-  pub next_place : Fits w64 (i + 1)
-  next_place = record { fits = omega (arith, h, k) }
-
-  pub offset_in_memory : Fits w64 (i * 8)
-  offset_in_memory = record { fits = omega (arith, h, k) }
-
-  pub count_in_memory : Fits w64 (i * 4)
-  count_in_memory = record { fits = omega (arith, h, k) }
-
--- the last one in use
-pub last-place : {i n : ℕ} → i < n → n ≤ LEASES → n - 1 < LEASES
-last-place h k = omega (arith, h, k)
+-- a place before the end of what is in use
+pub in_use : {i n : ℕ} → i < n → n ≤ LEASES → i < LEASES
+in_use h k = omega (arith, h, k)
 
 -- ## steps
 pub up_one : (i : ℕ) → i ≤ i + 1
@@ -51,16 +18,6 @@ from_first n = omega arith
 pub up_to : {i n : ℕ} → i < n → i + 1 ≤ n
 up_to h = omega (arith, h)
 
-pub further : (n i : ℕ) → i < n → n - (i + 1) < n - i
-further n i h = omega (arith, h)
-
 -- what is in use is within a column
 pub within : {m n k : ℕ} → m ≡ k → n ≤ k → n ≤ m
 within e h = omega (arith, e, h)
-
-pub part-within : {from to n : ℕ} → from ≤ to → to ≤ n → to - from ≤ n
-part-within h k = omega (arith, h, k)
-
--- there is a lease, so one can be taken out
-pub some_left : {i n : ℕ} → i < n → 1 ≤ n
-some_left h = omega (arith, h)

@@ -1,21 +1,19 @@
 -- Counts carried one by one: their number never falls on the way, so that the first one too many decides.
 -- Assumes nothing.
-use Prim.Native.Nat.{ℕ, ◌+◌, ◌≤◌, ◌<◌}
+use Prim.Native.Nat.{ℕ, ◌≤◌}
 use native.Mathlib.Omega.{arith}
-use native.Mathlib.Numerals.{add-one}
 use mathlib.Core.Path.{◌≡◌, refl, ap, ◌∙◌}
-use mathlib.Core.Bool.{true, false}
+use mathlib.Core.Bool.{false}
 use mathlib.Core.List.{List, [], ◌∷◌}
 use mathlib.Core.Option.{Option, none, some}
 use lib.Dec.{eqb, ltb}
-use lib.ListN.{length, drop, get_or, drop_of_length-le}
-use lib.Seq.{drop-cons}
+use lib.ListN.{length, drop, drop_of_length-le}
 use borrow.Author.Tests.{ltb-true, ltb-false, lt-ltb, le-ltb}
 use Rattle.types.specs.Limits.{CARRIED}
-use Rattle.types.specs.Refusal.{refused, done, TooManyPairs}
+use Rattle.types.specs.Refusal.{done}
 use Rattle.types.specs.Table.{answer}
 use Rattle.types.specs.Keyed.{Entry, lookup, put, Rising}
-use Rattle.types.specs.Lists.{pair, entries_of}
+use Rattle.types.specs.Lists.{entries_of}
 use Rattle.types.specs.declared.Pair.{Pair}
 use Rattle.types.proofs.Cases.{split}
 use Rattle.types.proofs.Keyed.{length-put-old, length-put-new}
@@ -24,7 +22,7 @@ use Rattle.lease.specs.Counts.{carry, carry_all, resume_attempts}
 use Rattle.lease.specs.Helpers.{resumed_with}
 use Rattle.lease.specs.Answers.{Answers}
 use Rattle.lease.specs.declared.LeaseTable.{LeaseTable}
-use Rattle.tables.specs.Carried.{held_in, carried_in, within, carry_on, Tidy, CarriesPair}
+use Rattle.tables.specs.Carried.{held_in, carried_in, within, carry_on, Tidy}
 use Rattle.tables.specs.declared.counts.Carried.{Carried}
 use Rattle.tables.proofs.Carried.{carry-rising}
 use Rattle.lease.proofs.Returns.{Shows, sound_as}
@@ -64,21 +62,13 @@ carried-within (p ∷ ps) l r h =
 
 -- ## the call
 module _ (t : LeaseTable) (ok : Sound t) (c : Carried) (tidy : Tidy c) where
-  pub resume-refused : c.full ≡ true → Answers (refused TooManyPairs) t t (resumed_with (view t) (carried_in c))
-  resume-refused e = record { is = rw e; sound = ok; kept = refl }
-
   pub resumed : c.full ≡ false → length (held_in c) ≤ CARRIED → {after : LeaseTable} → Shows after (with_carried (view t) (held_in c)) → Answers (done tt) t after (resumed_with (view t) (carried_in c))
   resumed e few m =
       record { is = rw e (ap (answer (done tt)) m.is); sound = sound_as m (valid-carried (view t) (held_in c) ok.valid tidy.rising few tidy.counted); kept = tt }
 
--- the pairs from place i on are left; one less, and none
-module _ (ps : List Pair) (i : ℕ) where
-  pub pair-more : (before after : Carried) → i < length ps → CarriesPair (get_or ps i (pair 0 0)) before after
-      → carry_on_all (entries_of (drop (i + 1) ps)) (carried_in after) ≡ carry_on_all (entries_of (drop i ps)) (carried_in before)
-  pair-more before after h r = rw (drop-cons ps i (pair 0 0) h, r.is, add-one i)
-
-  pub pair_end : (c : Carried) → length ps ≤ i → carry_on_all (entries_of (drop i ps)) (carried_in c) ≡ carried_in c
-  pair_end c h = rw (drop_of_length-le ps {i = i} h)
+-- the pairs from place i on are left: none, where there are no more than i
+pub pair_end : (ps : List Pair) (i : ℕ) (c : Carried) → length ps ≤ i → carry_on_all (entries_of (drop i ps)) (carried_in c) ≡ carried_in c
+pair_end ps i c h = rw (drop_of_length-le ps {i = i} h)
 
 -- what the counts carried on make of the table is what the definition says
 pub resumed-all : (t : Table) (ps : List (Entry ℕ)) → Valid t → resumed_with t (carry_on_all ps (some t.carried)) ≡ resume_attempts t ps

@@ -1,24 +1,23 @@
 -- What the lists that a table's words give and take owe their contracts: counts carried pair by pair, and stored.
 -- Assumes nothing.
-use Prim.Native.Nat.{ℕ, ◌+◌, ◌≤◌, ◌<◌, min}
+use Prim.Native.Nat.{ℕ, ◌≤◌, ◌<◌, min}
 use native.Mathlib.Omega.{arith}
-use native.Mathlib.Numerals.{add-one}
 use mathlib.Core.Path.{◌≡◌, refl, sym, ap, subst, ◌∙◌}
-use mathlib.Core.Bool.{true, false}
+use mathlib.Core.Bool.{false}
 use mathlib.Core.List.{List, [], ◌∷◌, ◌++◌, map}
 use mathlib.Core.Option.{some, none-ne-some, some-injective}
-use lib.ListN.{length, take, drop, get_or}
+use lib.ListN.{length, take, drop}
 use lib.Seq.{length-take-le}
 use borrow.Author.Tests.{lt-ltb, le-ltb}
 use Rattle.types.specs.Limits.{CARRIED}
 use Rattle.types.specs.Keyed.{Entry, entries}
-use Rattle.types.specs.Refusal.{refused, done, TooManyPairs, OutTooShort}
+use Rattle.types.specs.Refusal.{refused, done, OutTooShort}
 use Rattle.types.specs.Table.{answer}
-use Rattle.types.specs.Lists.{pair, counts_in}
+use Rattle.types.specs.Lists.{counts_in}
 use Rattle.types.specs.declared.lent.AttemptCounts.{AttemptCounts}
 use Rattle.types.proofs.Cases.{split}
-use Rattle.types.proofs.Columns.{drop-entry, drop-entries-past, length-used}
-use Rattle.tables.specs.Carried.{held_in, carried_in, Tidy, CarriesPair}
+use Rattle.types.proofs.Columns.{length-used}
+use Rattle.tables.specs.Carried.{held_in, carried_in, Tidy}
 use Rattle.tables.specs.declared.counts.Carried.{Carried}
 use Rattle.lease.specs.State.{with_carried}
 use Rattle.lease.specs.Helpers.{resumed_with}
@@ -26,7 +25,6 @@ use Rattle.lease.specs.Parts.{carrying}
 use Rattle.lease.specs.Layout.{WORDS, table_in, view, Fits, Sound}
 use Rattle.lease.specs.InWords.{Answers, listed_into}
 use Rattle.lease.specs.declared.LeaseTable.{LeaseTable}
-use Rattle.lease.proofs.Carried.{carry_on_all}
 use Rattle.lease.proofs.InWords.{fits_kept}
 use Rattle.lease.proofs.Returns.{Shows, sound_as}
 use Rattle.lease.proofs.Valid.{valid-carried}
@@ -64,20 +62,8 @@ module _ (c : AttemptCounts) (l : List (Entry ℕ)) (e : counts_in c ≡ l) (a :
       let values : map (λ (x : Entry ℕ). x.value) l ≡ take c.len c.attempts = ap (map (λ (x : Entry ℕ). x.value)) (sym e) ∙ values_of (take c.len c.offsets) (take c.len c.attempts) even in
       rw (le-ltb (min (length ks) (length vs)) (length l) (omega (arith, as_many)), keys, values, as_many, p, q)
 
--- ## the pairs of two columns, carried one by one: those from place i on are left; one less, and none
-module _ (ks vs : List ℕ) (i : ℕ) where
-  pub pairs-more : (before after : Carried) → i < length ks → i < length vs → CarriesPair (pair (get_or ks i 0) (get_or vs i 0)) before after
-      → carry_on_all (drop (i + 1) (entries ks vs)) (carried_in after) ≡ carry_on_all (drop i (entries ks vs)) (carried_in before)
-  pairs-more before after h k r = rw (add-one i, drop-entry 0 i ks vs h k, r.is)
-
-  pub pairs_end : (c : Carried) → min (length ks) (length vs) ≤ i → carry_on_all (drop i (entries ks vs)) (carried_in c) ≡ carried_in c
-  pairs_end c h = rw (drop-entries-past i ks vs h)
-
 -- ## stored, or refused
 module _ {w : List ℕ} (ok : Sound w) (c : Carried) (tidy : Tidy c) where
-  pub resume-refused : c.full ≡ true → Answers (refused TooManyPairs) w w (resumed_with (view w) (carried_in c))
-  resume-refused e = record { is = rw e; sound = ok; kept = refl }
-
   pub resume-answers : c.full ≡ false → length c.offsets ≡ CARRIED → length c.counts ≡ CARRIED → (ks vs : List ℕ)
       → take c.len ks ≡ take c.len c.offsets → take c.len vs ≡ take c.len c.counts → (w' : List ℕ) → length w' ≡ WORDS
       → table_in w' ≡ carrying c.len ks vs (table_in w) → Answers (done tt) w w' (resumed_with (view w) (carried_in c))

@@ -7,6 +7,7 @@ use mathlib.Core.Path.{◌≡◌, refl, sym, ap, subst, ◌∙◌}
 use mathlib.Core.Bool.{Bool, true, false, ◌&&◌, true≢false}
 use mathlib.Core.List.{List, [], ◌∷◌, map}
 use mathlib.Core.Option.{none, some}
+use Rattle.std.specs.Prelude.{Option, Some, None}
 use lib.Dec.{ltb, leb, eqb}
 use lib.ListN.{length, take, drop, get_or, set, replicate, length-set, length-replicate, get_or-eq_default}
 use lib.Seq.{length-take-le}
@@ -22,7 +23,6 @@ use Rattle.types.proofs.Table.{guarded-passed, guarded-refused}
 use Rattle.tables.specs.Columns.{put_in, takenOut}
 use Rattle.tables.specs.Search.{Boundary, Placed, Spans}
 use Rattle.tables.specs.Slots.{Permutes, upTo, set_aside}
-use Rattle.tables.specs.declared.Place.{Place}
 use Rattle.tables.specs.declared.Place.TheVariants.{Found, Missing}
 use Rattle.tables.specs.declared.counts.Span.{Span}
 use Rattle.tables.proofs.Columns.{put_in_at, put_in_front, taken-out-front}
@@ -43,7 +43,7 @@ use Rattle.lease.specs.Stored.{held_at, holding, numbered, granting, handed_out,
 use Rattle.lease.specs.declared.Lease.{Lease}
 use Rattle.lease.specs.declared.LeaseConfig.{LeaseConfig}
 use Rattle.lease.specs.declared.LeaseTable.{LeaseTable}
-use Rattle.lease.specs.declared.in_words.HandOut.{HandOut}
+use Rattle.lease.specs.declared.Grant.{Grant}
 use Rattle.lease.proofs.Bounds.{within, from_first}
 use Rattle.lease.proofs.Changes.{releases, shifts}
 use Rattle.lease.proofs.Claims.{count-first, count-again, granted-first, granted-again}
@@ -54,7 +54,7 @@ use Rattle.lease.proofs.Questions.{run_out}
 use Rattle.lease.proofs.Returns.{Shows, sound_as}
 use Rattle.lease.proofs.Slots.{free, leased, stored_at, in_flight_lem, lease-at, updated, carried, carried-span}
 use Rattle.lease.proofs.Stores.{timed, configured, stored-redeliveries, spliced-slots, start-stored}
-use Rattle.lease.proofs.Tokens.{with_next, owned_at, owned-used, not_owned, owned, one, acked}
+use Rattle.lease.proofs.Tokens.{with_next, owned-used, not_owned, owned, one, acked}
 use Rattle.lease.proofs.Valid.{valid-start, valid-grant, valid-update, valid-requeue, valid-flushed}
 
 -- ## the columns of a table's words are whole
@@ -186,7 +186,7 @@ in_use {w} ok o at p = let h = found-used o (word LEN w) (column OFFSETS LEASES 
 module _ {w : List ℕ} (ok : Sound w) (wk o at now : ℕ) (fits : o ≤ MAX) (small : wk ≤ MAX32) (unmet : Passed (claim_rows (view w) o now)) where
   -- the words of a grant
   grants : (d : ℕ) → next_count (view w) o ≡ d → (w' : List ℕ) → length w' ≡ WORDS → Fits (table_in w') → Shows (table_in w') (grant (view w) wk o now)
-      → (r : HandOut) → r ≡ handed_out o d (table_in w) → Answers (done (grant_in r)) w w' (claim (view w) wk o now)
+      → (r : Grant) → r ≡ handed_out o d (table_in w) → Answers (done (grant_in r)) w w' (claim (view w) wk o now)
   unfolding claim
   grants d count w' l f shows r is =
       rw (is, ← count)
@@ -209,7 +209,7 @@ module _ {w : List ℕ} (ok : Sound w) (wk o at now : ℕ) (fits : o ≤ MAX) (s
     first_fits = subst Fits (sym reached) (fits_kept ok.fits refl refl refl)
 
     pub first-answers : PlacedIn o w (Missing at) → (d : ℕ) → d ≡ sat32 prior 1 → (w₃ : List ℕ) → length w₃ ≡ WORDS → table_in w₃ ≡ granting at wk now d (table_in w₂)
-        → (r : HandOut) → r ≡ handed_out o d (table_in w₂) → Answers (done (grant_in r)) w w₃ (claim (view w) wk o now)
+        → (r : Grant) → r ≡ handed_out o d (table_in w₂) → Answers (done (grant_in r)) w w₃ (claim (view w) wk o now)
     first-answers p d count w₃ l e₃ r is =
         let law = first-granted (table_in w) (whole ok) wk o at now p (room-left p) passes.span passes.spans d (count ∙ ap (λ (k : ℕ). sat32 k 1) passes.counts) in
         grants d law.0 w₃ l (subst Fits (sym e₃) (fits-granting first_fits at wk now d (omega arith) small))
@@ -223,7 +223,7 @@ module _ {w : List ℕ} (ok : Sound w) (wk o at now : ℕ) (fits : o ≤ MAX) (s
 
   pub again-answers : PlacedIn o w (Found at) → (d : ℕ) → d ≡ sat32 (held_at at (table_in w)).deliveries 1
       → (w' : List ℕ) → length w' ≡ WORDS → table_in w' ≡ granting at wk now d (table_in w)
-      → (r : HandOut) → r ≡ handed_out o d (table_in w) → Answers (done (grant_in r)) w w' (claim (view w) wk o now)
+      → (r : Grant) → r ≡ handed_out o d (table_in w) → Answers (done (grant_in r)) w w' (claim (view w) wk o now)
   again-answers p d count w' l e r is =
       let law = again-granted (table_in w) (whole ok) wk o at now p (in_use ok o at p) d count in
       grants d law.0 w' l (subst Fits (sym e) (fits-granting ok.fits at wk now d (omega arith) small))
@@ -259,9 +259,9 @@ module _ {w : List ℕ} (ok : Sound w) (at : ℕ) (f : Lease → Lease) where
 -- ## a token
 module _ {w : List ℕ} (ok : Sound w) (o g : ℕ) where
   -- one that owns no lease
-  module _ {at : ℕ} {r : Place} (p : OwnedIn o g w r) (e : r ≡ Missing at) where
+  module _ (p : OwnedIn o g w None) where
     pub unowned : owns (lease_of (view w) o) g ≡ false
-    unowned = not_owned (table_in w) (whole ok).full ok.table o g p e
+    unowned = not_owned (table_in w) (whole ok).full ok.table o g p
 
     pub ack-refused : Answers (refused Fenced) w w (ack (view w) o g)
     unfolding ack
@@ -278,12 +278,12 @@ module _ {w : List ℕ} (ok : Sound w) (o g : ℕ) where
     pub none_held : none ≡ hold (view w) o g
     none_held = rw unowned
 
-  pub owned-low : {at : ℕ} {r : Place} → OwnedIn o g w r → r ≡ Found at → at < word LEN w
+  pub owned-low : {at : ℕ} {r : Option ℕ} → OwnedIn o g w r → r ≡ Some at → at < word LEN w
   owned-low p e =
-      let t = table_in w in owned-used o g t.len t.offsets t.slots t.generations (owned_at o g (take t.len t.offsets) t.slots t.generations p e)
+      let t = table_in w in owned-used o g t.len t.offsets t.slots t.generations (subst (OwnedIn o g w) e p)
 
   -- one that owns the lease at a place
-  module _ {at : ℕ} (p : OwnedIn o g w (Found at)) where
+  module _ {at : ℕ} (p : OwnedIn o g w (Some at)) where
     pub its_lease : lease_of (view w) o ≡ some (held_at at (table_in w))
     its_lease = one (table_in w) (whole ok).full ok.table o g p
 
@@ -365,11 +365,11 @@ module _ {w : List ℕ} (ok : Sound w) (o : ℕ) where
       }
 
   module _ (from to : ℕ) where
-    pub not_resealed : {at : ℕ} {r : Place} → OwnedIn o from w r → r ≡ Missing at → Tries false w w (reseal_from_to (view w) o from to)
+    pub not_resealed : OwnedIn o from w None → Tries false w w (reseal_from_to (view w) o from to)
     unfolding reseal_from_to
-    not_resealed p e = record { is = rw (unowned ok o from p e); sound = ok; kept = λ _. refl }
+    not_resealed p = record { is = rw (unowned ok o from p); sound = ok; kept = λ _. refl }
 
-    pub resealed : {at : ℕ} → OwnedIn o from w (Found at) → (w' : List ℕ) → length w' ≡ WORDS
+    pub resealed : {at : ℕ} → OwnedIn o from w (Some at) → (w' : List ℕ) → length w' ≡ WORDS
         → table_in w' ≡ holding at (resealed_as to (held_at at (table_in w))) (table_in w) → Tries true w w' (reseal_from_to (view w) o from to)
     unfolding reseal_from_to
     resealed {at} p w' l s = changes at (resealed_as to) (λ x. refl) (λ x. refl) p.0 w' l s (rw (its_own ok o from p))

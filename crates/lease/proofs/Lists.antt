@@ -3,9 +3,9 @@
 use Prim.Native.Nat.{ℕ, ◌+◌, ◌≤◌, ◌<◌}
 use native.Mathlib.Omega.{arith}
 use native.Mathlib.Numerals.{add-one}
-use mathlib.Core.Path.{◌≡◌, refl, sym, ap, ◌∙◌}
+use mathlib.Core.Path.{◌≡◌, sym, ap, ◌∙◌}
 use mathlib.Core.List.{List, [], ◌∷◌, ◌++◌, map, append-nil}
-use lib.ListN.{length, take, drop, get_or, set, length-set, replicate, length-replicate}
+use lib.ListN.{length, take, drop, get_or, set, length-set, replicate}
 use lib.Seq.{take-suc-set, append_snoc}
 use borrow.Author.Tests.{le-ltb, lt-ltb}
 use Rattle.types.specs.Limits.{LEASES}
@@ -66,9 +66,6 @@ module _ (t : LeaseTable) (w : Whole t) where
   none_left = drop-unused nil t.len t.offsets (leases_in t) fits fits'
 
 module _ (len now : ℕ) (ks slots ds : List ℕ) where
-  pub listing_none : Listing len now ks slots ds (replicate 128 0) 0 0
-  listing_none = record { inside = omega arith; few = omega arith; full-list = length-replicate {A = ℕ} 128 0; is = λ t w. refl; rest = refl }
-
   module _ {offsets : List ℕ} {n i : ℕ} (inv : Listing len now ks slots ds offsets n i) where
     pub listing-expired : i < len → len ≤ LEASES → get_or ds (slot_in slots i) 0 ≤ now → Listing len now ks slots ds (set offsets n (get_or ks i 0)) (n + 1) (i + 1)
     listing-expired h few d =

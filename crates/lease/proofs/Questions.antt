@@ -4,13 +4,12 @@
 use Prim.Native.Nat.{ℕ, ◌≤◌, ◌<◌}
 use mathlib.Core.Path.{◌≡◌, refl, sym, ap, ◌∙◌}
 use mathlib.Core.Bool.{Bool, true, false, not, true≢false}
-use mathlib.Core.List.{[], ◌∷◌}
 use mathlib.Core.Option.{none, some}
 use lib.Dec.{ltb, leb}
 use lib.ListN.{take, get_or, set}
 use borrow.Author.Tests.{ltb-true, ltb-false, lt-ltb, le-ltb, le-leb, lt-leb}
 use Rattle.types.specs.Limits.{sat64}
-use Rattle.types.specs.Refusal.{done, optional}
+use Rattle.types.specs.Refusal.{done}
 use Rattle.types.specs.Table.{Answer, answer}
 use Rattle.types.specs.Keyed.{update}
 use Rattle.types.proofs.Cases.{split}
@@ -19,9 +18,8 @@ use Rattle.tables.specs.declared.Place.{Place}
 use Rattle.tables.specs.declared.Place.TheVariants.{Found}
 use Rattle.lease.specs.State.{Table, Sound, view, leases_of, with_leases}
 use Rattle.lease.specs.Operations.{lease_of, owns, with_deadline}
-use Rattle.lease.specs.Rest.{resealed_as, reseal_from_to, is_expired, defer_redelivery, is_claimable, pending_redelivery_attempt}
+use Rattle.lease.specs.Rest.{resealed_as, reseal_from_to, is_expired, defer_redelivery, is_claimable}
 use Rattle.lease.specs.Answers.{Tries}
-use Rattle.lease.specs.Helpers.{Owned}
 use Rattle.lease.specs.Parts.{Full, slot_in, OwnedAt, leasing, timing}
 use Rattle.lease.specs.declared.Lease.{Lease}
 use Rattle.lease.specs.declared.LeaseTable.{LeaseTable}
@@ -48,9 +46,6 @@ module _ (s : Table) (o now : ℕ) where
     run_out h = rw (e, le-ltb now l.deadline h)
 
     -- ## questions
-    pub pending : l.deadline ≤ now → done (l.deliveries ∷ []) ≡ done (optional (pending_redelivery_attempt s o now))
-    pending h = rw (run_out h, e)
-
     pub claimable : leb l.deadline now ≡ is_claimable s o now
     claimable = rw e (run-out_or_running l.deadline now)
 

@@ -2,7 +2,7 @@
 -- Assumes nothing.
 use Prim.Native.Nat.{ℕ, ◌+◌, ◌-◌, ◌≤◌, ◌<◌}
 use native.Mathlib.Omega.{arith}
-use mathlib.Core.Path.{◌≡◌, refl, ap, subst}
+use mathlib.Core.Path.{◌≡◌, refl, ap}
 use mathlib.Core.Bool.{true, false}
 use mathlib.Core.List.{List, [], ◌∷◌}
 use mathlib.Core.Option.{some}
@@ -21,7 +21,7 @@ use Rattle.tables.specs.declared.Place.TheVariants.{Found, Missing}
 use Rattle.lease.specs.State.{Table, Sound, view, nil, stored_in, with_leases}
 use Rattle.lease.specs.Operations.{lease, lease_of, owns, token_row, ack, cap_from, deadline_from, with_deadline, extend_rows, extended, extend, nack_rows, requeued_as, nack}
 use Rattle.lease.specs.Answers.{Answers}
-use Rattle.lease.specs.Helpers.{Differs, Unowned, Owned}
+use Rattle.lease.specs.Helpers.{Differs, Unowned}
 use Rattle.lease.specs.Parts.{Full, slot_in, OwnedAt, removing, extending, requeuing}
 use Rattle.lease.specs.declared.Lease.{Lease}
 use Rattle.lease.specs.declared.LeaseTable.{LeaseTable}
@@ -34,10 +34,7 @@ abbrev pub with_next : Table → Table
 with_next s = record { config = s.config; leases = s.leases; carried = s.carried; next_generation = s.next_generation + 1; redeliveries = s.redeliveries }
 
 -- ## a token
--- the lease that it owns, and that its place is in use
-pub owned_at : (o g : ℕ) (keys slots gs : List ℕ) {at : ℕ} {r : Place} → Owned o g keys slots gs r → r ≡ Found at → OwnedAt o g keys slots gs at
-owned_at o g keys slots gs p e = subst (Owned o g keys slots gs) e p
-
+-- the place of the lease that it owns is in use
 pub owned-used : (o g len : ℕ) (keys slots gs : List ℕ) {at : ℕ} → OwnedAt o g (take len keys) slots gs at → at < len
 owned-used o g len keys slots gs p = omega (arith, found-used o len keys p.0 refl)
 
@@ -47,10 +44,8 @@ module _ (t : LeaseTable) (full : Full t) (ok : Sound t) (o g : ℕ) where
   differs-there (Found at) p d = rw (lease-at t full ok o p refl) (ne_eqb _ _ d)
   differs-there (Missing at) p d = rw (free t full ok p refl).is
 
-  pub not_owned : {at : ℕ} {r : Place} → Owned o g (take t.len t.offsets) t.slots t.generations r → r ≡ Missing at → owns (lease_of (view t) o) g ≡ false
-  not_owned p e =
-      let u : Unowned o g (take t.len t.offsets) t.slots t.generations = subst (Owned o g (take t.len t.offsets) t.slots t.generations) e p in
-      differs-there u.place u.placed u.differs
+  pub not_owned : Unowned o g (take t.len t.offsets) t.slots t.generations → owns (lease_of (view t) o) g ≡ false
+  not_owned u = differs-there u.place u.placed u.differs
 
   module _ (h : owns (lease_of (view t) o) g ≡ false) where
     pub ack-fenced : Answers (refused Fenced) t t (ack (view t) o g)

@@ -16,7 +16,7 @@ use Rattle.types.proofs.Keyed.{lookup-map_values, length-map_values}
 use Rattle.lease.specs.State.{Table, with_leases, with_carried}
 use Rattle.lease.specs.Operations.{lease, lease_of, is_none, running, owns, start_of, times_handed_out, next_count, consumed, deadline_from, claim_rows, grant, granted, claim, ack, token_row, with_deadline, extend_rows, extended, extend, requeued_as, nack_rows, requeue, nack}
 use Rattle.lease.specs.Counts.{carry_all, resume_attempts, attempt_counts, raise_all, all_attempt_counts}
-use Rattle.lease.specs.Rest.{release_below, resealed_as, reseal_from_to, is_expired, defer_redelivery, shifted_by, shift_deadlines, deliveries_of, deliveries, expired_offsets}
+use Rattle.lease.specs.Rest.{release_below, resealed_as, reseal_from_to, is_expired, defer_redelivery, shifted_by, shift_deadlines, deliveries_of, expired_offsets}
 use Rattle.lease.specs.declared.Lease.{Lease}
 use Rattle.lease.specs.Workers.{without_worker, without_workers, Twin, AnswersWithoutWorkers}
 

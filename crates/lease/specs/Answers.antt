@@ -1,54 +1,39 @@
--- What the answers of lease.rs mean: each enum of the code as an outcome or a refusal, case by case, and the
--- records that the contracts state.
+-- What the answers of lease.rs mean, as outcomes or refusals of the definitions, and the records that the contracts state.
 -- SPEC.md, "Leases".
-use Rattle.std.specs.Prelude.{ℕ, ◌≡◌, Bool, false, List, [], ◌∷◌}
-use Rattle.types.specs.Refusal.{Result, refused, done}
-use Rattle.types.specs.Refusal as refusal
+use Rattle.std.specs.Prelude.{ℕ, ◌≡◌, Bool, false, Option}
+use Rattle.std.specs.Prelude as std
+use Rattle.std.proofs.Math.Option as math
+use Rattle.types.specs.Refusal.{Result, done}
+use Rattle.types.specs.Refused.{result_of, as_is, option_of}
 use Rattle.types.specs.Table.{Answer, answer, Kept}
+use Rattle.types.specs.declared.refusals.Refusal.{Refusal}
 use Rattle.lease.specs.State.{Table, view, Sound}
 use Rattle.lease.specs.Operations.{Grant, grant_of}
 use Rattle.lease.specs.declared.LeaseTable.{LeaseTable}
-use Rattle.lease.specs.declared.Claim.{Claim}
-use Rattle.lease.specs.declared.Claim.TheVariants as claim
-use Rattle.lease.specs.declared.AckOutcome.{AckOutcome}
-use Rattle.lease.specs.declared.AckOutcome.TheVariants as ack
-use Rattle.lease.specs.declared.ExtendOutcome.{ExtendOutcome}
-use Rattle.lease.specs.declared.ExtendOutcome.TheVariants as extend
-use Rattle.lease.specs.declared.NackOutcome.{NackOutcome}
-use Rattle.lease.specs.declared.NackOutcome.TheVariants as nack
-use Rattle.lease.specs.declared.ResumeOutcome.{ResumeOutcome}
-use Rattle.lease.specs.declared.ResumeOutcome.TheVariants as resume
-use Rattle.lease.specs.declared.Attempts.{Attempts}
-use Rattle.lease.specs.declared.Attempts.TheVariants as attempts
+use Rattle.lease.specs.declared.Grant as code
 
--- ## the enums
-abbrev pub claim_of : Claim → Result Grant
-claim_of (claim.Granted token n) = done (grant_of token.offset.0 token.generation.0 n)
-claim_of claim.InFlight = refused refusal.InFlight
-claim_of claim.Exhausted = refused refusal.Exhausted
-claim_of claim.Full = refused refusal.Full
+-- ## answers
+-- what a claim hands out
+abbrev pub grant_in : code.Grant → Grant
+grant_in g = grant_of g.token.offset.0 g.token.generation.0 g.deliveries
 
-abbrev pub ack_of : AckOutcome → Result (Unit {0})
-ack_of ack.Acked = done tt
-ack_of ack.Fenced = refused refusal.Fenced
+abbrev pub claim_of : std.Result code.Grant Refusal → Result Grant
+claim_of = result_of grant_in
 
-abbrev pub extend_of : ExtendOutcome → Result ℕ
-extend_of (extend.Extended deadline) = done deadline
-extend_of extend.CapReached = refused refusal.CapReached
-extend_of extend.Fenced = refused refusal.Fenced
+abbrev pub ack_of : std.Result (Unit {0}) Refusal → Result (Unit {0})
+ack_of = as_is
 
-abbrev pub nack_of : NackOutcome → Result ℕ
-nack_of (nack.Requeued deadline) = done deadline
-nack_of nack.Fenced = refused refusal.Fenced
-nack_of nack.Exhausted = refused refusal.Exhausted
+abbrev pub extend_of : std.Result ℕ Refusal → Result ℕ
+extend_of = as_is
 
-abbrev pub resume_of : ResumeOutcome → Result (Unit {0})
-resume_of resume.Resumed = done tt
-resume_of resume.TooManyPairs = refused refusal.TooManyPairs
+abbrev pub nack_of : std.Result ℕ Refusal → Result ℕ
+nack_of = as_is
 
-abbrev pub attempts_of : Attempts → Result (List ℕ)
-attempts_of (attempts.Some n) = done (n ∷ [])
-attempts_of attempts.None = done []
+abbrev pub resume_of : std.Result (Unit {0}) Refusal → Result (Unit {0})
+resume_of = as_is
+
+abbrev pub attempts_of : Option ℕ → math.Option ℕ
+attempts_of = option_of (λ n. n)
 
 -- ## contracts
 -- a call that refuses or takes effect: answer and table are the definition's, and a refusal gives back the very struct

@@ -1,6 +1,7 @@
 -- What the private helpers answer. No public contract cites this file.
 -- SPEC.md, "Leases".
-use Rattle.std.specs.Prelude.{ℕ, ◌+◌, ◌≡◌, List, take, get_or}
+use Rattle.std.specs.Prelude.{ℕ, ◌+◌, ◌≡◌, Some, None, Ok, List, take, get_or}
+use Rattle.std.specs.Prelude as std
 use Rattle.std.proofs.Math.Option.{Option, none, some}
 use Rattle.types.specs.Limits.{sat64}
 use Rattle.types.specs.Keyed.{Entry}
@@ -15,7 +16,6 @@ use Rattle.tables.specs.declared.counts.Carried.{Carried}
 use Rattle.lease.specs.State.{Table, view, carried_of, with_carried}
 use Rattle.lease.specs.Answers.{Answers}
 use Rattle.lease.specs.Parts.{gathered, Whole, slot_in, OwnedAt}
-use Rattle.lease.specs.declared.Claim.TheVariants as claim
 use Rattle.lease.specs.declared.LeaseConfig.{LeaseConfig}
 use Rattle.lease.specs.declared.LeaseTable.{LeaseTable}
 use Rattle.lease.specs.declared.in_place.ClaimedAt.{ClaimedAt}
@@ -25,7 +25,7 @@ use Rattle.lease.specs.declared.in_place.ClaimedAt.{ClaimedAt}
 abbrev pub granted_at : ℕ → ℕ → ℕ → ℕ → ℕ → ℕ → ClaimedAt
 granted_at o g d n m r =
     record {
-      outcome = claim.Granted (record { offset = record { 0 = o }; generation = record { 0 = g } }) d;
+      outcome = Ok (record { token = record { offset = record { 0 = o }; generation = record { 0 = g } }; deliveries = d });
       len = n;
       carried_len = m;
       next_generation = g + 1;
@@ -53,9 +53,9 @@ pub record Unowned (o g : ℕ) (ks slots gs : List ℕ) : Type 0 where
   pub placed : Placed o ks place
   pub differs : Differs g slots gs place
 
-abbrev pub Owned : ℕ → ℕ → List ℕ → List ℕ → List ℕ → Place → Type 0
-Owned o g ks slots gs (Found at) = OwnedAt o g ks slots gs at
-Owned o g ks slots gs (Missing at) = Unowned o g ks slots gs
+abbrev pub Owned : ℕ → ℕ → List ℕ → List ℕ → List ℕ → std.Option ℕ → Type 0
+Owned o g ks slots gs (Some at) = OwnedAt o g ks slots gs at
+Owned o g ks slots gs None = Unowned o g ks slots gs
 
 -- ## times
 abbrev pub later_by : ℕ → ℕ → ℕ

@@ -1,22 +1,20 @@
 -- What the functions on a table's words promise: the records of Answers.antt, of words, and what a place or a token says of them.
 -- SPEC.md, "Leases".
-use Rattle.std.specs.Prelude.{ℕ, min, ◌≡◌, Bool, false, ◌&&◌, List, [], ◌∷◌, ◌++◌, map, leb, ltb, length, take, drop}
+use Rattle.std.specs.Prelude.{ℕ, min, ◌≡◌, Option, Some, None, Bool, false, ◌&&◌, List, [], ◌∷◌, ◌++◌, map, leb, ltb, length, take, drop}
 use Rattle.types.specs.Limits.{LEASES}
 use Rattle.types.specs.Keyed.{Entry}
 use Rattle.types.specs.Refusal.{Result, done, OutTooShort}
 use Rattle.types.specs.Table.{◌⇒◌, Answer, answer, guarded, Kept}
 use Rattle.tables.specs.Search.{Placed}
 use Rattle.tables.specs.declared.Place.{Place}
-use Rattle.tables.specs.declared.Place.TheVariants.{Found}
 use Rattle.lease.specs.State.{Table}
-use Rattle.lease.specs.Operations.{Grant, grant_of, lease_of, is_none, running}
+use Rattle.lease.specs.Operations.{lease_of, is_none, running}
+pub use Rattle.lease.specs.Answers.{grant_in}
 use Rattle.lease.specs.Rest.{hold}
 use Rattle.lease.specs.Lookup.{hold_in}
 use Rattle.lease.specs.Helpers.{Owned}
 use Rattle.lease.specs.Layout.{table_in, view, Sound}
-use Rattle.lease.specs.declared.in_place.Hold.{Hold}
-use Rattle.lease.specs.declared.in_place.Hold.TheVariants as holds
-use Rattle.lease.specs.declared.in_words.HandOut.{HandOut}
+use Rattle.lease.specs.declared.in_place.Held.{Held}
 
 -- ## calls
 -- one that refuses or takes effect: answer and table are the definition's, and a refusal leaves the very words
@@ -36,10 +34,6 @@ pub record Becomes (after : List ℕ) (right : Table) : Type 0 where
   pub is : view after ≡ right
   pub sound : Sound after
 
--- what a hand-out says
-abbrev pub grant_in : HandOut → Grant
-grant_in r = grant_of r.token.offset.0 r.token.generation.0 r.deliveries
-
 -- ## a place that was looked up
 -- an offset stands there among those with a lease, or belongs there
 abbrev pub PlacedIn : ℕ → List ℕ → Place → Type 0
@@ -54,21 +48,21 @@ FullAt w place r = (o : ℕ) → PlacedIn o w place → r ≡ (is_none (lease_of
 
 -- ## a token of offset o and generation g
 -- it owns the lease at a place, or it owns none
-abbrev pub OwnedIn : ℕ → ℕ → List ℕ → Place → Type 0
-OwnedIn o g w place = let t = table_in w in Owned o g (take t.len t.offsets) t.slots t.generations place
+abbrev pub OwnedIn : ℕ → ℕ → List ℕ → Option ℕ → Type 0
+OwnedIn o g w held = let t = table_in w in Owned o g (take t.len t.offsets) t.slots t.generations held
 
-abbrev pub HeldIn : ℕ → ℕ → List ℕ → Hold → Type 0
-HeldIn o g w (holds.Held n k at) = OwnedIn o g w (Found at)
-HeldIn o g w holds.None = Unit {0}
+abbrev pub HeldIn : ℕ → ℕ → List ℕ → Option Held → Type 0
+HeldIn o g w (Some h) = OwnedIn o g w (Some h.at)
+HeldIn o g w None = Unit {0}
 
 -- how often its lease was handed out, and the worker who claimed it; and where the lease stands
-pub record Holds (o g : ℕ) (w : List ℕ) (r : Hold) : Type 0 where
+pub record Holds (o g : ℕ) (w : List ℕ) (r : Option Held) : Type 0 where
   pub is : hold_in r ≡ hold (view w) o g
   pub at : HeldIn o g w r
 
 -- what a call answers each token that owns the lease at a place
 abbrev pub AnswersOwned : {A : Type 0} → ℕ → Result A → List ℕ → List ℕ → (Table → ℕ → ℕ → Answer A Table) → Type 0
-AnswersOwned at outcome w after right = (o g : ℕ) → OwnedIn o g w (Found at) → Answers outcome w after (right (view w) o g)
+AnswersOwned at outcome w after right = (o g : ℕ) → OwnedIn o g w (Some at) → Answers outcome w after (right (view w) o g)
 
 -- ## counts into two lent columns
 -- their offsets and their numbers, each from the first place on, later places as they were; 20 where a column is too short

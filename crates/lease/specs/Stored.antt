@@ -10,7 +10,7 @@ use Rattle.lease.specs.Operations.{lease, deadline_from}
 use Rattle.lease.specs.Parts.{gathered, leasing, carrying, removing, slot_in}
 use Rattle.lease.specs.declared.Lease.{Lease}
 use Rattle.lease.specs.declared.LeaseTable.{LeaseTable}
-use Rattle.lease.specs.declared.in_words.HandOut.{HandOut}
+use Rattle.lease.specs.declared.Grant.{Grant}
 
 -- ## a lease
 -- the one at a place, and another stored there
@@ -38,7 +38,7 @@ granting at w now d t =
     numbered (t.next_generation.0 + 1) (after_grant t.redeliveries_since_flush d)
     (holding at (lease t.next_generation.0 now (deadline_from t.config now now) d w) t)
 
-abbrev pub handed_out : ℕ → ℕ → LeaseTable → HandOut
+abbrev pub handed_out : ℕ → ℕ → LeaseTable → Grant
 handed_out o d t = record { token = record { offset = record { 0 = o }; generation = t.next_generation }; deliveries = d }
 
 -- ## an offset

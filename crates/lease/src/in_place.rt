@@ -2,7 +2,7 @@
 // the numbers that changed. A table by value, and one that lies in another's memory, are served by the same function.
 ghost use Rattle.std.specs.Prelude.{◌≡◌, ℕ, ◌≤◌, ◌<◌, take, get_or};
 ghost use Rattle.types.specs.Limits.{MAX, LEASES, CARRIED};
-ghost use Rattle.types.specs.Refusal.{done, optional};
+ghost use Rattle.types.specs.Refusal.{done};
 ghost use Rattle.types.specs.Keyed.{lookup};
 ghost use Rattle.types.specs.Lists.{ListsOffsets, ListsCounts};
 ghost use Rattle.tables.specs.Search.{Placed};
@@ -16,17 +16,17 @@ ghost use Rattle.lease.specs.Lookup.{lease_in, hold_in, HeldAt};
 ghost use Rattle.lease.specs.Helpers.{granted_at, regranting, AnswersAt, Owned};
 ghost use Rattle.lease.specs.Parts.{gathered, Whole, slot_in, AnswersOwned, BecomesIn, HoldsIn, HoldsAt, PlaceWithin, leasing, removing, extending, requeuing, releasing, counting, due, timing, listing, listing_all, carrying};
 
-use crate::lookup::LeaseAt;
-use crate::{Attempts, Claim, ExtendOutcome, Lease, LeaseConfig, LeaseToken, NackOutcome};
+use crate::{Grant, Lease, LeaseConfig, LeaseToken};
 use tables::{Place, counts};
 use types::lent::{AttemptCounts, OffsetList};
 use types::limits::{CARRIED, COUNTS, LEASES, MAX};
-use types::{Generation, Offset, numbers};
+use types::refusals::Refusal;
+use types::{Generation, Offset};
 
 // What a claim answers, and the numbers of the table after it.
 #[derive(Clone, Copy)]
 pub struct ClaimedAt {
-    pub outcome: Claim,
+    pub outcome: Result<Grant, Refusal>,
     pub len: usize,
     pub carried_len: usize,
     pub next_generation: u64,
@@ -125,7 +125,7 @@ fn claim_again(
     let slot = slot_at(slots, at);
     if now < deadlines[slot] {
         return ClaimedAt {
-            outcome: Claim::InFlight,
+            outcome: Err(Refusal::InFlight),
             len,
             carried_len,
             next_generation: generation,
@@ -134,14 +134,14 @@ fn claim_again(
     }
     if generation == MAX {
         return ClaimedAt {
-            outcome: Claim::Exhausted,
+            outcome: Err(Refusal::Exhausted),
             len,
             carried_len,
             next_generation: generation,
             redeliveries,
         };
     }
-    let count = numbers::saturating_next(deliveries[slot]);
+    let count = deliveries[slot].saturating_add(1);
     generations[slot] = generation;
     attempt_starts[slot] = now;
     deadlines[slot] = config.deadline(now, now);
@@ -179,7 +179,7 @@ fn claim_first(
 {
     if next == MAX {
         return ClaimedAt {
-            outcome: Claim::Exhausted,
+            outcome: Err(Refusal::Exhausted),
             len,
             carried_len,
             next_generation: next,
@@ -188,7 +188,7 @@ fn claim_first(
     }
     if LEASES <= len {
         return ClaimedAt {
-            outcome: Claim::Full,
+            outcome: Err(Refusal::Full),
             len,
             carried_len,
             next_generation: next,
@@ -196,15 +196,15 @@ fn claim_first(
         };
     }
     let prior = counts::count_of(carried_offsets, carried_counts, carried_len, offset);
-    tables::remove_128(carried_offsets, carried_len, prior.from, prior.to);
-    tables::remove_counts_128(carried_counts, carried_len, prior.from, prior.to);
+    tables::remove(carried_offsets, carried_len, prior.from, prior.to);
+    tables::remove(carried_counts, carried_len, prior.from, prior.to);
     let left = carried_len - (prior.to - prior.from);
-    let count = numbers::saturating_next(prior.count);
+    let count = prior.count.saturating_add(1);
     let deadline = config.deadline(now, now);
     let taken = slots[len];
     let free = slot_at(slots, len);
-    tables::insert_64(offsets, len, at, offset);
-    tables::insert_count_64(slots, len, at, taken);
+    tables::insert(offsets, len, at, offset);
+    tables::insert(slots, len, at, taken);
     generations[free] = next;
     attempt_starts[free] = now;
     deadlines[free] = deadline;
@@ -229,10 +229,10 @@ fn granted(
         offset: Offset(offset),
         generation: Generation(generation),
     };
-    let outcome = Claim::Granted {
-        token: token,
+    let outcome = Ok(Grant {
+        token,
         deliveries: count,
-    };
+    });
     let counted = redeliveries::after_grant(redeliveries, count);
     ClaimedAt {
         outcome,
@@ -243,27 +243,27 @@ fn granted(
     }
 }
 
-// Where the lease stands that a token owns, missing where there is none: the test that every call with a token begins with.
-pub(crate) fn owned<'a>(
+// Where the lease stands that a token owns: the test that every call with a token begins with.
+pub(crate) fn owned(
     len: usize,
     offset: u64,
     generation: u64,
-    offsets: &'a [u64; LEASES],
-    slots: &'a [u32; LEASES],
-    generations: &'a [u64; LEASES],
-) -> Place
+    offsets: &[u64; LEASES],
+    slots: &[u32; LEASES],
+    generations: &[u64; LEASES],
+) -> Option<usize>
     requires { len ≤ LEASES }
     ensures { Owned offset generation (take len offsets.now) slots.now generations.now result }
 {
     let place = tables::find(offsets, len, offset);
     let Place::Found(at) = place else {
-        return Place::Missing(len);
+        return None;
     };
     let slot = slot_at(slots, at);
     if generations[slot] == generation {
-        return Place::Found(at);
+        return Some(at);
     }
-    Place::Missing(len)
+    None
 }
 
 // What `LeaseTable::ack` does where the token owns the lease at a place: the lease goes, and its slot to the free ones. It answers
@@ -280,38 +280,38 @@ pub fn ack_at(
     let freed = slots[at];
     let next = at + 1;
     let last = len - 1;
-    tables::remove_64(offsets, len, at, next);
-    tables::remove_counts_64(slots, len, at, next);
+    tables::remove(offsets, len, at, next);
+    tables::remove(slots, len, at, next);
     slots[last] = freed;
     last
 }
 
 // What `LeaseTable::extend` does where the token owns the lease at a place.
-pub fn extend_at<'a>(
+pub fn extend_at(
     config: LeaseConfig,
     at: usize,
     now: u64,
-    slots: &'a [u32; LEASES],
-    attempt_starts: &'a [u64; LEASES],
+    slots: &[u32; LEASES],
+    attempt_starts: &[u64; LEASES],
     deadlines: &mut [u64; LEASES],
-) -> ExtendOutcome
+) -> Result<u64, Refusal>
     requires { at < LEASES }
     ensures { AnswersOwned at (extend_of result) (extending config slots.now attempt_starts.now deadlines.old) (extending config slots.now attempt_starts.now deadlines.new) (λ o g s. extend s o g now) }
 {
     let slot = slot_at(slots, at);
     let start = attempt_starts[slot];
     if config.cap(start) <= now {
-        return ExtendOutcome::CapReached;
+        return Err(Refusal::CapReached);
     }
     let deadline = config.deadline(start, now);
     deadlines[slot] = deadline;
-    ExtendOutcome::Extended(deadline)
+    Ok(deadline)
 }
 
 // What a nack answers, and what the next grant or nack takes.
 #[derive(Clone, Copy)]
 pub struct NackedAt {
-    pub outcome: NackOutcome,
+    pub outcome: Result<u64, Refusal>,
     pub next_generation: u64,
 }
 
@@ -330,16 +330,16 @@ pub fn nack_at(
 {
     if next_generation == MAX {
         return NackedAt {
-            outcome: NackOutcome::Exhausted,
+            outcome: Err(Refusal::Exhausted),
             next_generation,
         };
     }
     let slot = slot_at(slots, at);
-    let deadline = numbers::saturating_add(now, delay_nanos);
+    let deadline = now.saturating_add(delay_nanos);
     generations[slot] = next_generation;
     deadlines[slot] = deadline;
     NackedAt {
-        outcome: NackOutcome::Requeued { deadline: deadline },
+        outcome: Ok(deadline),
         next_generation: next_generation + 1,
     }
 }
@@ -368,11 +368,11 @@ pub fn release_below_in_place(
         (λ s. release_below s up_to) }
 {
     let carried = tables::position(carried_offsets, carried_len, up_to);
-    tables::remove_128(carried_offsets, carried_len, 0, carried);
-    tables::remove_counts_128(carried_counts, carried_len, 0, carried);
+    tables::remove(carried_offsets, carried_len, 0, carried);
+    tables::remove(carried_counts, carried_len, 0, carried);
     let first = tables::position(offsets, len, up_to);
-    tables::remove_64(offsets, len, 0, first);
-    tables::set_aside_64(slots, len, first);
+    tables::remove(offsets, len, 0, first);
+    tables::set_aside(slots, len, first);
     ReleasedAt {
         len: len - first,
         carried_len: carried_len - carried,
@@ -384,18 +384,18 @@ pub fn slot_at(slots: &[u32; LEASES], at: usize) -> usize
     requires { at < LEASES }
     ensures { (result ≡ slot_in slots.now at) × (result < LEASES) }
 {
-    numbers::wide(slots[at]) as usize % LEASES
+    slots[at] as usize % LEASES
 }
 
 // The lease at a place of the table.
-pub fn lease_at<'a>(
+pub fn lease_at(
     at: usize,
-    slots: &'a [u32; LEASES],
-    generations: &'a [u64; LEASES],
-    attempt_starts: &'a [u64; LEASES],
-    deadlines: &'a [u64; LEASES],
-    deliveries: &'a [u32; LEASES],
-    workers: &'a [u32; LEASES],
+    slots: &[u32; LEASES],
+    generations: &[u64; LEASES],
+    attempt_starts: &[u64; LEASES],
+    deadlines: &[u64; LEASES],
+    deliveries: &[u32; LEASES],
+    workers: &[u32; LEASES],
 ) -> Lease
     requires { at < LEASES }
     ensures { result ≡ lease (get_or generations.now (slot_in slots.now at) 0) (get_or attempt_starts.now (slot_in slots.now at) 0) (get_or deadlines.now (slot_in slots.now at) 0) (get_or deliveries.now (slot_in slots.now at) 0) (get_or workers.now (slot_in slots.now at) 0) }
@@ -412,25 +412,25 @@ pub fn lease_at<'a>(
 }
 
 // What `LeaseTable::lease_of` answers.
-pub fn lease_in_place<'a>(
+pub fn lease_in_place(
     len: usize,
     offset: u64,
-    offsets: &'a [u64; LEASES],
-    slots: &'a [u32; LEASES],
-    generations: &'a [u64; LEASES],
-    attempt_starts: &'a [u64; LEASES],
-    deadlines: &'a [u64; LEASES],
-    deliveries: &'a [u32; LEASES],
-    workers: &'a [u32; LEASES],
-) -> LeaseAt
+    offsets: &[u64; LEASES],
+    slots: &[u32; LEASES],
+    generations: &[u64; LEASES],
+    attempt_starts: &[u64; LEASES],
+    deadlines: &[u64; LEASES],
+    deliveries: &[u32; LEASES],
+    workers: &[u32; LEASES],
+) -> Option<Lease>
     requires { len ≤ LEASES }
     ensures { HoldsIn (leasing len offsets.now slots.now generations.now attempt_starts.now deadlines.now deliveries.now workers.now) (λ s. lease_in result ≡ lease_of s offset) }
 {
     let place = tables::find(offsets, len, offset);
     let Place::Found(at) = place else {
-        return LeaseAt::None;
+        return None;
     };
-    LeaseAt::Some(lease_at(
+    Some(lease_at(
         at,
         slots,
         generations,
@@ -441,70 +441,64 @@ pub fn lease_in_place<'a>(
     ))
 }
 
-// The lease that a token owns, where it owns one: how often it was handed out, the worker who claimed it, and its place, where a call
-// with the token finds it again.
-#[derive(Clone, Copy)]
-pub enum Hold {
-    Held {
-        deliveries: u32,
-        worker: u32,
-        at: usize,
-    },
-    None,
+// The lease that a token owns: how often it was handed out, the worker who claimed it, and its place, where a call with the token
+// finds it again.
+#[derive(Clone, Copy, Debug, PartialEq, Eq)]
+pub struct Held {
+    pub deliveries: u32,
+    pub worker: u32,
+    pub at: usize,
 }
 
 // What a call with a token asks of its lease.
-pub fn hold_in_place<'a>(
+pub fn hold_in_place(
     len: usize,
     offset: u64,
     generation: u64,
-    offsets: &'a [u64; LEASES],
-    slots: &'a [u32; LEASES],
-    generations: &'a [u64; LEASES],
-    deliveries: &'a [u32; LEASES],
-    workers: &'a [u32; LEASES],
-) -> Hold
+    offsets: &[u64; LEASES],
+    slots: &[u32; LEASES],
+    generations: &[u64; LEASES],
+    deliveries: &[u32; LEASES],
+    workers: &[u32; LEASES],
+) -> Option<Held>
     requires { len ≤ LEASES }
     ensures { HoldsIn (counting len offsets.now slots.now generations.now deliveries.now workers.now) (λ s. hold_in result ≡ hold s offset generation) × HeldAt offset generation (take len offsets.now) slots.now generations.now result }
 {
-    let place = owned(len, offset, generation, offsets, slots, generations);
-    let Place::Found(at) = place else {
-        return Hold::None;
-    };
+    let at = owned(len, offset, generation, offsets, slots, generations)?;
     let slot = slot_at(slots, at);
     let worker = workers[slot];
-    Hold::Held {
+    Some(Held {
         deliveries: deliveries[slot],
         worker,
         at,
-    }
+    })
 }
 
 // How often an offset that is in flight was handed out.
-pub fn count_in_place<'a>(
+pub fn count_in_place(
     len: usize,
     offset: u64,
-    offsets: &'a [u64; LEASES],
-    slots: &'a [u32; LEASES],
-    deliveries: &'a [u32; LEASES],
-) -> Attempts
+    offsets: &[u64; LEASES],
+    slots: &[u32; LEASES],
+    deliveries: &[u32; LEASES],
+) -> Option<u32>
     requires { len ≤ LEASES }
-    ensures { HoldsIn (listing len offsets.now slots.now deliveries.now) (λ s. attempts_of result ≡ done (optional (deliveries_of (lease_of s offset)))) }
+    ensures { HoldsIn (listing len offsets.now slots.now deliveries.now) (λ s. attempts_of result ≡ deliveries_of (lease_of s offset)) }
 {
     let place = tables::find(offsets, len, offset);
     let Place::Found(at) = place else {
-        return Attempts::None;
+        return None;
     };
     let slot = slot_at(slots, at);
-    Attempts::Some(deliveries[slot])
+    Some(deliveries[slot])
 }
 
 // What `LeaseTable::is_claimable` answers, where the offset stands at a place or belongs there.
-pub fn is_claimable_at<'a>(
+pub fn is_claimable_at(
     place: Place,
     now: u64,
-    slots: &'a [u32; LEASES],
-    deadlines: &'a [u64; LEASES],
+    slots: &[u32; LEASES],
+    deadlines: &[u64; LEASES],
 ) -> bool
     requires { PlaceWithin LEASES place }
     ensures { (o : ℕ) → HoldsAt o place (due slots.now deadlines.now) (λ s. result ≡ is_claimable s o now) }
@@ -517,57 +511,55 @@ pub fn is_claimable_at<'a>(
 }
 
 // What `LeaseTable::carried_count` answers.
-pub fn carried_in_place<'a>(
+pub fn carried_in_place(
     carried_len: usize,
     offset: u64,
-    carried_offsets: &'a [u64; CARRIED],
-    carried_counts: &'a [u32; CARRIED],
-) -> Attempts
+    carried_offsets: &[u64; CARRIED],
+    carried_counts: &[u32; CARRIED],
+) -> Option<u32>
     requires { carried_len ≤ CARRIED }
-    ensures { HoldsIn (carrying carried_len carried_offsets.now carried_counts.now) (λ s. attempts_of result ≡ done (optional (lookup offset s.carried))) }
+    ensures { HoldsIn (carrying carried_len carried_offsets.now carried_counts.now) (λ s. attempts_of result ≡ lookup offset s.carried) }
 {
     let place = tables::find(carried_offsets, carried_len, offset);
     let Place::Found(at) = place else {
-        return Attempts::None;
+        return None;
     };
-    Attempts::Some(carried_counts[at])
+    Some(carried_counts[at])
 }
 
 // What `LeaseTable::lease_counts` answers.
-pub fn lease_counts_in_place<'a>(
+pub fn lease_counts_in_place(
     len: usize,
-    offsets: &'a [u64; LEASES],
-    slots: &'a [u32; LEASES],
-    deliveries: &'a [u32; LEASES],
+    offsets: &[u64; LEASES],
+    slots: &[u32; LEASES],
+    deliveries: &[u32; LEASES],
 ) -> AttemptCounts
     requires { len ≤ LEASES }
     ensures { HoldsIn (listing len offsets.now slots.now deliveries.now) (λ s. ListsCounts result (attempt_counts s)) }
 {
     let mut listed = [0u64; COUNTS];
     let mut attempts = [0u32; COUNTS];
-    let mut i: usize = 0;
-    while i < len {
+    for i in 0..len {
         listed[i] = offsets[i];
         let slot = slot_at(slots, i);
         attempts[i] = deliveries[slot];
-        i += 1;
     }
     AttemptCounts {
         offsets: listed,
-        attempts: attempts,
-        len: len,
+        attempts,
+        len,
     }
 }
 
 // What `LeaseTable::all_counts` answers.
-pub fn all_counts_in_place<'a>(
+pub fn all_counts_in_place(
     len: usize,
     carried_len: usize,
-    offsets: &'a [u64; LEASES],
-    slots: &'a [u32; LEASES],
-    deliveries: &'a [u32; LEASES],
-    carried_offsets: &'a [u64; CARRIED],
-    carried_counts: &'a [u32; CARRIED],
+    offsets: &[u64; LEASES],
+    slots: &[u32; LEASES],
+    deliveries: &[u32; LEASES],
+    carried_offsets: &[u64; CARRIED],
+    carried_counts: &[u32; CARRIED],
 ) -> AttemptCounts
     requires { len ≤ LEASES }
     ensures { HoldsIn (listing_all len carried_len offsets.now slots.now deliveries.now carried_offsets.now carried_counts.now) (λ s. ListsCounts result (all_attempt_counts s)) }
@@ -577,25 +569,22 @@ pub fn all_counts_in_place<'a>(
 }
 
 // What `LeaseTable::expired_list` answers.
-pub fn expired_in_place<'a>(
+pub fn expired_in_place(
     len: usize,
     now: u64,
-    offsets: &'a [u64; LEASES],
-    slots: &'a [u32; LEASES],
-    deadlines: &'a [u64; LEASES],
+    offsets: &[u64; LEASES],
+    slots: &[u32; LEASES],
+    deadlines: &[u64; LEASES],
 ) -> OffsetList
     requires { len ≤ LEASES }
     ensures { HoldsIn (timing len offsets.now slots.now deadlines.now) (λ s. ListsOffsets result (expired s now)) }
 {
     let mut listed = [0u64; CARRIED];
     let mut n: usize = 0;
-    let mut i: usize = 0;
-    while i < len {
-        let at = i;
-        i += 1;
-        let slot = slot_at(slots, at);
+    for i in 0..len {
+        let slot = slot_at(slots, i);
         if deadlines[slot] <= now {
-            listed[n] = offsets[at];
+            listed[n] = offsets[i];
             n += 1;
         }
     }

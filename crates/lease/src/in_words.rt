@@ -8,28 +8,20 @@ ghost use Rattle.tables.specs.declared.Place.TheVariants.{Found, Missing};
 ghost use Rattle.lease.specs.State.{starting_at};
 ghost use Rattle.lease.specs.Operations.{claim_rows, claim, ack, extend, nack};
 ghost use Rattle.lease.specs.Rest.{attempts_flushed, release_below, reseal_from_to, defer_redelivery, shift_deadlines};
-ghost use Rattle.lease.specs.Answers.{claim_of, ack_of, extend_of, nack_of};
+ghost use Rattle.lease.specs.Answers.{claim_of, ack_of, extend_of, nack_of, grant_in};
 ghost use Rattle.lease.specs.Layout.{WORDS, table_in, view, Sound};
-ghost use Rattle.lease.specs.InWords.{Answers, Tries, Becomes, grant_in, PlacedIn, AnswersOwned};
+ghost use Rattle.lease.specs.InWords.{Answers, Tries, Becomes, PlacedIn, AnswersOwned};
 
 use crate::layout::{
     DEADLINES, DELIVERIES, GENERATIONS, HARD_CAP, NEXT, REDELIVERIES, SLOTS, STARTS, VISIBILITY,
 };
-use crate::{
-    AckOutcome, Claim, ExtendOutcome, LeaseConfig, LeaseToken, NackOutcome, reads, stored,
-};
+use crate::{Grant, LeaseConfig, LeaseToken, reads, stored};
 use tables::Place;
-use types::{Generation, Offset, numbers};
-
-// What a claim that is granted hands out: the token, and how often its message was handed out so far, this time counted.
-#[derive(Clone, Copy)]
-pub struct HandOut {
-    pub token: LeaseToken,
-    pub deliveries: u32,
-}
+use types::refusals::Refusal;
+use types::{Generation, Offset};
 
 // Claims an offset for a worker: 23, 25, 27.
-pub fn claim(table: &mut [u64], worker: u32, offset: Offset, now: u64) -> Claim
+pub fn claim(table: &mut [u64], worker: u32, offset: Offset, now: u64) -> Result<Grant, Refusal>
     requires { Sound table.old }
     ensures { Answers (claim_of result) table.old table.new (claim (view table.old) worker offset.0 now) }
 {
@@ -38,29 +30,30 @@ pub fn claim(table: &mut [u64], worker: u32, offset: Offset, now: u64) -> Claim
 }
 
 // The same where the offset was looked up.
-pub fn claim_at(table: &mut [u64], place: Place, worker: u32, offset: Offset, now: u64) -> Claim
+pub fn claim_at(
+    table: &mut [u64],
+    place: Place,
+    worker: u32,
+    offset: Offset,
+    now: u64,
+) -> Result<Grant, Refusal>
     requires { Sound table.old × PlacedIn offset.0 table.old place }
     ensures { Answers (claim_of result) table.old table.new (claim (view table.old) worker offset.0 now) }
 {
     if reads::is_running_at(table, place, now) {
-        return Claim::InFlight;
+        return Err(Refusal::InFlight);
     }
     if reads::is_exhausted(table) {
-        return Claim::Exhausted;
+        return Err(Refusal::Exhausted);
     }
     if reads::is_full_at(table, place) {
-        return Claim::Full;
+        return Err(Refusal::Full);
     }
-    let out = grant_at(table, place, worker, offset, now);
-    let token = out.token;
-    Claim::Granted {
-        token,
-        deliveries: out.deliveries,
-    }
+    Ok(grant_at(table, place, worker, offset, now))
 }
 
 // The same where no test of a claim is met: the offset is granted.
-pub fn grant_at(table: &mut [u64], place: Place, worker: u32, offset: Offset, now: u64) -> HandOut
+pub fn grant_at(table: &mut [u64], place: Place, worker: u32, offset: Offset, now: u64) -> Grant
     requires { Sound table.old × PlacedIn offset.0 table.old place × Passed (claim_rows (view table.old) offset.0 now) }
     ensures { Answers (done (grant_in result)) table.old table.new (claim (view table.old) worker offset.0 now) }
 {
@@ -71,37 +64,34 @@ pub fn grant_at(table: &mut [u64], place: Place, worker: u32, offset: Offset, no
 }
 
 // The lease at a place, which has run out, is granted again.
-fn grant_again(table: &mut [u64], at: usize, worker: u32, offset: Offset, now: u64) -> HandOut
+fn grant_again(table: &mut [u64], at: usize, worker: u32, offset: Offset, now: u64) -> Grant
     requires { Sound table.old × PlacedIn offset.0 table.old (Found at) × Passed (claim_rows (view table.old) offset.0 now) }
     ensures { Answers (done (grant_in result)) table.old table.new (claim (view table.old) worker offset.0 now) }
 {
     let lease = stored::lease_at(table, at);
-    let count = numbers::saturating_next(lease.deliveries);
+    let count = lease.deliveries.saturating_add(1);
     stored::grant(table, at, worker, offset, count, now)
 }
 
 // An offset that has no lease takes the first slot that is free, and its carried count goes over into the lease.
-fn grant_first(table: &mut [u64], at: usize, worker: u32, offset: Offset, now: u64) -> HandOut
+fn grant_first(table: &mut [u64], at: usize, worker: u32, offset: Offset, now: u64) -> Grant
     requires { Sound table.old × PlacedIn offset.0 table.old (Missing at) × Passed (claim_rows (view table.old) offset.0 now) }
     ensures { Answers (done (grant_in result)) table.old table.new (claim (view table.old) worker offset.0 now) }
 {
     let prior = stored::take_carried(table, offset);
-    let count = numbers::saturating_next(prior);
+    let count = prior.saturating_add(1);
     stored::put_offset(table, at, offset);
     stored::grant(table, at, worker, offset, count, now)
 }
 
 // Acks the lease that a token owns, which is then gone: 24.
-pub fn ack(table: &mut [u64], token: LeaseToken) -> AckOutcome
+pub fn ack(table: &mut [u64], token: LeaseToken) -> Result<(), Refusal>
     requires { Sound table.old }
     ensures { Answers (ack_of result) table.old table.new (ack (view table.old) token.offset.0 token.generation.0) }
 {
-    let place = reads::owned(table, token);
-    let Place::Found(at) = place else {
-        return AckOutcome::Fenced;
-    };
+    let at = reads::owned(table, token).ok_or(Refusal::Fenced)?;
     ack_at(table, at);
-    AckOutcome::Acked
+    Ok(())
 }
 
 // The same where the token is known to own the lease at a place.
@@ -113,48 +103,47 @@ pub fn ack_at(table: &mut [u64], at: usize)
 }
 
 // Extends the lease that a token owns by one visibility window from now, within the hard cap of its attempt: 24, 28.
-pub fn extend(table: &mut [u64], token: LeaseToken, now: u64) -> ExtendOutcome
+pub fn extend(table: &mut [u64], token: LeaseToken, now: u64) -> Result<u64, Refusal>
     requires { Sound table.old }
     ensures { Answers (extend_of result) table.old table.new (extend (view table.old) token.offset.0 token.generation.0 now) }
 {
-    let place = reads::owned(table, token);
-    let Place::Found(at) = place else {
-        return ExtendOutcome::Fenced;
-    };
+    let at = reads::owned(table, token).ok_or(Refusal::Fenced)?;
     extend_at(table, at, now)
 }
 
 // The same where the token is known to own the lease at a place.
-pub fn extend_at(table: &mut [u64], at: usize, now: u64) -> ExtendOutcome
+pub fn extend_at(table: &mut [u64], at: usize, now: u64) -> Result<u64, Refusal>
     requires { Sound table.old × (at < (table_in table.old).len) }
     ensures { AnswersOwned at (extend_of result) table.old table.new (λ t o g. extend t o g now) }
 {
     let config = stored::config_of(table);
     let mut lease = stored::lease_at(table, at);
     if config.cap(lease.attempt_start) <= now {
-        return ExtendOutcome::CapReached;
+        return Err(Refusal::CapReached);
     }
     let deadline = config.deadline(lease.attempt_start, now);
     lease.deadline = deadline;
     stored::put_lease(table, at, lease);
-    ExtendOutcome::Extended(deadline)
+    Ok(deadline)
 }
 
 // Gives the lease that a token owns up: the message can be claimed again after the delay, which no cap bounds, since it belongs to the
 // next attempt. A new generation fences the token off, and the count stays for the next claim: 24, 25.
-pub fn nack(table: &mut [u64], token: LeaseToken, now: u64, delay_nanos: u64) -> NackOutcome
+pub fn nack(
+    table: &mut [u64],
+    token: LeaseToken,
+    now: u64,
+    delay_nanos: u64,
+) -> Result<u64, Refusal>
     requires { Sound table.old }
     ensures { Answers (nack_of result) table.old table.new (nack (view table.old) token.offset.0 token.generation.0 now delay_nanos) }
 {
-    let place = reads::owned(table, token);
-    let Place::Found(at) = place else {
-        return NackOutcome::Fenced;
-    };
+    let at = reads::owned(table, token).ok_or(Refusal::Fenced)?;
     if reads::is_exhausted(table) {
-        return NackOutcome::Exhausted;
+        return Err(Refusal::Exhausted);
     }
     let deadline = requeue_at(table, at, now, delay_nanos);
-    NackOutcome::Requeued { deadline }
+    Ok(deadline)
 }
 
 // The same where the token is known to own the lease at a place, and a generation is left. It answers the deadline.
@@ -163,7 +152,7 @@ pub fn requeue_at(table: &mut [u64], at: usize, now: u64, delay_nanos: u64) -> u
     ensures { AnswersOwned at (done result) table.old table.new (λ t o g. nack t o g now delay_nanos) }
 {
     let generation = table[NEXT];
-    let deadline = numbers::saturating_add(now, delay_nanos);
+    let deadline = now.saturating_add(delay_nanos);
     let mut lease = stored::lease_at(table, at);
     lease.generation.0 = generation;
     lease.deadline = deadline;
@@ -187,8 +176,7 @@ pub fn reseal_from_to(
         offset,
         generation: from,
     };
-    let place = reads::owned(table, token);
-    let Place::Found(at) = place else {
+    let Some(at) = reads::owned(table, token) else {
         return false;
     };
     let mut lease = stored::lease_at(table, at);
@@ -211,7 +199,7 @@ pub fn defer_redelivery(table: &mut [u64], offset: Offset, now: u64, delay_nanos
     if now < lease.deadline {
         return false;
     }
-    lease.deadline = numbers::saturating_add(now, delay_nanos);
+    lease.deadline = now.saturating_add(delay_nanos);
     stored::put_lease(table, at, lease);
     true
 }
@@ -240,7 +228,7 @@ pub fn note_attempts_flushed(table: &mut [u64])
     ensures { Becomes table.new (attempts_flushed (view table.old)) }
 {
     let redeliveries = reads::redeliveries_since_flush(table);
-    table[REDELIVERIES] = numbers::wide(redeliveries::after_flush(redeliveries));
+    table[REDELIVERIES] = u64::from(redeliveries::after_flush(redeliveries));
 }
 
 // Makes an empty table of any words, whose first grant takes the given generation. Whoever keeps leases over restarts begins above every
@@ -249,7 +237,7 @@ pub fn starting_at(table: &mut [u64], config: LeaseConfig, generation: Generatio
     requires { length table.old ≡ WORDS }
     ensures { Becomes table.new (starting_at config generation.0) }
 {
-    stored::clear(table);
+    table.fill(0);
     stored::free_slots(&mut table[SLOTS..GENERATIONS]);
     table[NEXT] = generation.0;
     table[VISIBILITY] = config.visibility_nanos;

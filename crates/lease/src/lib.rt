@@ -4,21 +4,17 @@
 // clock: it may stand still or run backwards.
 #![tactic(auto)]
 
-ghost use Rattle.std.specs.Prelude.{◌≡◌, map, length};
-ghost use Rattle.types.specs.Limits.{LEASES};
-ghost use Rattle.types.specs.Refusal.{done, optional};
+ghost use Rattle.std.specs.Prelude.{◌≡◌};
 ghost use Rattle.lease.specs.Config.{nanos, from_millis, default_config};
 ghost use Rattle.lease.specs.State.{Sound, view, starting_at};
 ghost use Rattle.lease.specs.Operations.{claim, ack, extend, nack, cap_from, deadline_from};
 ghost use Rattle.lease.specs.Rest.{attempts_flushed, release_below, reseal_from_to, defer_redelivery, shift_deadlines, in_flight, is_claimable, deliveries, holds_active, pending_redelivery_attempt};
-ghost use Rattle.lease.specs.Helpers.{later_by};
 ghost use Rattle.lease.specs.Answers.{claim_of, ack_of, extend_of, nack_of, attempts_of, Answers, Tries, Becomes};
 
-use in_place::Hold;
-use lookup::LeaseAt;
 use tables::Place;
-use types::limits::{CARRIED, LEASES, MAX};
-use types::{Generation, Offset, numbers};
+use types::limits::{CARRIED, LEASES};
+use types::refusals::Refusal;
+use types::{Generation, Offset};
 
 pub mod in_place;
 pub mod in_words;
@@ -32,7 +28,7 @@ mod stored;
 // How long a hand-out lasts, in nanoseconds. A hard cap below the visibility shortens every lease to the cap; where one
 // of the two is 0, a lease runs out the moment it is granted.
 #[repr(C)]
-#[derive(Clone, Copy)]
+#[derive(Clone, Copy, Debug, PartialEq, Eq)]
 pub struct LeaseConfig {
     // How long a message that was handed out stays in flight.
     pub visibility_nanos: u64,
@@ -70,30 +66,29 @@ impl LeaseConfig {
     fn cap(self, start: u64) -> u64
         ensures { result ≡ cap_from self start }
     {
-        numbers::saturating_add(start, self.hard_cap_nanos)
+        start.saturating_add(self.hard_cap_nanos)
     }
 
     // One visibility window from now, within the cap of an attempt that began at `start`.
     fn deadline(self, start: u64, now: u64) -> u64
         ensures { result ≡ deadline_from self start now }
     {
-        let window = numbers::saturating_add(now, self.visibility_nanos);
-        let cap = self.cap(start);
-        if window <= cap { window } else { cap }
+        let window = now.saturating_add(self.visibility_nanos);
+        window.min(self.cap(start))
     }
 }
 
 // Names one hand-out of a message: an ack, an extension or a nack carries it, and works only while the lease of the
 // offset has this generation.
 #[repr(C)]
-#[derive(Clone, Copy)]
+#[derive(Clone, Copy, Debug, PartialEq, Eq)]
 pub struct LeaseToken {
     pub offset: Offset,
     pub generation: Generation,
 }
 
 #[repr(C)]
-#[derive(Clone, Copy)]
+#[derive(Clone, Copy, Debug, PartialEq, Eq)]
 pub struct Lease {
     pub generation: Generation,
     // When the current attempt began: the hard cap runs from here, anew with each attempt.
@@ -104,50 +99,11 @@ pub struct Lease {
     pub worker: u32,
 }
 
-// What a claim answers: the token with the number of hand-outs so far, this one counted; or refusal 23, 25 or 27.
-#[derive(Clone, Copy)]
-pub enum Claim {
-    Granted { token: LeaseToken, deliveries: u32 },
-    InFlight,
-    Exhausted,
-    Full,
-}
-
-// What an ack answers: the lease is gone, or refusal 24.
-#[derive(Clone, Copy)]
-pub enum AckOutcome {
-    Acked,
-    Fenced,
-}
-
-// What an extension answers: the new deadline, or refusal 28 or 24.
-#[derive(Clone, Copy)]
-pub enum ExtendOutcome {
-    Extended(u64),
-    CapReached,
-    Fenced,
-}
-
-// What a nack answers: when the message can be claimed again, or refusal 24 or 25.
-#[derive(Clone, Copy)]
-pub enum NackOutcome {
-    Requeued { deadline: u64 },
-    Fenced,
-    Exhausted,
-}
-
-// What resuming attempt counts answers: nothing, or refusal 19.
-#[derive(Clone, Copy)]
-pub enum ResumeOutcome {
-    Resumed,
-    TooManyPairs,
-}
-
-// An attempt count, where there is one.
-#[derive(Clone, Copy)]
-pub enum Attempts {
-    Some(u32),
-    None,
+// What a claim hands out: the token, and how often its message was handed out so far, this time counted.
+#[derive(Clone, Copy, Debug, PartialEq, Eq)]
+pub struct Grant {
+    pub token: LeaseToken,
+    pub deliveries: u32,
 }
 
 // At most 64 leases and 128 carried attempt counts, each sorted by offset: the offsets in one array, and at the same places of another
@@ -179,40 +135,9 @@ pub struct LeaseTable {
 
 // What a call answers, and the table after it, which comes first: behind a few bytes of an answer it would be copied once more.
 #[derive(Clone, Copy)]
-pub struct Claimed {
+pub struct Answered<T> {
     pub table: LeaseTable,
-    pub outcome: Claim,
-}
-
-#[derive(Clone, Copy)]
-pub struct Acked {
-    pub table: LeaseTable,
-    pub outcome: AckOutcome,
-}
-
-#[derive(Clone, Copy)]
-pub struct Extended {
-    pub table: LeaseTable,
-    pub outcome: ExtendOutcome,
-}
-
-#[derive(Clone, Copy)]
-pub struct Nacked {
-    pub table: LeaseTable,
-    pub outcome: NackOutcome,
-}
-
-#[derive(Clone, Copy)]
-pub struct Resumed {
-    pub table: LeaseTable,
-    pub outcome: ResumeOutcome,
-}
-
-// Whether there was something to change, and the table.
-#[derive(Clone, Copy)]
-pub struct Changed {
-    pub table: LeaseTable,
-    pub changed: bool,
+    pub outcome: T,
 }
 
 // A call that changes a table lends copies of the columns that it reads and changes: with a reference into the table itself the compiler
@@ -238,9 +163,9 @@ impl LeaseTable {
         ensures { Becomes result (starting_at config generation.0) }
     {
         LeaseTable {
-            config: config,
+            config,
             offsets: [0; LEASES],
-            slots: tables::slots_64(),
+            slots: tables::all_slots(),
             generations: [0; LEASES],
             attempt_starts: [0; LEASES],
             deadlines: [0; LEASES],
@@ -309,7 +234,12 @@ impl LeaseTable {
     // Claims an offset for delivery to a worker. One with no lease, or with a lease that has run out, is granted: the attempt
     // begins now, under the next generation, which fences off whoever held the offset before. The count goes on from the lease's,
     // or from the carried one, which the new lease takes over.
-    pub fn claim(mut self, worker: u32, offset: Offset, now: u64) -> Claimed
+    pub fn claim(
+        mut self,
+        worker: u32,
+        offset: Offset,
+        now: u64,
+    ) -> Answered<Result<Grant, Refusal>>
         requires { Sound self }
         ensures { Answers (claim_of result.outcome) self result.table (claim (view self) worker offset.0 now) }
     {
@@ -357,7 +287,7 @@ impl LeaseTable {
         self.next_generation.0 = claimed.next_generation;
         self.redeliveries_since_flush = claimed.redeliveries;
         let outcome = claimed.outcome;
-        Claimed {
+        Answered {
             table: self,
             outcome,
         }
@@ -372,26 +302,26 @@ impl LeaseTable {
         offset: Offset,
         from: Generation,
         generation: Generation,
-    ) -> Changed
+    ) -> Answered<bool>
         requires { Sound self }
-        ensures { Tries result.changed self result.table (reseal_from_to (view self) offset.0 from.0 generation.0) }
+        ensures { Tries result.outcome self result.table (reseal_from_to (view self) offset.0 from.0 generation.0) }
     {
         let offsets = self.offsets;
         let slots = self.slots;
         let mut generations = self.generations;
-        let place = in_place::owned(self.len, offset.0, from.0, &offsets, &slots, &generations);
-        let Place::Found(at) = place else {
-            return Changed {
+        let Some(at) = in_place::owned(self.len, offset.0, from.0, &offsets, &slots, &generations)
+        else {
+            return Answered {
                 table: self,
-                changed: false,
+                outcome: false,
             };
         };
         let slot = in_place::slot_at(&slots, at);
         generations[slot] = generation.0;
         self.generations = generations;
-        Changed {
+        Answered {
             table: self,
-            changed: true,
+            outcome: true,
         }
     }
 
@@ -405,57 +335,55 @@ impl LeaseTable {
     }
 
     // Acks the lease that the token owns: the message is in flight no longer.
-    pub fn ack(mut self, token: LeaseToken) -> Acked
+    pub fn ack(mut self, token: LeaseToken) -> Answered<Result<(), Refusal>>
         requires { Sound self }
         ensures { Answers (ack_of result.outcome) self result.table (ack (view self) token.offset.0 token.generation.0) }
     {
         let mut offsets = self.offsets;
         let mut slots = self.slots;
         let generations = self.generations;
-        let place = in_place::owned(
+        let Some(at) = in_place::owned(
             self.len,
             token.offset.0,
             token.generation.0,
             &offsets,
             &slots,
             &generations,
-        );
-        let Place::Found(at) = place else {
-            return Acked {
+        ) else {
+            return Answered {
                 table: self,
-                outcome: AckOutcome::Fenced,
+                outcome: Err(Refusal::Fenced),
             };
         };
         let len = in_place::ack_at(at, self.len, &mut offsets, &mut slots);
         self.offsets = offsets;
         self.slots = slots;
         self.len = len;
-        Acked {
+        Answered {
             table: self,
-            outcome: AckOutcome::Acked,
+            outcome: Ok(()),
         }
     }
 
     // Extends the lease that the token owns by one visibility window from now, within the hard cap of its attempt.
-    pub fn extend(mut self, token: LeaseToken, now: u64) -> Extended
+    pub fn extend(mut self, token: LeaseToken, now: u64) -> Answered<Result<u64, Refusal>>
         requires { Sound self }
         ensures { Answers (extend_of result.outcome) self result.table (extend (view self) token.offset.0 token.generation.0 now) }
     {
         let offsets = self.offsets;
         let slots = self.slots;
         let generations = self.generations;
-        let place = in_place::owned(
+        let Some(at) = in_place::owned(
             self.len,
             token.offset.0,
             token.generation.0,
             &offsets,
             &slots,
             &generations,
-        );
-        let Place::Found(at) = place else {
-            return Extended {
+        ) else {
+            return Answered {
                 table: self,
-                outcome: ExtendOutcome::Fenced,
+                outcome: Err(Refusal::Fenced),
             };
         };
         let attempt_starts = self.attempt_starts;
@@ -469,16 +397,16 @@ impl LeaseTable {
             &mut deadlines,
         );
         self.deadlines = deadlines;
-        Extended {
+        Answered {
             table: self,
             outcome,
         }
     }
 
     // How often the message of the token was handed out, while the token owns its lease.
-    pub fn deliveries(self, token: LeaseToken) -> Attempts
+    pub fn deliveries(self, token: LeaseToken) -> Option<u32>
         requires { Sound self }
-        ensures { attempts_of result ≡ done (optional (deliveries (view self) token.offset.0 token.generation.0)) }
+        ensures { attempts_of result ≡ deliveries (view self) token.offset.0 token.generation.0 }
     {
         let held = in_place::hold_in_place(
             self.len,
@@ -489,15 +417,8 @@ impl LeaseTable {
             &self.generations,
             &self.deliveries,
             &self.workers,
-        );
-        match held {
-            Hold::Held {
-                deliveries,
-                worker: _,
-                at: _,
-            } => Attempts::Some(deliveries),
-            Hold::None => Attempts::None,
-        }
+        )?;
+        Some(held.deliveries)
     }
 
     // Whether the token owns its lease and the lease still runs.
@@ -505,15 +426,14 @@ impl LeaseTable {
         requires { Sound self }
         ensures { result ≡ holds_active (view self) token.offset.0 token.generation.0 now }
     {
-        let place = in_place::owned(
+        let Some(at) = in_place::owned(
             self.len,
             token.offset.0,
             token.generation.0,
             &self.offsets,
             &self.slots,
             &self.generations,
-        );
-        let Place::Found(at) = place else {
+        ) else {
             return false;
         };
         let slot = in_place::slot_at(&self.slots, at);
@@ -523,25 +443,29 @@ impl LeaseTable {
     // Gives the lease that the token owns up: the message can be claimed again after the delay, which no cap bounds, since it belongs
     // to the next attempt. A new generation fences the token off, so that no ack of it can settle what it gave up, and the count
     // stays for the next claim.
-    pub fn nack(mut self, token: LeaseToken, now: u64, delay_nanos: u64) -> Nacked
+    pub fn nack(
+        mut self,
+        token: LeaseToken,
+        now: u64,
+        delay_nanos: u64,
+    ) -> Answered<Result<u64, Refusal>>
         requires { Sound self }
         ensures { Answers (nack_of result.outcome) self result.table (nack (view self) token.offset.0 token.generation.0 now delay_nanos) }
     {
         let offsets = self.offsets;
         let slots = self.slots;
         let mut generations = self.generations;
-        let place = in_place::owned(
+        let Some(at) = in_place::owned(
             self.len,
             token.offset.0,
             token.generation.0,
             &offsets,
             &slots,
             &generations,
-        );
-        let Place::Found(at) = place else {
-            return Nacked {
+        ) else {
+            return Answered {
                 table: self,
-                outcome: NackOutcome::Fenced,
+                outcome: Err(Refusal::Fenced),
             };
         };
         let mut deadlines = self.deadlines;
@@ -558,55 +482,52 @@ impl LeaseTable {
         self.deadlines = deadlines;
         self.next_generation.0 = done.next_generation;
         let outcome = done.outcome;
-        Nacked {
+        Answered {
             table: self,
             outcome,
         }
     }
 
     // How often the message at an offset was handed out, if the next claim would hand it out again: its lease has run out.
-    pub fn pending_redelivery_attempt(self, offset: Offset, now: u64) -> Attempts
+    pub fn pending_redelivery_attempt(self, offset: Offset, now: u64) -> Option<u32>
         requires { Sound self }
-        ensures { attempts_of result ≡ done (optional (pending_redelivery_attempt (view self) offset.0 now)) }
+        ensures { attempts_of result ≡ pending_redelivery_attempt (view self) offset.0 now }
     {
-        let found = self.lease_of(offset);
-        let LeaseAt::Some(lease) = found else {
-            return Attempts::None;
-        };
+        let lease = self.lease_of(offset)?;
         if now < lease.deadline {
-            return Attempts::None;
+            return None;
         }
-        Attempts::Some(lease.deliveries)
+        Some(lease.deliveries)
     }
 
     // Puts a lease that has run out off by a delay, which no cap bounds; generation and count stay, since nobody is to be fenced off
     // and nothing was handed out.
-    pub fn defer_redelivery(mut self, offset: Offset, now: u64, delay_nanos: u64) -> Changed
+    pub fn defer_redelivery(mut self, offset: Offset, now: u64, delay_nanos: u64) -> Answered<bool>
         requires { Sound self }
-        ensures { Tries result.changed self result.table (defer_redelivery (view self) offset.0 now delay_nanos) }
+        ensures { Tries result.outcome self result.table (defer_redelivery (view self) offset.0 now delay_nanos) }
     {
         let offsets = self.offsets;
         let slots = self.slots;
         let place = tables::find(&offsets, self.len, offset.0);
         let Place::Found(at) = place else {
-            return Changed {
+            return Answered {
                 table: self,
-                changed: false,
+                outcome: false,
             };
         };
         let slot = in_place::slot_at(&slots, at);
         let mut deadlines = self.deadlines;
         if now < deadlines[slot] {
-            return Changed {
+            return Answered {
                 table: self,
-                changed: false,
+                outcome: false,
             };
         }
-        deadlines[slot] = numbers::saturating_add(now, delay_nanos);
+        deadlines[slot] = now.saturating_add(delay_nanos);
         self.deadlines = deadlines;
-        Changed {
+        Answered {
             table: self,
-            changed: true,
+            outcome: true,
         }
     }
 
@@ -615,27 +536,15 @@ impl LeaseTable {
         requires { Sound self }
         ensures { Becomes result (shift_deadlines (view self) delta) }
     {
-        shift(&mut self.attempt_starts, delta);
-        shift(&mut self.deadlines, delta);
+        stored::shift(&mut self.attempt_starts, delta);
+        stored::shift(&mut self.deadlines, delta);
         self
     }
-}
-
-// Moves the times of a column forward, those that no lease has too.
-fn shift(times: &mut [u64; LEASES], delta: u64)
-    requires { length times.old ≡ LEASES }
-    ensures { times.new ≡ map (later_by delta) times.old }
-{
-    stored::shift(times, delta);
 }
 
 // Milliseconds in nanoseconds, at most the largest number.
 fn to_nanos(ms: u64) -> u64
     ensures { result ≡ nanos ms }
 {
-    if ms <= 18446744073709 {
-        ms * 1000000
-    } else {
-        MAX
-    }
+    ms.saturating_mul(1000000)
 }

@@ -2,7 +2,8 @@
 ghost use Rattle.std.specs.Prelude.{◌≡◌};
 ghost use Rattle.types.specs.Keyed.{entries};
 ghost use Rattle.types.specs.Table.{answer};
-ghost use Rattle.types.specs.Lists.{listed, listed_of, ListsOffsets, ListsCounts};
+ghost use Rattle.types.specs.Refused.{as_is};
+ghost use Rattle.types.specs.Lists.{listed, ListsOffsets, ListsCounts};
 ghost use Rattle.tables.specs.Carried.{carried_in, Tidy};
 ghost use Rattle.lease.specs.Counts.{resume_attempts, attempt_counts, all_attempt_counts};
 ghost use Rattle.lease.specs.Rest.{expired};
@@ -12,18 +13,18 @@ ghost use Rattle.lease.specs.Layout.{table_in, view, Sound};
 ghost use Rattle.lease.specs.InWords.{Answers, listed_into};
 
 use crate::layout::{CARRIED_COUNTS, CARRIED_LEN, CARRIED_OFFSETS, LEN, OFFSETS, WORDS};
-use crate::{ResumeOutcome, stored};
+use crate::stored;
 use tables::counts;
 use tables::counts::Carried;
-use types::lent::{AttemptCounts, Listed, OffsetList};
+use types::lent::{AttemptCounts, OffsetList};
 use types::limits::{CARRIED, COUNTS};
-use types::numbers::shorter;
+use types::refusals::Refusal;
 use types::{Pair, lent};
 
 // The offsets whose leases have run out, into a lent list: a claim of one would hand it out again. 20 where it doesn't fit.
-pub fn expired(table: &[u64], now: u64, out: &mut [u64]) -> Listed
+pub fn expired(table: &[u64], now: u64, out: &mut [u64]) -> Result<usize, Refusal>
     requires { Sound table.now }
-    ensures { answer (listed_of result) out.new ≡ listed (expired (view table.now) now) out.old }
+    ensures { answer (as_is result) out.new ≡ listed (expired (view table.now) now) out.old }
 {
     lent::list_numbers(expired_list(table, now), out)
 }
@@ -36,13 +37,10 @@ pub fn expired_list(table: &[u64], now: u64) -> OffsetList
     let len = table[LEN] as usize;
     let mut listed = [0u64; CARRIED];
     let mut n: usize = 0;
-    let mut i: usize = 0;
-    while i < len {
-        let at = i;
-        i += 1;
-        let lease = stored::lease_at(table, at);
+    for i in 0..len {
+        let lease = stored::lease_at(table, i);
         if lease.deadline <= now {
-            listed[n] = table[OFFSETS + at];
+            listed[n] = table[OFFSETS + i];
             n += 1;
         }
     }
@@ -60,34 +58,36 @@ pub fn lease_counts(table: &[u64]) -> AttemptCounts
     let len = table[LEN] as usize;
     let mut offsets = [0u64; COUNTS];
     let mut attempts = [0u32; COUNTS];
-    let mut i: usize = 0;
-    while i < len {
+    for i in 0..len {
         let lease = stored::lease_at(table, i);
         offsets[i] = table[OFFSETS + i];
         attempts[i] = lease.deliveries;
-        i += 1;
     }
     AttemptCounts {
-        offsets: offsets,
-        attempts: attempts,
-        len: len,
+        offsets,
+        attempts,
+        len,
     }
 }
 
 // The counts of all messages that were handed out and are not done, into two lent columns: those in flight and the carried ones, the
 // larger count where an offset has both. 20 where a column is too short.
-pub fn all_attempt_counts(table: &[u64], offsets: &mut [u64], attempts: &mut [u64]) -> Listed
+pub fn all_attempt_counts(
+    table: &[u64],
+    offsets: &mut [u64],
+    attempts: &mut [u64],
+) -> Result<usize, Refusal>
     requires { Sound table.now }
-    ensures { answer (listed_of result) (offsets.new, attempts.new) ≡ listed_into (all_attempt_counts (view table.now)) offsets.old attempts.old }
+    ensures { answer (as_is result) (offsets.new, attempts.new) ≡ listed_into (all_attempt_counts (view table.now)) offsets.old attempts.old }
 {
     let counts = all_counts(table);
     let n = counts.len;
-    if shorter(offsets.len(), attempts.len()) < n {
-        return Listed::OutTooShort;
+    if offsets.len().min(attempts.len()) < n {
+        return Err(Refusal::OutTooShort);
     }
     tables::copy(offsets, 0, &counts.offsets, n);
     stored::put_counts(attempts, &counts.attempts, n);
-    Listed::Filled(n)
+    Ok(n)
 }
 
 // The same in arrays.
@@ -108,47 +108,42 @@ pub fn carried_counts(table: &[u64]) -> Carried
     let len = table[CARRIED_LEN] as usize;
     let mut offsets = [0u64; CARRIED];
     let mut counts = [0u32; CARRIED];
-    let mut i: usize = 0;
-    while i < len {
+    for i in 0..len {
         offsets[i] = table[CARRIED_OFFSETS + i];
         counts[i] = table[CARRIED_COUNTS + i] as u32;
-        i += 1;
     }
     Carried {
-        offsets: offsets,
-        counts: counts,
-        len: len,
+        offsets,
+        counts,
+        len,
         full: false,
     }
 }
 
 // Carries attempt counts over from before a restart, pairs in two columns: the next claim of an offset goes on from its count. A count of
 // 0 says nothing, and of two counts for an offset the last stays. Refused where more than 128 would be carried (19).
-pub fn resume_attempts(table: &mut [u64], offsets: &[u64], attempts: &[u32]) -> ResumeOutcome
+pub fn resume_attempts(table: &mut [u64], offsets: &[u64], attempts: &[u32]) -> Result<(), Refusal>
     requires { Sound table.old }
     ensures { Answers (resume_of result) table.old table.new (resume_attempts (view table.old) (entries offsets.now attempts.now)) }
 {
     let mut carried = carried_counts(table);
-    let n = shorter(offsets.len(), attempts.len());
-    let mut i: usize = 0;
-    while i < n {
+    for (offset, attempt) in offsets.iter().zip(attempts) {
         let pair = Pair {
-            offset: offsets[i],
-            attempt: attempts[i],
+            offset: *offset,
+            attempt: *attempt,
         };
         carried = counts::carry_pair(carried, pair);
-        i += 1;
     }
     resume_with(table, carried)
 }
 
 // Stores the carried counts that pairs were taken into one by one, or refuses them (19).
-pub fn resume_with(table: &mut [u64], carried: Carried) -> ResumeOutcome
+pub fn resume_with(table: &mut [u64], carried: Carried) -> Result<(), Refusal>
     requires { Sound table.old × Tidy carried }
     ensures { Answers (resume_of result) table.old table.new (resumed_with (view table.old) (carried_in carried)) }
 {
     if carried.full {
-        return ResumeOutcome::TooManyPairs;
+        return Err(Refusal::TooManyPairs);
     }
     let len = carried.len;
     tables::copy(
@@ -159,5 +154,5 @@ pub fn resume_with(table: &mut [u64], carried: Carried) -> ResumeOutcome
     );
     stored::put_counts(&mut table[CARRIED_COUNTS..WORDS], &carried.counts, len);
     table[CARRIED_LEN] = len as u64;
-    ResumeOutcome::Resumed
+    Ok(())
 }

@@ -1,25 +1,17 @@
 // What a table says of one offset, and how many counts it carries.
 ghost use Rattle.std.specs.Prelude.{◌≡◌, length};
-ghost use Rattle.types.specs.Refusal.{done, optional};
 ghost use Rattle.types.specs.Keyed.{lookup};
 ghost use Rattle.lease.specs.State.{Sound, view};
 ghost use Rattle.lease.specs.Operations.{lease_of};
 ghost use Rattle.lease.specs.Answers.{attempts_of};
 ghost use Rattle.lease.specs.Lookup.{lease_in};
 
-use crate::{Attempts, Lease, LeaseTable, in_place};
+use crate::{Lease, LeaseTable, in_place};
 use types::Offset;
-
-// The lease of an offset, where it has one.
-#[derive(Clone, Copy)]
-pub enum LeaseAt {
-    Some(Lease),
-    None,
-}
 
 impl LeaseTable {
     // The lease of an offset, run out or not.
-    pub fn lease_of(self, offset: Offset) -> LeaseAt
+    pub fn lease_of(self, offset: Offset) -> Option<Lease>
         requires { Sound self }
         ensures { lease_in result ≡ lease_of (view self) offset.0 }
     {
@@ -37,9 +29,9 @@ impl LeaseTable {
     }
 
     // The count that a restart carried over for an offset, until a first lease takes it over.
-    pub fn carried_count(self, offset: Offset) -> Attempts
+    pub fn carried_count(self, offset: Offset) -> Option<u32>
         requires { Sound self }
-        ensures { attempts_of result ≡ done (optional (lookup offset.0 (view self).carried)) }
+        ensures { attempts_of result ≡ lookup offset.0 (view self).carried }
     {
         in_place::carried_in_place(
             self.carried_len,

@@ -2,7 +2,6 @@
 ghost use Rattle.std.specs.Prelude.{◌≡◌, eqb, length};
 ghost use Rattle.types.specs.Limits.{MAX, LEASES};
 ghost use Rattle.types.specs.Keyed.{lookup};
-ghost use Rattle.types.specs.Refusal.{done, optional};
 ghost use Rattle.lease.specs.Operations.{lease_of};
 ghost use Rattle.lease.specs.Rest.{in_flight, is_claimable, deliveries, holds_active, pending_redelivery_attempt};
 ghost use Rattle.lease.specs.Answers.{attempts_of};
@@ -11,12 +10,11 @@ ghost use Rattle.lease.specs.Parts.{PlaceWithin};
 ghost use Rattle.lease.specs.Layout.{view, Sound};
 ghost use Rattle.lease.specs.InWords.{PlacedIn, RunsAt, FullAt, OwnedIn, Holds};
 
-use crate::in_place::Hold;
+use crate::in_place::Held;
 use crate::layout::{
     CARRIED_COUNTS, CARRIED_LEN, CARRIED_OFFSETS, LEN, NEXT, OFFSETS, REDELIVERIES, SLOTS,
 };
-use crate::lookup::LeaseAt;
-use crate::{Attempts, LeaseConfig, LeaseToken, stored};
+use crate::{Lease, LeaseConfig, LeaseToken, stored};
 use tables::Place;
 use types::limits::{LEASES, MAX};
 use types::{Generation, Offset};
@@ -61,53 +59,43 @@ pub fn is_full_at(table: &[u64], place: Place) -> bool
     LEASES <= table[LEN] as usize
 }
 
-// Where the lease stands that a token owns, missing where there is none: the test that every call with a token begins with (24).
-pub fn owned(table: &[u64], token: LeaseToken) -> Place
+// Where the lease stands that a token owns: the test that every call with a token begins with (24).
+pub fn owned(table: &[u64], token: LeaseToken) -> Option<usize>
     requires { Sound table.now }
     ensures { OwnedIn token.offset.0 token.generation.0 table.now result }
 {
-    let place = find(table, Offset(token.offset.0));
+    let place = find(table, token.offset);
     let Place::Found(at) = place else {
-        return Place::Missing(0);
+        return None;
     };
     let lease = stored::lease_at(table, at);
-    if lease.generation.0 == token.generation.0 {
-        return Place::Found(at);
+    if lease.generation == token.generation {
+        return Some(at);
     }
-    Place::Missing(0)
+    None
 }
 
 // What a call with a token asks of its lease: how often it was handed out, who claimed it, and where it stands.
-pub fn hold_of(table: &[u64], token: LeaseToken) -> Hold
+pub fn hold_of(table: &[u64], token: LeaseToken) -> Option<Held>
     requires { Sound table.now }
     ensures { Holds token.offset.0 token.generation.0 table.now result }
 {
-    let place = owned(table, token);
-    let Place::Found(at) = place else {
-        return Hold::None;
-    };
+    let at = owned(table, token)?;
     let lease = stored::lease_at(table, at);
-    Hold::Held {
+    Some(Held {
         deliveries: lease.deliveries,
         worker: lease.worker,
         at,
-    }
+    })
 }
 
 // How often the message of a token was handed out, while the token owns its lease.
-pub fn deliveries(table: &[u64], token: LeaseToken) -> Attempts
+pub fn deliveries(table: &[u64], token: LeaseToken) -> Option<u32>
     requires { Sound table.now }
-    ensures { attempts_of result ≡ done (optional (deliveries (view table.now) token.offset.0 token.generation.0)) }
+    ensures { attempts_of result ≡ deliveries (view table.now) token.offset.0 token.generation.0 }
 {
-    let held = hold_of(table, token);
-    match held {
-        Hold::Held {
-            deliveries,
-            worker: _,
-            at: _,
-        } => Attempts::Some(deliveries),
-        Hold::None => Attempts::None,
-    }
+    let held = hold_of(table, token)?;
+    Some(held.deliveries)
 }
 
 // Whether a token owns its lease and the lease still runs.
@@ -115,8 +103,7 @@ pub fn holds_active(table: &[u64], token: LeaseToken, now: u64) -> bool
     requires { Sound table.now }
     ensures { result ≡ holds_active (view table.now) token.offset.0 token.generation.0 now }
 {
-    let place = owned(table, token);
-    let Place::Found(at) = place else {
+    let Some(at) = owned(table, token) else {
         return false;
     };
     let lease = stored::lease_at(table, at);
@@ -124,15 +111,15 @@ pub fn holds_active(table: &[u64], token: LeaseToken, now: u64) -> bool
 }
 
 // The lease of an offset, run out or not.
-pub fn lease_of(table: &[u64], offset: Offset) -> LeaseAt
+pub fn lease_of(table: &[u64], offset: Offset) -> Option<Lease>
     requires { Sound table.now }
     ensures { lease_in result ≡ lease_of (view table.now) offset.0 }
 {
     let place = find(table, offset);
     let Place::Found(at) = place else {
-        return LeaseAt::None;
+        return None;
     };
-    LeaseAt::Some(stored::lease_at(table, at))
+    Some(stored::lease_at(table, at))
 }
 
 // Whether a claim of an offset would find no lease that still runs.
@@ -145,31 +132,28 @@ pub fn is_claimable(table: &[u64], offset: Offset, now: u64) -> bool
 }
 
 // How often the message at an offset was handed out, if the next claim would hand it out again: its lease has run out.
-pub fn pending_redelivery_attempt(table: &[u64], offset: Offset, now: u64) -> Attempts
+pub fn pending_redelivery_attempt(table: &[u64], offset: Offset, now: u64) -> Option<u32>
     requires { Sound table.now }
-    ensures { attempts_of result ≡ done (optional (pending_redelivery_attempt (view table.now) offset.0 now)) }
+    ensures { attempts_of result ≡ pending_redelivery_attempt (view table.now) offset.0 now }
 {
-    let found = lease_of(table, offset);
-    let LeaseAt::Some(lease) = found else {
-        return Attempts::None;
-    };
+    let lease = lease_of(table, offset)?;
     if now < lease.deadline {
-        return Attempts::None;
+        return None;
     }
-    Attempts::Some(lease.deliveries)
+    Some(lease.deliveries)
 }
 
 // The count that a restart carried over for an offset, until a first lease takes it over.
-pub fn carried_count(table: &[u64], offset: Offset) -> Attempts
+pub fn carried_count(table: &[u64], offset: Offset) -> Option<u32>
     requires { Sound table.now }
-    ensures { attempts_of result ≡ done (optional (lookup offset.0 (view table.now).carried)) }
+    ensures { attempts_of result ≡ lookup offset.0 (view table.now).carried }
 {
     let len = table[CARRIED_LEN] as usize;
     let place = tables::find(&table[CARRIED_OFFSETS..CARRIED_COUNTS], len, offset.0);
     let Place::Found(at) = place else {
-        return Attempts::None;
+        return None;
     };
-    Attempts::Some(table[CARRIED_COUNTS + at] as u32)
+    Some(table[CARRIED_COUNTS + at] as u32)
 }
 
 // How many messages are in flight, their leases run out or not.

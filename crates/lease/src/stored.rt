@@ -8,15 +8,14 @@ ghost use Rattle.lease.specs.Parts.{slot_in};
 ghost use Rattle.lease.specs.Layout.{WORDS, config_in, table_in, Fits, Sound};
 ghost use Rattle.lease.specs.Stored.{held_at, holding, granting, handed_out, placing, displacing, Passes, CountsReleased, LeasesReleased};
 
-use crate::in_words::HandOut;
 use crate::layout::{
     CARRIED_COUNTS, CARRIED_LEN, CARRIED_OFFSETS, DEADLINES, DELIVERIES, GENERATIONS, HARD_CAP,
     LEN, NEXT, OFFSETS, REDELIVERIES, SLOTS, STARTS, VISIBILITY, WORDS, WORKERS,
 };
-use crate::{Lease, LeaseConfig, LeaseToken};
+use crate::{Grant, Lease, LeaseConfig, LeaseToken};
 use tables::Place;
 use types::limits::LEASES;
-use types::{Generation, Offset, numbers};
+use types::{Generation, Offset};
 
 // The configuration.
 pub(crate) fn config_of(table: &[u64]) -> LeaseConfig
@@ -61,8 +60,8 @@ pub(crate) fn put_lease(table: &mut [u64], at: usize, lease: Lease)
     table[GENERATIONS + slot] = lease.generation.0;
     table[STARTS + slot] = lease.attempt_start;
     table[DEADLINES + slot] = lease.deadline;
-    table[DELIVERIES + slot] = numbers::wide(lease.deliveries);
-    table[WORKERS + slot] = numbers::wide(lease.worker);
+    table[DELIVERIES + slot] = u64::from(lease.deliveries);
+    table[WORKERS + slot] = u64::from(lease.worker);
 }
 
 // Stores the lease of a grant at a place, under the next generation, which is taken, and counts it where it is a redelivery.
@@ -73,7 +72,7 @@ pub(crate) fn grant(
     offset: Offset,
     count: u32,
     now: u64,
-) -> HandOut
+) -> Grant
     requires { (length table.old ≡ WORDS) × Fits (table_in table.old) × (at < LEASES) × ((table_in table.old).next_generation.0 < MAX) }
     ensures { (table_in table.new ≡ granting at worker now count (table_in table.old))
         × (result ≡ handed_out offset.0 count (table_in table.old)) }
@@ -91,12 +90,12 @@ pub(crate) fn grant(
     };
     put_lease(table, at, lease);
     table[NEXT] = generation + 1;
-    table[REDELIVERIES] = numbers::wide(redeliveries::after_grant(redeliveries, count));
+    table[REDELIVERIES] = u64::from(redeliveries::after_grant(redeliveries, count));
     let token = LeaseToken {
         offset,
         generation: Generation(generation),
     };
-    HandOut {
+    Grant {
         token,
         deliveries: count,
     }
@@ -175,11 +174,8 @@ pub(crate) fn release_leases(table: &mut [u64], up_to: Offset)
 pub(crate) fn shift(times: &mut [u64], delta: u64)
     ensures { times.new ≡ map (later_by delta) times.old }
 {
-    let n = times.len();
-    let mut i: usize = 0;
-    while i < n {
-        times[i] = numbers::saturating_add(times[i], delta);
-        i += 1;
+    for time in times.iter_mut() {
+        *time = time.saturating_add(delta);
     }
 }
 
@@ -188,22 +184,8 @@ pub(crate) fn put_counts(column: &mut [u64], counts: &[u32], count: usize)
     requires { (count ≤ length column.old) × (count ≤ length counts.now) }
     ensures { column.new ≡ take count counts.now ++ drop count column.old }
 {
-    let mut i: usize = 0;
-    while i < count {
-        column[i] = numbers::wide(counts[i]);
-        i += 1;
-    }
-}
-
-// Stores 0 in every word.
-pub(crate) fn clear(words: &mut [u64])
-    ensures { words.new ≡ replicate (length words.old) 0 }
-{
-    let n = words.len();
-    let mut i: usize = 0;
-    while i < n {
-        words[i] = 0;
-        i += 1;
+    for i in 0..count {
+        column[i] = u64::from(counts[i]);
     }
 }
 
@@ -211,10 +193,7 @@ pub(crate) fn clear(words: &mut [u64])
 pub(crate) fn free_slots(slots: &mut [u64])
     ensures { slots.new ≡ upTo (length slots.old) }
 {
-    let n = slots.len();
-    let mut i: usize = 0;
-    while i < n {
+    for i in 0..slots.len() {
         slots[i] = i as u64;
-        i += 1;
     }
 }

@@ -5,18 +5,20 @@ use mathlib.Core.Path.{◌≡◌, refl, ap}
 use mathlib.Core.Bool.{true}
 use mathlib.Core.List.{List}
 use mathlib.Core.Option.{none}
+use Rattle.std.specs.Prelude.{Some, None}
+use Rattle.std.specs.Prelude as std
 use Rattle.types.specs.Refusal.{Result}
+use Rattle.types.specs.declared.refusals.Refusal.{Refusal}
 use Rattle.consumer.specs.State.{Configuration}
 use Rattle.consumer.specs.Export.{Snapshots}
 use Rattle.consumer.specs.Questions.{export_to, export}
 use Rattle.consumer.specs.View.{view}
 use Rattle.consumer.specs.Parts.{Exports}
-use Rattle.consumer.specs.declared.snapshots.ExportAnswer.{ExportAnswer}
+use Rattle.consumer.specs.declared.snapshots.Lengths.{Lengths}
 use Rattle.checkpoint.specs.declared.Writing.{Writing}
 use Rattle.machine.specs.Calls.{look, ask, u64, looked}
 use Rattle.machine.specs.Transitions.{Phase, idle, gives, transition}
 use Rattle.machine.specs.View.{phase_at, export_after, snapshots_in, ExportedIs}
-use Rattle.machine.specs.declared.snapshots.ExportCall.TheVariants as exports
 use Rattle.machine.specs.declared.Machine.{Machine}
 
 -- an export is the call of the step function that asks it, and leaves the list of numbers that is lent to that as it was
@@ -36,11 +38,11 @@ module _ (m : Machine) (w : ℕ) (out : Snapshots) where
   kept_there (suc zero) r h = refl
   kept_there (suc (suc n)) r h = refl
 
-  pub not_exported : (m.phase ≡ 0 → ⊥) → ExportedIs m w out exports.NotNow out
+  pub not_exported : (m.phase ≡ 0 → ⊥) → ExportedIs m w out None out
   not_exported h = record { is = none_there m.phase m.writing h; lists = kept_there m.phase m.writing h }
 
-  pub exported_as : m.phase ≡ 0 → (r : ExportAnswer) (out' : Snapshots) → let s = view m.writing.consumer in Exports s (export s w out) out r out'
-      → ExportedIs m w out (exports.Exported r) out'
+  pub exported_as : m.phase ≡ 0 → (r : std.Result Lengths Refusal) (out' : Snapshots) → let s = view m.writing.consumer in Exports s (export s w out) out r out'
+      → ExportedIs m w out (Some r) out'
   exported_as e r out' h =
       record {
         is = λ area. rw e (ap (λ (x : Result (List ℕ)). gives (looked (export_to out) x) (idle (view m.writing.consumer)) area) h.is);

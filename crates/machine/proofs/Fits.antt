@@ -5,6 +5,7 @@ use mathlib.Core.Path.{◌≡◌, refl}
 use mathlib.Core.Bool.{true, ◌&&◌}
 use mathlib.Core.List.{List}
 use mir.Val.{Val}
+use denote.Builtin.{u64 as u64_row}
 use denote.Laws.{Is}
 use denote.Enum.Laws as enums
 use denote.Struct.Laws as structs
@@ -16,11 +17,9 @@ use Rattle.types.proofs.Offset.TheLaws as offset-laws
 use Rattle.types.specs.declared.Generation.{Generation}
 use Rattle.types.specs.contracts.Generation as generation
 use Rattle.types.proofs.Generation.TheLaws as generation-laws
+use Rattle.std.specs.Prelude.{Option, Some, None}
+use Rattle.std.specs.contracts.option.Option as option
 use Rattle.delivery.specs.Config.{delay_of}
-use Rattle.delivery.specs.declared.Delay.{Delay}
-use Rattle.delivery.specs.declared.Delay.TheVariants as delays
-use Rattle.delivery.specs.contracts.Delay as delay
-use Rattle.delivery.proofs.Delay.TheLaws as delay-laws
 use Rattle.lease.specs.declared.LeaseToken.{LeaseToken}
 use Rattle.lease.specs.contracts.LeaseToken as token
 use Rattle.lease.proofs.LeaseToken.TheLaws as token-laws
@@ -49,9 +48,9 @@ token-fits t vs p =
     let h = structs.owed token.the_type token-laws.the_laws t vs p in
     rw (offset-fits t.offset _ h.0, generation-fits t.generation _ h.1.0)
 
-delay-fits : (d : Delay) (vs : List Val) → Is delay.the_row d vs → delay_fits (delay_of d) ≡ true
-delay-fits (delays.Explicit n) vs p = number_fits n (enums.owed delay.the_type delay-laws.the_laws (delays.Explicit n) vs p).0.1
-delay-fits delays.Schedule vs p = refl
+delay-fits : (d : Option ℕ) (vs : List Val) → Is (option.the_row u64_row) d vs → delay_fits (delay_of d) ≡ true
+delay-fits (Some n) vs p = number_fits n p.1.1.1.1.0.1
+delay-fits None vs p = refl
 
 question-fits : (room : ℕ) (q : Question) (vs : List Val) → Is question.the_row q vs → question_fits (question_of room q) ≡ true
 question-fits room (questions.Waiting now) vs p =

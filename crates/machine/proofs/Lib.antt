@@ -1,6 +1,7 @@
 pub mod Fits
 pub mod Replies
 pub mod Transitions
+pub mod Refusals
 pub mod SameView
 pub mod Planned
 pub mod Exported

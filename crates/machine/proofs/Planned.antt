@@ -6,18 +6,19 @@ use mathlib.Core.Bool.{true}
 use mathlib.Core.List.{List}
 use mathlib.Core.Option.{none}
 use lib.ListN.{length}
+use Rattle.std.specs.Prelude.{Some, None}
+use Rattle.std.specs.Prelude as std
 use Rattle.types.specs.Refusal.{Result}
+use Rattle.types.specs.declared.refusals.Refusal.{Refusal}
 use Rattle.consumer.specs.State.{Configuration}
 use Rattle.consumer.specs.Questions.{Plan}
 use Rattle.consumer.specs.Questions as questions
 use Rattle.consumer.specs.View.{view}
 use Rattle.consumer.specs.Parts.{Plans}
-use Rattle.consumer.specs.declared.plans.PlanAnswer.{PlanAnswer}
 use Rattle.checkpoint.specs.declared.Writing.{Writing}
 use Rattle.machine.specs.Calls.{look, ask, u64, question_fits, looked}
 use Rattle.machine.specs.Transitions.{Phase, idle, gives, transition}
 use Rattle.machine.specs.View.{phase_at, plan_after, plan_bytes_in, PlannedIs}
-use Rattle.machine.specs.declared.plans.PlanCall.TheVariants as plan
 use Rattle.machine.specs.declared.Machine.{Machine}
 
 -- a plan is the call of the step function that asks it, and leaves the list of numbers that is lent to that as it was
@@ -37,11 +38,11 @@ module _ (m : Machine) (w : ℕ) (os out : List ℕ) where
   kept_there (suc zero) r h = refl
   kept_there (suc (suc n)) r h = refl
 
-  pub not_planned : (m.phase ≡ 0 → ⊥) → PlannedIs m w os out plan.NotNow out
+  pub not_planned : (m.phase ≡ 0 → ⊥) → PlannedIs m w os out None out
   not_planned h = record { is = none_there m.phase m.writing h; bytes = kept_there m.phase m.writing h }
 
-  pub planned : m.phase ≡ 0 → (r : PlanAnswer) (out' : List ℕ) → Plans (questions.look (view m.writing.consumer) w (Plan os (length out))) out r out'
-      → PlannedIs m w os out (plan.Planned r) out'
+  pub planned : m.phase ≡ 0 → (r : std.Result ℕ Refusal) (out' : List ℕ) → Plans (questions.look (view m.writing.consumer) w (Plan os (length out))) out r out'
+      → PlannedIs m w os out (Some r) out'
   planned e r out' h =
       record {
         is = λ area. rw e (ap (λ (x : Result (List ℕ)). gives (looked (Plan os (length out)) x) (idle (view m.writing.consumer)) area) h.is);

@@ -3,11 +3,12 @@
 use Prim.Native.Nat.{ℕ}
 use native.Mathlib.Omega.{arith}
 use mathlib.Core.Path.{◌≡◌, refl, sym, ap, ◌∙◌}
-use mathlib.Core.Bool.{false, cond}
+use mathlib.Core.Bool.{false}
 use mathlib.Core.List.{List, []}
 use mathlib.Core.Option.{Option, none, some}
-use lib.Dec.{eqb}
-use Rattle.types.specs.Refusal.{Result, refused, done, numbered, UnknownWorker, NotPermitted}
+use Rattle.std.specs.Prelude.{Ok, Err}
+use Rattle.types.specs.Refusal.{Result, refused, done}
+use Rattle.types.specs.Refused.{refusal_of}
 use Rattle.consumer.specs.Questions.{ViewOf}
 use Rattle.consumer.specs.Questions as questions
 use Rattle.consumer.specs.Standing.{supervises, view_values, Alike}
@@ -23,11 +24,12 @@ use Rattle.machine.specs.declared.calls.Asked.{Asked}
 use Rattle.machine.specs.declared.calls.Reply.TheVariants as replies
 use Rattle.machine.specs.declared.calls.AskAnswer.{AskAnswer}
 use Rattle.machine.specs.declared.calls.AskAnswer.TheVariants as answers
+use Rattle.machine.proofs.Refusals.{refusal_from, refusal-back}
 
 -- the answer of the code to this question, by what it is answered
 abbrev answer_from : Result (List ℕ) → AskAnswer
-answer_from (done l) = answers.Looked (replies.ViewOf (view_from l))
-answer_from (refused f) = cond (eqb (numbered f).number 38) (answers.Looked replies.UnknownWorker) (answers.Looked replies.NotPermitted)
+answer_from (done l) = answers.Looked (Ok (replies.ViewOf (view_from l)))
+answer_from (refused f) = answers.Looked (Err (refusal_from f))
 
 impossible : {P : Type 0} → ◌≡◌ {A = ℕ} 0 1 → P
 impossible z = absurd (omega (arith, z))
@@ -43,21 +45,20 @@ module _ (o now : ℕ) (out : List ℕ) (x : Result (List ℕ)) where
   told (answers.Nacked a) e = impossible cc
   told (answers.Progressed a) e = impossible cc
   told (answers.Committed a) e = impossible cc
-  told (answers.Looked (replies.Waiting l)) e = impossible cc
-  told (answers.Looked (replies.Committed c)) e = impossible cc
-  told (answers.Looked (replies.IsSettled b)) e = impossible cc
-  told (answers.Looked (replies.LeaseOf l)) e = impossible cc
-  told (answers.Looked (replies.CountOf n)) e = impossible cc
-  told (answers.Looked (replies.InFlight n)) e = impossible cc
-  told (answers.Looked (replies.IsDue d)) e = impossible cc
-  told (answers.Looked (replies.BlocksLeft n)) e = impossible cc
-  told (answers.Looked (replies.ViewOf v)) e =
+  told (answers.Looked (Ok (replies.Waiting l))) e = impossible cc
+  told (answers.Looked (Ok (replies.Committed c))) e = impossible cc
+  told (answers.Looked (Ok (replies.IsSettled b))) e = impossible cc
+  told (answers.Looked (Ok (replies.LeaseOf l))) e = impossible cc
+  told (answers.Looked (Ok (replies.CountOf n))) e = impossible cc
+  told (answers.Looked (Ok (replies.InFlight n))) e = impossible cc
+  told (answers.Looked (Ok (replies.IsDue d))) e = impossible cc
+  told (answers.Looked (Ok (replies.BlocksLeft n))) e = impossible cc
+  told (answers.Looked (Ok (replies.ViewOf v))) e =
       let q : x ≡ done (view_values (view_in v)) = cc in
-      rw q (ap (λ (y : code.View). answers.Looked (replies.ViewOf y)) (sym (values-tell v)))
-  told (answers.Looked (replies.OpenBetween l)) e = impossible cc
-  told (answers.Looked (replies.NearestOpen n)) e = impossible cc
-  told (answers.Looked replies.UnknownWorker) e = let q : x ≡ refused UnknownWorker = cc in rw q
-  told (answers.Looked replies.NotPermitted) e = let q : x ≡ refused NotPermitted = cc in rw q
+      rw q (ap (λ (y : code.View). answers.Looked (Ok (replies.ViewOf y))) (sym (values-tell v)))
+  told (answers.Looked (Ok (replies.OpenBetween l))) e = impossible cc
+  told (answers.Looked (Ok (replies.NearestOpen n))) e = impossible cc
+  told (answers.Looked (Err f)) e = let q : x ≡ refused (refusal_of f) = cc in rw (q, refusal-back f)
 
 -- what was seen
 abbrev event_in : Event → Option After → Event

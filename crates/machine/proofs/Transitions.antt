@@ -2,11 +2,15 @@
 -- Assumes nothing.
 use Prim.Native.Nat.{ℕ, zero, suc}
 use mathlib.Core.Path.{◌≡◌, refl, sym, ap, subst, ◌∙◌}
-use mathlib.Core.Bool.{Bool, true, false, true≢false}
+use mathlib.Core.Bool.{Bool, true, false, cond, true≢false}
 use mathlib.Core.List.{List, [], ◌∷◌}
 use mathlib.Core.Option.{Option, none}
+use Rattle.std.specs.Prelude.{Ok, Err}
+use Rattle.std.specs.Prelude as std
 use Rattle.types.specs.Refusal.{Refusal, Result, refused, done}
 use Rattle.types.specs.Refusal as refusal
+use Rattle.types.specs.Refused.{refusal_of}
+use Rattle.types.specs.declared.refusals.Refusal as code_refusal
 use Rattle.types.specs.Table.{Row, ◌⇒◌, Passed, Answer, answer, Kept}
 use Rattle.types.proofs.Table.{guarded_cases, passed-append, checked-done}
 use Rattle.types.proofs.Checked.{refused_not_done}
@@ -17,23 +21,17 @@ use Rattle.consumer.specs.declared.Consumer.{Consumer}
 use Rattle.consumer.specs.declared.Configuration.{Configuration}
 use Rattle.checkpoint.specs.Checkpoint.{writes, going, BlockWritten, Lent, lent, step_table}
 use Rattle.checkpoint.specs.Checkpoint as checkpoint
-use Rattle.checkpoint.specs.Writing.{view_writing, SoundWriting, begin_of, BegunIs, step_of, left_of, SoundLeft, SteppedIs}
+use Rattle.checkpoint.specs.Writing.{view_writing, SoundWriting, BegunIs, step_of, is_finished, left_after, SoundAfter, left_of, SoundLeft, SteppedIs}
 use Rattle.checkpoint.specs.declared.Writing.{Writing}
 use Rattle.checkpoint.specs.declared.Begun.{Begun}
-use Rattle.checkpoint.specs.declared.BeginAnswer.{BeginAnswer}
-use Rattle.checkpoint.specs.declared.BeginAnswer.TheVariants as begins
 use Rattle.checkpoint.specs.declared.Stepped.{Stepped}
-use Rattle.checkpoint.specs.declared.StepAnswer.{StepAnswer}
-use Rattle.checkpoint.specs.declared.StepAnswer.TheVariants as steps
+use Rattle.checkpoint.specs.declared.Wrote.{Wrote}
 use Rattle.starts.specs.Restart as restarts
 use Rattle.starts.specs.Starting.{configuration_of, kept_of, start_of, Beside, StartedIs}
 use Rattle.starts.specs.declared.Started.{Started}
-use Rattle.starts.specs.declared.StartAnswer.{StartAnswer}
-use Rattle.starts.specs.declared.StartAnswer.TheVariants as starts
-use Rattle.starts.proofs.Restarting.{Other, other_faulty}
 use Rattle.machine.specs.Calls.{Ask, Call, ask, begin, step, restart, u64, fits}
 use Rattle.machine.specs.Transitions.{writing, After, on_state, on_record, left_as, transition}
-use Rattle.machine.specs.Answers.{call_of, AskKept, begun_of}
+use Rattle.machine.specs.Answers.{call_of, AskKept}
 use Rattle.machine.specs.View.{AskedIs, MadeIs, StartMade, OffIs, MadeOff, phase_at, phase_of, SoundAt, Sound, held, CalledIs, Stands, Rests, phaseAfter}
 use Rattle.machine.specs.declared.calls.Asked.{Asked}
 use Rattle.machine.specs.declared.calls.AskAnswer.{AskAnswer}
@@ -117,21 +115,6 @@ holding m c =
           };
     }
 
--- an answer that refuses a begin, as the definitions have it and as it is seen
-pub record RefusedBegin (answer : BeginAnswer) (w : Writing) : Type 0 where
-  pub refusal : Refusal
-  pub is : begin_of answer w ≡ refused refusal
-  pub seen : begun_of answer ≡ refused refusal
-
-abbrev pub NotBegun : BeginAnswer → Type 0
-NotBegun answer = (n : ℕ) → answer ≡ begins.Begun n → ⊥
-
-pub begin_faulty : (answer : BeginAnswer) → NotBegun answer → (w : Writing) → RefusedBegin answer w
-begin_faulty (begins.Begun n) p w = absurd (p n refl)
-begin_faulty begins.JournalFull p w = record { refusal = _; is = refl; seen = refl }
-begin_faulty begins.UnknownWorker p w = record { refusal = _; is = refl; seen = refl }
-begin_faulty begins.NotPermitted p w = record { refusal = _; is = refl; seen = refl }
-
 module _ (m : Machine) (e : m.phase ≡ 0) (a out : List ℕ) where
   pub asked-called : (w : ℕ) (q : Ask) → u64 w ≡ true → fits q ≡ true → (r : Asked) (out' : List ℕ) → AskedIs m.writing.consumer w q out r out'
       → CalledIs m (ask w q) a out (record { answer = calls.Asked r.answer; machine = holding m r.consumer }) a out'
@@ -146,14 +129,13 @@ module _ (m : Machine) (e : m.phase ≡ 0) (a out : List ℕ) where
       }
 
   module _ (ok : Sound m) (v : ℕ) (f : u64 v ≡ true) (r : Begun) (h : BegunIs m.writing.consumer v r) where
-    pub begin-refused : NotBegun r.answer → CalledIs m (begin v) a out (record { answer = calls.Begun r.answer; machine = m }) a out
+    pub begin-refused : (t : code_refusal.Refusal) → r.answer ≡ Err t → CalledIs m (begin v) a out (record { answer = calls.Begun r.answer; machine = m }) a out
     unfolding transition
-    begin-refused p =
-        let t = begin_faulty r.answer p r.writing in
-        let w : refused t.refusal ≡ checkpoint.begin (view m.writing.consumer) v = rw t.is at h.is in
-        record { is = rw (f, e, ← w, t.seen); sound = ok; configuration = refl; kept = rw t.seen refl; lists = rw (f, e, ← w) }
+    begin-refused t p =
+        let w : refused (refusal_of t) ≡ checkpoint.begin (view m.writing.consumer) v = rw p at h.is in
+        rw p (record { is = rw (f, e, ← w); sound = ok; configuration = refl; kept = refl; lists = rw (f, e, ← w) })
 
-    pub begin-done : (k : ℕ) → r.answer ≡ begins.Begun k
+    pub begin-done : (k : ℕ) → r.answer ≡ Ok k
         → CalledIs m (begin v) a out
         (record { answer = calls.Begun r.answer; machine = record { configuration = m.configuration; phase = 1; writing = r.writing } }) a out
     unfolding transition
@@ -164,15 +146,13 @@ module _ (m : Machine) (e : m.phase ≡ 0) (a out : List ℕ) where
         rw p (record { is = rw (f, e, ← w, n); sound = s.0; configuration = refl; kept = tt; lists = rw (f, e, ← w) })
 
 -- ## on the record
-step-phase : (d : StepAnswer) (w : Writing) → phase_at (phaseAfter d) w ≡ left_as (left_of d w)
-step-phase (steps.Wrote block) w = refl
-step-phase (steps.Finished block) w = refl
-step-phase steps.BadArea w = refl
+step-phase : (last : Bool) (w : Writing) → phase_at (cond last 0 1) w ≡ left_as (left_after last w)
+step-phase true w = refl
+step-phase false w = refl
 
-step-sound : (d : StepAnswer) (w : Writing) → SoundLeft d w → SoundAt (phaseAfter d) w
-step-sound (steps.Wrote block) w s = s
-step-sound (steps.Finished block) w s = s
-step-sound steps.BadArea w s = s
+step-sound : (last : Bool) (w : Writing) → SoundAfter last w → SoundAt (cond last 0 1) w
+step-sound true w s = s
+step-sound false w s = s
 
 -- a refused step keeps the area
 refused-area : (w w' : checkpoint.Writing) (a a' : List ℕ) (r : Refusal) → answer (refused r) (lent (going w') a') ≡ checkpoint.step w a → a' ≡ a
@@ -187,13 +167,12 @@ module _ (m : Machine) (e : m.phase ≡ 1) (a a' : List ℕ) (r : Stepped) (h : 
   abbrev stepped-on : ℕ → Machine
   stepped-on n = record { configuration = m.configuration; phase = n; writing = r.writing }
 
-  step_kept : (d : StepAnswer) → r.answer ≡ d → Kept (step_of d) (held m a) (held (stepped-on (phaseAfter d)) a')
-  step_kept (steps.Wrote block) p = tt
-  step_kept (steps.Finished block) p = tt
-  step_kept steps.BadArea p =
+  step_kept : (d : std.Result Wrote code_refusal.Refusal) → r.answer ≡ d → Kept (step_of d) (held m a) (held (stepped-on (phaseAfter d)) a')
+  step_kept (Ok b) p = tt
+  step_kept (Err f) p =
       let k : r.writing ≡ m.writing = rw p at h.kept in
-      let w : answer (refused refusal.BadArea) (lent (going (view_writing r.writing)) a') ≡ checkpoint.step (view_writing m.writing) a = rw p at h.is in
-      let same : a' ≡ a = refused-area (view_writing m.writing) (view_writing r.writing) a a' refusal.BadArea w in
+      let w : answer (refused (refusal_of f)) (lent (going (view_writing r.writing)) a') ≡ checkpoint.step (view_writing m.writing) a = rw p at h.is in
+      let same : a' ≡ a = refused-area (view_writing m.writing) (view_writing r.writing) a a' (refusal_of f) w in
       rw (k, same, ← e)
 
   pub step-called : (out : List ℕ) (n : ℕ) → n ≡ phaseAfter r.answer
@@ -202,8 +181,8 @@ module _ (m : Machine) (e : m.phase ≡ 1) (a a' : List ℕ) (r : Stepped) (h : 
   step-called out n p =
       rw p
       (record {
-        is = rw (e, ← h.is, step-phase r.answer r.writing);
-        sound = step-sound r.answer r.writing h.sound;
+        is = rw (e, ← h.is, step-phase (is_finished r.answer) r.writing);
+        sound = step-sound (is_finished r.answer) r.writing h.sound;
         configuration = refl;
         kept = step_kept r.answer refl;
         lists = rw e;
@@ -214,32 +193,29 @@ pub rests-stands : {s : Configuration} {n : ℕ} {c : Consumer} {m : Machine} �
 rests-stands i = record { configuration = i.configuration; phase = i.phase; consumer = ap (λ (w : Writing). w.consumer) i.writing }
 
 -- ## restart
-module _ (m : Machine) (a out : List ℕ) (d : StartAnswer) (c : Consumer) (h : start_of d (view c) ≡ restarts.restart (configuration_of m.configuration) a) where
-  pub restart-kept : Sound m → Other d → CalledIs m restart a out (record { answer = calls.Restarted d; machine = m }) a out
+module _ (m : Machine) (a out : List ℕ) where
+  pub restart-kept : Sound m → (f : code_refusal.Refusal) → refused (refusal_of f) ≡ restarts.restart (configuration_of m.configuration) a
+      → CalledIs m restart a out (record { answer = calls.Restarted (Err f); machine = m }) a out
   unfolding transition
-  restart-kept ok o =
-      let f = other_faulty d o in
-      let w : refused f.refusal ≡ restarts.restart (configuration_of m.configuration) a = rw f.is at h in
-      record { is = rw (← w, f.is); sound = ok; configuration = refl; kept = rw f.is; lists = rw (← w) }
+  restart-kept ok f w = record { is = rw (← w); sound = ok; configuration = refl; kept = refl; lists = rw (← w) }
 
-  pub restart-made : d ≡ starts.Started → consumer.Sound c → (m' : Machine) → Stands m.configuration 0 c m'
-      → CalledIs m restart a out (record { answer = calls.Restarted d; machine = m' }) a out
+  pub restart-made : (u : Unit {0}) (c : Consumer) → done (view c) ≡ restarts.restart (configuration_of m.configuration) a → consumer.Sound c
+      → (m' : Machine) → Stands m.configuration 0 c m' → CalledIs m restart a out (record { answer = calls.Restarted (Ok u); machine = m' }) a out
   unfolding transition
-  restart-made p s m' i =
-      let w : done (view c) ≡ restarts.restart (configuration_of m.configuration) a = rw p at h in
-      record { is = rw (p, ← w, i.phase, i.consumer); sound = rw (i.phase, i.consumer) s; configuration = i.configuration; kept = rw p tt; lists = rw (← w) }
+  restart-made u c w s m' i =
+      record { is = rw (← w, i.phase, i.consumer); sound = rw (i.phase, i.consumer) s; configuration = i.configuration; kept = tt; lists = rw (← w) }
 
 module _ (m : Machine) (ok : Sound m) (a out : List ℕ) (size : ℕ) (r : Started)
     (h : StartedIs m.configuration size (restarts.restart (configuration_of m.configuration) a) r) where
-  pub restart-refused : Other r.answer → CalledIs m restart a out (record { answer = calls.Restarted r.answer; machine = m }) a out
-  restart-refused = restart-kept m a out r.answer r.consumer h.is ok
+  pub restart-refused : (f : code_refusal.Refusal) → r.answer ≡ Err f → CalledIs m restart a out (record { answer = calls.Restarted r.answer; machine = m }) a out
+  restart-refused f p = rw p (restart-kept m a out ok f (rw p at h.is))
 
-  pub restart-done : r.answer ≡ starts.Started → (m' : Machine) → Stands m.configuration 0 r.consumer m'
+  pub restart-done : (u : Unit {0}) → r.answer ≡ Ok u → (m' : Machine) → Stands m.configuration 0 r.consumer m'
       → CalledIs m restart a out (record { answer = calls.Restarted r.answer; machine = m' }) a out
-  restart-done p m' i =
+  restart-done u p m' i =
       let w : done (view r.consumer) ≡ restarts.restart (configuration_of m.configuration) a = rw p at h.is in
       let s : consumer.Sound r.consumer = rw (← w) at h.beside in
-      restart-made m a out r.answer r.consumer h.is p s m' i
+      rw p (restart-made m a out u r.consumer w s m' i)
 
 -- ## start and import
 module _ (right : Result State) (s : Configuration) (size : ℕ) (r : Started) (h : StartedIs s size right r) (m : Machine) where
@@ -249,12 +225,11 @@ module _ (right : Result State) (s : Configuration) (size : ℕ) (r : Started) (
   beside : {n : ℕ} → Rests s n r.consumer m → Beside right s size m.writing.consumer
   beside i = subst (Beside right s size) (sym (ap (λ (w : Writing). w.consumer) i.writing)) h.beside
 
-  pub made-refused : Other r.answer → Rests s 2 r.consumer m → MadeIs right s size (record { answer = r.answer; machine = m })
-  made-refused o i =
-      let f = other_faulty r.answer o in
-      let w : refused f.refusal ≡ right = rw f.is at h.is in
+  pub made-refused : (f : code_refusal.Refusal) → r.answer ≡ Err f → Rests s 2 r.consumer m → MadeIs right s size (record { answer = r.answer; machine = m })
+  made-refused f p i =
+      let w : refused (refusal_of f) ≡ right = rw p at h.is in
       record {
-        is = rw f.is w;
+        is = rw p w;
         phase = rw (i.phase, ← w);
         configuration = i.configuration;
         sound = rw i.phase tt;
@@ -262,8 +237,8 @@ module _ (right : Result State) (s : Configuration) (size : ℕ) (r : Started) (
         beside = beside i;
       }
 
-  pub made-done : r.answer ≡ starts.Started → Rests s 0 r.consumer m → MadeIs right s size (record { answer = r.answer; machine = m })
-  made-done p i =
+  pub made-done : (u : Unit {0}) → r.answer ≡ Ok u → Rests s 0 r.consumer m → MadeIs right s size (record { answer = r.answer; machine = m })
+  made-done u p i =
       let w : done (view r.consumer) ≡ right = rw p at h.is in
       let ok : consumer.Sound r.consumer = rw (← w) at h.beside in
       record {
@@ -289,14 +264,13 @@ fresh-of_none s c (done t) e b =
 
 -- a start, with no more of it than an answer and who can be called
 module _ (s : Configuration) (size : ℕ) (r : Started) (h : StartedIs s size (restarts.start (configuration_of s) size) r) (m : Machine) where
-  pub start-refused : Other r.answer → Stands s 2 r.consumer m → views.StartedIs s size (record { answer = r.answer; machine = m })
-  start-refused o i =
-      let f = other_faulty r.answer o in
-      let w : refused f.refusal ≡ restarts.start (configuration_of s) size = rw f.is at h.is in
-      record { is = rw f.is w; phase = rw (i.phase, ← w); configuration = i.configuration; sound = rw i.phase tt }
+  pub start-refused : (f : code_refusal.Refusal) → r.answer ≡ Err f → Stands s 2 r.consumer m → views.StartedIs s size (record { answer = r.answer; machine = m })
+  start-refused f p i =
+      let w : refused (refusal_of f) ≡ restarts.start (configuration_of s) size = rw p at h.is in
+      record { is = rw p w; phase = rw (i.phase, ← w); configuration = i.configuration; sound = rw i.phase tt }
 
-  pub start-done : r.answer ≡ starts.Started → Stands s 0 r.consumer m → views.StartedIs s size (record { answer = r.answer; machine = m })
-  start-done p i =
+  pub start-done : (u : Unit {0}) → r.answer ≡ Ok u → Stands s 0 r.consumer m → views.StartedIs s size (record { answer = r.answer; machine = m })
+  start-done u p i =
       let w : done (view r.consumer) ≡ restarts.start (configuration_of s) size = rw p at h.is in
       let ok : consumer.Sound r.consumer = rw (← w) at h.beside in
       record { is = rw (p, i.consumer) w; phase = rw (i.phase, i.consumer, ← w); configuration = i.configuration; sound = rw (i.phase, i.consumer) ok }

@@ -1,19 +1,16 @@
 -- What the code's calls and answers stand for: the calls and the events of Calls.antt.
 -- SPEC.md, "Lists".
-use Rattle.std.specs.Prelude.{ℕ, ◌/◌, ◌≡◌, List, [], ◌∷◌, ◌++◌, take, drop, length, replicate}
+use Rattle.std.specs.Prelude.{ℕ, ◌/◌, ◌≡◌, List, [], ◌∷◌, ◌++◌, take, drop, length, replicate, Some, None, Ok, Err}
+use Rattle.std.specs.Prelude as std
 use Rattle.std.proofs.Math.Option.{Option, none, some}
 use Rattle.types.specs.Refusal.{Result, refused, done}
-use Rattle.types.specs.Refusal as refusal
+use Rattle.types.specs.Refused.{result_of}
 use Rattle.types.specs.Table.{Kept}
+use Rattle.types.specs.declared.refusals.Refusal.{Refusal}
 use Rattle.delivery.specs.Config.{delay_of}
-use Rattle.types.specs.declared.lent.Listed.{Listed}
-use Rattle.types.specs.declared.lent.Listed.TheVariants as listed
 use Rattle.consumer.specs.Questions.{Question, Waiting, Committed, IsSettled, LeaseOf, CountOf, InFlight, IsDue, BlocksLeft, ViewOf, Plan, Export, OpenBetween, NearestOpen, bit}
 use Rattle.consumer.specs.Standing.{view_values}
-use Rattle.cursor.specs.Unsettled.{open_of}
 use Rattle.consumer.specs.View.{claim_of, settle_of, nack_of, progress_of, commit_of, view_in, Unmoved}
-use Rattle.checkpoint.specs.declared.BeginAnswer.{BeginAnswer}
-use Rattle.checkpoint.specs.declared.BeginAnswer.TheVariants as begins
 use Rattle.machine.specs.Calls.{Ask, claim, ack, term, nack, progress, commit, look, Call, ask, begin, step, restart, Event, claimed, acked, termed, nacked, progressed, committed, looked, begun, stepped, restarted, failed}
 use Rattle.machine.specs.Transitions.{After}
 use Rattle.machine.specs.declared.calls.Question.TheVariants as question
@@ -22,8 +19,7 @@ use Rattle.machine.specs.declared.calls.Ask as code-ask
 use Rattle.machine.specs.declared.calls.Ask.TheVariants as asks
 use Rattle.machine.specs.declared.calls.Call as code_call
 use Rattle.machine.specs.declared.calls.Call.TheVariants as calls
-use Rattle.machine.specs.declared.calls.LeaseReply.{LeaseReply}
-use Rattle.machine.specs.declared.calls.LeaseReply.TheVariants as told
+use Rattle.machine.specs.declared.calls.LeaseFigures.{LeaseFigures}
 use Rattle.machine.specs.declared.calls.Reply.{Reply}
 use Rattle.machine.specs.declared.calls.Reply.TheVariants as reply
 use Rattle.machine.specs.declared.calls.AskAnswer.{AskAnswer}
@@ -64,35 +60,28 @@ call_of room calls.Restart = restart
 abbrev pub first_places : ℕ → List ℕ → List ℕ
 first_places n out = take n (out ++ replicate n 0)
 
--- what a question is answered, a list standing in the first places of `out`
-abbrev pub list_of : Listed → List ℕ → Result (List ℕ)
-list_of (listed.Filled n) out = done (first_places n out)
-list_of listed.OutTooShort out = refused refusal.OutTooShort
-
--- the same by how many places were filled
-abbrev pub places_of : Result ℕ → List ℕ → Result (List ℕ)
-places_of (refused r) out = refused r
-places_of (done n) out = done (first_places n out)
-
 -- the generation, attempt start, deadline and deliveries of a lease, or nothing
-abbrev pub lease_told : LeaseReply → List ℕ
-lease_told (told.Some l) = l.generation.0 ∷ l.attempt_start ∷ l.deadline ∷ l.deliveries ∷ []
-lease_told told.None = []
+abbrev pub lease_told : std.Option LeaseFigures → List ℕ
+lease_told (Some l) = l.generation.0 ∷ l.attempt_start ∷ l.deadline ∷ l.deliveries ∷ []
+lease_told None = []
 
-abbrev pub reply_of : Reply → List ℕ → Result (List ℕ)
-reply_of (reply.Waiting l) out = list_of l out
-reply_of (reply.Committed o) out = done (o.0 ∷ [])
-reply_of (reply.IsSettled b) out = done (bit b ∷ [])
-reply_of (reply.LeaseOf l) out = done (lease_told l)
-reply_of (reply.CountOf n) out = done (n ∷ [])
-reply_of (reply.InFlight n) out = done (n ∷ [])
-reply_of (reply.IsDue d) out = done (bit d.ceiling ∷ bit d.threshold ∷ [])
-reply_of (reply.BlocksLeft n) out = done (n ∷ [])
-reply_of (reply.ViewOf v) out = done (view_values (view_in v))
-reply_of (reply.OpenBetween l) out = places_of (open_of l) out
-reply_of (reply.NearestOpen o) out = done (o.0 ∷ [])
-reply_of reply.UnknownWorker out = refused refusal.UnknownWorker
-reply_of reply.NotPermitted out = refused refusal.NotPermitted
+-- what a reply tells, a list standing in the first places of `out`
+abbrev pub told_by : Reply → List ℕ → List ℕ
+told_by (reply.Waiting n) out = first_places n out
+told_by (reply.Committed o) out = o.0 ∷ []
+told_by (reply.IsSettled b) out = bit b ∷ []
+told_by (reply.LeaseOf l) out = lease_told l
+told_by (reply.CountOf n) out = n ∷ []
+told_by (reply.InFlight n) out = n ∷ []
+told_by (reply.IsDue d) out = bit d.ceiling ∷ bit d.threshold ∷ []
+told_by (reply.BlocksLeft n) out = n ∷ []
+told_by (reply.ViewOf v) out = view_values (view_in v)
+told_by (reply.OpenBetween n) out = first_places n out
+told_by (reply.NearestOpen o) out = o.0 ∷ []
+
+-- what a question is answered
+abbrev pub reply_of : std.Result Reply Refusal → List ℕ → Result (List ℕ)
+reply_of a out = result_of (λ r. told_by r out) a
 
 -- the arguments of a call; those that it hasn't are 0, none and the question for committed
 pub record Arguments : Type 0 where
@@ -139,21 +128,24 @@ arguments_of (progress o g now) = arguments o g now none
 arguments_of (commit bound) = arguments bound 0 0 none
 arguments_of (look q) = arguments_in q
 
--- the question that a reply answers; a refusal is one to whatever was asked
-abbrev pub asked_by : Arguments → Reply → Question
-asked_by g (reply.Waiting l) = Waiting g.clock g.room
-asked_by g (reply.Committed o) = Committed
-asked_by g (reply.IsSettled b) = IsSettled g.offset
-asked_by g (reply.LeaseOf l) = LeaseOf g.offset
-asked_by g (reply.CountOf n) = CountOf g.offset
-asked_by g (reply.InFlight n) = InFlight
-asked_by g (reply.IsDue d) = IsDue
-asked_by g (reply.BlocksLeft n) = BlocksLeft
-asked_by g (reply.ViewOf v) = ViewOf g.offset g.clock
-asked_by g (reply.OpenBetween l) = OpenBetween g.offset g.clock g.room
-asked_by g (reply.NearestOpen o) = NearestOpen g.offset
-asked_by g reply.UnknownWorker = g.question
-asked_by g reply.NotPermitted = g.question
+-- the question that a reply answers
+abbrev pub asked_in : Arguments → Reply → Question
+asked_in g (reply.Waiting n) = Waiting g.clock g.room
+asked_in g (reply.Committed o) = Committed
+asked_in g (reply.IsSettled b) = IsSettled g.offset
+asked_in g (reply.LeaseOf l) = LeaseOf g.offset
+asked_in g (reply.CountOf n) = CountOf g.offset
+asked_in g (reply.InFlight n) = InFlight
+asked_in g (reply.IsDue d) = IsDue
+asked_in g (reply.BlocksLeft n) = BlocksLeft
+asked_in g (reply.ViewOf v) = ViewOf g.offset g.clock
+asked_in g (reply.OpenBetween n) = OpenBetween g.offset g.clock g.room
+asked_in g (reply.NearestOpen o) = NearestOpen g.offset
+
+-- the question that was answered; a refusal is an answer to whatever was asked
+abbrev pub asked_by : Arguments → std.Result Reply Refusal → Question
+asked_by g (Ok r) = asked_in g r
+asked_by g (Err f) = g.question
 
 -- what is seen of a call on the state: its arguments with its answer, which also says what kind of call it was
 abbrev pub seen_of : Arguments → AskAnswer → List ℕ → Event
@@ -174,13 +166,6 @@ AskKept (answer.Nacked a) before after = Kept (nack_of a) before after
 AskKept (answer.Progressed a) before after = Kept (progress_of a) before after
 AskKept (answer.Committed a) before after = Unmoved (commit_of a) before after
 AskKept (answer.Looked a) before after = after ≡ before
-
--- how many block writes are to come
-abbrev pub begun_of : BeginAnswer → Result ℕ
-begun_of (begins.Begun writes) = done writes
-begun_of begins.UnknownWorker = refused refusal.UnknownWorker
-begun_of begins.NotPermitted = refused refusal.NotPermitted
-begun_of begins.JournalFull = refused refusal.JournalFull
 
 -- ## the lent list
 -- a list that was answered into lent memory

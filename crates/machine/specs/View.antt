@@ -1,9 +1,12 @@
 -- What the code's machine stands for, its invariant, and the parts of the contracts.
 -- SPEC.md, "Lists".
-use Rattle.std.specs.Prelude.{ℕ, zero, suc, ◌≡◌, List, length}
+use Rattle.std.specs.Prelude.{ℕ, zero, suc, ◌≡◌, cond, List, length, Some, None}
+use Rattle.std.specs.Prelude as std
 use Rattle.std.proofs.Math.Option.{Option, none}
 use Rattle.types.specs.Refusal.{Result, refused, done}
-use Rattle.types.specs.Table.{Kept, unless}
+use Rattle.types.specs.Refused.{as_is}
+use Rattle.types.specs.Table.{Kept}
+use Rattle.types.specs.declared.refusals.Refusal.{Refusal}
 use Rattle.consumer.specs.State.{State}
 use Rattle.consumer.specs.Questions.{Question, Plan, bytes_after, export_to, export}
 use Rattle.consumer.specs.Questions as questions
@@ -12,25 +15,21 @@ use Rattle.consumer.specs.View.{view, plan_of, export_of}
 use Rattle.consumer.specs.View as consumer
 use Rattle.consumer.specs.declared.Consumer.{Consumer}
 use Rattle.consumer.specs.declared.Configuration.{Configuration}
-use Rattle.checkpoint.specs.Writing.{view_writing, SoundWriting, step_of}
+use Rattle.consumer.specs.declared.snapshots.Lengths.{Lengths}
+use Rattle.checkpoint.specs.Writing.{view_writing, SoundWriting, step_of, is_finished}
 use Rattle.checkpoint.specs.Parts.{unbegun}
 use Rattle.checkpoint.specs.declared.Writing.{Writing}
-use Rattle.checkpoint.specs.declared.StepAnswer.{StepAnswer}
-use Rattle.checkpoint.specs.declared.StepAnswer.TheVariants as steps
+use Rattle.checkpoint.specs.declared.Wrote.{Wrote}
 use Rattle.starts.specs.Restart as restarts
 use Rattle.starts.specs.Import.{import}
-use Rattle.starts.specs.Starting.{configuration_of, kept_of, start_fault, start_of, Beside}
+use Rattle.starts.specs.Starting.{configuration_of, kept_of, start_of, Beside}
 use Rattle.machine.specs.Calls.{Ask, look, Call, ask, begin, step, restart, looked, begun, stepped, restarted}
 use Rattle.machine.specs.Transitions.{Phase, idle, writing, off, After, gives, on_state, asked, transition}
-use Rattle.machine.specs.Answers.{reply_of, Arguments, no_arguments, arguments_in, arguments_of, asked_by, seen_of, AskKept, begun_of, filled_with, list_in, out_after}
+use Rattle.machine.specs.Answers.{reply_of, Arguments, no_arguments, arguments_in, arguments_of, asked_by, seen_of, AskKept, filled_with, list_in, out_after}
 use Rattle.machine.specs.declared.calls.Reply.{Reply}
 use Rattle.machine.specs.declared.calls.Asked.{Asked}
 use Rattle.machine.specs.declared.calls.CallAnswer.{CallAnswer}
 use Rattle.machine.specs.declared.calls.CallAnswer.TheVariants as answer
-use Rattle.machine.specs.declared.plans.PlanCall.{PlanCall}
-use Rattle.machine.specs.declared.plans.PlanCall.TheVariants as plan
-use Rattle.machine.specs.declared.snapshots.ExportCall.{ExportCall}
-use Rattle.machine.specs.declared.snapshots.ExportCall.TheVariants as exports
 use Rattle.machine.specs.declared.Machine.{Machine}
 use Rattle.machine.specs.declared.Called.{Called}
 use Rattle.machine.specs.declared.Started.{Started}
@@ -44,7 +43,7 @@ pub record AskedIs (before : Consumer) (w : ℕ) (q : Ask) (out : List ℕ) (r :
   pub lists : (a : List ℕ) → out' ≡ out_after (asked (view before) a w q) out
 
 -- a question that is answered so: the reply, which is to just this question, and the lent list
-pub record LookedIs (right : Result (List ℕ)) (q : Question) (out : List ℕ) (r : Reply) (out' : List ℕ) : Type 0 where
+pub record LookedIs (right : Result (List ℕ)) (q : Question) (out : List ℕ) (r : std.Result Reply Refusal) (out' : List ℕ) : Type 0 where
   pub kind : asked_by (arguments_in q) r ≡ q
   pub is : reply_of r out' ≡ right
   pub lists : out' ≡ filled_with (list_in q right) out
@@ -136,7 +135,7 @@ given_to restart = no_arguments
 -- what an answer, the machine and the lent memory beside it stand for
 abbrev pub after_of : Call → CallAnswer → Machine → List ℕ → List ℕ → Option After
 after_of q (answer.Asked a) m area out = gives (seen_of (given_to q) a out) (phase_of m) area
-after_of q (answer.Begun a) m area out = gives (begun (begun_of a)) (phase_of m) area
+after_of q (answer.Begun a) m area out = gives (begun (as_is a)) (phase_of m) area
 after_of q (answer.Stepped a) m area out = gives (stepped (step_of a)) (phase_of m) area
 after_of q (answer.Restarted a) m area out = gives (restarted (start_of a (view m.writing.consumer))) (phase_of m) area
 after_of q answer.NotNow m area out = none
@@ -144,9 +143,9 @@ after_of q answer.NotNow m area out = none
 -- a refusal, a question and NotNow give back the very thing that was handed in
 abbrev pub CallKept : {T : Type 0} → CallAnswer → T → T → Type 0
 CallKept (answer.Asked a) before after = AskKept a before after
-CallKept (answer.Begun a) before after = Kept (begun_of a) before after
+CallKept (answer.Begun a) before after = Kept (as_is a) before after
 CallKept (answer.Stepped a) before after = Kept (step_of a) before after
-CallKept (answer.Restarted a) before after = Kept (unless (start_fault a) (done (tt {0}))) before after
+CallKept (answer.Restarted a) before after = Kept (as_is a) before after
 CallKept answer.NotNow before after = after ≡ before
 
 -- a machine with the area that is lent to it
@@ -177,11 +176,11 @@ plan_bytes_in (writing r) w os out = out
 plan_bytes_in off w os out = out
 
 -- what an answer and the byte list beside it stand for; the machine is the one that was handed in
-abbrev pub planned_of : PlanCall → Machine → List ℕ → ℕ → List ℕ → List ℕ → Option After
-planned_of (plan.Planned a) m os room out area = gives (looked (Plan os room) (plan_of a out)) (phase_of m) area
-planned_of plan.NotNow m os room out area = none
+abbrev pub planned_of : std.Option (std.Result ℕ Refusal) → Machine → List ℕ → ℕ → List ℕ → List ℕ → Option After
+planned_of (Some a) m os room out area = gives (looked (Plan os room) (plan_of a out)) (phase_of m) area
+planned_of None m os room out area = none
 
-pub record PlannedIs (m : Machine) (w : ℕ) (os out : List ℕ) (r : PlanCall) (out' : List ℕ) : Type 0 where
+pub record PlannedIs (m : Machine) (w : ℕ) (os out : List ℕ) (r : std.Option (std.Result ℕ Refusal)) (out' : List ℕ) : Type 0 where
   pub is : (area : List ℕ) → planned_of r m os (length out) out' area ≡ plan_after (phase_of m) area w os out
   pub bytes : out' ≡ plan_bytes_in (phase_of m) w os out
 
@@ -197,17 +196,15 @@ snapshots_in (writing r) w out = out
 snapshots_in off w out = out
 
 -- what an answer and the byte lists beside it stand for; the machine is the one that was handed in
-abbrev pub exported_of : ExportCall → Machine → (before after : Snapshots) → List ℕ → Option After
-exported_of (exports.Exported a) m out out' area = gives (looked (export_to out) (export_of a out')) (phase_of m) area
-exported_of exports.NotNow m out out' area = none
+abbrev pub exported_of : std.Option (std.Result Lengths Refusal) → Machine → (before after : Snapshots) → List ℕ → Option After
+exported_of (Some a) m out out' area = gives (looked (export_to out) (export_of a out')) (phase_of m) area
+exported_of None m out out' area = none
 
-pub record ExportedIs (m : Machine) (w : ℕ) (out : Snapshots) (r : ExportCall) (out' : Snapshots) : Type 0 where
+pub record ExportedIs (m : Machine) (w : ℕ) (out : Snapshots) (r : std.Option (std.Result Lengths Refusal)) (out' : Snapshots) : Type 0 where
   pub is : (area : List ℕ) → exported_of r m out out' area ≡ export_after (phase_of m) area w out
   pub lists : out' ≡ snapshots_in (phase_of m) w out
 
 -- ## parts
 -- the number of the phase that a step leaves
-abbrev pub phaseAfter : StepAnswer → ℕ
-phaseAfter (steps.Wrote block) = 1
-phaseAfter (steps.Finished block) = 0
-phaseAfter steps.BadArea = 1
+abbrev pub phaseAfter : std.Result Wrote Refusal → ℕ
+phaseAfter r = cond (is_finished r) 0 1

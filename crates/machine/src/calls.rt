@@ -1,14 +1,11 @@
 // The calls on a machine, and what they are answered.
-use checkpoint::{BeginAnswer, StepAnswer};
+use checkpoint::Wrote;
 use consumer::Consumer;
-use consumer::calls::{ClaimAnswer, CommitAnswer, NackAnswer, ProgressAnswer, SettleAnswer};
+use consumer::calls::HandOut;
 use consumer::queries::Due;
 use consumer::views::View;
-use cursor::open::OpenAnswer;
-use delivery::Delay;
 use lease::LeaseToken;
-use starts::StartAnswer;
-use types::lent::Listed;
+use types::refusals::Refusal;
 use types::{Generation, Offset};
 
 // What is asked of a consumer without changing it.
@@ -38,10 +35,11 @@ pub enum Ask {
     },
     Ack(LeaseToken),
     Term(LeaseToken),
+    // With a delay of its own, or that of the schedule.
     Nack {
         token: LeaseToken,
         now: u64,
-        delay: Delay,
+        delay: Option<u64>,
     },
     Progress {
         token: LeaseToken,
@@ -69,49 +67,41 @@ pub struct LeaseFigures {
     pub deliveries: u32,
 }
 
-#[derive(Clone, Copy)]
-pub enum LeaseReply {
-    Some(LeaseFigures),
-    None,
-}
-
-// What each question is answered, or refusal 38 or 39.
+// What each question is answered; of a list, how many places of the lent one it fills.
 #[derive(Clone, Copy)]
 pub enum Reply {
-    Waiting(Listed),
+    Waiting(usize),
     Committed(Offset),
     IsSettled(bool),
-    LeaseOf(LeaseReply),
+    LeaseOf(Option<LeaseFigures>),
     CountOf(u32),
     InFlight(usize),
     IsDue(Due),
     BlocksLeft(usize),
     ViewOf(View),
-    OpenBetween(OpenAnswer),
+    OpenBetween(usize),
     NearestOpen(Offset),
-    UnknownWorker,
-    NotPermitted,
 }
 
 // What each call on the state is answered.
 #[derive(Clone, Copy)]
 pub enum AskAnswer {
-    Claimed(ClaimAnswer),
-    Acked(SettleAnswer),
-    Termed(SettleAnswer),
-    Nacked(NackAnswer),
-    Progressed(ProgressAnswer),
-    Committed(CommitAnswer),
-    Looked(Reply),
+    Claimed(Result<HandOut, Refusal>),
+    Acked(Result<(), Refusal>),
+    Termed(Result<(), Refusal>),
+    Nacked(Result<u64, Refusal>),
+    Progressed(Result<u64, Refusal>),
+    Committed(Result<bool, Refusal>),
+    Looked(Result<Reply, Refusal>),
 }
 
 // What each call is answered; NotNow where it can't be made where it stands.
 #[derive(Clone, Copy)]
 pub enum CallAnswer {
     Asked(AskAnswer),
-    Begun(BeginAnswer),
-    Stepped(StepAnswer),
-    Restarted(StartAnswer),
+    Begun(Result<usize, Refusal>),
+    Stepped(Result<Wrote, Refusal>),
+    Restarted(Result<(), Refusal>),
     NotNow,
 }
 

@@ -9,24 +9,24 @@ ghost use Rattle.lease.specs.Parts.{gathered};
 ghost use Rattle.lease.specs.Parts as lease;
 ghost use Rattle.lease.specs.Lookup.{lease_in, lease_values};
 ghost use Rattle.consumer.specs.Questions as questions;
-ghost use Rattle.consumer.specs.View.{view};
+ghost use Rattle.consumer.specs.Calls as consumers;
+ghost use Rattle.consumer.specs.View.{view, Answers, settle_of};
 ghost use Rattle.consumer.specs.Parts.{Whole};
 ghost use Rattle.consumer.specs.declared.Consumer.{Consumer};
-ghost use Rattle.machine.specs.Calls.{claim, ack, term, nack, progress, commit};
+ghost use Rattle.machine.specs.Calls.{claim, nack, progress, commit};
 ghost use Rattle.machine.specs.Answers.{question_of, ask_of, lease_told};
 ghost use Rattle.machine.specs.View.{AskedIs, LookedIs};
 ghost use Rattle.machine.specs.Parts.{consumer_of, fixed_of, left, Ready};
 
-use crate::calls::{Ask, AskAnswer, LeaseFigures, LeaseReply, Question, Reply};
+use crate::calls::{Ask, AskAnswer, LeaseFigures, Question, Reply};
 use consumer::queries::Due;
-use consumer::rights::{LOOK, Permission};
+use consumer::rights::LOOK;
 use consumer::{halves, rights};
-use delivery::Delay;
 use hours::Hours;
-use lease::lookup::LeaseAt;
-use lease::{LeaseConfig, LeaseToken};
+use lease::{Lease, LeaseConfig, LeaseToken};
 use types::Offset;
 use types::limits::{CARRIED, LEASES, RANGES, WORKERS};
+use types::refusals::Refusal;
 
 // What of a consumer its calls look at and leave.
 #[derive(Clone, Copy)]
@@ -57,6 +57,13 @@ pub struct Figures {
 pub struct AskedAt {
     pub answer: AskAnswer,
     pub figures: Figures,
+}
+
+// What Ack and Term answer, and the numbers after it.
+#[derive(Clone, Copy)]
+struct SettledAt {
+    answer: Result<(), Refusal>,
+    figures: Figures,
 }
 
 // Claim.
@@ -124,8 +131,8 @@ fn ask_claim<'a>(
     }
 }
 
-// Ack.
-fn ask_ack<'a>(
+// Ack and Term: the offset is settled.
+fn settle<'a>(
     worker: u64,
     figures: Figures,
     token: LeaseToken,
@@ -137,9 +144,9 @@ fn ask_ack<'a>(
     deliveries: &'a [u32; LEASES],
     workers: &'a [u32; LEASES],
     rights: &'a [u8; WORKERS],
-) -> AskedAt
+) -> SettledAt
     requires { cursor.Whole (ack_cursor figures.committed starts.old ends.old figures.runs) × (figures.len ≤ LEASES) }
-    ensures { (x : Consumer) (out : List ℕ) → Whole (consumer_of (fixed_of x) figures starts.old ends.old offsets.old slots.old generations.now x.table.attempt_starts x.table.deadlines deliveries.now workers.now x.table.carried_offsets x.table.carried_counts x.settings.delivery.backoff_nanos rights.now x) → AskedIs (consumer_of (fixed_of x) figures starts.old ends.old offsets.old slots.old generations.now x.table.attempt_starts x.table.deadlines deliveries.now workers.now x.table.carried_offsets x.table.carried_counts x.settings.delivery.backoff_nanos rights.now x) worker (ack token.offset.0 token.generation.0) out (left result.answer (consumer_of (fixed_of x) result.figures starts.new ends.new offsets.new slots.new generations.now x.table.attempt_starts x.table.deadlines deliveries.now workers.now x.table.carried_offsets x.table.carried_counts x.settings.delivery.backoff_nanos rights.now x)) out }
+    ensures { (x : Consumer) → Whole (consumer_of (fixed_of x) figures starts.old ends.old offsets.old slots.old generations.now x.table.attempt_starts x.table.deadlines deliveries.now workers.now x.table.carried_offsets x.table.carried_counts x.settings.delivery.backoff_nanos rights.now x) → Answers (settle_of result.answer) (consumer_of (fixed_of x) figures starts.old ends.old offsets.old slots.old generations.now x.table.attempt_starts x.table.deadlines deliveries.now workers.now x.table.carried_offsets x.table.carried_counts x.settings.delivery.backoff_nanos rights.now x) (consumer_of (fixed_of x) result.figures starts.new ends.new offsets.new slots.new generations.now x.table.attempt_starts x.table.deadlines deliveries.now workers.now x.table.carried_offsets x.table.carried_counts x.settings.delivery.backoff_nanos rights.now x) (consumers.ack (view (consumer_of (fixed_of x) figures starts.old ends.old offsets.old slots.old generations.now x.table.attempt_starts x.table.deadlines deliveries.now workers.now x.table.carried_offsets x.table.carried_counts x.settings.delivery.backoff_nanos rights.now x)) worker token.offset.0 token.generation.0) }
 {
     let done = consumer::in_place::settle_in_place(
         figures.committed,
@@ -158,55 +165,8 @@ fn ask_ack<'a>(
         workers,
     );
     let answer = done.answer;
-    AskedAt {
-        answer: AskAnswer::Acked(answer),
-        figures: Figures {
-            committed: done.committed,
-            runs: done.runs,
-            len: done.len,
-            carried_len: figures.carried_len,
-            next_generation: figures.next_generation,
-            redeliveries: figures.redeliveries,
-        },
-    }
-}
-
-// Term: as Ack, but for the name of what is seen.
-fn ask_term<'a>(
-    worker: u64,
-    figures: Figures,
-    token: LeaseToken,
-    starts: &mut [u64; RANGES],
-    ends: &mut [u64; RANGES],
-    offsets: &mut [u64; LEASES],
-    slots: &mut [u32; LEASES],
-    generations: &'a [u64; LEASES],
-    deliveries: &'a [u32; LEASES],
-    workers: &'a [u32; LEASES],
-    rights: &'a [u8; WORKERS],
-) -> AskedAt
-    requires { cursor.Whole (ack_cursor figures.committed starts.old ends.old figures.runs) × (figures.len ≤ LEASES) }
-    ensures { (x : Consumer) (out : List ℕ) → Whole (consumer_of (fixed_of x) figures starts.old ends.old offsets.old slots.old generations.now x.table.attempt_starts x.table.deadlines deliveries.now workers.now x.table.carried_offsets x.table.carried_counts x.settings.delivery.backoff_nanos rights.now x) → AskedIs (consumer_of (fixed_of x) figures starts.old ends.old offsets.old slots.old generations.now x.table.attempt_starts x.table.deadlines deliveries.now workers.now x.table.carried_offsets x.table.carried_counts x.settings.delivery.backoff_nanos rights.now x) worker (term token.offset.0 token.generation.0) out (left result.answer (consumer_of (fixed_of x) result.figures starts.new ends.new offsets.new slots.new generations.now x.table.attempt_starts x.table.deadlines deliveries.now workers.now x.table.carried_offsets x.table.carried_counts x.settings.delivery.backoff_nanos rights.now x)) out }
-{
-    let done = consumer::in_place::settle_in_place(
-        figures.committed,
-        figures.runs,
-        figures.len,
-        worker,
-        token.offset.0,
-        token.generation.0,
-        rights,
-        starts,
-        ends,
-        offsets,
-        slots,
-        generations,
-        deliveries,
-        workers,
-    );
-    let answer = done.answer;
-    AskedAt {
-        answer: AskAnswer::Termed(answer),
+    SettledAt {
+        answer,
         figures: Figures {
             committed: done.committed,
             runs: done.runs,
@@ -225,7 +185,7 @@ fn ask_nack<'a>(
     figures: Figures,
     token: LeaseToken,
     now: u64,
-    delay: Delay,
+    delay: Option<u64>,
     offsets: &'a [u64; LEASES],
     slots: &'a [u32; LEASES],
     generations: &mut [u64; LEASES],
@@ -378,13 +338,13 @@ fn reply<'a>(
     carried_counts: &'a [u32; CARRIED],
     rights: &'a [u8; WORKERS],
     out: &mut [u64],
-) -> Reply
+) -> Result<Reply, Refusal>
     requires { cursor.Whole (ack_cursor figures.committed starts.now ends.now figures.runs) × (figures.len ≤ LEASES) × (figures.carried_len ≤ CARRIED) × (fixed.block ≤ fixed.area_len / 512) }
     ensures { (x : Consumer) → Whole (consumer_of fixed figures starts.now ends.now offsets.now slots.now generations.now attempt_starts.now deadlines.now deliveries.now workers.now carried_offsets.now carried_counts.now x.settings.delivery.backoff_nanos rights.now x) → LookedIs (questions.reply (view (consumer_of fixed figures starts.now ends.now offsets.now slots.now generations.now attempt_starts.now deadlines.now deliveries.now workers.now carried_offsets.now carried_counts.now x.settings.delivery.backoff_nanos rights.now x)) worker (question_of (length out.old) question)) (question_of (length out.old) question) out.old result out.new }
 {
     match question {
         Question::Waiting { now } => {
-            Reply::Waiting(consumer::in_place::waiting_in_place(
+            let count = consumer::in_place::waiting_in_place(
                 figures.len,
                 figures.carried_len,
                 now,
@@ -393,17 +353,19 @@ fn reply<'a>(
                 deadlines,
                 carried_offsets,
                 out,
-            ))
+            )?;
+            Ok(Reply::Waiting(count))
         }
-        Question::Committed => Reply::Committed(Offset(figures.committed)),
+        Question::Committed => Ok(Reply::Committed(Offset(figures.committed))),
         Question::IsSettled(offset) => {
-            Reply::IsSettled(cursor::in_place::is_acked_in_place(
+            let settled = cursor::in_place::is_acked_in_place(
                 figures.committed,
                 starts,
                 ends,
                 figures.runs,
                 offset.0,
-            ))
+            );
+            Ok(Reply::IsSettled(settled))
         }
         Question::LeaseOf(offset) => {
             let lease = lease::in_place::lease_in_place(
@@ -417,10 +379,10 @@ fn reply<'a>(
                 deliveries,
                 workers,
             );
-            Reply::LeaseOf(told_of(lease))
+            Ok(Reply::LeaseOf(told_of(lease)))
         }
         Question::CountOf(offset) => {
-            Reply::CountOf(consumer::in_place::count_in_place(
+            let count = consumer::in_place::count_in_place(
                 figures.len,
                 figures.carried_len,
                 offset.0,
@@ -429,15 +391,17 @@ fn reply<'a>(
                 deliveries,
                 carried_offsets,
                 carried_counts,
-            ))
+            );
+            Ok(Reply::CountOf(count))
         }
-        Question::InFlight => Reply::InFlight(figures.len),
-        Question::IsDue => Reply::IsDue(due(fixed, figures)),
+        Question::InFlight => Ok(Reply::InFlight(figures.len)),
+        Question::IsDue => Ok(Reply::IsDue(due(fixed, figures))),
         Question::BlocksLeft => {
-            Reply::BlocksLeft(halves::blocks_left(fixed.area_len, fixed.block))
+            let left = halves::blocks_left(fixed.area_len, fixed.block);
+            Ok(Reply::BlocksLeft(left))
         }
         Question::ViewOf { offset, now } => {
-            Reply::ViewOf(consumer::views::view_in_place(
+            let view = consumer::views::view_in_place(
                 figures.committed,
                 figures.runs,
                 figures.len,
@@ -457,10 +421,11 @@ fn reply<'a>(
                 workers,
                 carried_offsets,
                 carried_counts,
-            ))
+            );
+            Ok(Reply::ViewOf(view))
         }
         Question::OpenBetween { a, b } => {
-            Reply::OpenBetween(cursor::open::open_between_in_place(
+            let count = cursor::open::open_between_in_place(
                 figures.committed,
                 starts,
                 ends,
@@ -468,7 +433,8 @@ fn reply<'a>(
                 a,
                 b,
                 out,
-            ))
+            )?;
+            Ok(Reply::OpenBetween(count))
         }
         Question::NearestOpen(offset) => {
             let nearest = cursor::open::nearest_in_place(
@@ -478,7 +444,7 @@ fn reply<'a>(
                 figures.runs,
                 offset.0,
             );
-            Reply::NearestOpen(Offset(nearest))
+            Ok(Reply::NearestOpen(Offset(nearest)))
         }
     }
 }
@@ -502,52 +468,44 @@ fn look<'a>(
     carried_counts: &'a [u32; CARRIED],
     rights: &'a [u8; WORKERS],
     out: &mut [u64],
-) -> Reply
+) -> Result<Reply, Refusal>
     requires { cursor.Whole (ack_cursor figures.committed starts.now ends.now figures.runs) × (figures.len ≤ LEASES) × (figures.carried_len ≤ CARRIED) × (fixed.block ≤ fixed.area_len / 512) }
     ensures { (x : Consumer) → Whole (consumer_of fixed figures starts.now ends.now offsets.now slots.now generations.now attempt_starts.now deadlines.now deliveries.now workers.now carried_offsets.now carried_counts.now x.settings.delivery.backoff_nanos rights.now x) → LookedIs (questions.look (view (consumer_of fixed figures starts.now ends.now offsets.now slots.now generations.now attempt_starts.now deadlines.now deliveries.now workers.now carried_offsets.now carried_counts.now x.settings.delivery.backoff_nanos rights.now x)) worker (question_of (length out.old) question)) (question_of (length out.old) question) out.old result out.new }
 {
-    let permission = rights::permission_of(rights, worker, LOOK);
-    match permission {
-        Permission::Granted => reply(
-            worker,
-            fixed,
-            figures,
-            question,
-            starts,
-            ends,
-            offsets,
-            slots,
-            generations,
-            attempt_starts,
-            deadlines,
-            deliveries,
-            workers,
-            carried_offsets,
-            carried_counts,
-            rights,
-            out,
-        ),
-        Permission::UnknownWorker => Reply::UnknownWorker,
-        Permission::NotPermitted => Reply::NotPermitted,
-    }
+    rights::permission_of(rights, worker, LOOK)?;
+    reply(
+        worker,
+        fixed,
+        figures,
+        question,
+        starts,
+        ends,
+        offsets,
+        slots,
+        generations,
+        attempt_starts,
+        deadlines,
+        deliveries,
+        workers,
+        carried_offsets,
+        carried_counts,
+        rights,
+        out,
+    )
 }
 
 // What is told of a lease that was looked up.
-fn told_of(lease: LeaseAt) -> LeaseReply
+fn told_of(lease: Option<Lease>) -> Option<LeaseFigures>
     ensures { lease_told result ≡ lease_values (lease_in lease) }
 {
-    match lease {
-        LeaseAt::Some(lease) => {
-            let generation = lease.generation;
-            LeaseReply::Some(LeaseFigures {
-                generation,
-                attempt_start: lease.attempt_start,
-                deadline: lease.deadline,
-                deliveries: lease.deliveries,
-            })
-        }
-        LeaseAt::None => LeaseReply::None,
-    }
+    let lease = lease?;
+    let generation = lease.generation;
+    Some(LeaseFigures {
+        generation,
+        attempt_start: lease.attempt_start,
+        deadline: lease.deadline,
+        deliveries: lease.deliveries,
+    })
 }
 
 // Whether a checkpoint is due, and why.
@@ -604,32 +562,44 @@ pub fn ask_in_place<'a>(
             carried_counts,
             rights,
         ),
-        Ask::Ack(token) => ask_ack(
-            worker,
-            figures,
-            token,
-            starts,
-            ends,
-            offsets,
-            slots,
-            generations,
-            deliveries,
-            workers,
-            rights,
-        ),
-        Ask::Term(token) => ask_term(
-            worker,
-            figures,
-            token,
-            starts,
-            ends,
-            offsets,
-            slots,
-            generations,
-            deliveries,
-            workers,
-            rights,
-        ),
+        Ask::Ack(token) => {
+            let settled = settle(
+                worker,
+                figures,
+                token,
+                starts,
+                ends,
+                offsets,
+                slots,
+                generations,
+                deliveries,
+                workers,
+                rights,
+            );
+            AskedAt {
+                answer: AskAnswer::Acked(settled.answer),
+                figures: settled.figures,
+            }
+        }
+        Ask::Term(token) => {
+            let settled = settle(
+                worker,
+                figures,
+                token,
+                starts,
+                ends,
+                offsets,
+                slots,
+                generations,
+                deliveries,
+                workers,
+                rights,
+            );
+            AskedAt {
+                answer: AskAnswer::Termed(settled.answer),
+                figures: settled.figures,
+            }
+        }
         Ask::Nack { token, now, delay } => ask_nack(
             worker,
             fixed,

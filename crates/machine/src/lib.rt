@@ -11,10 +11,10 @@ ghost use Rattle.machine.specs.Answers.{ask_of, call_of};
 ghost use Rattle.machine.specs.View.{Sound, MadeIs, StartMade, ImportedIs, MadeOff, CalledIs, Rests, phaseAfter};
 
 use crate::calls::{Ask, Call, CallAnswer};
-use checkpoint::{BeginAnswer, StepAnswer, Writing};
+use checkpoint::{Writing, Wrote};
 use consumer::{Configuration, Consumer};
-use starts::StartAnswer;
 use types::Generation;
+use types::refusals::Refusal;
 
 pub mod asks;
 pub mod calls;
@@ -39,18 +39,17 @@ pub struct Called {
 
 #[derive(Clone, Copy)]
 pub struct Started {
-    pub answer: StartAnswer,
+    pub answer: Result<(), Refusal>,
     pub machine: Machine,
 }
 
 // The phase that a step leaves.
-pub fn phase_after(answer: StepAnswer) -> u64
+pub fn phase_after(answer: Result<Wrote, Refusal>) -> u64
     ensures { result ≡ phaseAfter answer }
 {
     match answer {
-        StepAnswer::Wrote { block: _ } => 1,
-        StepAnswer::Finished { block: _ } => 0,
-        StepAnswer::BadArea => 1,
+        Ok(wrote) => if wrote.finished { 0 } else { 1 },
+        Err(_) => 1,
     }
 }
 
@@ -60,16 +59,16 @@ impl Machine {
         ensures { Rests configuration phase consumer result }
     {
         let writing = Writing {
-            consumer: consumer,
+            consumer,
             written: 0,
             payload: [0; 3606],
             cursor_len: 0,
             attempt_len: 0,
         };
         Machine {
-            configuration: configuration,
-            phase: phase,
-            writing: writing,
+            configuration,
+            phase,
+            writing,
         }
     }
 
@@ -79,15 +78,15 @@ impl Machine {
     {
         let answer = made.answer;
         let consumer = made.consumer;
-        let StartAnswer::Started = answer else {
-            return Started {
-                answer: answer,
+        match answer {
+            Ok(()) => Started {
+                answer,
+                machine: Machine::resting(configuration, 0, consumer),
+            },
+            Err(_) => Started {
+                answer,
                 machine: Machine::resting(configuration, 2, consumer),
-            };
-        };
-        Started {
-            answer: answer,
-            machine: Machine::resting(configuration, 0, consumer),
+            },
         }
     }
 
@@ -143,9 +142,9 @@ impl Machine {
         Called {
             answer: CallAnswer::Asked(answer),
             machine: Machine {
-                configuration: configuration,
+                configuration,
                 phase: self.phase,
-                writing: writing,
+                writing,
             },
         }
     }
@@ -163,20 +162,20 @@ impl Machine {
         }
         let begun = checkpoint::begin(self.writing.consumer, worker);
         let answer = begun.answer;
-        let BeginAnswer::Begun { writes: _ } = answer else {
-            return Called {
-                answer: CallAnswer::Begun(answer),
-                machine: self,
-            };
-        };
         let configuration = self.configuration;
         let writing = begun.writing;
-        Called {
-            answer: CallAnswer::Begun(answer),
-            machine: Machine {
-                configuration: configuration,
-                phase: 1,
-                writing: writing,
+        match answer {
+            Ok(_) => Called {
+                answer: CallAnswer::Begun(answer),
+                machine: Machine {
+                    configuration,
+                    phase: 1,
+                    writing,
+                },
+            },
+            Err(_) => Called {
+                answer: CallAnswer::Begun(answer),
+                machine: self,
             },
         }
     }
@@ -199,9 +198,9 @@ impl Machine {
         Called {
             answer: CallAnswer::Stepped(answer),
             machine: Machine {
-                configuration: configuration,
+                configuration,
                 phase: phase_after(answer),
-                writing: writing,
+                writing,
             },
         }
     }
@@ -215,15 +214,15 @@ impl Machine {
         let started = starts::restart(configuration, area);
         let answer = started.answer;
         let consumer = started.consumer;
-        let StartAnswer::Started = answer else {
-            return Called {
+        match answer {
+            Ok(()) => Called {
+                answer: CallAnswer::Restarted(answer),
+                machine: Machine::resting(configuration, 0, consumer),
+            },
+            Err(_) => Called {
                 answer: CallAnswer::Restarted(answer),
                 machine: self,
-            };
-        };
-        Called {
-            answer: CallAnswer::Restarted(answer),
-            machine: Machine::resting(configuration, 0, consumer),
+            },
         }
     }
 }

@@ -3,27 +3,25 @@
 ghost use Rattle.machine.specs.View.{Sound, PlannedIs};
 
 use crate::Machine;
-use consumer::plans::PlanAnswer;
-
-// What a plan is answered; NotNow where the consumer can't be called.
-#[derive(Clone, Copy)]
-pub enum PlanCall {
-    Planned(PlanAnswer),
-    NotNow,
-}
+use types::refusals::Refusal;
 
 impl Machine {
     // A worker's plan: each offset of a list that doesn't fall, 1 where it is settled and 0 where it is open, into a lent list of the same
-    // length, and how many looks that took. The machine is as it was.
-    pub fn plan(self, worker: u64, offsets: &[u64], out: &mut [u8]) -> PlanCall
+    // length, and how many looks that took; None where the consumer can't be called. The machine is as it was.
+    pub fn plan(
+        self,
+        worker: u64,
+        offsets: &[u64],
+        out: &mut [u8],
+    ) -> Option<Result<usize, Refusal>>
         requires { Sound self }
         ensures { PlannedIs self worker offsets.now out.old result out.new }
     {
         if self.phase != 0 {
-            return PlanCall::NotNow;
+            return None;
         }
         let consumer = self.writing.consumer;
         let answer = consumer.plan_numbers(worker, offsets, out);
-        PlanCall::Planned(answer)
+        Some(answer)
     }
 }

@@ -4,26 +4,26 @@ ghost use Rattle.consumer.specs.Export.{snapshots};
 ghost use Rattle.machine.specs.View.{Sound, ExportedIs};
 
 use crate::Machine;
-use consumer::snapshots::ExportAnswer;
-
-// What an export is answered; NotNow where the consumer can't be called.
-#[derive(Clone, Copy)]
-pub enum ExportCall {
-    Exported(ExportAnswer),
-    NotNow,
-}
+use consumer::snapshots::Lengths;
+use types::refusals::Refusal;
 
 impl Machine {
-    // A worker's export: the snapshots of the cursor and of all counts, each at the front of its own lent bytes. The machine is as it was.
-    pub fn export(self, worker: u64, cursor: &mut [u8], attempts: &mut [u8]) -> ExportCall
+    // A worker's export: the snapshots of the cursor and of all counts, each at the front of its own lent bytes; None where the consumer
+    // can't be called. The machine is as it was.
+    pub fn export(
+        self,
+        worker: u64,
+        cursor: &mut [u8],
+        attempts: &mut [u8],
+    ) -> Option<Result<Lengths, Refusal>>
         requires { Sound self }
         ensures { ExportedIs self worker (snapshots cursor.old attempts.old) result (snapshots cursor.new attempts.new) }
     {
         if self.phase != 0 {
-            return ExportCall::NotNow;
+            return None;
         }
         let consumer = self.writing.consumer;
         let answer = consumer.export(worker, cursor, attempts);
-        ExportCall::Exported(answer)
+        Some(answer)
     }
 }

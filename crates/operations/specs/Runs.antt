@@ -1,11 +1,11 @@
 -- What a list of operations leaves in the lent list: how many numbers are written, and what stays. Which numbers these are is compared
 -- with the original's answers, and not said here.
 -- SPEC.md, "Programs".
-use Rattle.std.specs.Prelude.{ℕ, ◌+◌, ◌*◌, ◌/◌, min, ◌≡◌, List, length, set, drop}
+use Rattle.std.specs.Prelude.{ℕ, ◌+◌, ◌*◌, ◌/◌, min, ◌≡◌, List, ◌++◌, length, set, take, drop}
 
--- six numbers stored from a place on
-abbrev pub six_at : ℕ → (a b c d e f : ℕ) → List ℕ → List ℕ
-six_at at a b c d e f out = set (set (set (set (set (set out at a) (at + 1) b) (at + 2) c) (at + 3) d) (at + 4) e) (at + 5) f
+-- an answer of five numbers stored from a place on, and a digest behind them
+abbrev pub six_at : ℕ → (answer : List ℕ) → (digest : ℕ) → List ℕ → List ℕ
+six_at at answer digest out = set (take at out ++ answer ++ drop (at + 5) out) (at + 5) digest
 
 -- six numbers for each operation of five, as far as both lists go
 abbrev pub written : List ℕ → List ℕ → ℕ

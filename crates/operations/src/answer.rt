@@ -1,68 +1,56 @@
-// What an operation answers, in numbers: the refusal's number, 0 where nothing was refused, and the values of a refusal or of an
-// outcome.
-use answers::Numbers;
-use lease::Attempts;
+// What an operation answers.
+use answers::of_refusal;
+use types::refusals::Refusal;
 
-// The first `count` of a number and three values; an operation that is none answers none.
+// Values or a refusal; None where the numbers of the list are no operation.
+pub type Answer = Option<Result<Values, Refusal>>;
+
+#[derive(Clone, Copy, Debug, PartialEq, Eq)]
+pub enum Values {
+    Zero,
+    One(u64),
+    Two(u64, u64),
+    Three(u64, u64, u64),
+}
+
+// What an operation leaves, and what it answers.
 #[derive(Clone, Copy)]
-pub struct Answer {
-    pub count: u64,
-    pub number: u64,
-    pub first: u64,
-    pub second: u64,
-    pub third: u64,
+pub struct Done<T> {
+    pub left: T,
+    pub answer: Answer,
 }
 
-fn tell(count: u64, number: u64, first: u64, second: u64) -> Answer {
-    Answer {
-        count: count,
-        number: number,
-        first: first,
-        second: second,
-        third: 0,
-    }
+pub fn plain() -> Answer {
+    Some(Ok(Values::Zero))
 }
 
-pub fn bad() -> Answer {
-    tell(0, 0, 0, 0)
-}
-
-// A number alone: 0, or a refusal without values.
-pub fn plain(number: u64) -> Answer {
-    tell(1, number, 0, 0)
-}
-
-// An outcome of one value.
 pub fn value(n: u64) -> Answer {
-    tell(2, 0, n, 0)
+    Some(Ok(Values::One(n)))
 }
 
-pub fn yes(b: bool) -> Answer {
-    if b {
-        return value(1);
-    }
-    value(0)
+pub fn yes(holds: bool) -> Answer {
+    value(u64::from(holds))
 }
 
-// A value that is there.
-pub fn some(n: u64) -> Answer {
-    tell(3, 0, 1, n)
-}
-
-pub fn of_count(count: Attempts) -> Answer {
-    match count {
-        Attempts::Some(n) => some(n as u64),
-        Attempts::None => value(0),
+// 1 and the number, or 0 where there is none.
+pub fn maybe(number: Option<u64>) -> Answer {
+    match number {
+        Some(n) => Some(Ok(Values::Two(1, n))),
+        None => value(0),
     }
 }
 
-// An answer of at most two values.
-pub fn of_numbers(numbers: Numbers) -> Answer {
-    if numbers.1 == 0 {
-        return plain(numbers.0);
+// How many numbers there are; then the refusal's number, 0 where nothing was refused, and its values or those of the outcome.
+pub fn in_numbers(answer: Answer) -> [u64; 5] {
+    match answer {
+        None => [0, 0, 0, 0, 0],
+        Some(Ok(Values::Zero)) => [1, 0, 0, 0, 0],
+        Some(Ok(Values::One(a))) => [2, 0, a, 0, 0],
+        Some(Ok(Values::Two(a, b))) => [3, 0, a, b, 0],
+        Some(Ok(Values::Three(a, b, c))) => [4, 0, a, b, c],
+        Some(Err(refusal)) => {
+            let told = of_refusal(refusal);
+            [told.1.saturating_add(1), told.0, told.2, told.3, 0]
+        }
     }
-    if numbers.1 == 1 {
-        return tell(2, numbers.0, numbers.2, 0);
-    }
-    tell(3, numbers.0, numbers.2, numbers.3)
 }

@@ -6,12 +6,12 @@ use cursor::AckCursor;
 use delivery::DeliveryConfig;
 use lease::in_place::lease_at;
 use lease::{Lease, LeaseTable};
-use types::numbers::{chosen, wide};
+use types::limits::LEASES;
 
 // A number more.
 fn number(before: u32, n: u64) -> u32 {
     let mut bytes = [0u8; 8];
-    raw::write_u64(&mut bytes, 0, n);
+    let _ = raw::write_u64(&mut bytes, 0, n);
     crc::crc32c_append(before, &bytes)
 }
 
@@ -24,16 +24,8 @@ fn pair(before: u32, a: u64, b: u64) -> u32 {
 // The first n places of two columns, place by place.
 fn entries<'a>(before: u32, a: &'a [u64], b: &'a [u64], n: usize) -> u32 {
     let mut check = before;
-    let mut i: usize = 0;
-    while i < n {
-        if a.len() <= i {
-            return check;
-        }
-        if b.len() <= i {
-            return check;
-        }
-        check = pair(check, a[i], b[i]);
-        i += 1;
+    for (x, y) in a.iter().zip(b).take(n) {
+        check = pair(check, *x, *y);
     }
     check
 }
@@ -41,29 +33,26 @@ fn entries<'a>(before: u32, a: &'a [u64], b: &'a [u64], n: usize) -> u32 {
 // Committed, how many ranges there are, and each range.
 fn cursor(before: u32, cursor: AckCursor) -> u32 {
     let n = cursor.runs;
-    let starts = cursor.starts;
-    let ends = cursor.ends;
     let check = pair(before, cursor.committed, n as u64);
-    entries(check, &starts, &ends, n)
+    entries(check, &cursor.starts, &cursor.ends, n)
 }
 
 fn lease(before: u32, offset: u64, lease: Lease) -> u32 {
     let token = pair(before, offset, lease.generation.0);
     let times = pair(token, lease.attempt_start, lease.deadline);
-    number(times, wide(lease.deliveries))
+    number(times, u64::from(lease.deliveries))
 }
 
 // The settings of a lease table, how many leases there are, and each lease.
 fn leases(before: u32, table: LeaseTable) -> u32 {
     let n = table.len;
-    let config = table.config;
-    let settings = pair(before, config.visibility_nanos, config.hard_cap_nanos);
+    let settings = pair(
+        before,
+        table.config.visibility_nanos,
+        table.config.hard_cap_nanos,
+    );
     let mut check = number(settings, n as u64);
-    let mut i: usize = 0;
-    while i < 64 {
-        if n <= i {
-            return check;
-        }
+    for i in 0..n.min(LEASES) {
         let held = lease_at(
             i,
             &table.slots,
@@ -74,7 +63,6 @@ fn leases(before: u32, table: LeaseTable) -> u32 {
             &table.workers,
         );
         check = lease(check, table.offsets[i], held);
-        i += 1;
     }
     check
 }
@@ -83,17 +71,13 @@ fn leases(before: u32, table: LeaseTable) -> u32 {
 fn carried(before: u32, table: LeaseTable) -> u32 {
     let n = table.carried_len;
     let mut check = pair(before, table.next_generation.0, n as u64);
-    let mut i: usize = 0;
-    while i < 128 {
-        if n <= i {
-            return check;
-        }
-        check = pair(
-            check,
-            table.carried_offsets[i],
-            wide(table.carried_counts[i]),
-        );
-        i += 1;
+    for (offset, count) in table
+        .carried_offsets
+        .iter()
+        .zip(&table.carried_counts)
+        .take(n)
+    {
+        check = pair(check, *offset, u64::from(*count));
     }
     check
 }
@@ -101,37 +85,30 @@ fn carried(before: u32, table: LeaseTable) -> u32 {
 // The limit, the opt-in, how many backoffs there are, and each backoff.
 fn policy(before: u32, config: DeliveryConfig) -> u32 {
     let n = config.backoff_len;
-    let opt_in = chosen(config.allow_unlimited, 1, 0);
-    let limit = pair(before, wide(config.max_deliver), opt_in);
+    let limit = pair(
+        before,
+        u64::from(config.max_deliver),
+        u64::from(config.allow_unlimited),
+    );
     let mut check = number(limit, n as u64);
-    let mut i: usize = 0;
-    while i < 16 {
-        if n <= i {
-            return check;
-        }
-        check = number(check, config.backoff_nanos[i]);
-        i += 1;
+    for nanos in config.backoff_nanos.iter().take(n) {
+        check = number(check, *nanos);
     }
     check
 }
 
 // How many entries there are, and each entry.
 fn list(before: u32, list: List) -> u32 {
-    let n = list.n;
-    let a = list.a;
-    let b = list.b;
-    let check = number(before, n as u64);
-    entries(check, &a, &b, n)
+    let check = number(before, list.n as u64);
+    entries(check, &list.a, &list.b, list.n)
 }
 
 // How many bytes there are, and the bytes.
 fn bytes(before: u32, bytes: Bytes) -> u32
     requires { BytesReady bytes }
 {
-    let n = bytes.n;
-    let all = bytes.all;
-    let count = number(before, n as u64);
-    crc::crc32c_append(count, &all[0..n])
+    let count = number(before, bytes.n as u64);
+    crc::crc32c_append(count, &bytes.all[..bytes.n])
 }
 
 // All of it.
@@ -142,9 +119,9 @@ pub fn digest(state: State) -> u32
     let config = state.config;
     let settled = cursor(0, state.cursor);
     let leased = carried(leases(settled, table), table);
-    let counted = number(leased, wide(table.redeliveries_since_flush));
+    let counted = number(leased, u64::from(table.redeliveries_since_flush));
     let configured = policy(counted, config);
-    let flushed = number(configured, wide(config.attempts_flush_redeliveries));
+    let flushed = number(configured, u64::from(config.attempts_flush_redeliveries));
     let listed = list(flushed, state.list);
     bytes(listed, state.bytes)
 }

@@ -2,16 +2,18 @@
 // them. For the comparison with the original, and for the program `modules`.
 #![tactic(auto)]
 
-ghost use Rattle.std.specs.Prelude.{◌≤◌, ◌+◌, ◌≡◌, length, set};
+ghost use Rattle.std.specs.Prelude.{◌≤◌, ◌+◌, ◌≡◌, length};
 ghost use Rattle.cursor.specs.View as cursors;
 ghost use Rattle.lease.specs.State as tables;
 ghost use Rattle.delivery.specs.Config as configs;
 ghost use Rattle.operations.specs.State.{ListReady, BytesReady, Ready};
 ghost use Rattle.operations.specs.Runs.{six_at, RanIs};
 
-use answer::Answer;
+use answer::Done;
 use cursor::AckCursor;
-use state::{Op, State};
+use delivery::DeliveryConfig;
+use lease::LeaseTable;
+use state::{Bytes, List, Op, State};
 use types::Offset;
 
 mod answer;
@@ -24,42 +26,33 @@ mod on_table;
 mod questions;
 mod state;
 
-// What an operation leaves and answers.
-#[derive(Clone, Copy)]
-struct Done {
-    state: State,
-    answer: Answer,
-}
-
 // The operations that change the list.
-fn list(op: Op, state: State) -> on_list::Done
+fn list(op: Op, state: State) -> Done<List>
     requires { Ready state }
-    ensures { ListReady result.list }
+    ensures { ListReady result.left }
 {
-    let number = op.number;
     let list = state.list;
     let table = state.table;
-    match number {
-        1 => on_list::left(state::empty(), answer::plain(0)),
+    match op.number {
+        1 => on_list::left(state::empty(), answer::plain()),
         2 => on_list::add(list, op.w, op.x),
         3 => on_list::ranges(state.cursor, op.w, list),
         4 => on_list::decode(op, state.bytes, list),
         5 => on_list::counts(table.lease_counts()),
         6 => on_list::counts(table.all_counts()),
         7 => on_list::offsets(table.expired_list(op.w), op.x, list),
-        _ => on_list::left(list, answer::bad()),
+        _ => on_list::left(list, None),
     }
 }
 
 // The operations that change the cursor.
-fn cursor(op: Op, state: State) -> on_cursor::Done
+fn cursor(op: Op, state: State) -> Done<AckCursor>
     requires { Ready state }
-    ensures { cursors.Sound result.cursor }
+    ensures { cursors.Sound result.left }
 {
-    let number = op.number;
     let cursor = state.cursor;
     let offset = Offset(op.w);
-    match number {
+    match op.number {
         21 => on_cursor::made(AckCursor::new()),
         22 => on_cursor::made(AckCursor::resume(offset)),
         23 => on_cursor::with(cursor, op.w, state.list),
@@ -67,101 +60,88 @@ fn cursor(op: Op, state: State) -> on_cursor::Done
         25 => on_cursor::acked(cursor.ack_bounded(offset, op.x as usize)),
         26 => on_cursor::commit(cursor, op.w),
         27 => on_cursor::decode(cursor, op.w, op.x, state.bytes),
-        _ => on_cursor::left(cursor, answer::bad()),
+        _ => on_cursor::left(cursor, None),
     }
 }
 
 // The operations that change the delivery config.
-fn config(op: Op, state: State) -> on_config::Done
+fn config(op: Op, state: State) -> Done<DeliveryConfig>
     requires { Ready state }
-    ensures { configs.Sound result.config }
+    ensures { configs.Sound result.left }
 {
-    let number = op.number;
     let config = state.config;
-    match number {
+    match op.number {
         51 => on_config::new(config, op.w, op.x, state.list),
         52 => on_config::flush(config, op.w),
-        _ => on_config::left(config, answer::bad()),
+        _ => Done {
+            left: config,
+            answer: None,
+        },
     }
 }
 
-fn with_list(state: State, done: on_list::Done) -> Done
-    requires { Ready state × ListReady done.list }
-    ensures { Ready result.state }
+// The state with another part.
+fn with_list(mut state: State, done: Done<List>) -> Done<State>
+    requires { Ready state × ListReady done.left }
+    ensures { Ready result.left }
 {
-    let mut next = state;
-    let list = done.list;
-    next.list = list;
-    let answer = done.answer;
+    state.list = done.left;
     Done {
-        state: next,
-        answer: answer,
+        left: state,
+        answer: done.answer,
     }
 }
 
-fn with_bytes(state: State, done: on_bytes::Done) -> Done
-    requires { Ready state × BytesReady done.bytes }
-    ensures { Ready result.state }
+fn with_bytes(mut state: State, done: Done<Bytes>) -> Done<State>
+    requires { Ready state × BytesReady done.left }
+    ensures { Ready result.left }
 {
-    let mut next = state;
-    let bytes = done.bytes;
-    next.bytes = bytes;
-    let answer = done.answer;
+    state.bytes = done.left;
     Done {
-        state: next,
-        answer: answer,
+        left: state,
+        answer: done.answer,
     }
 }
 
-fn with_cursor(state: State, done: on_cursor::Done) -> Done
-    requires { Ready state × cursors.Sound done.cursor }
-    ensures { Ready result.state }
+fn with_cursor(mut state: State, done: Done<AckCursor>) -> Done<State>
+    requires { Ready state × cursors.Sound done.left }
+    ensures { Ready result.left }
 {
-    let mut next = state;
-    let cursor = done.cursor;
-    next.cursor = cursor;
-    let answer = done.answer;
+    state.cursor = done.left;
     Done {
-        state: next,
-        answer: answer,
+        left: state,
+        answer: done.answer,
     }
 }
 
-fn with_table(state: State, done: on_table::Done) -> Done
-    requires { Ready state × tables.Sound done.table }
-    ensures { Ready result.state }
+fn with_table(mut state: State, done: Done<LeaseTable>) -> Done<State>
+    requires { Ready state × tables.Sound done.left }
+    ensures { Ready result.left }
 {
-    let mut next = state;
-    let table = done.table;
-    next.table = table;
-    let answer = done.answer;
+    state.table = done.left;
     Done {
-        state: next,
-        answer: answer,
+        left: state,
+        answer: done.answer,
     }
 }
 
-fn with_config(state: State, done: on_config::Done) -> Done
-    requires { Ready state × configs.Sound done.config }
-    ensures { Ready result.state }
+fn with_config(mut state: State, done: Done<DeliveryConfig>) -> Done<State>
+    requires { Ready state × configs.Sound done.left }
+    ensures { Ready result.left }
 {
-    let mut next = state;
-    let config = done.config;
-    next.config = config;
-    let answer = done.answer;
+    state.config = done.left;
     Done {
-        state: next,
-        answer: answer,
+        left: state,
+        answer: done.answer,
     }
 }
 
 // An operation, by the ten that its number is of: what it changes.
-fn step(op: Op, state: State) -> Done
+fn step(op: Op, state: State) -> Done<State>
     requires { Ready state }
-    ensures { Ready result.state }
+    ensures { Ready result.left }
 {
-    let ten = op.number / 10;
-    match ten {
+    match op.number / 10 {
         0 => with_list(state, list(op, state)),
         1 => with_bytes(
             state,
@@ -171,7 +151,7 @@ fn step(op: Op, state: State) -> Done
         3..=4 => with_table(state, on_table::change(op, state.table, state.list)),
         5 => with_config(state, config(op, state)),
         _ => Done {
-            state: state,
+            left: state,
             answer: questions::answer(op, state),
         },
     }
@@ -190,26 +170,13 @@ fn op_at(ops: &[u64], at: usize) -> Op
     }
 }
 
-// A number at a place, where there is one.
-fn store(out: &mut [u64], at: usize, n: u64)
-    ensures { out.new ≡ set out.old at n }
-{
-    if at < out.len() {
-        out[at] = n;
-    }
-}
-
 // The six numbers of an answer.
-fn put(out: &mut [u64], at: usize, answer: Answer, digest: u64)
-    requires { at + 6 ≤ length out.old }
-    ensures { out.new ≡ six_at at answer.count answer.number answer.first answer.second answer.third digest out.old }
+fn put(out: &mut [u64], at: usize, answer: [u64; 5], digest: u64)
+    requires { (at + 6 ≤ length out.old) × (length answer ≡ 5) }
+    ensures { out.new ≡ six_at at answer digest out.old }
 {
-    store(out, at, answer.count);
-    store(out, at + 1, answer.number);
-    store(out, at + 2, answer.first);
-    store(out, at + 3, answer.second);
-    store(out, at + 4, answer.third);
-    store(out, at + 5, digest);
+    out[at..at + 5].copy_from_slice(&answer);
+    out[at + 5] = digest;
 }
 
 // Runs a list from a fresh state: five numbers an operation, six an answer, as far as both go. Answers how many numbers of `out` were
@@ -229,9 +196,9 @@ pub fn ninotskev_operations(ops: &[u64], out: &mut [u64]) -> usize
         from += 5;
         to += 6;
         let done = step(op, state);
-        state = done.state;
-        let answer = done.answer;
-        put(out, at, answer, digest::digest(state) as u64);
+        state = done.left;
+        let answer = answer::in_numbers(done.answer);
+        put(out, at, answer, u64::from(digest::digest(state)));
     }
     to
 }

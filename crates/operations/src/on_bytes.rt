@@ -1,93 +1,58 @@
 // The operations that change the bytes: their own, and those that write a snapshot.
-ghost use Rattle.std.specs.Prelude.{◌≤◌, length};
 ghost use Rattle.cursor.specs.View.{Sound};
 ghost use Rattle.operations.specs.State.{BytesReady};
 
 use crate::answer;
-use crate::answer::Answer;
+use crate::answer::{Answer, Done, Values};
 use crate::state::{Bytes, List, Op};
 use cursor::AckCursor;
 use types::Pair;
-
-// What an operation leaves and answers.
-#[derive(Clone, Copy)]
-pub struct Done {
-    pub bytes: Bytes,
-    pub answer: Answer,
-}
-
-fn left(bytes: Bytes, answer: Answer) -> Done
-    requires { BytesReady bytes }
-    ensures { BytesReady result.bytes }
-{
-    Done {
-        bytes: bytes,
-        answer: answer,
-    }
-}
+use types::refusals::Refusal;
 
 // new N V
-fn new(n: u64, byte: u64, bytes: Bytes) -> Done
+fn new(n: u64, byte: u64, bytes: Bytes) -> Done<Bytes>
     requires { BytesReady bytes }
-    ensures { BytesReady result.bytes }
+    ensures { BytesReady result.left }
 {
+    let bad = Done {
+        left: bytes,
+        answer: None,
+    };
+    let Ok(byte) = u8::try_from(byte) else {
+        return bad;
+    };
     if 4096 < n {
-        return left(bytes, answer::bad());
+        return bad;
     }
-    if 255 < byte {
-        return left(bytes, answer::bad());
-    }
-    left(
-        Bytes {
-            all: [byte as u8; 4096],
+    Done {
+        left: Bytes {
+            all: [byte; 4096],
             n: n as usize,
         },
-        answer::plain(0),
-    )
+        answer: answer::plain(),
+    }
 }
 
-// set I V, of the first n bytes
-fn set(i: u64, byte: u64, bytes: &mut [u8], n: usize) -> Answer
-    requires { n ≤ length bytes.old }
-{
-    let at = i as usize;
-    if n <= at {
-        return answer::bad();
-    }
-    if 255 < byte {
-        return answer::bad();
-    }
-    bytes[at] = byte as u8;
-    answer::plain(0)
+// set I V
+fn set(i: u64, byte: u64, bytes: &mut [u8]) -> Answer {
+    let byte = u8::try_from(byte).ok()?;
+    let place = bytes.get_mut(i as usize)?;
+    *place = byte;
+    answer::plain()
 }
 
-// seal FROM TO, of the first n bytes
-fn seal(from: u64, to: u64, bytes: &mut [u8], n: usize) -> Answer
-    requires { n ≤ length bytes.old }
-{
-    let start = from as usize;
-    let end = to as usize;
-    if end < start {
-        return answer::bad();
-    }
-    if n < end {
-        return answer::bad();
-    }
-    if end - start < 4 {
-        return answer::bad();
-    }
-    let sealed = end - 4;
-    let check = crc::crc32c(&bytes[start..sealed]);
-    raw::write_u32(bytes, sealed, check);
-    answer::plain(0)
+// seal FROM TO
+fn seal(from: u64, to: u64, bytes: &mut [u8]) -> Answer {
+    let part = bytes.get_mut(from as usize..to as usize)?;
+    let len = part.len().checked_sub(4)?;
+    let check = crc::crc32c(&part[..len]);
+    let _ = raw::write_u32(part, len, check);
+    answer::plain()
 }
 
-// cursor encode AT, into these bytes
-fn encode_cursor(at: u64, cursor: AckCursor, bytes: &mut [u8]) -> Answer
-    requires { Sound cursor }
-{
-    let written = cursor.encode_snapshot(bytes, at as usize);
-    answer::of_numbers(answers::of_write(written))
+// The position behind what was written.
+fn written(outcome: Result<usize, Refusal>) -> Answer {
+    Some(outcome.map(|at| Values::One(at as u64)))
 }
 
 // An entry as an attempt pair: B modulo 2^32 is the count.
@@ -100,55 +65,41 @@ pub fn pair_of(a: u64, b: u64) -> Pair {
 
 // The first 128 entries as attempt pairs.
 fn pairs_of(list: List) -> [Pair; 128] {
-    let none = pair_of(0, 0);
-    let mut pairs = [none; 128];
-    let mut i: usize = 0;
-    while i < 128 {
+    let mut pairs = [pair_of(0, 0); 128];
+    for i in 0..128 {
         pairs[i] = pair_of(list.a[i], list.b[i]);
-        i += 1;
     }
     pairs
 }
 
-// attempt encode AT, into these bytes
-fn encode_attempts(at: u64, list: List, bytes: &mut [u8]) -> Answer {
-    let pairs = pairs_of(list);
-    let written = attempt::encode_pairs(pairs, list.n, bytes, at as usize);
-    answer::of_numbers(answers::of_encode(written))
-}
-
-// attempt encode2 AT, the same in version 2
-fn encode_attempts_v2(at: u64, list: List, bytes: &mut [u8]) -> Answer {
-    let pairs = pairs_of(list);
-    let written = attempt::encode_pairs_v2(pairs, list.n, bytes, at as usize);
-    answer::of_numbers(answers::of_encode(written))
-}
-
-// set I V, seal FROM TO, cursor encode AT, attempt encode AT, attempt encode2 AT, in the first n bytes
-fn write(op: Op, cursor: AckCursor, list: List, bytes: &mut [u8], n: usize) -> Answer
-    requires { Sound cursor × (n ≤ length bytes.old) }
+// set I V, seal FROM TO, cursor encode AT, attempt encode AT, attempt encode2 AT
+fn write(op: Op, cursor: AckCursor, list: List, bytes: &mut [u8]) -> Answer
+    requires { Sound cursor }
 {
-    let number = op.number;
-    match number {
-        12 => set(op.w, op.x, bytes, n),
-        13 => seal(op.w, op.x, bytes, n),
-        14 => encode_cursor(op.w, cursor, &mut bytes[0..n]),
-        15 => encode_attempts(op.w, list, &mut bytes[0..n]),
-        16 => encode_attempts_v2(op.w, list, &mut bytes[0..n]),
-        _ => answer::bad(),
+    let at = op.w as usize;
+    match op.number {
+        12 => set(op.w, op.x, bytes),
+        13 => seal(op.w, op.x, bytes),
+        14 => written(cursor.encode_snapshot(bytes, at)),
+        15 => written(attempt::encode_pairs(pairs_of(list), list.n, bytes, at)),
+        16 => written(attempt::encode_pairs_v2(pairs_of(list), list.n, bytes, at)),
+        _ => None,
     }
 }
 
 // All of them.
-pub fn change(op: Op, cursor: AckCursor, list: List, bytes: Bytes) -> Done
+pub fn change(op: Op, cursor: AckCursor, list: List, bytes: Bytes) -> Done<Bytes>
     requires { Sound cursor × BytesReady bytes }
-    ensures { BytesReady result.bytes }
+    ensures { BytesReady result.left }
 {
     if op.number == 11 {
         return new(op.w, op.x, bytes);
     }
     let n = bytes.n;
     let mut all = bytes.all;
-    let answer = write(op, cursor, list, &mut all, n);
-    left(Bytes { all: all, n: n }, answer)
+    let answer = write(op, cursor, list, &mut all[..n]);
+    Done {
+        left: Bytes { all, n },
+        answer,
+    }
 }

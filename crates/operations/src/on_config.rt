@@ -3,60 +3,50 @@ ghost use Rattle.delivery.specs.Config.{Sound};
 ghost use Rattle.operations.specs.State.{ListReady};
 
 use crate::answer;
-use crate::answer::Answer;
+use crate::answer::Done;
 use crate::state::List;
-use delivery::{ConfigOutcome, DeliveryConfig};
-
-// What an operation leaves and answers.
-#[derive(Clone, Copy)]
-pub struct Done {
-    pub config: DeliveryConfig,
-    pub answer: Answer,
-}
-
-pub fn left(config: DeliveryConfig, answer: Answer) -> Done
-    requires { Sound config }
-    ensures { Sound result.config }
-{
-    Done {
-        config: config,
-        answer: answer,
-    }
-}
+use delivery::DeliveryConfig;
 
 // new LIMIT OPTIN: the backoffs are the A of the list's entries. A refusal leaves the config.
-pub fn new(config: DeliveryConfig, limit: u64, opt_in: u64, list: List) -> Done
+pub fn new(config: DeliveryConfig, limit: u64, opt_in: u64, list: List) -> Done<DeliveryConfig>
     requires { Sound config × ListReady list }
-    ensures { Sound result.config }
+    ensures { Sound result.left }
 {
-    if 4294967295 < limit {
-        return left(config, answer::bad());
-    }
+    let bad = Done {
+        left: config,
+        answer: None,
+    };
+    let Ok(limit) = u32::try_from(limit) else {
+        return bad;
+    };
     if 1 < opt_in {
-        return left(config, answer::bad());
+        return bad;
     }
-    let a = list.a;
-    let n = list.n;
-    let configured = DeliveryConfig::new(limit as u32, opt_in == 1, &a[0..n]);
-    let outcome = configured.outcome;
-    let after = configured.config;
-    match outcome {
-        ConfigOutcome::Built => left(after, answer::plain(0)),
-        ConfigOutcome::UnlimitedDeliverNotAllowed => left(config, answer::plain(1)),
-        ConfigOutcome::TooManySteps => left(config, answer::plain(2)),
+    match DeliveryConfig::new(limit, opt_in == 1, &list.a[..list.n]) {
+        Ok(left) => Done {
+            left,
+            answer: answer::plain(),
+        },
+        Err(refusal) => Done {
+            left: config,
+            answer: Some(Err(refusal)),
+        },
     }
 }
 
 // flush K
-pub fn flush(config: DeliveryConfig, k: u64) -> Done
+pub fn flush(config: DeliveryConfig, k: u64) -> Done<DeliveryConfig>
     requires { Sound config }
-    ensures { Sound result.config }
+    ensures { Sound result.left }
 {
-    if 4294967295 < k {
-        return left(config, answer::bad());
+    match u32::try_from(k) {
+        Ok(k) => Done {
+            left: config.with_attempts_flush_redeliveries(k),
+            answer: answer::plain(),
+        },
+        Err(_) => Done {
+            left: config,
+            answer: None,
+        },
     }
-    left(
-        config.with_attempts_flush_redeliveries(k as u32),
-        answer::plain(0),
-    )
 }

@@ -3,100 +3,70 @@ ghost use Rattle.cursor.specs.View.{Sound};
 ghost use Rattle.operations.specs.State.{ListReady, BytesReady};
 
 use crate::answer;
-use crate::answer::Answer;
+use crate::answer::{Answer, Done};
 use crate::state::{Bytes, List};
-use cursor::{AckCursor, Acked, BoundedAck, Decode, Resume};
+use cursor::{AckCursor, Acked, BoundedAck};
 use types::Offset;
+use types::refusals::Refusal;
 
-// What an operation leaves and answers.
-#[derive(Clone, Copy)]
-pub struct Done {
-    pub cursor: AckCursor,
-    pub answer: Answer,
+pub fn left(left: AckCursor, answer: Answer) -> Done<AckCursor>
+    requires { Sound left }
+    ensures { Sound result.left }
+{
+    Done { left, answer }
 }
 
 // new, resume X
-pub fn made(cursor: AckCursor) -> Done
+pub fn made(cursor: AckCursor) -> Done<AckCursor>
     requires { Sound cursor }
-    ensures { Sound result.cursor }
+    ensures { Sound result.left }
 {
-    Done {
-        cursor: cursor,
-        answer: answer::plain(0),
-    }
-}
-
-pub fn left(cursor: AckCursor, answer: Answer) -> Done
-    requires { Sound cursor }
-    ensures { Sound result.cursor }
-{
-    Done {
-        cursor: cursor,
-        answer: answer,
-    }
+    left(cursor, answer::plain())
 }
 
 // with X: the ranges are the list's entries. A refusal leaves the cursor.
-pub fn with(cursor: AckCursor, x: u64, list: List) -> Done
+pub fn with(cursor: AckCursor, x: u64, list: List) -> Done<AckCursor>
     requires { Sound cursor × ListReady list }
-    ensures { Sound result.cursor }
+    ensures { Sound result.left }
 {
-    let a = list.a;
-    let b = list.b;
-    let n = list.n;
-    let resumed = AckCursor::resume_with_columns(Offset(x), &a[0..n], &b[0..n]);
-    let outcome = resumed.outcome;
-    let after = resumed.cursor;
-    match outcome {
-        Resume::Resumed => made(after),
-        Resume::Refused(error) => left(cursor, answer::of_numbers(answers::of_ranges(error))),
+    match AckCursor::resume_with_columns(Offset(x), &list.a[..list.n], &list.b[..list.n]) {
+        Ok(after) => made(after),
+        Err(error) => left(cursor, Some(Err(Refusal::from(error)))),
     }
 }
 
 // ack X, bounded X LIMIT
-pub fn acked(acked: Acked) -> Done
+pub fn acked(acked: Acked) -> Done<AckCursor>
     requires { Sound acked.cursor }
-    ensures { Sound result.cursor }
+    ensures { Sound result.left }
 {
-    let outcome = acked.outcome;
-    let after = acked.cursor;
-    let answer = match outcome {
+    let answer = match acked.outcome {
         BoundedAck::Recorded => answer::value(1),
         BoundedAck::Duplicate => answer::value(0),
-        BoundedAck::Shed => answer::plain(29),
+        BoundedAck::Shed => Some(Err(Refusal::Shed)),
     };
-    left(after, answer)
+    left(acked.cursor, answer)
 }
 
 // commit X
-pub fn commit(cursor: AckCursor, x: u64) -> Done
+pub fn commit(cursor: AckCursor, x: u64) -> Done<AckCursor>
     requires { Sound cursor }
-    ensures { Sound result.cursor }
+    ensures { Sound result.left }
 {
     let committed = cursor.commit_up_to(Offset(x));
-    let after = committed.cursor;
-    left(after, answer::yes(committed.advanced))
+    left(committed.cursor, answer::yes(committed.advanced))
 }
 
 // decode FROM TO. A refusal leaves the cursor.
-pub fn decode(cursor: AckCursor, from: u64, to: u64, bytes: Bytes) -> Done
+pub fn decode(cursor: AckCursor, from: u64, to: u64, bytes: Bytes) -> Done<AckCursor>
     requires { Sound cursor × BytesReady bytes }
-    ensures { Sound result.cursor }
+    ensures { Sound result.left }
 {
-    let start = from as usize;
-    let end = to as usize;
-    if end < start {
-        return left(cursor, answer::bad());
-    }
-    if bytes.n < end {
-        return left(cursor, answer::bad());
-    }
-    let all = bytes.all;
-    let decoded = AckCursor::decode_snapshot(&all[start..end]);
-    let outcome = decoded.outcome;
-    let after = decoded.cursor;
-    match outcome {
-        Decode::Restored => made(after),
-        Decode::Refused(error) => left(cursor, answer::of_numbers(answers::of_cursor(error))),
+    let Some(part) = bytes.part(from, to) else {
+        return left(cursor, None);
+    };
+    match AckCursor::decode_snapshot(part) {
+        Ok(after) => made(after),
+        Err(error) => left(cursor, Some(Err(Refusal::from(error)))),
     }
 }

@@ -9,43 +9,28 @@ use crate::answer::Answer;
 use crate::on_table::token;
 use crate::state::{Bytes, Op, State};
 use cursor::AckCursor;
-use delivery::{Delay, DeliveryConfig, Disposition};
+use delivery::{DeliveryConfig, Disposition};
 use lease::LeaseTable;
-use types::numbers::wide;
-use types::{NextOffset, Offset};
+use types::Offset;
 
 // offset next X
 fn next(x: u64) -> Answer {
-    let offset = Offset(x);
-    let next = offset.checked_next();
-    match next {
-        NextOffset::Some(offset) => answer::some(offset.0),
-        NextOffset::None => answer::value(0),
-    }
+    answer::maybe(Offset(x).checked_next().map(|offset| offset.0))
 }
 
 // bytes crc FROM TO
 fn check(from: u64, to: u64, bytes: Bytes) -> Answer
     requires { BytesReady bytes }
 {
-    let start = from as usize;
-    let end = to as usize;
-    if end < start {
-        return answer::bad();
-    }
-    if bytes.n < end {
-        return answer::bad();
-    }
-    let all = bytes.all;
-    answer::value(wide(crc::crc32c(&all[start..end])))
+    let part = bytes.part(from, to)?;
+    answer::value(u64::from(crc::crc32c(part)))
 }
 
 // cursor acked X, committed, len, runs
 fn of_cursor(op: Op, cursor: AckCursor) -> Answer
     requires { cursors.Sound cursor }
 {
-    let number = op.number;
-    match number {
+    match op.number {
         63 => answer::yes(cursor.is_acked(Offset(op.w))),
         64 => answer::value(cursor.committed().get()),
         65 => answer::value(cursor.ahead_len()),
@@ -57,34 +42,28 @@ fn of_cursor(op: Op, cursor: AckCursor) -> Answer
 fn of_table(op: Op, table: LeaseTable) -> Answer
     requires { tables.Sound table }
 {
-    let number = op.number;
     let offset = Offset(op.w);
     let held = token(op.w, op.x);
-    match number {
-        67 => answer::value(wide(table.redeliveries_since_flush())),
+    match op.number {
+        67 => answer::value(u64::from(table.redeliveries_since_flush())),
         68 => answer::value(table.in_flight() as u64),
         69 => answer::yes(table.is_claimable(offset, op.x)),
-        70 => answer::of_count(table.deliveries(held)),
+        70 => answer::maybe(table.deliveries(held).map(|n| u64::from(n))),
         71 => answer::yes(table.holds_active(held, op.y)),
-        _ => answer::of_count(table.pending_redelivery_attempt(offset, op.x)),
+        _ => answer::maybe(
+            table
+                .pending_redelivery_attempt(offset, op.x)
+                .map(|n| u64::from(n)),
+        ),
     }
 }
 
 // delivery threshold, limit, unlimited
 fn of_config(number: u64, config: DeliveryConfig) -> Answer {
     match number {
-        73 => answer::value(wide(config.attempts_flush_redeliveries())),
-        74 => answer::value(wide(config.max_deliver())),
+        73 => answer::value(u64::from(config.attempts_flush_redeliveries())),
+        74 => answer::value(u64::from(config.max_deliver())),
         _ => answer::yes(config.allows_unlimited()),
-    }
-}
-
-// delivery disposition K
-fn disposition(k: u32, config: DeliveryConfig) -> Answer {
-    let disposition = config.disposition(k);
-    match disposition {
-        Disposition::Deliver => answer::value(0),
-        Disposition::DeadLetter => answer::value(1),
     }
 }
 
@@ -92,16 +71,12 @@ fn disposition(k: u32, config: DeliveryConfig) -> Answer {
 fn of_count(op: Op, config: DeliveryConfig) -> Answer
     requires { configs.Sound config }
 {
-    let number = op.number;
-    if 4294967295 < op.w {
-        return answer::bad();
-    }
-    let k = op.w as u32;
-    match number {
-        76 => disposition(k, config),
+    let k = u32::try_from(op.w).ok()?;
+    match op.number {
+        76 => answer::yes(matches!(config.disposition(k), Disposition::DeadLetter)),
         77 => answer::value(config.nack_backoff(k)),
-        78 => answer::value(config.effective_nack_delay(k, Delay::Schedule, op.x)),
-        _ => answer::value(config.effective_nack_delay(k, Delay::Explicit(op.x), op.y)),
+        78 => answer::value(config.effective_nack_delay(k, None, op.x)),
+        _ => answer::value(config.effective_nack_delay(k, Some(op.x), op.y)),
     }
 }
 
@@ -109,14 +84,13 @@ fn of_count(op: Op, config: DeliveryConfig) -> Answer
 pub fn answer(op: Op, state: State) -> Answer
     requires { Ready state }
 {
-    let number = op.number;
-    match number {
+    match op.number {
         61 => next(op.w),
         62 => check(op.w, op.x, state.bytes),
         63..=66 => of_cursor(op, state.cursor),
         67..=72 => of_table(op, state.table),
-        73..=75 => of_config(number, state.config),
+        73..=75 => of_config(op.number, state.config),
         76..=79 => of_count(op, state.config),
-        _ => answer::bad(),
+        _ => None,
     }
 }

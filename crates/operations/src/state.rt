@@ -1,12 +1,12 @@
 // What a list of operations works on, and what an operation is.
-ghost use Rattle.operations.specs.State.{ListReady, Ready};
+ghost use Rattle.operations.specs.State.{ListReady, BytesReady, Ready};
 
 use cursor::AckCursor;
 use delivery::DeliveryConfig;
 use lease::{LeaseConfig, LeaseTable};
 
 // An operation's number and its numbers, 0 where it has fewer.
-#[derive(Clone, Copy)]
+#[derive(Clone, Copy, Debug, PartialEq, Eq)]
 pub struct Op {
     pub number: u64,
     pub w: u64,
@@ -39,6 +39,15 @@ pub struct State {
     pub bytes: Bytes,
 }
 
+impl Bytes {
+    // The bytes from one place up to another, if there are so many.
+    pub fn part(&self, from: u64, to: u64) -> Option<&[u8]>
+        requires { BytesReady self.now }
+    {
+        self.all[..self.n].get(from as usize..to as usize)
+    }
+}
+
 // No entries.
 pub fn empty() -> List
     ensures { ListReady result }
@@ -53,18 +62,11 @@ pub fn empty() -> List
 pub fn fresh() -> State
     ensures { Ready result }
 {
-    let none = [0u64; 1];
-    let configured = DeliveryConfig::new(DeliveryConfig::DEFAULT_MAX_DELIVER, false, &none[..0]);
-    let config = configured.config;
     State {
         cursor: AckCursor::new(),
         table: LeaseTable::new(LeaseConfig::default()),
-        config: config,
-        list: List {
-            a: [0; 256],
-            b: [0; 256],
-            n: 0,
-        },
+        config: DeliveryConfig::default(),
+        list: empty(),
         bytes: Bytes {
             all: [0; 4096],
             n: 0,

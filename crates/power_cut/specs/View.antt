@@ -1,10 +1,9 @@
 -- What the code's power failure stands for, and the parts of its contract.
 -- SPEC.md, "Lists".
-use Rattle.std.specs.Prelude.{ℕ, ◌≡◌, Bool, true, false, List, length}
+use Rattle.std.specs.Prelude.{◌≡◌, Bool, List, ℕ, length, Some, None}
+use Rattle.std.specs.Prelude as std
 use Rattle.std.proofs.Math.Option.{Option, none}
 use Rattle.checkpoint.specs.Writing.{SoundWriting}
-use Rattle.checkpoint.specs.declared.StepAnswer.{StepAnswer}
-use Rattle.checkpoint.specs.declared.StepAnswer.TheVariants as steps
 use Rattle.machine.specs.Calls.{failed}
 use Rattle.machine.specs.Transitions.{After, gives}
 use Rattle.machine.specs.View.{phase_of, Sound, held}
@@ -12,8 +11,6 @@ use Rattle.machine.specs.declared.Machine.{Machine}
 use Rattle.power_cut.specs.Cut.{Cut, old, new, torn, power_cut}
 use Rattle.power_cut.specs.declared.Kind.{Kind}
 use Rattle.power_cut.specs.declared.Kind.TheVariants as kinds
-use Rattle.power_cut.specs.declared.CutAnswer.{CutAnswer}
-use Rattle.power_cut.specs.declared.CutAnswer.TheVariants as answers
 use Rattle.power_cut.specs.declared.Failed.{Failed}
 
 -- the bytes are those of a torn block, and nothing else looks at them
@@ -22,14 +19,14 @@ cut_of kinds.Old bytes = old
 cut_of kinds.New bytes = new
 cut_of kinds.Torn bytes = torn bytes
 
-abbrev pub after_of : CutAnswer → Machine → List ℕ → Option After
-after_of (answers.Failed header) m a = gives (failed header) (phase_of m) a
-after_of answers.NotNow m a = none
+abbrev pub after_of : std.Option Bool → Machine → List ℕ → Option After
+after_of (Some header) m a = gives (failed header) (phase_of m) a
+after_of None m a = none
 
--- NotNow gives back the very thing that was handed in
-abbrev pub CutKept : {T : Type 0} → CutAnswer → T → T → Type 0
-CutKept (answers.Failed header) before after = Unit {0}
-CutKept answers.NotNow before after = after ≡ before
+-- what can't be cut gives back the very thing that was handed in
+abbrev pub CutKept : {T : Type 0} → std.Option Bool → T → T → Type 0
+CutKept (Some header) before after = Unit {0}
+CutKept None before after = after ≡ before
 
 pub record CutIs (m : Machine) (k : Cut) (a : List ℕ) (r : Failed) (a' : List ℕ) : Type 0 where
   pub is : after_of r.answer r.machine a' ≡ power_cut (phase_of m) a k
@@ -48,14 +45,3 @@ pub record Stepping (m : Machine) (a : List ℕ) : Type 0 where
 pub record OffIs (before after : Machine) : Type 0 where
   pub phase : after.phase ≡ 2
   pub configuration : after.configuration ≡ before.configuration
-
--- the block that a step wrote, and whether it was the header's
-abbrev pub place_of : StepAnswer → ℕ
-place_of (steps.Wrote block) = block
-place_of (steps.Finished block) = block
-place_of steps.BadArea = 0
-
-abbrev pub is_header : StepAnswer → Bool
-is_header (steps.Wrote block) = false
-is_header (steps.Finished block) = true
-is_header steps.BadArea = false

@@ -4,30 +4,23 @@
 ghost use Rattle.std.specs.Prelude.{◌≡◌};
 ghost use Rattle.machine.specs.View.{Sound};
 ghost use Rattle.power_cut.specs.Cut.{new, torn};
-ghost use Rattle.power_cut.specs.View.{cut_of, CutIs, Stepping, OffIs, place_of, is_header};
+ghost use Rattle.power_cut.specs.View.{cut_of, CutIs, Stepping, OffIs};
 
-use checkpoint::StepAnswer;
 use machine::Machine;
 
 // What the failure leaves of the block being written: what it was, what it was to be, or bytes whose check fails.
-#[derive(Clone, Copy)]
+#[derive(Clone, Copy, Debug, PartialEq, Eq)]
 pub enum Kind {
     Old,
     New,
     Torn,
 }
 
-// The step answers nothing: only whether a header block was left new is seen. NotNow where no block is being written, and
-// where no failure leaves such bytes.
-#[derive(Clone, Copy)]
-pub enum CutAnswer {
-    Failed { header: bool },
-    NotNow,
-}
-
+// The step answers nothing: only whether a header block was left new is seen. None where no block is being written, and where no
+// failure leaves such bytes.
 #[derive(Clone, Copy)]
 pub struct Failed {
-    pub answer: CutAnswer,
+    pub answer: Option<bool>,
     pub machine: Machine,
 }
 
@@ -39,39 +32,14 @@ fn switched_off(mut machine: Machine) -> Machine
     machine
 }
 
-// The block that a step wrote.
-fn place_of(answer: StepAnswer) -> usize
-    ensures { result ≡ place_of answer }
-{
-    match answer {
-        StepAnswer::Wrote { block } => block,
-        StepAnswer::Finished { block } => block,
-        StepAnswer::BadArea => 0,
-    }
-}
-
-// Whether a step wrote the header.
-fn is_header(answer: StepAnswer) -> bool
-    ensures { result ≡ is_header answer }
-{
-    match answer {
-        StepAnswer::Wrote { block: _ } => false,
-        StepAnswer::Finished { block: _ } => true,
-        StepAnswer::BadArea => false,
-    }
-}
-
 // The block is wholly written.
 fn cut_new(machine: Machine, area: &mut [u8]) -> Failed
     requires { Stepping machine area.old }
     ensures { CutIs machine new area.old result area.new }
 {
-    let stepped = machine.writing.step(area);
-    let answer = stepped.answer;
+    let wrote = machine.writing.step(area).answer.unwrap();
     Failed {
-        answer: CutAnswer::Failed {
-            header: is_header(answer),
-        },
+        answer: Some(wrote.finished),
         machine: switched_off(machine),
     }
 }
@@ -83,22 +51,20 @@ fn cut_torn(machine: Machine, area: &mut [u8], bytes: &[u8]) -> Failed
 {
     if bytes.len() != 512 {
         return Failed {
-            answer: CutAnswer::NotNow,
-            machine: machine,
+            answer: None,
+            machine,
         };
     }
     if crc::is_sealed(bytes) {
         return Failed {
-            answer: CutAnswer::NotNow,
-            machine: machine,
+            answer: None,
+            machine,
         };
     }
-    let stepped = machine.writing.step(area);
-    let answer = stepped.answer;
-    let from = 512 * place_of(answer);
-    raw::write_bytes(area, from, bytes);
+    let wrote = machine.writing.step(area).answer.unwrap();
+    let _ = raw::write_bytes(area, 512 * wrote.block, bytes);
     Failed {
-        answer: CutAnswer::Failed { header: false },
+        answer: Some(false),
         machine: switched_off(machine),
     }
 }
@@ -110,19 +76,19 @@ pub fn cut(machine: Machine, kind: Kind, area: &mut [u8], bytes: &[u8]) -> Faile
 {
     if machine.phase != 1 {
         return Failed {
-            answer: CutAnswer::NotNow,
-            machine: machine,
+            answer: None,
+            machine,
         };
     }
     if area.len() != machine.writing.consumer.area_len {
         return Failed {
-            answer: CutAnswer::NotNow,
-            machine: machine,
+            answer: None,
+            machine,
         };
     }
     match kind {
         Kind::Old => Failed {
-            answer: CutAnswer::Failed { header: false },
+            answer: Some(false),
             machine: switched_off(machine),
         },
         Kind::New => cut_new(machine, area),

@@ -17,9 +17,7 @@ use borrow.Author.Tests.{lt-ltb, le-ltb}
 use Rattle.types.specs.Refusal.{Result, refused, done}
 use Rattle.types.specs.Refusal as refusal
 use Rattle.types.specs.Table.{Answer, answer}
-use Rattle.raw.specs.declared.Write.{Write}
-use Rattle.raw.specs.declared.Write.TheVariants.{Next, OutTooShort}
-use Rattle.raw.specs.Bytes.{IsBytes, le, unle, number_at, overwrite, write, outcome_of}
+use Rattle.raw.specs.Bytes.{IsBytes, le, unle, number_at, overwrite, write}
 
 -- ## bytes
 pub bytes-append : (a b : List ℕ) → IsBytes a → IsBytes b → IsBytes (a ++ b)
@@ -229,10 +227,6 @@ overwrite-apart p q a b bs ha hb apart =
         ∙ ap (λ (m : List ℕ). sets m q b) (overwrite-sets p a bs ha)
 
 -- ## what a call that wrote left, from its contract
-pub next_of : (r : Write) (n : ℕ) → outcome_of r ≡ done n → r ≡ Next n
-next_of (Next m) n e = cc
-next_of OutTooShort n e = absurd (let z : ◌≡◌ {A = ℕ} 0 1 = cc in omega arith)
-
 module _ (pos : ℕ) (new bs : List ℕ) {o : Result ℕ} {after : List ℕ} (is : answer o after ≡ write pos new bs) where
   pub wrote-next : pos + length new ≤ length bs → o ≡ done (pos + length new)
   wrote-next room = ap (λ (a : Answer ℕ (List ℕ)). a.outcome) (is ∙ write-room pos new bs room)

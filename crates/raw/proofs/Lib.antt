@@ -1,4 +1,4 @@
 pub mod Bytes
-mod Loops
+mod Past
 mod Zeros
 pub mod Word

@@ -3,13 +3,12 @@
 use Prim.Native.Nat.{ℕ, suc, ◌+◌, ◌*◌, ◌<◌, ◌≤◌}
 use native.Mathlib.Omega.{arith}
 use native.Mathlib.Nat.{add-zero, add-suc}
-use mathlib.Core.Path.{◌≡◌, sym}
-use mathlib.Core.List.{List, [], ◌∷◌}
-use lib.ListN.{length, get_or, set}
+use mathlib.Core.Path.{◌≡◌}
+use mathlib.Core.List.{List}
+use lib.ListN.{length, get_or}
 use lib.Seq.{drop-cons}
-use Rattle.raw.specs.Bytes.{number_at, overwrite}
+use Rattle.raw.specs.Bytes.{number_at}
 use Rattle.raw.specs.Word.{four_at, word_at}
-use Rattle.raw.proofs.Bytes.{overwrite-sets}
 
 module _ (bs : List ℕ) (i n : ℕ) (room : i + n ≤ length bs) where
   next : (k j : ℕ) → j < n → number_at (suc k) (i + j) bs ≡ get_or bs (i + j) 0 + 256 * number_at k (i + suc j) bs
@@ -39,27 +38,3 @@ module _ (bs : List ℕ) (i : ℕ) where
         next bs i 4 room 1 2 (omega arith),
         next bs i 4 room 0 3 (omega arith),
       )
-
--- ## storing
-module _ (pos : ℕ) (bs : List ℕ) where
-  pub four-stored : (a b c d : ℕ) → pos + 4 ≤ length bs
-      → set (set (set (set bs pos a) (pos + 1) b) (pos + 2) c) (pos + 3) d ≡ overwrite pos (a ∷ b ∷ c ∷ d ∷ []) bs
-  four-stored a b c d room =
-      let second : pos + 1 ≡ suc pos = omega arith in
-      let third : pos + 2 ≡ suc (suc pos) = omega arith in
-      let fourth : pos + 3 ≡ suc (suc (suc pos)) = omega arith in
-      rw (second, third, fourth) (sym (overwrite-sets pos (a ∷ b ∷ c ∷ d ∷ []) bs room))
-
-  pub eight-stored : (a b c d e f g h : ℕ) → pos + 8 ≤ length bs
-      → set (set (set (set (set (set (set (set bs pos a) (pos + 1) b) (pos + 2) c) (pos + 3) d) (pos + 4) e) (pos + 5) f) (pos + 6) g) (pos + 7) h
-      ≡ overwrite pos (a ∷ b ∷ c ∷ d ∷ e ∷ f ∷ g ∷ h ∷ []) bs
-  eight-stored a b c d e f g h room =
-      let second : pos + 1 ≡ suc pos = omega arith in
-      let third : pos + 2 ≡ suc (suc pos) = omega arith in
-      let fourth : pos + 3 ≡ suc (suc (suc pos)) = omega arith in
-      let fifth : pos + 4 ≡ suc (suc (suc (suc pos))) = omega arith in
-      let sixth : pos + 5 ≡ suc (suc (suc (suc (suc pos)))) = omega arith in
-      let seventh : pos + 6 ≡ suc (suc (suc (suc (suc (suc pos))))) = omega arith in
-      let eighth : pos + 7 ≡ suc (suc (suc (suc (suc (suc (suc pos)))))) = omega arith in
-      rw (second, third, fourth, fifth, sixth, seventh, eighth)
-      (sym (overwrite-sets pos (a ∷ b ∷ c ∷ d ∷ e ∷ f ∷ g ∷ h ∷ []) bs room))

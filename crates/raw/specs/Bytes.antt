@@ -1,12 +1,10 @@
 -- Little-endian numbers in lists of bytes: reading sees zeros past the end, writing changes its place alone and is
 -- refused, 20, where it would pass the end.
 -- SPEC.md, "Numbers".
-use Rattle.std.specs.Prelude.{ℕ, zero, suc, ◌+◌, ◌*◌, ◌/◌, ◌%◌, ◌^◌, ◌<◌, ◌≡◌, Bool, true, ◌&&◌, List, [], ◌∷◌, ◌++◌, ltb, eqb, length, take, drop}
-use Rattle.types.specs.Refusal.{Result, refused, done}
+use Rattle.std.specs.Prelude.{ℕ, zero, suc, ◌+◌, ◌*◌, ◌/◌, ◌%◌, ◌<◌, Bool, true, ◌&&◌, List, [], ◌∷◌, ◌++◌, ltb, eqb, length, take, drop}
+use Rattle.types.specs.Refusal.{done}
 use Rattle.types.specs.Refusal as refusal
 use Rattle.types.specs.Table.{◌⇒◌, Answer, answer, guarded}
-use Rattle.raw.specs.declared.Write.{Write}
-use Rattle.raw.specs.declared.Write.TheVariants.{Next, OutTooShort}
 
 -- each is a byte
 abbrev pub IsBytes : List ℕ → Type 0
@@ -32,11 +30,6 @@ unle (b ∷ bs) = b + 256 * unle bs
 abbrev pub number_at : ℕ → ℕ → List ℕ → ℕ
 number_at k pos bs = unle (take k (drop pos bs))
 
--- what a read answers: that number, which has k bytes itself
-pub record ReadIs (k pos : ℕ) (bs : List ℕ) (r : ℕ) : Type 0 where
-  pub is : r ≡ number_at k pos bs
-  pub below : r < 256 ^ k
-
 -- new bytes from place pos on; all others stay
 abbrev pub overwrite : ℕ → List ℕ → List ℕ → List ℕ
 overwrite pos new bs = take pos bs ++ (new ++ drop (pos + length new) bs)
@@ -46,8 +39,3 @@ abbrev pub write : ℕ → List ℕ → List ℕ → Answer ℕ (List ℕ)
 write pos new bs =
     guarded (ltb (length bs) (pos + length new) ⇒ refusal.OutTooShort ∷ []) bs
     (answer (done (pos + length new)) (overwrite pos new bs))
-
--- what the code's answer says
-abbrev pub outcome_of : Write → Result ℕ
-outcome_of (Next pos) = done pos
-outcome_of OutTooShort = refused refusal.OutTooShort

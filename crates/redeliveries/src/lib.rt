@@ -6,10 +6,8 @@
 ghost use Rattle.std.specs.Prelude.{◌≡◌};
 ghost use Rattle.redeliveries.specs.Counter.{after_grant, after_flush, counter};
 
-use types::limits::MAX32;
-
 #[repr(C)]
-#[derive(Clone, Copy)]
+#[derive(Clone, Copy, Debug, PartialEq, Eq)]
 pub struct Redeliveries {
     pub since_flush: u32,
 }
@@ -18,7 +16,7 @@ pub struct Redeliveries {
 pub fn note_grant(noted: &mut Redeliveries, deliveries: u32)
     ensures { noted.new ≡ counter (after_grant noted.old.since_flush deliveries) }
 {
-    noted.since_flush = raised(noted.since_flush, deliveries);
+    noted.since_flush = after_grant(noted.since_flush, deliveries);
 }
 
 // Notes that the attempt counts are durable.
@@ -32,33 +30,17 @@ pub fn note_flushed(noted: &mut Redeliveries)
 pub fn after_grant(since_flush: u32, deliveries: u32) -> u32
     ensures { result ≡ after_grant since_flush deliveries }
 {
-    let mut noted = Redeliveries {
-        since_flush: since_flush,
-    };
-    note_grant(&mut noted, deliveries);
-    noted.since_flush
+    if deliveries < 2 {
+        return since_flush;
+    }
+    since_flush.saturating_add(1)
 }
 
 // The counter once the attempt counts are durable.
 pub fn after_flush(since_flush: u32) -> u32
     ensures { result ≡ after_flush since_flush }
 {
-    let mut noted = Redeliveries {
-        since_flush: since_flush,
-    };
+    let mut noted = Redeliveries { since_flush };
     note_flushed(&mut noted);
     noted.since_flush
-}
-
-// The number that a grant with this count makes of another.
-fn raised(since_flush: u32, deliveries: u32) -> u32
-    ensures { result ≡ after_grant since_flush deliveries }
-{
-    if deliveries < 2 {
-        return since_flush;
-    }
-    if since_flush == MAX32 {
-        return since_flush;
-    }
-    since_flush + 1
 }

@@ -8,186 +8,119 @@ mod printing;
 mod script;
 mod session;
 
-ghost use Rattle.std.specs.Prelude.{length};
-ghost use Rattle.text.specs.Lines.{Within, Lies};
+ghost use Rattle.std.specs.Prelude.{◌≡◌, length};
 ghost use Rattle.replay.specs.Running.{Ready, Going};
 
-use script::Line;
+use script::{Form, Line};
 use session::Session;
 use std::alloc::Global;
 use std::fs::Files;
 use std::io::{Error, Read, Stderr, Stdout};
 use std::{env, fs, io};
 use text::failures::fail;
+use text::lines;
 use text::lines::{Found, Input};
-use text::{lines, output};
+use text::output::Output;
 
-// The input, how many bytes of answers wait, what is being run, whether bad lines are told what they should be, and whether lines that
-// move in and out are understood; or the input has ended.
+// The input, what is being run, whether bad lines are told what they should be, and whether lines that move in and out are understood.
 #[derive(Clone, Copy)]
 struct State {
     input: Input,
-    at: usize,
     session: Session,
     told: bool,
     moving: bool,
-    ended: bool,
-}
-
-// What a line leaves, and how many bytes of answers wait.
-#[derive(Clone, Copy)]
-struct Done {
-    session: Session,
-    at: usize,
-    told: bool,
-}
-
-// The line that was found; nothing, where more is to be read first or the input has ended. The bytes of an import go into a lent list.
-fn line_in(buf: &[u8], found: Found, moving: bool, bytes: &mut [u8]) -> Line
-    requires { Lies (length buf.now) found }
-{
-    match found {
-        Found::Line { from, to } => script::parse_as(&buf[from..to], moving, bytes),
-        Found::TooLong { first } => script::too_long(first),
-        _ => script::plain(script::NOTHING),
-    }
-}
-
-fn is_line(found: Found) -> bool {
-    match found {
-        Found::More | Found::End => false,
-        _ => true,
-    }
-}
-
-// What there is to take once more is read, unless the input has ended.
-fn more<R: Read>(source: &mut R, buf: &mut [u8], input: Input) -> Input
-    requires { Within (length buf.old) input }
-    ensures { Within (length buf.old) result }
-{
-    if input.ended {
-        return input;
-    }
-    lines::refill(source, buf, input)
-}
-
-// The form that a bad line is told.
-fn expected(told: bool, near: usize) -> usize {
-    if told {
-        return near;
-    }
-    script::BAD
 }
 
 // Does what a line asks, and puts its answer. Help is for whoever reads the answers: from there on bad lines are told.
-fn answer<'a>(
-    line: Line,
-    session: Session,
-    told: bool,
-    bytes: &'a [u8],
-    area: &'a mut [u8],
-    stdout: Stdout,
-    out: &'a mut [u8],
-    at: usize,
-) -> Done
-    requires { Ready (length area.old) session }
-    ensures { Ready (length area.old) result.session }
+fn answer(state: &mut State, line: Line, bytes: &[u8], area: &mut [u8], out: &mut Output)
+    requires { Ready (length area.old) state.old.session }
+    ensures session { Ready (length area.old) state.new.session }
+    ensures input { state.new.input ≡ state.old.input }
 {
-    let mut list = [0u64; 3606];
-    let acted = session::act(session, line, bytes, area, &mut list);
-    let said = acted.said;
-    let after = acted.session;
-    let form = expected(told, line.near);
-    let mut tells = told;
-    if said.template == printing::HELP {
-        tells = true;
-    }
-    Done {
-        session: after,
-        at: printing::print(stdout, out, at, said, &list, area, after, form),
-        told: tells,
+    match line {
+        Line::Nothing => {}
+        Line::Bad(near) => {
+            let form = if state.told { near } else { None };
+            printing::print(out, printing::bad_line(), &[], area, &state.session, form);
+        }
+        Line::Asks(request) => {
+            let mut list = [0u64; 3606];
+            let said = session::act(&mut state.session, request, bytes, area, &mut list);
+            let form = if state.told { Some(request.form) } else { None };
+            printing::print(out, said, &list, area, &state.session, form);
+            state.told = state.told || request.form == Form::Help;
+        }
     }
 }
 
-// Answers the next line. Before more is read, all answers are written out, so that whoever waits for them gets them.
-fn next_line<'a, R: Read>(
+// Answers the next line, and tells whether the input has ended. Before more is read, all answers are written out, so that whoever waits for
+// them gets them.
+fn next_line<R: Read>(
     source: &mut R,
-    buf: &'a mut [u8],
-    stdout: Stdout,
-    out: &'a mut [u8],
-    area: &'a mut [u8],
-    bytes: &'a mut [u8],
-    state: State,
-) -> State
-    requires { Going (length buf.old) (length area.old) state }
-    ensures { Going (length buf.old) (length area.old) result }
+    buf: &mut [u8],
+    out: &mut Output,
+    area: &mut [u8],
+    bytes: &mut [u8],
+    state: &mut State,
+) -> bool
+    requires { Going (length buf.old) (length area.old) state.old }
+    ensures { Going (length buf.old) (length area.old) state.new }
 {
-    let before = state.input;
-    let session = state.session;
-    let at = state.at;
-    let taken = lines::take_line(buf, before);
-    let input = taken.input;
-    let found = taken.found;
-    if is_line(found) {
-        let line = line_in(buf, found, state.moving, bytes);
-        let done = answer(line, session, state.told, bytes, area, stdout, out, at);
-        let after = done.session;
-        return State {
-            input: input,
-            at: done.at,
-            session: after,
-            told: done.told,
-            moving: state.moving,
-            ended: false,
-        };
-    }
-    output::flush(stdout, out, at);
-    State {
-        input: more(source, buf, input),
-        at: 0,
-        session: session,
-        told: state.told,
-        moving: state.moving,
-        ended: input.ended,
+    let taken = lines::take_line(buf, state.input);
+    state.input = taken.input;
+    match taken.found {
+        Found::Line { from, to } => {
+            let line = script::parse(&buf[from..to], state.moving, bytes);
+            answer(state, line, bytes, area, out);
+            false
+        }
+        Found::TooLong { first } => {
+            answer(state, script::too_long(first), bytes, area, out);
+            false
+        }
+        Found::More => {
+            out.flush();
+            state.input = lines::refill(source, buf, taken.input);
+            false
+        }
+        Found::End => {
+            out.flush();
+            true
+        }
     }
 }
 
-// Line by line up to the end. A proved loop has to end, so it counts its turns down from a number that no run uses up.
-fn run<'a, R: Read>(
+// Line by line up to the end. A proved loop has to end, so it makes at most so many turns that no run uses them up.
+fn run<R: Read>(
     source: &mut R,
-    told: bool,
-    moving: bool,
-    buf: &'a mut [u8],
-    stdout: Stdout,
-    out: &'a mut [u8],
-    area: &'a mut [u8],
-    bytes: &'a mut [u8],
-) {
-    let mut state = State {
-        input: lines::nothing_read(),
-        at: 0,
-        session: session::nothing_started(),
-        told: told,
-        moving: moving,
-        ended: false,
-    };
-    let mut turns = u64::MAX;
-    while 0 < turns {
-        state = next_line(source, buf, stdout, out, area, bytes, state);
-        if state.ended {
+    buf: &mut [u8],
+    out: &mut Output,
+    area: &mut [u8],
+    bytes: &mut [u8],
+    state: &mut State,
+)
+    requires { Going (length buf.old) (length area.old) state.old }
+{
+    for _ in 0..u64::MAX {
+        if next_line(source, buf, out, area, bytes, state) {
             return;
         }
-        turns -= 1;
     }
 }
 
 fn run_all<R: Read>(source: &mut R, told: bool, moving: bool, stdout: Stdout) {
     let mut buf = [0u8; 65536];
-    let mut out = [0u8; 65536];
+    let mut out = Output::new(stdout);
     let mut area = [0u8; 65536];
     let mut bytes = [0u8; 65536];
+    let mut state = State {
+        input: lines::nothing_read(),
+        session: session::nothing_started(),
+        told,
+        moving,
+    };
     run(
-        source, told, moving, &mut buf, stdout, &mut out, &mut area, &mut bytes,
+        source, &mut buf, &mut out, &mut area, &mut bytes, &mut state,
     );
 }
 

@@ -1,27 +1,21 @@
 // What is being run by a script: a machine with its journal in a lent area, its start, its calls, and the answer to each line.
-ghost use Rattle.std.specs.Prelude.{ℕ, ◌≤◌, length};
+ghost use Rattle.std.specs.Prelude.{ℕ, ◌≤◌, length, IfSome};
 ghost use Rattle.machine.specs.View.{Sound};
 ghost use Rattle.replay.specs.Running.{Ready};
 
-use crate::printing::{ATTEMPT_PLACES, CURSOR_PLACES, Said};
-use crate::script::{Line, NUMBERS};
-use crate::{blocks, printing, script};
-use answers::Numbers;
+use crate::printing::{ATTEMPT_PLACES, CURSOR_PLACES, Said, Then, bad_line, not_now, plain, with};
+use crate::script::{Form, NUMBERS, Request};
+use crate::{blocks, printing};
 use consumer::{Configuration, Settings, rights};
 use delivery::DeliveryConfig;
 use hours::Hours;
-use lease::LeaseConfig;
-use machine::calls::Call;
-use machine::plans::PlanCall;
-use machine::snapshots::ExportCall;
+use lease::{LeaseConfig, LeaseToken};
+use machine::calls::{Ask, Call, CallAnswer, Question};
 use machine::{Machine, Started};
 use power_cut::Kind;
-use server::kinds;
-use server::kinds::Calling;
-use starts::StartAnswer;
-use types::Generation;
 use types::limits::WORKERS;
-use types::numbers::shorter;
+use types::refusals::Refusal;
+use types::{Generation, Offset};
 
 // The machine, how many bytes of the lent area are its journal, which is none before the first start, and the worker who calls. The rights
 // and the hours in the machine's configuration are those that were said last: a start, an import and a restart hand them in, and nothing
@@ -33,158 +27,149 @@ pub struct Session {
     pub worker: u64,
 }
 
-// What a line leaves, and its answer.
-#[derive(Clone, Copy)]
-pub struct Acted {
-    pub session: Session,
-    pub said: Said,
-}
-
-// A power failure, or another line.
-#[derive(Clone, Copy)]
-enum Cutting {
-    Cut(Kind),
-    Other,
-}
-
 // ## what a line asks
 
-// The number that `server` gives the call of a form; of a form that is none, one that no call has.
-fn kind_of(form: usize) -> u64 {
-    match form {
-        script::CLAIM..=script::COMMIT => form as u64,
-        script::WAITING => 32,
-        script::VIEW => 40,
-        script::OPEN => 41,
-        script::NEAREST => 42,
-        script::BEGIN => 16,
-        script::STEP | script::STEP_ON => 17,
-        script::RESTART | script::RESTART_ON => 18,
-        _ => u64::MAX,
+// The call on the state of a line.
+fn ask_of(request: Request) -> Option<Ask> {
+    let v = request.numbers;
+    let offset = Offset(v[0]);
+    let token = LeaseToken {
+        offset,
+        generation: Generation(v[1]),
+    };
+    let now = v[2];
+    let ask = match request.form {
+        Form::Claim => Ask::Claim { offset, now: v[1] },
+        Form::Ack => Ask::Ack(token),
+        Form::Term => Ask::Term(token),
+        Form::Nack => Ask::Nack {
+            token,
+            now,
+            delay: None,
+        },
+        Form::NackAfter => Ask::Nack {
+            token,
+            now,
+            delay: Some(v[3]),
+        },
+        Form::Progress => Ask::Progress { token, now },
+        Form::Commit => Ask::Commit(offset),
+        _ => Ask::Look(question_of(request)?),
+    };
+    Some(ask)
+}
+
+// The question of a line. `open` has room for up to 256 stretches.
+fn question_of(request: Request) -> Option<Question> {
+    let v = request.numbers;
+    let offset = Offset(v[0]);
+    match request.form {
+        Form::Waiting => Some(Question::Waiting { now: v[0] }),
+        Form::View => Some(Question::ViewOf { offset, now: v[1] }),
+        Form::Open if v[2] <= 256 => Some(Question::OpenBetween { a: v[0], b: v[1] }),
+        Form::Nearest => Some(Question::NearestOpen(offset)),
+        _ => None,
     }
 }
 
-// The call of a line. `open` has room for up to 256 stretches.
-fn call_of(worker: u64, line: Line) -> Calling {
-    let v = line.numbers;
-    if line.form == script::OPEN {
-        if 256 < v[2] {
-            return Calling::None;
+// The call of a line.
+fn call_of(worker: u64, request: Request) -> Option<Call> {
+    match request.form {
+        Form::Begin => Some(Call::Begin { worker }),
+        Form::Step | Form::StepOn => Some(Call::Step),
+        Form::Restart | Form::RestartOn => Some(Call::Restart),
+        _ => {
+            let ask = ask_of(request)?;
+            Some(Call::Ask { worker, ask })
         }
     }
-    kinds::call_of(worker, kind_of(line.form), v[0], v[1], v[2], v[3])
 }
 
-fn cut_of(form: usize) -> Cutting {
+fn cut_of(form: Form) -> Option<Kind> {
     match form {
-        script::CUT_OLD => Cutting::Cut(Kind::Old),
-        script::CUT_NEW => Cutting::Cut(Kind::New),
-        script::CUT_TORN => Cutting::Cut(Kind::Torn),
-        _ => Cutting::Other,
+        Form::CutOld => Some(Kind::Old),
+        Form::CutNew => Some(Kind::New),
+        Form::CutTorn => Some(Kind::Torn),
+        _ => None,
     }
 }
 
-// How much of the area a call is lent: the journal, where the line doesn't say; more than there is before the first start.
-fn lent_to(line: Line, len: usize) -> usize {
-    let form = line.form;
-    if len == 0 {
-        return usize::MAX;
-    }
-    match form {
-        script::STEP_ON | script::RESTART_ON => line.numbers[0] as usize,
+// How much of the area, of which so much is the journal, a call is lent: the journal, where the line doesn't say; nothing before the first
+// start, nor more than there is.
+fn lent_to(request: Request, len: usize) -> Option<usize>
+    ensures { IfSome result (λ n. n ≤ len) }
+{
+    let lent = match request.form {
+        Form::StepOn | Form::RestartOn => request.numbers[0] as usize,
         _ => len,
+    };
+    if len == 0 || len < lent {
+        return None;
     }
+    Some(lent)
 }
 
 // How many places of the list a call is lent: two for each stretch that `open` has room for, and all of them elsewhere.
-fn places_for(line: Line, most: usize) -> usize
+fn places_for(request: Request, most: usize) -> usize
     ensures { result ≤ most }
 {
-    let room = line.numbers[2];
-    if line.form == script::OPEN {
-        if room <= 256 {
-            return shorter(2 * (room as usize), most);
-        }
+    let room = request.numbers[2];
+    if request.form == Form::Open && room <= 256 {
+        return (2 * (room as usize)).min(most);
     }
     most
 }
 
 // ## a start
 
-// Whether the numbers of a start are in range: the first and the third u32, the second 0 or 1.
-fn in_range(v: [u64; NUMBERS]) -> bool {
-    if 4294967295 < v[0] {
-        return false;
-    }
-    if 1 < v[1] {
-        return false;
-    }
-    v[2] <= 4294967295
-}
-
-// The low 32 bits of a number, which are all of one in range.
-fn short(n: u64) -> u32 {
-    (n % 4294967296) as u32
-}
-
-// The backoffs among a start's numbers, which are the last of them, and how many they are.
-fn backoffs_of(v: [u64; NUMBERS]) -> [u64; 16] {
-    let mut backoffs = [0u64; 16];
-    let mut i: usize = 0;
-    while i < 16 {
-        backoffs[i] = v[i + 6];
-        i += 1;
-    }
-    backoffs
-}
-
-fn backoff_len(count: usize) -> usize {
-    if count < 6 {
-        return 0;
-    }
-    count - 6
-}
-
-// No hours: open always.
-fn no_hours() -> Hours {
-    Hours {
-        given: false,
-        shift: 0,
-        days: [0; 7],
-    }
-}
-
-// The configuration that a start's numbers are, with the workers' rights and the hours.
+// The configuration that a start's numbers are, with the workers' rights and the hours; none where they are out of range. The last of them
+// are the backoffs.
 fn configuration_of(
     v: [u64; NUMBERS],
     count: usize,
     rights: [u8; WORKERS],
     hours: Hours,
-) -> Configuration {
-    Configuration {
+) -> Option<Configuration> {
+    if 1 < v[1] {
+        return None;
+    }
+    let mut backoff_nanos = [0u64; 16];
+    backoff_nanos.copy_from_slice(&v[6..22]);
+    Some(Configuration {
         settings: Settings {
             delivery: DeliveryConfig {
-                max_deliver: short(v[0]),
+                max_deliver: u32::try_from(v[0]).ok()?,
                 allow_unlimited: v[1] == 1,
-                backoff_nanos: backoffs_of(v),
-                backoff_len: backoff_len(count),
-                attempts_flush_redeliveries: short(v[2]),
+                backoff_nanos,
+                backoff_len: count.saturating_sub(6),
+                attempts_flush_redeliveries: u32::try_from(v[2]).ok()?,
             },
-            rights: rights,
-            hours: hours,
+            rights,
+            hours,
         },
         lease: LeaseConfig {
             visibility_nanos: v[3],
             hard_cap_nanos: v[4],
         },
-    }
+    })
 }
 
 // Before the first start. Worker 0 calls, and has every right; the others have none.
 pub fn nothing_started() -> Session
     ensures { (n : ℕ) → Ready n result }
 {
-    let configuration = configuration_of([0; NUMBERS], 0, [127, 0, 0, 0, 0, 0, 0, 0], no_hours());
+    let configuration = Configuration {
+        settings: Settings {
+            delivery: DeliveryConfig::default(),
+            rights: [127, 0, 0, 0, 0, 0, 0, 0],
+            hours: Hours {
+                given: false,
+                shift: 0,
+                days: [0; 7],
+            },
+        },
+        lease: LeaseConfig::default(),
+    };
     Session {
         machine: Machine::off(configuration),
         len: 0,
@@ -192,296 +177,157 @@ pub fn nothing_started() -> Session
     }
 }
 
-// What a start or an import answers and leaves, in an area of so many bytes, of which it is to have the first `len`; `template` is the
-// answer where nothing is refused.
-fn made(session: Session, made: Started, len: usize, most: usize, template: usize) -> Acted
-    requires { Ready most session × Sound made.machine }
-    ensures { Ready most result.session }
+// What was made on the first `len` bytes of the area, which are zeroed; refused, it leaves what was there.
+fn made(session: &mut Session, made: Started, len: usize, area: &mut [u8]) -> Result<(), Refusal>
+    requires { Ready (length area.old) session.old × Sound made.machine }
+    ensures { Ready (length area.old) session.new }
 {
-    let answer = made.answer;
-    let code = answers::of_start(answer);
-    if code.0 != 0 {
-        return Acted {
-            session: session,
-            said: printing::refusal(code),
-        };
+    made.answer?;
+    if area.len() < len {
+        return Err(Refusal::BadArea);
     }
-    if most < len {
-        return Acted {
-            session: session,
-            said: printing::refusal(answers::of_start(StartAnswer::BadArea)),
-        };
-    }
-    let machine = made.machine;
-    Acted {
-        session: Session {
-            machine: machine,
-            len: len,
-            worker: session.worker,
-        },
-        said: printing::plain(template),
-    }
-}
-
-// What a start answers and leaves, in an area of so many bytes, of which it is to have the first `len`.
-fn started(session: Session, configuration: Configuration, len: usize, most: usize) -> Acted
-    requires { Ready most session }
-    ensures { Ready most result.session }
-{
-    let started = Machine::start(configuration, len);
-    made(session, started, len, most, printing::STARTED)
-}
-
-// What was made, on the first bytes of the area, which are zeroed where it is answered with this template.
-fn zeroed(acted: Acted, template: usize, area: &mut [u8]) -> Acted
-    requires { Ready (length area.old) acted.session }
-    ensures { Ready (length area.old) result.session }
-{
-    if acted.said.template == template {
-        let len = acted.session.len;
-        raw::clear(&mut area[..len]);
-    }
-    acted
+    session.machine = made.machine;
+    session.len = len;
+    raw::clear(&mut area[..len]);
+    Ok(())
 }
 
 // A start on the first bytes of the area, which are zeroed; refused, it leaves what was there.
-fn start(session: Session, line: Line, area: &mut [u8]) -> Acted
-    requires { Ready (length area.old) session }
-    ensures { Ready (length area.old) result.session }
+fn start(session: &mut Session, request: Request, area: &mut [u8]) -> Said
+    requires { Ready (length area.old) session.old }
+    ensures { Ready (length area.old) session.new }
 {
-    let v = line.numbers;
-    if !in_range(v) {
-        return Acted {
-            session: session,
-            said: printing::plain(printing::BAD_LINE),
-        };
+    let v = request.numbers;
+    let settings = session.machine.configuration.settings;
+    let Some(configuration) = configuration_of(v, request.count, settings.rights, settings.hours)
+    else {
+        return bad_line();
+    };
+    let len = v[5] as usize;
+    match made(session, Machine::start(configuration, len), len, area) {
+        Ok(()) => plain(b"started\n"),
+        Err(refusal) => printing::refusal(refusal),
     }
-    let rights = session.machine.configuration.settings.rights;
-    let hours = session.machine.configuration.settings.hours;
-    let configuration = configuration_of(v, line.count, rights, hours);
-    let acted = started(session, configuration, v[5] as usize, area.len());
-    zeroed(acted, printing::STARTED, area)
 }
 
 // An import on the journal, which is zeroed, of the bytes that begin a list; refused, it leaves what was there. The configuration is that
 // which a restart would be handed.
-fn import(session: Session, line: Line, bytes: &[u8], area: &mut [u8]) -> Acted
-    requires { Ready (length area.old) session }
-    ensures { Ready (length area.old) result.session }
+fn import(session: &mut Session, request: Request, bytes: &[u8], area: &mut [u8]) -> Said
+    requires { Ready (length area.old) session.old }
+    ensures { Ready (length area.old) session.new }
 {
-    let v = line.numbers;
+    let v = request.numbers;
     let len = session.len;
     if len == 0 {
-        return Acted {
-            session: session,
-            said: printing::plain(printing::NOT_NOW),
-        };
+        return not_now();
     }
-    let middle = shorter(v[1] as usize, bytes.len());
+    let middle = (v[1] as usize).min(bytes.len());
     let rest = &bytes[middle..];
-    let end = shorter(v[2] as usize, rest.len());
+    let end = (v[2] as usize).min(rest.len());
     let configuration = session.machine.configuration;
     let first = Generation(v[0]);
     let imported = Machine::import(configuration, len, first, &bytes[..middle], &rest[..end]);
-    let acted = made(session, imported, len, area.len(), printing::IMPORTED);
-    zeroed(acted, printing::IMPORTED, area)
+    match made(session, imported, len, area) {
+        Ok(()) => plain(b"imported\n"),
+        Err(refusal) => printing::refusal(refusal),
+    }
 }
 
 // ## calls
 
 // How much of the area is the journal after a call that was lent so much: a restart that isn't refused keeps what it was lent.
-fn len_after(form: usize, code: Numbers, len: usize, lent: usize) -> usize
+fn len_after(answer: CallAnswer, len: usize, lent: usize) -> usize
     requires { lent ≤ len }
     ensures { result ≤ len }
 {
-    if code.0 != 0 {
-        return len;
-    }
-    match form {
-        script::RESTART | script::RESTART_ON => lent,
+    match answer {
+        CallAnswer::Restarted(Ok(())) => lent,
         _ => len,
     }
 }
 
-// The answer to a call.
-fn call_said(form: usize, offset: u64, code: Numbers, supervisor: bool) -> Said {
-    if form == script::VIEW {
-        return printing::view_said(code, supervisor);
-    }
-    printing::answer_said(form, offset, code)
-}
-
-// What a call leaves that was lent so much, with its answer in numbers.
-fn after_call(
-    machine: Machine,
-    worker: u64,
-    line: Line,
-    code: Numbers,
-    len: usize,
-    lent: usize,
-) -> Acted
-    requires { (Sound machine) × (lent ≤ len) }
-    ensures { Ready len result.session }
-{
-    let form = line.form;
-    let rights = machine.writing.consumer.settings.rights;
-    let supervisor = rights::is_supervisor(&rights, worker);
-    Acted {
-        session: Session {
-            machine: machine,
-            len: len_after(form, code, len, lent),
-            worker: worker,
-        },
-        said: call_said(form, line.numbers[0], code, supervisor),
-    }
-}
-
 // A call that is lent the first bytes of the area.
-fn called(session: Session, call: Call, line: Line, area: &mut [u8], list: &mut [u64]) -> Acted
-    requires { Ready (length area.old) session }
-    ensures { Ready (length area.old) result.session }
+fn called(
+    session: &mut Session,
+    call: Call,
+    request: Request,
+    area: &mut [u8],
+    list: &mut [u64],
+) -> Said
+    requires { Ready (length area.old) session.old }
+    ensures { Ready (length area.old) session.new }
 {
     let len = session.len;
-    let lent = lent_to(line, len);
-    if len < lent {
-        return Acted {
-            session: session,
-            said: printing::plain(printing::NOT_NOW),
-        };
+    let Some(lent) = lent_to(request, len) else {
+        return not_now();
+    };
+    let places = places_for(request, list.len());
+    let called = machine::call(
+        session.machine,
+        call,
+        &mut area[..lent],
+        &mut list[..places],
+    );
+    session.machine = called.machine;
+    session.len = len_after(called.answer, len, lent);
+    let rights = called.machine.writing.consumer.settings.rights;
+    let supervisor = rights::is_supervisor(&rights, session.worker);
+    match printing::call_said(called.answer, request.numbers[0], supervisor) {
+        Ok(said) => said,
+        Err(refusal) => printing::refusal(refusal),
     }
-    let before = session.machine;
-    let places = places_for(line, list.len());
-    let called = machine::call(before, call, &mut area[..lent], &mut list[..places]);
-    let answer = called.answer;
-    let after = called.machine;
-    after_call(
-        after,
-        session.worker,
-        line,
-        answers::of_call(answer, list),
-        len,
-        lent,
-    )
 }
 
 // The power fails in the step that is next.
-fn cut(session: Session, kind: Kind, area: &mut [u8]) -> Acted
-    requires { Ready (length area.old) session }
-    ensures { Ready (length area.old) result.session }
+fn cut(session: &mut Session, kind: Kind, area: &mut [u8]) -> Said
+    requires { Ready (length area.old) session.old }
+    ensures { Ready (length area.old) session.new }
 {
     let len = session.len;
-    let before = session.machine;
-    let cut = blocks::cut(before, kind, &mut area[..len]);
-    let machine = cut.machine;
-    let said = cut.said;
-    Acted {
-        session: Session {
-            machine: machine,
-            len: len,
-            worker: session.worker,
-        },
-        said: said,
-    }
+    blocks::cut(&mut session.machine, kind, &mut area[..len])
 }
 
-// ## workers
+// ## what is handed in from the next start or restart on
 
-// Calls are another worker's from here on.
-fn calling(session: Session, worker: u64) -> Acted
-    ensures { (n : ℕ) → Ready n session → Ready n result.session }
+// What a worker is given.
+fn give(session: &mut Session, worker: u64, mask: u64) -> Said
+    requires { Sound session.old.machine }
+    ensures { (n : ℕ) → Ready n session.old → Ready n session.new }
 {
-    let machine = session.machine;
-    Acted {
-        session: Session {
-            machine: machine,
-            len: session.len,
-            worker: worker,
-        },
-        said: printing::with(printing::WORKER, worker),
-    }
-}
-
-// The machine, where every start and restart from here on hands in these rights and these hours.
-fn handing_in(machine: Machine, rights: [u8; WORKERS], hours: Hours) -> Machine
-    requires { Sound machine }
-    ensures { Sound result }
-{
-    let configuration = machine.configuration;
-    let settings = configuration.settings;
-    let delivery = settings.delivery;
-    let lease = configuration.lease;
-    let writing = machine.writing;
-    Machine {
-        configuration: Configuration {
-            settings: Settings {
-                delivery: delivery,
-                rights: rights,
-                hours: hours,
-            },
-            lease: lease,
-        },
-        phase: machine.phase,
-        writing: writing,
-    }
-}
-
-// What a worker is given at every start and restart from here on.
-fn give(session: Session, worker: u64, mask: u64) -> Acted
-    requires { Sound session.machine }
-    ensures { (n : ℕ) → Ready n session → Ready n result.session }
-{
+    let Ok(mask) = u8::try_from(mask) else {
+        return bad_line();
+    };
     if 7 < worker {
-        return Acted {
-            session: session,
-            said: printing::plain(printing::BAD_LINE),
-        };
+        return bad_line();
     }
-    if 255 < mask {
-        return Acted {
-            session: session,
-            said: printing::plain(printing::BAD_LINE),
-        };
-    }
-    let mut rights = session.machine.configuration.settings.rights;
-    rights[worker as usize] = mask as u8;
-    let hours = session.machine.configuration.settings.hours;
-    let before = session.machine;
-    Acted {
-        session: Session {
-            machine: handing_in(before, rights, hours),
-            len: session.len,
-            worker: session.worker,
-        },
-        said: printing::plain(printing::RIGHTS),
+    session.machine.configuration.settings.rights[worker as usize] = mask;
+    plain(b"rights\n")
+}
+
+// The hours.
+fn set_hours(session: &mut Session, hours: Hours) -> Said
+    requires { Sound session.old.machine }
+    ensures { (n : ℕ) → Ready n session.old → Ready n session.new }
+{
+    session.machine.configuration.settings.hours = hours;
+    plain(b"hours\n")
+}
+
+// The hours that a line says: the shift and the seven days, or none.
+fn hours_of(given: bool, v: [u64; NUMBERS]) -> Hours {
+    Hours {
+        given,
+        shift: v[0],
+        days: [v[1], v[2], v[3], v[4], v[5], v[6], v[7]],
     }
 }
 
-// ## a plan
-
-// The offsets of a plan: the numbers behind its first.
-fn offsets_of(v: [u64; NUMBERS]) -> [u64; 128] {
-    let mut offsets = [0u64; 128];
-    let mut i: usize = 0;
-    while i < 128 {
-        offsets[i] = v[i + 1];
-        i += 1;
-    }
-    offsets
-}
-
-fn wide(byte: u8) -> u64 {
-    byte as u64
-}
+// ## a plan and an export
 
 // Bytes as the first entries of a list, as far as it has places.
 fn list_bytes(bytes: &[u8], list: &mut [u64]) {
-    let mut i: usize = 0;
-    while i < list.len() {
-        if bytes.len() <= i {
-            break;
-        }
-        list[i] = wide(bytes[i]);
-        i += 1;
+    for (place, byte) in list.iter_mut().zip(bytes) {
+        *place = u64::from(*byte);
     }
 }
 
@@ -495,109 +341,48 @@ fn planned(
 ) -> Said
     requires { Sound machine }
 {
-    let answer = machine.plan(worker, offsets, bytes);
-    let PlanCall::Planned(planned) = answer else {
-        return printing::plain(printing::NOT_NOW);
-    };
-    list_bytes(bytes, list);
-    printing::plan_said(answers::of_plan(planned, bytes), offsets.len() as u64)
+    match machine.plan(worker, offsets, bytes) {
+        Some(Ok(looks)) => {
+            list_bytes(bytes, list);
+            printing::plan_said(looks, offsets.len())
+        }
+        Some(Err(refusal)) => printing::refusal(refusal),
+        None => not_now(),
+    }
 }
 
-// A plan into the first of some bytes: as many as its first number says. The numbers behind that are its offsets.
-fn plan(machine: Machine, worker: u64, line: Line, bytes: &mut [u8], list: &mut [u64]) -> Said
+// A plan, of whose room, its first number, there is at most 256. The numbers behind that are its offsets.
+fn plan(machine: Machine, worker: u64, request: Request, list: &mut [u64]) -> Said
     requires { Sound machine }
 {
-    let v = line.numbers;
-    let count = line.count;
-    let room = v[0];
-    if (bytes.len() as u64) < room {
-        return printing::plain(printing::BAD_LINE);
-    }
-    if NUMBERS < count {
-        return printing::plain(printing::BAD_LINE);
-    }
-    if count == 0 {
-        return printing::plain(printing::BAD_LINE);
-    }
-    let n = count - 1;
-    let places = room as usize;
-    let offsets = offsets_of(v);
-    planned(machine, worker, &offsets[..n], &mut bytes[..places], list)
-}
-
-// A plan, of whose room there is at most 256.
-fn plan_line(machine: Machine, worker: u64, line: Line, list: &mut [u64]) -> Said
-    requires { Sound machine }
-{
+    let v = request.numbers;
+    let count = request.count;
     let mut bytes = [0u8; 256];
-    plan(machine, worker, line, &mut bytes, list)
-}
-
-// ## an export
-
-// An export into two lists of bytes, which then go into `list`.
-fn exported(
-    machine: Machine,
-    worker: u64,
-    cursor: &mut [u8],
-    attempts: &mut [u8],
-    list: &mut [u64],
-) -> Said
-    requires { Sound machine }
-{
-    let answer = machine.export(worker, cursor, attempts);
-    let ExportCall::Exported(exported) = answer else {
-        return printing::plain(printing::NOT_NOW);
-    };
-    if list.len() < CURSOR_PLACES {
-        return printing::plain(printing::BAD_LINE);
+    if 256 < v[0] || NUMBERS < count || count == 0 {
+        return bad_line();
     }
-    list_bytes(cursor, list);
-    list_bytes(attempts, &mut list[CURSOR_PLACES..]);
-    printing::export_said(answers::of_export(exported, cursor, attempts))
+    let places = v[0] as usize;
+    planned(machine, worker, &v[1..count], &mut bytes[..places], list)
 }
 
-// An export, with room for the largest snapshots.
-fn export_line(machine: Machine, worker: u64, list: &mut [u64]) -> Said
+// An export, whose bytes then go into `list`.
+fn export(machine: Machine, worker: u64, list: &mut [u64]) -> Said
     requires { Sound machine }
 {
     let mut cursor = [0u8; CURSOR_PLACES];
     let mut attempts = [0u8; ATTEMPT_PLACES];
-    exported(machine, worker, &mut cursor, &mut attempts, list)
-}
-
-// ## hours
-
-fn is_hours(form: usize) -> bool {
-    match form {
-        script::HOURS | script::HOURS_NONE => true,
-        _ => false,
-    }
-}
-
-// The hours that a line says: the shift and the seven days, or none.
-fn hours_of(form: usize, v: [u64; NUMBERS]) -> Hours {
-    Hours {
-        given: form == script::HOURS,
-        shift: v[0],
-        days: [v[1], v[2], v[3], v[4], v[5], v[6], v[7]],
-    }
-}
-
-// The hours at every start and restart from here on.
-fn set_hours(session: Session, hours: Hours) -> Acted
-    requires { Sound session.machine }
-    ensures { (n : ℕ) → Ready n session → Ready n result.session }
-{
-    let rights = session.machine.configuration.settings.rights;
-    let before = session.machine;
-    Acted {
-        session: Session {
-            machine: handing_in(before, rights, hours),
-            len: session.len,
-            worker: session.worker,
-        },
-        said: printing::plain(printing::HOURS),
+    match machine.export(worker, &mut cursor, &mut attempts) {
+        Some(Ok(lengths)) if CURSOR_PLACES <= list.len() => {
+            list_bytes(&cursor, list);
+            list_bytes(&attempts, &mut list[CURSOR_PLACES..]);
+            plain(b"exported ").then(Then::Snapshots {
+                cursor: lengths.cursor_len as usize,
+                attempts: lengths.attempt_len as usize,
+            })
+        }
+        Some(Err(refusal)) => printing::refusal(refusal),
+        Some(Ok(_)) => bad_line(),
+        None => not_now(),
     }
 }
 
@@ -606,60 +391,70 @@ fn set_hours(session: Session, hours: Hours) -> Acted
 // The state, where it can be called.
 fn state(machine: Machine) -> Said {
     if machine.phase == 0 {
-        return printing::plain(printing::STATE);
+        return plain(b"").then(Then::State);
     }
-    printing::plain(printing::NOT_NOW)
+    not_now()
 }
 
 // The answer to a line that leaves the session as it is.
-fn seen(session: Session, line: Line, area: &mut [u8], list: &mut [u64]) -> Said
-    requires { Sound session.machine }
+fn seen(session: &Session, request: Request, area: &mut [u8], list: &mut [u64]) -> Said
+    requires { Sound session.now.machine }
 {
-    let form = line.form;
-    let v = line.numbers;
-    match form {
-        script::NOTHING => printing::plain(printing::SILENT),
-        script::HELP => printing::plain(printing::HELP),
-        script::STATE => state(session.machine),
-        script::PEEK => blocks::peek(session.len, v[0]),
-        script::POKE => blocks::poke(session.len, v[0], v[1], v[2], area),
-        script::PLAN => plan_line(session.machine, session.worker, line, list),
-        script::EXPORT => export_line(session.machine, session.worker, list),
-        _ => printing::plain(printing::BAD_LINE),
+    let v = request.numbers;
+    match request.form {
+        Form::Help => plain(b"").then(Then::Help),
+        Form::State => state(session.machine),
+        Form::Peek => blocks::peek(session.len, v[0]),
+        Form::Poke => blocks::poke(session.len, v[0], v[1], v[2], area),
+        Form::Plan => plan(session.machine, session.worker, request, list),
+        Form::Export => export(session.machine, session.worker, list),
+        _ => bad_line(),
     }
 }
 
-// What a line does, and its answer; `bytes` has those of an import, and `list` the waiting list, the stretches, the answers of a plan or the bytes of an
-// export.
-pub fn act(session: Session, line: Line, bytes: &[u8], area: &mut [u8], list: &mut [u64]) -> Acted
-    requires { Ready (length area.old) session }
-    ensures { Ready (length area.old) result.session }
+// The answer to a line that is no call.
+fn other(
+    session: &mut Session,
+    request: Request,
+    bytes: &[u8],
+    area: &mut [u8],
+    list: &mut [u64],
+) -> Said
+    requires { Ready (length area.old) session.old }
+    ensures { Ready (length area.old) session.new }
 {
-    let form = line.form;
-    let v = line.numbers;
-    if let Calling::Call(call) = call_of(session.worker, line) {
-        return called(session, call, line, area, list);
+    let v = request.numbers;
+    match request.form {
+        Form::Start => start(session, request, area),
+        Form::Import => import(session, request, bytes, area),
+        Form::Worker => {
+            session.worker = v[0];
+            with(b"worker #\n", v[0])
+        }
+        Form::Rights => give(session, v[0], v[1]),
+        Form::Hours => set_hours(session, hours_of(true, v)),
+        Form::HoursNone => set_hours(session, hours_of(false, v)),
+        _ => seen(session, request, area, list),
     }
-    if let Cutting::Cut(kind) = cut_of(form) {
+}
+
+// What a line does, and its answer; `bytes` has those of an import, and `list` the waiting list, the stretches, the answers of a plan or the
+// bytes of an export.
+pub fn act(
+    session: &mut Session,
+    request: Request,
+    bytes: &[u8],
+    area: &mut [u8],
+    list: &mut [u64],
+) -> Said
+    requires { Ready (length area.old) session.old }
+    ensures { Ready (length area.old) session.new }
+{
+    if let Some(call) = call_of(session.worker, request) {
+        return called(session, call, request, area, list);
+    }
+    if let Some(kind) = cut_of(request.form) {
         return cut(session, kind, area);
     }
-    if form == script::START {
-        return start(session, line, area);
-    }
-    if form == script::IMPORT {
-        return import(session, line, bytes, area);
-    }
-    if form == script::WORKER {
-        return calling(session, v[0]);
-    }
-    if form == script::RIGHTS {
-        return give(session, v[0], v[1]);
-    }
-    if is_hours(form) {
-        return set_hours(session, hours_of(form, v));
-    }
-    Acted {
-        session: session,
-        said: seen(session, line, area, list),
-    }
+    other(session, request, bytes, area, list)
 }

@@ -4,8 +4,7 @@ use Prim.Native.Nat.{ℕ, zero, suc, ◌+◌, ◌*◌, ◌≤◌, ◌<◌}
 use native.Mathlib.Omega.{arith}
 use native.Mathlib.Nat.{suc-mul, mul-le-mul_right}
 use mathlib.Core.Path.{◌≡◌, refl, sym, ap, ◌∙◌}
-use mathlib.Core.Bool.{false}
-use mathlib.Core.List.{List, [], ◌∷◌, ◌++◌, append_assoc, append-nil}
+use mathlib.Core.List.{List, ◌++◌, append_assoc, append-nil}
 use lib.ListN.{length, take, drop, length-append, length-take, length-drop, drop_of_length-le}
 use lib.Dec.{ltb}
 use lib.Seq.{take_all, take_at, drop_at, drop-drop, take-append-le, drop-append-le}
@@ -14,20 +13,7 @@ use Rattle.types.proofs.Cases.{split}
 use Rattle.raw.specs.Bytes.{overwrite}
 use Rattle.journal.specs.Area.{block_at, write_at}
 use Rattle.journal.specs.Sound.{is_kind}
-use Rattle.sectors.specs.File.{
-  SECTOR,
-  file_bytes,
-  sector_of,
-  sector_at,
-  front,
-  fronts_in,
-  area_of,
-  unread,
-  gathered,
-  Gathers,
-  BlocksApart,
-  UnreadUnsound,
-}
+use Rattle.sectors.specs.File.{file_bytes, sector_of, sector_at, front, fronts_in, area_of, gathered, Gathers, BlocksApart, UnreadUnsound}
 
 -- a block over another is its bytes over them
 pub block-over : (a b : List ℕ) (i : ℕ) → length b ≡ 512 → overwrite (512 * i) b a ≡ write_at a i b

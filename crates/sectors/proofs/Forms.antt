@@ -1,20 +1,20 @@
 -- What sector 0 says, test by test, from the comparisons that the code makes; that what is laid down is read back; and what is right of
 -- a file that is sound. Assumes nothing.
-use Prim.Native.Nat.{ℕ, ◌+◌, ◌*◌, ◌/◌, ◌%◌, ◌^◌, ◌≤◌, ◌<◌}
+use Prim.Native.Nat.{ℕ, ◌*◌, ◌/◌, ◌%◌, ◌≤◌}
 use native.Mathlib.Omega.{arith}
-use mathlib.Core.Path.{◌≡◌, refl, sym, ap, ◌∙◌}
-use mathlib.Core.Bool.{Bool, true, false, cond, not, ◌||◌}
+use mathlib.Core.Path.{◌≡◌, refl, ap}
+use mathlib.Core.Bool.{true, false, cond, not, ◌||◌}
 use mathlib.Core.List.{List, ◌++◌}
+use Rattle.std.specs.Prelude.{Result, Ok, Err}
 use lib.Dec.{ltb, eqb}
-use lib.ListN.{length, take, replicate}
+use lib.ListN.{take, replicate}
 use lib.Seq.{take_at}
-use borrow.Author.Tests.{eq-eqb, ne_eqb, eqb-true, eqb-false, ltb-false, lt-ltb, le-ltb, not-false}
+use borrow.Author.Tests.{eq-eqb, ne_eqb, eqb-true, ltb-false, le-ltb, not-false}
 use Rattle.types.proofs.Cases.{split, neither}
 use Rattle.raw.specs.Bytes.{le, unle, number_at}
 use Rattle.raw.proofs.Bytes.{unle-le}
 use Rattle.crc.specs.Seal.{sealed, is_sealed}
 use Rattle.crc.proofs.Seal.{length-sealed, sealed_ok}
-use Rattle.journal.specs.Area.{bad_length}
 use Rattle.consumer.specs.State.{bad_area}
 use Rattle.sectors.specs.File.{
   SECTOR,
@@ -26,68 +26,70 @@ use Rattle.sectors.specs.File.{
   wrong_blocks,
   wrong_journals,
   file_bytes,
+  layout,
   form_of,
   sector_zero,
   ReadsBack,
   SoundIs,
   SoundSays,
 }
-use Rattle.sectors.specs.declared.Form.{Form}
-use Rattle.sectors.specs.declared.Form.TheVariants.{Sound, Magic, Version, SectorBytes, Blocks, Journals, Check, Length}
+use Rattle.sectors.specs.declared.Layout.{Layout}
+use Rattle.sectors.specs.declared.FormError.{FormError}
+use Rattle.sectors.specs.declared.FormError.TheVariants.{Magic, Version, SectorBytes, Blocks, Journals, Check, Length}
 
 -- ## the tests, one after the other
 module _ (s : List ℕ) (n : ℕ) where
-  pub other-magic : (number_at 8 0 s ≡ unle magic → ⊥) → Magic ≡ form_of s n
+  pub other-magic : (number_at 8 0 s ≡ unle magic → ⊥) → Err Magic ≡ form_of s n
   unfolding form_of
   other-magic h = rw (ne_eqb (number_at 8 0 s) (unle magic) h)
 
   module _ (m : number_at 8 0 s ≡ unle magic) where
-    pub other-version : (version_of s ≡ 1 → ⊥) → Version (version_of s) ≡ form_of s n
+    pub other-version : (version_of s ≡ 1 → ⊥) → Err (Version (version_of s)) ≡ form_of s n
     unfolding form_of
     other-version h = rw (eq-eqb (number_at 8 0 s) (unle magic) m, ne_eqb (version_of s) 1 h)
 
     module _ (v : version_of s ≡ 1) where
-      pub other-size : (size_of s ≡ SECTOR → ⊥) → SectorBytes (size_of s) ≡ form_of s n
+      pub other-size : (size_of s ≡ SECTOR → ⊥) → Err (SectorBytes (size_of s)) ≡ form_of s n
       unfolding form_of
       other-size h = rw (eq-eqb (number_at 8 0 s) (unle magic) m, eq-eqb (version_of s) 1 v, ne_eqb (size_of s) SECTOR h)
 
       module _ (z : size_of s ≡ SECTOR) where
         -- the rest of the tests
-        abbrev rest : Form
+        abbrev rest : Result Layout FormError
         rest =
-            cond (wrong_blocks (blocks_of s)) (Blocks (blocks_of s))
-            (cond (wrong_journals (journals_of s)) (Journals (journals_of s))
-            (cond (not (is_sealed (take 512 s))) Check
-            (cond (not (eqb n (file_bytes (blocks_of s) (journals_of s)))) (Length (file_bytes (blocks_of s) (journals_of s)))
-            (Sound (blocks_of s) (journals_of s)))))
+            cond (wrong_blocks (blocks_of s)) (Err (Blocks (blocks_of s)))
+            (cond (wrong_journals (journals_of s)) (Err (Journals (journals_of s)))
+            (cond (not (is_sealed (take 512 s))) (Err Check)
+            (cond (not (eqb n (file_bytes (blocks_of s) (journals_of s)))) (Err (Length (file_bytes (blocks_of s) (journals_of s))))
+            (Ok (layout (blocks_of s) (journals_of s))))))
 
         pub rest-is : rest ≡ form_of s n
         unfolding form_of
         rest-is = rw (eq-eqb (number_at 8 0 s) (unle magic) m, eq-eqb (version_of s) 1 v, eq-eqb (size_of s) SECTOR z)
 
-        pub other-blocks : wrong_blocks (blocks_of s) ≡ true → Blocks (blocks_of s) ≡ form_of s n
+        pub other-blocks : wrong_blocks (blocks_of s) ≡ true → Err (Blocks (blocks_of s)) ≡ form_of s n
         other-blocks h = rw h at rest-is
 
         module _ (b : wrong_blocks (blocks_of s) ≡ false) where
-          pub other-journals : wrong_journals (journals_of s) ≡ true → Journals (journals_of s) ≡ form_of s n
+          pub other-journals : wrong_journals (journals_of s) ≡ true → Err (Journals (journals_of s)) ≡ form_of s n
           other-journals h = rw (b, h) at rest-is
 
           module _ (j : wrong_journals (journals_of s) ≡ false) where
-            pub other-check : is_sealed (take 512 s) ≡ false → Check ≡ form_of s n
+            pub other-check : is_sealed (take 512 s) ≡ false → Err Check ≡ form_of s n
             other-check h = rw (b, j, h) at rest-is
 
             module _ (k : is_sealed (take 512 s) ≡ true) where
-              pub other_length : (n ≡ file_bytes (blocks_of s) (journals_of s) → ⊥) → Length (file_bytes (blocks_of s) (journals_of s)) ≡ form_of s n
+              pub other_length : (n ≡ file_bytes (blocks_of s) (journals_of s) → ⊥) → Err (Length (file_bytes (blocks_of s) (journals_of s))) ≡ form_of s n
               other_length h = rw (b, j, k, ne_eqb n (file_bytes (blocks_of s) (journals_of s)) h) at rest-is
 
-              pub all_right : n ≡ file_bytes (blocks_of s) (journals_of s) → Sound (blocks_of s) (journals_of s) ≡ form_of s n
+              pub all_right : n ≡ file_bytes (blocks_of s) (journals_of s) → Ok (layout (blocks_of s) (journals_of s)) ≡ form_of s n
               all_right h = rw (b, j, k, eq-eqb n (file_bytes (blocks_of s) (journals_of s)) h) at rest-is
 
 pub same_bytes : {b b' j j' : ℕ} → b ≡ b' → j ≡ j' → file_bytes b j ≡ file_bytes b' j'
 same_bytes p q = rw (p, q)
 
-pub same-sound : {b b' j j' : ℕ} → b ≡ b' → j ≡ j' → Sound b j ≡ Sound b' j'
-same-sound p q = rw (p, q)
+pub same-layout : {b b' j j' : ℕ} → b ≡ b' → j ≡ j' → ◌≡◌ {A = Result Layout FormError} (Ok (layout b j)) (Ok (layout b' j'))
+same-layout p q = rw (p, q)
 
 -- ## what the tests of the numbers say
 pub record FewBlocks (b : ℕ) : Type 0 where
@@ -122,37 +124,28 @@ sound-says s n b j e =
     (λ m. split (eqb (version_of s) 1)
     (λ v. split (eqb (size_of s) SECTOR)
     (λ z. split (wrong_blocks (blocks_of s))
-    (λ p. absurd (never _ refl (rw (m, v, z, p) at e)))
+    (λ p. absurd (never (rw (m, v, z, p) at e)))
     (λ p. split (wrong_journals (journals_of s))
-    (λ q. absurd (never _ refl (rw (m, v, z, p, q) at e)))
+    (λ q. absurd (never (rw (m, v, z, p, q) at e)))
     (λ q. split (is_sealed (take 512 s))
     (λ k. split (eqb n (file_bytes (blocks_of s) (journals_of s)))
     (λ l. right p q (eqb-true n (file_bytes (blocks_of s) (journals_of s)) l) (rw (m, v, z, p, q, k, l) at e))
-    (λ l. absurd (never _ refl (rw (m, v, z, p, q, k, l) at e))))
-    (λ k. absurd (never _ refl (rw (m, v, z, p, q, k) at e))))))
-    (λ z. absurd (never _ refl (rw (m, v, z) at e))))
-    (λ v. absurd (never _ refl (rw (m, v) at e))))
-    (λ m. absurd (never _ refl (rw m at e)))
+    (λ l. absurd (never (rw (m, v, z, p, q, k, l) at e))))
+    (λ k. absurd (never (rw (m, v, z, p, q, k) at e))))))
+    (λ z. absurd (never (rw (m, v, z) at e))))
+    (λ v. absurd (never (rw (m, v) at e))))
+    (λ m. absurd (never (rw m at e)))
   where
     -- what is wrong is not sound
-    is_sound : Form → ℕ
-    is_sound (Sound b j) = 1
-    is_sound Magic = 0
-    is_sound (Version v) = 0
-    is_sound (SectorBytes z) = 0
-    is_sound (Blocks b) = 0
-    is_sound (Journals j) = 0
-    is_sound Check = 0
-    is_sound (Length n) = 0
-
-    never : (f : Form) → is_sound f ≡ 0 → f ≡ Sound b j → ⊥
-    never f not_sound e = omega (arith, not_sound, ap is_sound e)
+    never : {f : FormError} → ◌≡◌ {A = Result Layout FormError} (Err f) (Ok (layout b j)) → ⊥
+    never e = cc
 
     right : wrong_blocks (blocks_of s) ≡ false → wrong_journals (journals_of s) ≡ false → n ≡ file_bytes (blocks_of s) (journals_of s)
-        → Sound (blocks_of s) (journals_of s) ≡ Sound b j → SoundIs b j n
+        → ◌≡◌ {A = Result Layout FormError} (Ok (layout (blocks_of s) (journals_of s))) (Ok (layout b j)) → SoundIs b j n
     right p q l same =
-        let blocks : blocks_of s ≡ b = cc in
-        let journals : journals_of s ≡ j = cc in
+        let form : layout (blocks_of s) (journals_of s) ≡ layout b j = cc in
+        let blocks : blocks_of s ≡ b = ap (λ (x : Layout). x.blocks) form in
+        let journals : journals_of s ≡ j = ap (λ (x : Layout). x.journals) form in
         let f = right-blocks b (rw blocks at p) in
         record {
           blocks = f.few;

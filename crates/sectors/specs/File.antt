@@ -1,14 +1,15 @@
 -- A journal's file in sectors of 4,096 bytes: sector 0 says what the file is, and each block stands at the front of a sector, so that
 -- a torn sector is a torn block and no more.
 -- SPEC.md, "File".
-use Rattle.std.specs.Prelude.{ℕ, zero, suc, ◌+◌, ◌*◌, ◌%◌, ◌≤◌, ◌<◌, ◌≡◌, Bool, false, cond, not, ◌||◌, List, [], ◌∷◌, ◌++◌, ltb, eqb, length, take, drop, replicate}
+use Rattle.std.specs.Prelude.{ℕ, zero, suc, ◌+◌, ◌*◌, ◌%◌, ◌≤◌, ◌<◌, ◌≡◌, Bool, false, cond, not, ◌||◌, List, [], ◌∷◌, ◌++◌, ltb, eqb, length, take, drop, replicate, Result, Ok, Err}
 use Rattle.raw.specs.Bytes.{le, unle, number_at}
 use Rattle.crc.specs.Seal.{sealed, is_sealed}
 use Rattle.journal.specs.Area.{block_at, write_at}
 use Rattle.journal.specs.Sound.{is_kind}
 use Rattle.consumer.specs.State.{bad_area}
-use Rattle.sectors.specs.declared.Form.{Form}
-use Rattle.sectors.specs.declared.Form.TheVariants.{Sound, Magic, Version, SectorBytes, Blocks, Journals, Check, Length}
+use Rattle.sectors.specs.declared.Layout.{Layout}
+use Rattle.sectors.specs.declared.FormError.{FormError}
+use Rattle.sectors.specs.declared.FormError.TheVariants.{Magic, Version, SectorBytes, Blocks, Journals, Check, Length}
 
 abbrev pub SECTOR : ℕ
 SECTOR = 4096
@@ -45,16 +46,19 @@ file_bytes b j = SECTOR * (1 + j * b)
 -- a test, and what is wrong where it holds
 pub record Row : Type 0 where
   pub test : Bool
-  pub wrong : Form
+  pub wrong : FormError
 
-abbrev pub ◌⇒◌ : Bool → Form → Row
+abbrev pub ◌⇒◌ : Bool → FormError → Row
 ◌⇒◌ t f = record { test = t; wrong = f }
 
 infix 70 ◌⇒◌
--- the first that holds, or else
-abbrev pub first_or : Form → List Row → Form
-first_or f [] = f
-first_or f (w ∷ ws) = cond w.test w.wrong (first_or f ws)
+-- the first that holds, or else the layout
+abbrev pub first_or : Layout → List Row → Result Layout FormError
+first_or f [] = Ok f
+first_or f (w ∷ ws) = cond w.test (Err w.wrong) (first_or f ws)
+
+abbrev pub layout : (blocks journals : ℕ) → Layout
+layout b j = record { blocks = b; journals = j }
 
 -- the tests of sector 0, of a file of n bytes, in their order
 abbrev pub form_table : List ℕ → ℕ → List Row
@@ -68,8 +72,8 @@ form_table s n =
     ∷ not (eqb n (file_bytes (blocks_of s) (journals_of s))) ⇒ Length (file_bytes (blocks_of s) (journals_of s))
     ∷ []
 
-unfoldable pub form_of : List ℕ → ℕ → Form
-form_of s n = first_or (Sound (blocks_of s) (journals_of s)) (form_table s n)
+unfoldable pub form_of : List ℕ → ℕ → Result Layout FormError
+form_of s n = first_or (layout (blocks_of s) (journals_of s)) (form_table s n)
 
 -- sector 0 as it is laid down
 unfoldable pub sector_zero : (blocks journals : ℕ) → List ℕ
@@ -125,7 +129,7 @@ BlocksApart =
 -- what is laid down is read back
 unfoldable pub ReadsBack : Type 0
 ReadsBack =
-    (b j : ℕ) → wrong_blocks b ≡ false → wrong_journals j ≡ false → form_of (sector_zero b j) (file_bytes b j) ≡ Sound b j
+    (b j : ℕ) → wrong_blocks b ≡ false → wrong_journals j ≡ false → form_of (sector_zero b j) (file_bytes b j) ≡ Ok (layout b j)
 
 -- what is right of a file that is sound: a start takes the area of each of its journals
 pub record SoundIs (b j bytes : ℕ) : Type 0 where
@@ -135,7 +139,7 @@ pub record SoundIs (b j bytes : ℕ) : Type 0 where
   pub taken : bad_area (512 * b) ≡ false
 
 unfoldable pub SoundSays : Type 0
-SoundSays = (s : List ℕ) (n b j : ℕ) → form_of s n ≡ Sound b j → SoundIs b j n
+SoundSays = (s : List ℕ) (n b j : ℕ) → form_of s n ≡ Ok (layout b j) → SoundIs b j n
 
 -- a block that can't be read is neither a header nor a body, whatever is expected
 unfoldable pub UnreadUnsound : Type 0

@@ -9,10 +9,16 @@ ghost use Rattle.sectors.specs.Marks.{mark_of, is_blank, is_begun, state_of};
 // The first eight bytes: NINOTSKV.
 const MAGIC: u64 = 0x564b_5354_4f4e_494e;
 
-// What sector 0 says of a file, or what of it is wrong, with what it has there; of a wrong length what the file should have.
+// What sector 0 says of a file: the blocks of a journal, and the journals.
 #[derive(Clone, Copy)]
-pub enum Form {
-    Sound { blocks: u32, journals: u32 },
+pub struct Layout {
+    pub blocks: u32,
+    pub journals: u32,
+}
+
+// What of sector 0 is wrong, with what it has there; of a wrong length what the file should have.
+#[derive(Clone, Copy, Debug, PartialEq, Eq)]
+pub enum FormError {
     Magic,
     Version(u32),
     SectorBytes(u32),
@@ -54,37 +60,37 @@ fn file_bytes(blocks: u32, journals: u32) -> u64
 }
 
 // Reads sector 0 of a file of so many bytes. The first test that fails is answered.
-pub fn form_of(sector: &[u8], bytes: u64) -> Form
+pub fn form_of(sector: &[u8], bytes: u64) -> Result<Layout, FormError>
     requires { 512 ≤ length sector.now }
     ensures { result ≡ form_of sector.now bytes }
 {
     if raw::read_u64(sector, 0) != MAGIC {
-        return Form::Magic;
+        return Err(FormError::Magic);
     }
     let version = raw::read_u32(sector, 8);
     if version != 1 {
-        return Form::Version(version);
+        return Err(FormError::Version(version));
     }
     let size = raw::read_u32(sector, 12);
     if size != 4096 {
-        return Form::SectorBytes(size);
+        return Err(FormError::SectorBytes(size));
     }
     let blocks = raw::read_u32(sector, 16);
     if wrong_blocks(blocks) {
-        return Form::Blocks(blocks);
+        return Err(FormError::Blocks(blocks));
     }
     let journals = raw::read_u32(sector, 20);
     if wrong_journals(journals) {
-        return Form::Journals(journals);
+        return Err(FormError::Journals(journals));
     }
     if !crc::is_sealed(&sector[..512]) {
-        return Form::Check;
+        return Err(FormError::Check);
     }
     let whole = file_bytes(blocks, journals);
     if bytes != whole {
-        return Form::Length { bytes: whole };
+        return Err(FormError::Length { bytes: whole });
     }
-    Form::Sound { blocks, journals }
+    Ok(Layout { blocks, journals })
 }
 
 // Where the sector of a block begins in the file.
@@ -100,7 +106,7 @@ pub fn put_front(area: &mut [u8], at: usize, sector: &[u8])
     requires { (512 * at + 512 ≤ length area.old) × (512 ≤ length sector.now) }
     ensures { area.new ≡ write_at area.old at (front sector.now) }
 {
-    raw::write_bytes(area, 512 * at, &sector[..512]);
+    let _ = raw::write_bytes(area, 512 * at, &sector[..512]);
 }
 
 // Fills the place of a block that can't be read: neither a header nor a body has such bytes.
@@ -109,7 +115,7 @@ pub fn put_unread(area: &mut [u8], at: usize)
     ensures { area.new ≡ write_at area.old at unread }
 {
     let filler = [255u8; 512];
-    raw::write_bytes(area, 512 * at, &filler);
+    let _ = raw::write_bytes(area, 512 * at, &filler);
 }
 
 // What a file for several journals says of one of them.

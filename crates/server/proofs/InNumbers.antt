@@ -7,9 +7,13 @@ use mathlib.Core.Bool.{Bool, true, false}
 use mathlib.Core.List.{List, []}
 use mathlib.Core.Option.{Option, none, some}
 use lib.ListN.{length}
-use Rattle.types.specs.Refusal.{Refusal, Result, refused, done}
+use Rattle.std.specs.Prelude.{Ok, Err}
+use Rattle.std.specs.Prelude as std
+use Rattle.types.specs.Refusal.{Result, refused, done}
 use Rattle.types.specs.Refusal as refusal
-use Rattle.types.specs.Table.{Kept, unless}
+use Rattle.types.specs.Refused.{refusal_of, as_is}
+use Rattle.types.specs.Table.{Kept}
+use Rattle.types.specs.declared.refusals.Refusal as code_refusal
 use Rattle.consumer.specs.State.{State}
 use Rattle.consumer.specs.View.{view, Unmoved}
 use Rattle.consumer.specs.View as consumer
@@ -17,9 +21,7 @@ use Rattle.consumer.specs.declared.Consumer.{Consumer}
 use Rattle.consumer.specs.declared.Configuration.{Configuration}
 use Rattle.checkpoint.specs.declared.Writing.{Writing}
 use Rattle.starts.specs.Restart as restarts
-use Rattle.starts.specs.Starting.{configuration_of, start_fault}
-use Rattle.starts.specs.declared.StartAnswer.TheVariants as starts
-use Rattle.starts.proofs.Restarting.{Other, other_faulty}
+use Rattle.starts.specs.Starting.{configuration_of, start_of}
 use Rattle.machine.specs.Calls.{Ask, Call, Event, claimed, acked, termed, nacked, progressed, committed, looked, begun, stepped, restarted, failed}
 use Rattle.machine.specs.Transitions.{Phase, idle, After, on_state, asked, transition}
 use Rattle.machine.specs.Answers.{Arguments, arguments_of, seen_of, AskKept, out_after}
@@ -40,10 +42,10 @@ use Rattle.server.specs.Transitions.{on_ask, on_call, phase_in, area_in, answere
 use Rattle.answers.specs.declared.Numbers.{Numbers}
 
 -- ## parts
-start-kept : {T : Type 0} (before after : T) (o : Option Refusal) (s : State) → Kept (unless o (done (tt {0}))) before after
-    → Kept (unless o (done s)) before after
-start-kept before after none s k = k
-start-kept before after (some r) s k = k
+start-kept : {T : Type 0} (before after : T) (a : std.Result (Unit {0}) code_refusal.Refusal) (s : State) → Kept (as_is a) before after
+    → Kept (start_of a s) before after
+start-kept before after (Ok u) s k = k
+start-kept before after (Err f) s k = k
 
 ask-kept : {T : Type 0} (before after : T) (g : Arguments) (a : AskAnswer) (out : List ℕ) → AskKept a before after
     → KeptBy (seen_of g a out) before after
@@ -177,7 +179,7 @@ module _ (m : Machine) (area : List ℕ) (q : Call) (m' : Machine) (area' out' :
   call_kept (callAnswers.Asked a) k = ask-kept (held m area) (held m' area') _ a out' k
   call_kept (callAnswers.Begun a) k = k
   call_kept (callAnswers.Stepped a) k = k
-  call_kept (callAnswers.Restarted a) k = start-kept (held m area) (held m' area') (start_fault a) _ k
+  call_kept (callAnswers.Restarted a) k = start-kept (held m area) (held m' area') a _ k
   call_kept callAnswers.NotNow k = k
 
 module _ (m : Machine) (w kind a b c d : ℕ) (area out : List ℕ) where
@@ -200,34 +202,32 @@ module _ (m : Machine) (w kind a b c d : ℕ) (area out : List ℕ) where
 
 -- ## a start and an import
 module _ (right : Result State) (before : Machine) (s : Configuration) (size : ℕ) (r : Started) (n : Numbers) (h : machine.MadeIs right s size r)
-    (e : n ≡ numbers_of (refusal.answered no_values (unless (start_fault r.answer) (done (tt {0}))))) where
+    (e : n ≡ numbers_of (refusal.answered no_values (as_is r.answer))) where
   made-said : n ≡ numbers_of (refusal.answered no_values right)
-  made-said = e ∙ start-numbers (start_fault r.answer) _ ∙ ap (λ u. numbers_of (refusal.answered no_values u)) h.is
+  made-said = e ∙ start-numbers r.answer _ ∙ ap (λ u. numbers_of (refusal.answered no_values u)) h.is
 
-  pub made-refused : Other r.answer → MadeIs right before s n before
-  made-refused o =
-      let f = other_faulty r.answer o in
-      let w : refused f.refusal ≡ right = rw f.is at h.is in
+  pub made-refused : (f : code_refusal.Refusal) → r.answer ≡ Err f → MadeIs right before s n before
+  made-refused f p =
+      let w : refused (refusal_of f) ≡ right = rw p at h.is in
       record { is = made-said; made = rw (← w) refl }
 
-  pub made-done : r.answer ≡ starts.Started → MadeIs right before s n r.machine
-  made-done p =
+  pub made-done : (u : Unit {0}) → r.answer ≡ Ok u → MadeIs right before s n r.machine
+  made-done u p =
       let w : done (view r.machine.writing.consumer) ≡ right = rw p at h.is in
       record { is = made-said; made = rw (← w) (rw (← w) at h.phase, h.configuration, h.sound) }
 
 -- a start, with no more of it than an answer and who can be called
 module _ (before : Machine) (s : Configuration) (size : ℕ) (r : Started) (n : Numbers) (h : machine.StartedIs s size r)
-    (e : n ≡ numbers_of (refusal.answered no_values (unless (start_fault r.answer) (done (tt {0}))))) where
+    (e : n ≡ numbers_of (refusal.answered no_values (as_is r.answer))) where
   start-said : n ≡ numbers_of (refusal.answered no_values (restarts.start (configuration_of s) size))
-  start-said = e ∙ start-numbers (start_fault r.answer) _ ∙ ap (λ u. numbers_of (refusal.answered no_values u)) h.is
+  start-said = e ∙ start-numbers r.answer _ ∙ ap (λ u. numbers_of (refusal.answered no_values u)) h.is
 
-  pub start-refused : Other r.answer → StartIs before s size n before
-  start-refused o =
-      let f = other_faulty r.answer o in
-      let w : refused f.refusal ≡ restarts.start (configuration_of s) size = rw f.is at h.is in
+  pub start-refused : (f : code_refusal.Refusal) → r.answer ≡ Err f → StartIs before s size n before
+  start-refused f p =
+      let w : refused (refusal_of f) ≡ restarts.start (configuration_of s) size = rw p at h.is in
       record { is = start-said; made = rw (← w) refl }
 
-  pub start-done : r.answer ≡ starts.Started → StartIs before s size n r.machine
-  start-done p =
+  pub start-done : (u : Unit {0}) → r.answer ≡ Ok u → StartIs before s size n r.machine
+  start-done u p =
       let w : done (view r.machine.writing.consumer) ≡ restarts.start (configuration_of s) size = rw p at h.is in
       record { is = start-said; made = rw (← w) (rw (← w) at h.phase, h.configuration, h.sound) }

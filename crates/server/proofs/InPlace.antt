@@ -7,42 +7,39 @@ use mathlib.Core.Bool.{true}
 use mathlib.Core.List.{List}
 use lib.ListN.{length}
 use Rattle.types.specs.Limits.{LEASES}
+use Rattle.std.specs.Prelude.{Ok, Err}
+use Rattle.std.specs.Prelude as std
 use Rattle.types.specs.Refusal as refusal
-use Rattle.types.specs.Table.{unless}
+use Rattle.types.specs.Refused.{refusal_of, as_is}
+use Rattle.types.specs.declared.refusals.Refusal as code_refusal
 use Rattle.tables.specs.Slots.{Permutes}
+use Rattle.cursor.specs.View.{ack_cursor}
+use Rattle.lease.specs.Parts.{gathered}
 use Rattle.consumer.specs.Calls as consumer
 use Rattle.consumer.specs.Parts.{Whole}
-use Rattle.consumer.specs.View.{view, Answers, progress_of}
+use Rattle.consumer.specs.View.{view, Answers}
 use Rattle.consumer.specs.declared.Configuration.{Configuration}
 use Rattle.consumer.specs.declared.Consumer.{Consumer}
-use Rattle.consumer.specs.declared.calls.ProgressAnswer.{ProgressAnswer}
 use Rattle.checkpoint.specs.Parts.{Lent, BegunAs}
 use Rattle.checkpoint.specs.Writing.{SoundWriting, SteppedIs, step_of}
 use Rattle.checkpoint.specs.declared.Writing.{Writing}
-use Rattle.checkpoint.specs.declared.BeginAnswer.{BeginAnswer}
-use Rattle.checkpoint.specs.declared.BeginAnswer.TheVariants as begins
 use Rattle.checkpoint.specs.declared.Stepped.{Stepped}
-use Rattle.starts.specs.Starting.{start_fault, start_of}
-use Rattle.starts.specs.Parts.{Columns, going_on, RestartedIn}
-use Rattle.starts.specs.declared.StartAnswer.TheVariants as starts
+use Rattle.starts.specs.Parts.{Columns, columns, going_on, RestartedIn}
 use Rattle.starts.specs.declared.in_place.RestartedAt.{RestartedAt}
-use Rattle.starts.proofs.Restarting.{Other, other_faulty}
 use Rattle.machine.specs.Calls.{progress, begin, step, restart, u64, progressed}
 use Rattle.machine.specs.Transitions.{answered_as}
-use Rattle.machine.specs.Answers.{begun_of}
-use Rattle.machine.specs.View.{SoundAt, CalledIs, phaseAfter}
-use Rattle.machine.specs.Parts.{consumer_of, left, Ready}
+use Rattle.machine.specs.View.{SoundAt, Sound, Stands, phaseAfter}
 use Rattle.machine.specs.declared.Machine.{Machine}
+use Rattle.machine.specs.Parts.{consumer_of, left, Ready}
 use Rattle.machine.specs.declared.in_place.Fixed.{Fixed}
 use Rattle.machine.specs.declared.in_place.Figures.{Figures}
 use Rattle.machine.specs.declared.calls.AskAnswer.TheVariants as asks
 use Rattle.machine.specs.declared.calls.CallAnswer.TheVariants as calls
-use Rattle.machine.proofs.Transitions.{not_begun, not_stepped, NotBegun, begin_faulty, begin-refused, begin-done, step-called, restart-kept, restart-made}
+use Rattle.machine.proofs.Transitions.{not_begun, not_stepped, begin-refused, begin-done, step-called, restart-kept, restart-made}
 use Rattle.answers.specs.Numbers.{numbers_of, not_now, no_values, one_value, wrote_values}
 use Rattle.answers.specs.declared.Numbers.{Numbers}
-use Rattle.answers.proofs.Starts.{start-numbers}
 use Rattle.server.specs.Transitions.{AskedOn, CallIs}
-use Rattle.server.specs.Parts.{machine_of, Askable, Lendable, phase_begun, RestartedOn}
+use Rattle.server.specs.Parts.{machine_of, Askable, Lendable}
 use Rattle.server.proofs.InNumbers.{idle-sound, idle-asked, ask-some, call-some}
 
 -- ## a call on the state
@@ -63,8 +60,8 @@ ready k f n starts ends ks slots gs ss ds ns ws cks cvs backoffs rights x e h =
     }
 
 -- Progress, from what the consumer answers
-pub progress-numbers : (k : ℕ) (x : Consumer) (w o g now : ℕ) (out : List ℕ) (y : Consumer) (a : ProgressAnswer) (n : Numbers) → k ≡ 0
-    → Answers (progress_of a) x y (consumer.progress (view x) w o g now) → n ≡ numbers_of (refusal.answered one_value (progress_of a)) → AskedOn k x w 5 o g now 0 out n y out
+pub progress-numbers : (k : ℕ) (x : Consumer) (w o g now : ℕ) (out : List ℕ) (y : Consumer) (a : std.Result ℕ code_refusal.Refusal) (n : Numbers) → k ≡ 0
+    → Answers (as_is a) x y (consumer.progress (view x) w o g now) → n ≡ numbers_of (refusal.answered one_value (as_is a)) → AskedOn k x w 5 o g now 0 out n y out
 progress-numbers k x w o g now out y a n e h same =
     idle-asked k x w 5 o g now 0 out n y out e
     (ask-some x w 5 o g now 0 out (progress o g now) (left (asks.Progressed a) y) out n refl
@@ -87,60 +84,68 @@ module _ (s : Configuration) (k : ℕ) (w : Writing) (ok : SoundAt k w) (v : ℕ
       call-some (machine_of s k w) v 16 0 0 0 0 a out (begin v) (record { answer = calls.NotNow; machine = machine_of s k w }) a out not_now refl
       (not_begun (machine_of s k w) ok a out v f h) refl
 
-  module _ (e : k ≡ 0) (w' : Writing) where
-    begun-refused : (answer : BeginAnswer) → NotBegun answer → BegunAs answer v w w'
-        → CalledIs (machine_of s k w) (begin v) a out (record { answer = calls.Begun answer; machine = machine_of s 0 w' }) a out
-    begun-refused answer p h =
-        let same : w' ≡ w = rw (begin_faulty answer p w').is at h.kept in
-        rw (same, ← e) (begin-refused (machine_of s k w) e a out ok v f (record { answer = answer; writing = w' }) h.begun p)
+  module _ (e : k ≡ 0) (w' : Writing) (n : Numbers) where
+    pub begun-done : (i : ℕ) → BegunAs (Ok i) v w w' → n ≡ numbers_of (refusal.answered one_value (as_is (Ok i))) → CallIs (machine_of s k w) v 16 0 0 0 0 a out n (machine_of s 1 w') a out
+    begun-done i h same =
+        call-some (machine_of s k w) v 16 0 0 0 0 a out (begin v) (record { answer = calls.Begun (Ok i); machine = machine_of s 1 w' }) a out n refl
+        (begin-done (machine_of s k w) e a out ok v f (record { answer = Ok i; writing = w' }) h.begun i refl) same
 
-    begun-called : (answer : BeginAnswer) → BegunAs answer v w w'
-        → CalledIs (machine_of s k w) (begin v) a out (record { answer = calls.Begun answer; machine = machine_of s (phase_begun answer) w' }) a out
-    begun-called (begins.Begun n) h =
-        begin-done (machine_of s k w) e a out ok v f (record { answer = begins.Begun n; writing = w' }) h.begun n refl
-    begun-called begins.JournalFull h = begun-refused begins.JournalFull (search rules) h
-    begun-called begins.UnknownWorker h = begun-refused begins.UnknownWorker (search rules) h
-    begun-called begins.NotPermitted h = begun-refused begins.NotPermitted (search rules) h
-
-    pub begun-numbers : (answer : BeginAnswer) → BegunAs answer v w w' → (n : Numbers) (k' : ℕ) → n ≡ numbers_of (refusal.answered one_value (begun_of answer))
-        → k' ≡ phase_begun answer → CallIs (machine_of s k w) v 16 0 0 0 0 a out n (machine_of s k' w') a out
-    begun-numbers answer h n k' same p =
-        rw p
-        (call-some (machine_of s k w) v 16 0 0 0 0 a out (begin v) (record { answer = calls.Begun answer; machine = machine_of s (phase_begun answer) w' }) a out n refl
-        (begun-called answer h) same)
+    -- a refusal keeps the record
+    pub begun-refused : (q : code_refusal.Refusal) → BegunAs (Err q) v w w' → n ≡ numbers_of (refusal.numbered (refusal_of q))
+        → CallIs (machine_of s k w) v 16 0 0 0 0 a out n (machine_of s k w') a out
+    begun-refused q h same =
+        rw h.kept
+        (call-some (machine_of s k w) v 16 0 0 0 0 a out (begin v) (record { answer = calls.Begun (Err q); machine = machine_of s k w }) a out n refl
+        (begin-refused (machine_of s k w) e a out ok v f (record { answer = Err q; writing = w' }) h.begun q refl) same)
 
 -- ## restart
-module _ (s : Configuration) (k : ℕ) (w : Writing) (a out : List ℕ) (r : RestartedAt) (p p' : Columns) (h : RestartedIn s a r p p') (n : Numbers)
-    (same : n ≡ numbers_of (refusal.answered no_values (unless (start_fault r.answer) (refusal.done (tt {0}))))) where
-  -- the numbers are those of what stands beside the answer
-  said : (c : Consumer) → n ≡ numbers_of (refusal.answered no_values (start_of r.answer (view c)))
-  said c = same ∙ start-numbers (start_fault r.answer) (view c)
+-- the columns that a restart fills, and the machine with others in their places
+abbrev pub columns_of : Machine → Columns
+columns_of m =
+    let c = m.writing.consumer in columns c.cursor.starts c.cursor.ends c.table.carried_offsets c.table.carried_counts
 
-  restart-numbers : (m' : Machine) → CalledIs (machine_of s k w) restart a out (record { answer = calls.Restarted r.answer; machine = m' }) a out
-      → CallIs (machine_of s k w) 0 18 0 0 0 0 a out n m' a out
-  restart-numbers m' c =
-      call-some (machine_of s k w) 0 18 0 0 0 0 a out restart (record { answer = calls.Restarted r.answer; machine = m' }) a out n refl c (said m'.writing.consumer)
+abbrev pub with_columns : Machine → Columns → Machine
+with_columns m p =
+    let c = m.writing.consumer in
+    let t = c.table in
+    record {
+      configuration = m.configuration;
+      phase = m.phase;
+      writing =
+          record {
+            consumer =
+                record {
+                  cursor = ack_cursor c.cursor.committed p.starts p.ends c.cursor.runs;
+                  table =
+                      gathered t.config t.len t.carried_len t.next_generation.0 t.redeliveries_since_flush t.offsets t.slots t.generations t.attempt_starts t.deadlines
+                      t.deliveries t.workers p.offsets p.counts;
+                  ceiling = c.ceiling;
+                  next = c.next;
+                  area_len = c.area_len;
+                  settings = c.settings;
+                };
+            written = m.writing.written;
+            payload = m.writing.payload;
+            cursor_len = m.writing.cursor_len;
+            attempt_len = m.writing.attempt_len;
+          };
+    }
 
-  restart-refused : SoundAt k w → Other r.answer → CallIs (machine_of s k w) 0 18 0 0 0 0 a out n (machine_of s k w) a out
-  restart-refused ok o = restart-numbers (machine_of s k w) (restart-kept (machine_of s k w) a out r.answer (going_on s (length a) r p' w.consumer) (h.is w.consumer) ok o)
+module _ (m : Machine) (ok : Sound m) (a out : List ℕ) (p' : Columns) (n : Numbers) where
+  -- a refusal keeps them
+  pub restart-refused : (f : code_refusal.Refusal) → RestartedIn m.configuration a (Err f) (columns_of m) p' → n ≡ numbers_of (refusal.numbered (refusal_of f))
+      → CallIs m 0 18 0 0 0 0 a out n (with_columns m p') a out
+  restart-refused f h same =
+      rw h.kept
+      (call-some m 0 18 0 0 0 0 a out restart (record { answer = calls.Restarted (Err f); machine = m }) a out n refl
+      (restart-kept m a out ok f (h.is m.writing.consumer)) same)
 
-  restart-done : r.answer ≡ starts.Started → (w' : Writing) → Permutes LEASES w'.consumer.table.slots → w'.consumer ≡ going_on s (length a) r p' w'.consumer
-      → CallIs (machine_of s k w) 0 18 0 0 0 0 a out n (machine_of s 0 w') a out
-  restart-done e w' free is =
-      restart-numbers (machine_of s 0 w')
-      (restart-made (machine_of s k w) a out r.answer (going_on s (length a) r p' w'.consumer) (h.is w'.consumer) e (h.sound w'.consumer free e) (machine_of s 0 w') (record { configuration = refl; phase = refl; consumer = is }))
-
--- on every machine that has these parts; a refusal keeps the columns
-module _ (s : Configuration) (k : ℕ) (a : List ℕ) (r : RestartedAt) (p p' : Columns) (h : RestartedIn s a r p p') (n : Numbers)
-    (same : n ≡ numbers_of (refusal.answered no_values (unless (start_fault r.answer) (refusal.done (tt {0}))))) (before after : Columns → Writing → Writing) where
-  pub refused-on : Other r.answer → RestartedOn k s (before p) a n k (before p')
-  refused-on o w ok out =
-      let kept : p' ≡ p = rw (other_faulty r.answer o).is at h.kept in
-      rw kept (restart-refused s k (before p w) a out r p p' h n same ok o)
-
-  pub done_on : r.answer ≡ starts.Started → ((w : Writing) → Permutes LEASES (after p' w).consumer.table.slots)
-      → ((w : Writing) → (after p' w).consumer ≡ going_on s (length a) r p' (after p' w).consumer) → RestartedOn k s (before p) a n 0 (after p')
-  done_on e free is w ok out = restart-done s k (before p w) a out r p p' h n same e (after p' w) (free w) (is w)
+  pub restarted-on : (r : RestartedAt) → RestartedIn m.configuration a (Ok r) (columns_of m) p' → n ≡ numbers_of (refusal.answered no_values (as_is (Ok (tt {0}))))
+      → (m' : Machine) → Stands m.configuration 0 (going_on m.configuration (length a) r p' m'.writing.consumer) m' → Permutes LEASES m'.writing.consumer.table.slots
+      → CallIs m 0 18 0 0 0 0 a out n m' a out
+  restarted-on r h same m' is free =
+      call-some m 0 18 0 0 0 0 a out restart (record { answer = calls.Restarted (Ok (tt {0})); machine = m' }) a out n refl
+      (restart-made m a out (tt {0}) (going_on m.configuration (length a) r p' m'.writing.consumer) (h.is m'.writing.consumer) (h.sound m'.writing.consumer free) m' is) same
 
 -- ## step
 pub writing-sound : (k : ℕ) (w : Writing) → k ≡ 1 → SoundAt k w → SoundWriting w

@@ -1,4 +1,3 @@
-pub mod Due
 pub mod Found
 pub mod InNumbers
 pub mod AsCalls

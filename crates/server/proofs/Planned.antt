@@ -7,7 +7,9 @@ use mathlib.Core.Bool.{true}
 use mathlib.Core.List.{List}
 use mathlib.Core.Option.{Option}
 use lib.ListN.{length}
+use Rattle.std.specs.Prelude as std
 use Rattle.types.specs.Refusal.{Result}
+use Rattle.types.specs.declared.refusals.Refusal.{Refusal}
 use Rattle.types.specs.Refusal as refusal
 use Rattle.consumer.specs.Questions.{Plan}
 use Rattle.consumer.specs.Questions as questions
@@ -15,7 +17,6 @@ use Rattle.consumer.specs.View.{view, plan_of}
 use Rattle.consumer.specs.Parts.{Plans}
 use Rattle.consumer.specs.declared.Consumer.{Consumer}
 use Rattle.consumer.specs.declared.Configuration.{Configuration}
-use Rattle.consumer.specs.declared.plans.PlanAnswer.{PlanAnswer}
 use Rattle.checkpoint.specs.declared.Writing.{Writing}
 use Rattle.starts.specs.Starting.{configuration_of}
 use Rattle.machine.specs.Calls.{look, ask, u64, question_fits}
@@ -33,7 +34,7 @@ pub not_planned : (k : ℕ) (x : Consumer) (w : ℕ) (os out : List ℕ) → (k 
 not_planned zero x w os out h = absurd (h refl)
 not_planned (suc k) x w os out h = (refl, refl, refl)
 
-pub plan-numbers : (k : ℕ) (x : Consumer) (w : ℕ) (os out : List ℕ) (y : Consumer) (a : PlanAnswer) (out' : List ℕ) (n : Numbers) → k ≡ 0 → y ≡ x
+pub plan-numbers : (k : ℕ) (x : Consumer) (w : ℕ) (os out : List ℕ) (y : Consumer) (a : std.Result ℕ Refusal) (out' : List ℕ) (n : Numbers) → k ≡ 0 → y ≡ x
     → Plans (questions.look (view x) w (Plan os (length out))) out a out' → n ≡ numbers_of (refusal.answered values (plan_of a out')) → PlannedOn k x w os out n y out'
 plan-numbers zero x w os out y a out' n e kept h same =
     record { is = same ∙ ap (λ (r : Result (List ℕ)). numbers_of (refusal.answered values r)) h.is; bytes = h.bytes; kept = kept }

@@ -5,7 +5,9 @@ use native.Mathlib.Omega.{arith}
 use mathlib.Core.Path.{◌≡◌, refl, ap, ◌∙◌}
 use mathlib.Core.Bool.{true}
 use mathlib.Core.List.{List}
+use Rattle.std.specs.Prelude as std
 use Rattle.types.specs.Refusal.{Result}
+use Rattle.types.specs.declared.refusals.Refusal.{Refusal}
 use Rattle.types.specs.Refusal as refusal
 use Rattle.consumer.specs.Export.{Snapshots}
 use Rattle.consumer.specs.Questions.{export_to, export}
@@ -13,7 +15,7 @@ use Rattle.consumer.specs.View.{view, export_of}
 use Rattle.consumer.specs.Parts.{Exports, Whole}
 use Rattle.consumer.specs.declared.Consumer.{Consumer}
 use Rattle.consumer.specs.declared.Configuration.{Configuration}
-use Rattle.consumer.specs.declared.snapshots.ExportAnswer.{ExportAnswer}
+use Rattle.consumer.specs.declared.snapshots.Lengths.{Lengths}
 use Rattle.checkpoint.specs.declared.Writing.{Writing}
 use Rattle.starts.specs.Starting.{configuration_of}
 use Rattle.machine.specs.Calls.{look, ask, u64}
@@ -35,7 +37,7 @@ pub whole_of : (k : ℕ) (x : Consumer) → k ≡ 0 → Askable k x → Whole x
 whole_of zero x e h = record { full = h.sized.table; sound = h.sound }
 whole_of (suc k) x e h = absurd (omega arith)
 
-pub export-numbers : (k : ℕ) (x : Consumer) (w : ℕ) (out : Snapshots) (y : Consumer) (a : ExportAnswer) (out' : Snapshots) (n : Numbers) → k ≡ 0 → y ≡ x
+pub export-numbers : (k : ℕ) (x : Consumer) (w : ℕ) (out : Snapshots) (y : Consumer) (a : std.Result Lengths Refusal) (out' : Snapshots) (n : Numbers) → k ≡ 0 → y ≡ x
     → Exports (view x) (export (view x) w out) out a out' → n ≡ numbers_of (refusal.answered values (export_of a out')) → ExportedOn k x w out n y out'
 export-numbers zero x w out y a out' n e kept h same =
     record { is = same ∙ ap (λ (r : Result (List ℕ)). numbers_of (refusal.answered values r)) h.is; lists = h.lists; kept = kept }

@@ -1,15 +1,15 @@
 -- Calls in numbers, as Rust hands them in: which call a number is, with the numbers behind it.
 -- SPEC.md, "Interface".
 use Rattle.std.specs.Prelude.{ℕ, ◌/◌, List, [], ◌∷◌}
+use Rattle.std.specs.Prelude as std
 use Rattle.std.proofs.Math.Option.{Option, none, some}
+use Rattle.types.specs.Refused.{option_of}
 use Rattle.types.specs.Keyed.{Entry, entry, lookup, map_values}
 use Rattle.consumer.specs.Questions.{Waiting, Committed, IsSettled, LeaseOf, CountOf, InFlight, IsDue, BlocksLeft, ViewOf, OpenBetween, NearestOpen}
 use Rattle.machine.specs.Calls.{Ask, claim, ack, term, nack, progress, commit, look, Call, ask, begin, step, restart}
 use Rattle.machine.specs.Answers.{ask_of, call_of}
-use Rattle.server.specs.declared.kinds.Asking.{Asking}
-use Rattle.server.specs.declared.kinds.Asking.TheVariants as asking
-use Rattle.server.specs.declared.kinds.Calling.{Calling}
-use Rattle.server.specs.declared.kinds.Calling.TheVariants as calling
+use Rattle.machine.specs.declared.calls.Ask as code_ask
+use Rattle.machine.specs.declared.calls.Call as code_call
 
 -- ## calls on the state, each with its number: up to 15 those that can change it, from 32 on the questions. `room` is the number of places
 -- that are lent for a list
@@ -31,11 +31,9 @@ calls w a b c d room = entry 16 (begin w) ∷ entry 17 step ∷ entry 18 restart
 abbrev pub call_at : ℕ → ℕ → ℕ → ℕ → ℕ → ℕ → ℕ → Option Call
 call_at w kind a b c d room = lookup kind (calls w a b c d room)
 
--- ## the calls of a decoder's answer
-abbrev pub asking_of : ℕ → Asking → Option Ask
-asking_of room (asking.Ask q) = some (ask_of room q)
-asking_of room asking.None = none
+-- ## the calls that the decoders find
+abbrev pub asking_of : ℕ → std.Option code_ask.Ask → Option Ask
+asking_of room = option_of (ask_of room)
 
-abbrev pub calling_of : ℕ → Calling → Option Call
-calling_of room (calling.Call q) = some (call_of room q)
-calling_of room calling.None = none
+abbrev pub calling_of : ℕ → std.Option code_call.Call → Option Call
+calling_of room = option_of (call_of room)

@@ -1,25 +1,15 @@
 -- The parts of a machine, as the calls in place are handed them, and what each makes of every machine that has them.
 -- SPEC.md, "Interface".
 use Rattle.std.specs.Prelude.{ℕ, ◌≡◌, List, length}
-use Rattle.hours.specs.declared.Hours.{Hours}
-use Rattle.cursor.specs.View.{ack_cursor}
-use Rattle.lease.specs.Parts.{gathered, Full}
-use Rattle.lease.specs.declared.LeaseConfig.{LeaseConfig}
+use Rattle.lease.specs.Parts.{Full}
 use Rattle.consumer.specs.Export.{Snapshots}
 use Rattle.consumer.specs.declared.Configuration.{Configuration}
 use Rattle.consumer.specs.declared.Consumer.{Consumer}
-use Rattle.consumer.specs.declared.Settings.{Settings}
 use Rattle.checkpoint.specs.Parts.{recording, Parts, with_parts}
 use Rattle.checkpoint.specs.declared.Writing.{Writing}
-use Rattle.checkpoint.specs.declared.BeginAnswer.{BeginAnswer}
-use Rattle.checkpoint.specs.declared.BeginAnswer.TheVariants as begins
-use Rattle.starts.specs.Parts.{Columns}
 use Rattle.machine.specs.View.{SoundAt}
 use Rattle.machine.specs.declared.Machine.{Machine}
-use Rattle.machine.specs.declared.in_place.Fixed.{Fixed}
-use Rattle.machine.specs.declared.in_place.Figures.{Figures}
 use Rattle.answers.specs.declared.Numbers.{Numbers}
-use Rattle.server.specs.declared.in_place.RestartDone.{RestartDone}
 use Rattle.server.specs.Transitions.{SoundIf, AskedOn, PlannedOn, ExportedOn, CallIs}
 
 -- the machine of a phase and a record
@@ -34,14 +24,6 @@ pub record Sized (c : Consumer) : Type 0 where
   pub backoffs : length c.settings.delivery.backoff_nanos ≡ 16
 
 -- ## a call on the state
--- the numbers of a consumer that its calls leave, and those that they change
-abbrev pub fixed_as : LeaseConfig → Hours → (ceiling block areaLen maxDeliver backoffLen threshold : ℕ) → Fixed
-fixed_as config hours ceiling block size most steps threshold =
-    record { config = config; hours = hours; ceiling = ceiling; block = block; area_len = size; max_deliver = most; backoff_len = steps; threshold = threshold }
-
-abbrev pub figures_as : (committed runs len carriedLen generation redeliveries : ℕ) → Figures
-figures_as c r n m g red = record { committed = c; runs = r; len = n; carried_len = m; next_generation = g; redeliveries = red }
-
 -- a consumer that is sound where it can be called, and whose arrays have their lengths
 pub record Askable (k : ℕ) (x : Consumer) : Type 0 where
   pub sized : Sized x
@@ -85,50 +67,11 @@ pub record Beginnable (k : ℕ) (parts : Consumer → Writing) : Type 0 where
   pub consumer : Consumer
   pub lendable : Lendable k (parts consumer)
 
--- the number of the phase that a begin leaves
-abbrev pub phase_begun : BeginAnswer → ℕ
-phase_begun (begins.Begun n) = 1
-phase_begun begins.UnknownWorker = 0
-phase_begun begins.NotPermitted = 0
-phase_begun begins.JournalFull = 0
-
 -- call 16 of worker w on every machine that has these parts, whatever area and list are lent
 abbrev pub BegunOn : ℕ → (Consumer → Writing) → ℕ → Numbers → ℕ → (Consumer → Writing) → Type 0
 BegunOn k before w n k' after =
     (s : Configuration) (c : Consumer) → Lendable k (before c) → (area out : List ℕ)
     → CallIs (machine_of s k (before c)) w 16 0 0 0 0 area out n (machine_of s k' (after c)) area out
-
--- ## restart
--- a record with these numbers, slots and columns of its consumer in their places; the columns of the leases stay
-abbrev pub to_restart : (committed runs len carriedLen generation redeliveries ceiling number block areaLen : ℕ) → LeaseConfig → Settings → (slots : List ℕ) → Columns → Writing → Writing
-to_restart committed runs n m g red ceiling k b size config settings slots p w =
-    record {
-      consumer =
-          record {
-            cursor = ack_cursor committed p.starts p.ends runs;
-            table =
-                gathered config n m g red w.consumer.table.offsets slots w.consumer.table.generations w.consumer.table.attempt_starts w.consumer.table.deadlines
-                w.consumer.table.deliveries w.consumer.table.workers p.offsets p.counts;
-            ceiling = record { 0 = ceiling };
-            next = record { number = k; block = b };
-            area_len = size;
-            settings = settings;
-          };
-      written = w.written;
-      payload = w.payload;
-      cursor_len = w.cursor_len;
-      attempt_len = w.attempt_len;
-    }
-
--- with what a restart leaves
-abbrev pub restarted_by : RestartDone → (slots : List ℕ) → Columns → Writing → Writing
-restarted_by r =
-    to_restart r.committed r.runs r.len r.carried_len r.next_generation r.redeliveries r.ceiling r.number r.block r.area_len r.config r.settings
-
--- call 18 on every machine of this configuration that has these parts, whatever list is lent
-abbrev pub RestartedOn : ℕ → Configuration → (before : Writing → Writing) → List ℕ → Numbers → ℕ → (after : Writing → Writing) → Type 0
-RestartedOn k s before a n k' after =
-    (w : Writing) → SoundAt k (before w) → (out : List ℕ) → CallIs (machine_of s k (before w)) 0 18 0 0 0 0 a out n (machine_of s k' (after w)) a out
 
 -- ## step
 -- the parts of a record that is sound in a phase

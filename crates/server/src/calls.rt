@@ -7,14 +7,15 @@ ghost use Rattle.server.specs.Parts.{Sized};
 ghost use Rattle.server.specs.Transitions.{AskIs, CallIs, due_next, PlanIs, ExportIs, SwitchedOff, StartIs, ImportIs};
 
 use crate::in_place::{
-    ask_in_place, begin_in_place, export_in_place, plan_in_place, progress_in_place,
-    restart_in_place, step_in_place,
+    ask_in_place, begin_in_place, export_in_place, plan_in_place, progress_in_place, step_in_place,
 };
 use crate::transitions::{import, start};
 use answers::Numbers;
 use checkpoint::Writing;
+use checkpoint::in_place::StepNumbers;
 use consumer::Configuration;
 use machine::Machine;
+use machine::in_place::{Figures, Fixed};
 
 // `start`, into the machine's place, whatever stands there.
 pub fn ninotskev_start(
@@ -87,42 +88,40 @@ pub fn ninotskev_restart(machine: &mut Machine, numbers: &mut Numbers, area: &[u
     ensures { (out : List ℕ) → CallIs machine.old 0 18 0 0 0 0 area.now out numbers.new machine.new area.now out }
 {
     lengths(&machine.writing);
-    let done = restart_in_place(
-        machine.phase,
-        machine.writing.consumer.cursor.committed,
-        machine.writing.consumer.cursor.runs,
-        machine.writing.consumer.table.len,
-        machine.writing.consumer.table.carried_len,
-        machine.writing.consumer.table.next_generation.0,
-        machine.writing.consumer.table.redeliveries_since_flush,
-        machine.writing.consumer.ceiling.0,
-        machine.writing.consumer.next.number,
-        machine.writing.consumer.next.block,
-        machine.writing.consumer.area_len,
-        machine.writing.consumer.table.config,
-        machine.writing.consumer.settings,
+    let done = starts::in_place::restart_in_place(
         machine.configuration,
+        area,
         &mut machine.writing.consumer.cursor.starts,
         &mut machine.writing.consumer.cursor.ends,
-        &mut machine.writing.consumer.table.slots,
         &mut machine.writing.consumer.table.carried_offsets,
         &mut machine.writing.consumer.table.carried_counts,
-        area,
     );
-    machine.phase = done.phase;
-    machine.writing.consumer.cursor.committed = done.committed;
-    machine.writing.consumer.cursor.runs = done.runs;
-    machine.writing.consumer.table.len = done.len;
-    machine.writing.consumer.table.carried_len = done.carried_len;
-    machine.writing.consumer.table.next_generation.0 = done.next_generation;
-    machine.writing.consumer.table.redeliveries_since_flush = done.redeliveries;
-    machine.writing.consumer.ceiling.0 = done.ceiling;
-    machine.writing.consumer.next.number = done.number;
-    machine.writing.consumer.next.block = done.block;
-    machine.writing.consumer.area_len = done.area_len;
-    machine.writing.consumer.table.config = done.config;
-    machine.writing.consumer.settings = done.settings;
-    *numbers = done.numbers;
+    match done {
+        Ok(left) => {
+            starts::in_place::free_slots(&mut machine.writing.consumer.table.slots);
+            let next = left.ceiling;
+            let size = area.len();
+            let lease = machine.configuration.lease;
+            let settings = machine.configuration.settings;
+            machine.phase = 0;
+            machine.writing.consumer.cursor.committed = left.committed;
+            machine.writing.consumer.cursor.runs = left.runs;
+            machine.writing.consumer.table.config = lease;
+            machine.writing.consumer.table.len = 0;
+            machine.writing.consumer.table.carried_len = left.carried_len;
+            machine.writing.consumer.table.next_generation.0 = next;
+            machine.writing.consumer.table.redeliveries_since_flush = 0;
+            machine.writing.consumer.ceiling.0 = left.ceiling;
+            machine.writing.consumer.next.number = left.number;
+            machine.writing.consumer.next.block = left.block;
+            machine.writing.consumer.area_len = size;
+            machine.writing.consumer.settings = settings;
+            *numbers = answers::of_done(Ok(()));
+        }
+        Err(refusal) => {
+            *numbers = answers::of_refusal(refusal);
+        }
+    }
 }
 
 // A worker begins a checkpoint on the machine in its place: call 16.
@@ -166,26 +165,29 @@ pub fn ninotskev_step(machine: &mut Machine, numbers: &mut Numbers, area: &mut [
     requires { Sound machine.old }
     ensures { (out : List ℕ) → CallIs machine.old 0 17 0 0 0 0 area.old out numbers.new machine.new area.new out }
 {
+    let before = StepNumbers {
+        written: machine.writing.written,
+        ceiling: machine.writing.consumer.ceiling.0,
+        redeliveries: machine.writing.consumer.table.redeliveries_since_flush,
+        number: machine.writing.consumer.next.number,
+        block: machine.writing.consumer.next.block,
+    };
     let done = step_in_place(
         machine.phase,
-        machine.writing.written,
+        before,
         machine.writing.cursor_len,
         machine.writing.attempt_len,
         machine.writing.consumer.area_len,
         machine.writing.consumer.table.next_generation.0,
-        machine.writing.consumer.ceiling.0,
-        machine.writing.consumer.next.number,
-        machine.writing.consumer.next.block,
-        machine.writing.consumer.table.redeliveries_since_flush,
         &machine.writing.payload,
         area,
     );
     machine.phase = done.phase;
-    machine.writing.written = done.written;
-    machine.writing.consumer.ceiling.0 = done.ceiling;
-    machine.writing.consumer.next.number = done.number;
-    machine.writing.consumer.next.block = done.block;
-    machine.writing.consumer.table.redeliveries_since_flush = done.redeliveries;
+    machine.writing.written = done.left.written;
+    machine.writing.consumer.ceiling.0 = done.left.ceiling;
+    machine.writing.consumer.next.number = done.left.number;
+    machine.writing.consumer.next.block = done.left.block;
+    machine.writing.consumer.table.redeliveries_since_flush = done.left.redeliveries;
     *numbers = done.numbers;
 }
 
@@ -194,13 +196,11 @@ pub fn ninotskev_sync_due(machine: &Machine) -> u64
     requires { Sound machine.now }
     ensures { result ≡ due_next (phase_of machine.now) }
 {
-    if machine.phase != 1 {
-        return 0;
+    if machine.phase == 1 && machine.writing.sync_due() {
+        1
+    } else {
+        0
     }
-    if machine.writing.sync_due() {
-        return 1;
-    }
-    0
 }
 
 // A call of a worker on the state of the machine in its place.
@@ -219,6 +219,29 @@ pub fn ninotskev_ask(
     ensures { AskIs machine.old worker kind a b c d out.old numbers.new machine.new out.new }
 {
     lengths(&machine.writing);
+    let fixed = Fixed {
+        config: machine.writing.consumer.table.config,
+        hours: machine.writing.consumer.settings.hours,
+        ceiling: machine.writing.consumer.ceiling.0,
+        block: machine.writing.consumer.next.block,
+        area_len: machine.writing.consumer.area_len,
+        max_deliver: machine.writing.consumer.settings.delivery.max_deliver,
+        backoff_len: machine.writing.consumer.settings.delivery.backoff_len,
+        threshold: machine
+            .writing
+            .consumer
+            .settings
+            .delivery
+            .attempts_flush_redeliveries,
+    };
+    let figures = Figures {
+        committed: machine.writing.consumer.cursor.committed,
+        runs: machine.writing.consumer.cursor.runs,
+        len: machine.writing.consumer.table.len,
+        carried_len: machine.writing.consumer.table.carried_len,
+        next_generation: machine.writing.consumer.table.next_generation.0,
+        redeliveries: machine.writing.consumer.table.redeliveries_since_flush,
+    };
     let done = ask_in_place(
         machine.phase,
         worker,
@@ -227,25 +250,8 @@ pub fn ninotskev_ask(
         b,
         c,
         d,
-        machine.writing.consumer.cursor.committed,
-        machine.writing.consumer.cursor.runs,
-        machine.writing.consumer.table.config,
-        machine.writing.consumer.settings.hours,
-        machine.writing.consumer.table.len,
-        machine.writing.consumer.table.carried_len,
-        machine.writing.consumer.table.next_generation.0,
-        machine.writing.consumer.table.redeliveries_since_flush,
-        machine.writing.consumer.ceiling.0,
-        machine.writing.consumer.next.block,
-        machine.writing.consumer.area_len,
-        machine.writing.consumer.settings.delivery.max_deliver,
-        machine.writing.consumer.settings.delivery.backoff_len,
-        machine
-            .writing
-            .consumer
-            .settings
-            .delivery
-            .attempts_flush_redeliveries,
+        fixed,
+        figures,
         &mut machine.writing.consumer.cursor.starts,
         &mut machine.writing.consumer.cursor.ends,
         &mut machine.writing.consumer.table.offsets,

@@ -5,20 +5,15 @@ ghost use Rattle.lease.specs.Parts.{listing_all};
 ghost use Rattle.consumer.specs.Export.{snapshots};
 ghost use Rattle.consumer.specs.Parts.{progressing, planning, exporting};
 ghost use Rattle.checkpoint.specs.Parts.{beginning, parts};
-ghost use Rattle.starts.specs.Parts.{columns, Long};
 ghost use Rattle.machine.specs.Parts.{consumer_of};
-ghost use Rattle.server.specs.Parts.{fixed_as, figures_as, AskableIn, AskedIn, ProgressedIn, PlannedIn, ExportedIn, to_begin, Beginnable, phase_begun, BegunOn, to_restart, restarted_by, RestartedOn, Steppable, SteppedOn};
-ghost use Rattle.std.specs.Prelude.{◌≡◌};
+ghost use Rattle.server.specs.Parts.{AskableIn, AskedIn, ProgressedIn, PlannedIn, ExportedIn, to_begin, Beginnable, BegunOn, Steppable, SteppedOn};
 
 use crate::kinds;
-use crate::kinds::Asking;
 use answers::Numbers;
-use checkpoint::BeginAnswer;
-use consumer::{Configuration, Settings};
-use hours::Hours;
+use checkpoint::counts::Columns;
+use checkpoint::in_place::StepNumbers;
 use lease::LeaseConfig;
 use machine::in_place::{Figures, Fixed};
-use starts::StartAnswer;
 use types::limits::{CARRIED, LEASES, RANGES, WORKERS};
 
 // What a call on the state answers, and the numbers of the machine that it changes.
@@ -30,7 +25,7 @@ pub struct AskDone {
 
 // A call of a worker on the state, where it can be called: that is phase 0. The rights are read only; they are lent by themselves, as
 // the columns are, since the machine's function takes them and the backoffs for one lifetime.
-fn ask_on(
+pub fn ask_in_place(
     phase: u64,
     worker: u64,
     kind: u64,
@@ -61,14 +56,14 @@ fn ask_on(
 {
     if phase != 0 {
         return AskDone {
-            numbers: Numbers(255, 0, 0, 0, 0, 0, 0),
+            numbers: Numbers::NOT_NOW,
             figures,
         };
     }
-    let asking = kinds::ask_of(kind, a, b, c, d);
-    let Asking::Ask(ask) = asking else {
+    let asked = kinds::ask_of(kind, a, b, c, d);
+    let Some(ask) = asked else {
         return AskDone {
-            numbers: Numbers(255, 0, 0, 0, 0, 0, 0),
+            numbers: Numbers::NOT_NOW,
             figures,
         };
     };
@@ -100,93 +95,6 @@ fn ask_on(
     }
 }
 
-// A call of a worker on the state.
-pub fn ask_in_place(
-    phase: u64,
-    worker: u64,
-    kind: u64,
-    a: u64,
-    b: u64,
-    c: u64,
-    d: u64,
-    committed: u64,
-    runs: usize,
-    config: LeaseConfig,
-    hours: Hours,
-    len: usize,
-    carried_len: usize,
-    next_generation: u64,
-    redeliveries: u32,
-    ceiling: u64,
-    block: usize,
-    area_len: usize,
-    max_deliver: u32,
-    backoff_len: usize,
-    threshold: u32,
-    starts: &mut [u64; RANGES],
-    ends: &mut [u64; RANGES],
-    offsets: &mut [u64; LEASES],
-    slots: &mut [u32; LEASES],
-    generations: &mut [u64; LEASES],
-    attempt_starts: &mut [u64; LEASES],
-    deadlines: &mut [u64; LEASES],
-    deliveries: &mut [u32; LEASES],
-    workers: &mut [u32; LEASES],
-    carried_offsets: &mut [u64; CARRIED],
-    carried_counts: &mut [u32; CARRIED],
-    backoff_nanos: &[u64; 16],
-    rights: &mut [u8; WORKERS],
-    out: &mut [u64],
-) -> AskDone
-    requires { AskableIn phase (consumer_of (fixed_as config hours ceiling block area_len max_deliver backoff_len threshold) (figures_as committed runs len carried_len next_generation redeliveries) starts.old ends.old offsets.old slots.old generations.old attempt_starts.old deadlines.old deliveries.old workers.old carried_offsets.old carried_counts.old backoff_nanos.now rights.old) }
-    ensures { AskedIn phase (consumer_of (fixed_as config hours ceiling block area_len max_deliver backoff_len threshold) (figures_as committed runs len carried_len next_generation redeliveries) starts.old ends.old offsets.old slots.old generations.old attempt_starts.old deadlines.old deliveries.old workers.old carried_offsets.old carried_counts.old backoff_nanos.now rights.old) worker kind a b c d out.old
-        result.numbers (consumer_of (fixed_as config hours ceiling block area_len max_deliver backoff_len threshold) result.figures starts.new ends.new offsets.new slots.new generations.new attempt_starts.new deadlines.new deliveries.new workers.new carried_offsets.new carried_counts.new backoff_nanos.now rights.new) out.new }
-{
-    let figures = Figures {
-        committed,
-        runs,
-        len,
-        carried_len,
-        next_generation,
-        redeliveries,
-    };
-    let fixed = Fixed {
-        config,
-        hours,
-        ceiling,
-        block,
-        area_len,
-        max_deliver,
-        backoff_len,
-        threshold,
-    };
-    ask_on(
-        phase,
-        worker,
-        kind,
-        a,
-        b,
-        c,
-        d,
-        fixed,
-        figures,
-        starts,
-        ends,
-        offsets,
-        slots,
-        generations,
-        attempt_starts,
-        deadlines,
-        deliveries,
-        workers,
-        carried_offsets,
-        carried_counts,
-        backoff_nanos,
-        rights,
-        out,
-    )
-}
-
 // Progress, where the state can be called: that is phase 0. All columns but the deadlines are read only; each is lent by itself.
 pub fn progress_in_place(
     phase: u64,
@@ -210,7 +118,7 @@ pub fn progress_in_place(
         result (progressing rights.now config len offsets.new slots.new generations.new attempt_starts.new deadlines.new deliveries.new workers.new) }
 {
     if phase != 0 {
-        return Numbers(255, 0, 0, 0, 0, 0, 0);
+        return Numbers::NOT_NOW;
     }
     let answer = consumer::in_place::progress_in_place(
         config,
@@ -228,7 +136,7 @@ pub fn progress_in_place(
         deliveries,
         workers,
     );
-    answers::of_progress(answer)
+    answers::of_value(answer)
 }
 
 // A plan, where the state can be called: that is phase 0. The columns are read only; each is lent by itself.
@@ -248,7 +156,7 @@ pub fn plan_in_place(
         result (planning rights.now (ack_cursor committed starts.new ends.new runs)) out.new }
 {
     if phase != 0 {
-        return Numbers(255, 0, 0, 0, 0, 0, 0);
+        return Numbers::NOT_NOW;
     }
     let answer = consumer::plans::plan_in_place(
         committed, runs, worker, rights, starts, ends, offsets, out,
@@ -282,7 +190,7 @@ pub fn export_in_place(
         (snapshots cursor.new attempts.new) }
 {
     if phase != 0 {
-        return Numbers(255, 0, 0, 0, 0, 0, 0);
+        return Numbers::NOT_NOW;
     }
     let answer = consumer::snapshots::export_in_place(
         committed,
@@ -319,119 +227,7 @@ pub struct BeginDone {
 pub struct StepDone {
     pub numbers: Numbers,
     pub phase: u64,
-    pub written: usize,
-    pub ceiling: u64,
-    pub number: u64,
-    pub block: usize,
-    pub redeliveries: u32,
-}
-
-// What a restart answers, and the numbers of the machine that it changes.
-#[derive(Clone, Copy)]
-pub struct RestartDone {
-    pub numbers: Numbers,
-    pub phase: u64,
-    pub committed: u64,
-    pub runs: usize,
-    pub len: usize,
-    pub carried_len: usize,
-    pub next_generation: u64,
-    pub redeliveries: u32,
-    pub ceiling: u64,
-    pub number: u64,
-    pub block: usize,
-    pub area_len: usize,
-    pub config: LeaseConfig,
-    pub settings: Settings,
-}
-
-// Call 18, in whatever phase, of a machine of this configuration: its consumer's numbers and columns are those that the journal has.
-// Refused, nothing changes.
-pub fn restart_in_place(
-    phase: u64,
-    committed: u64,
-    runs: usize,
-    len: usize,
-    carried_len: usize,
-    next_generation: u64,
-    redeliveries: u32,
-    ceiling: u64,
-    number: u64,
-    block: usize,
-    area_len: usize,
-    config: LeaseConfig,
-    settings: Settings,
-    configuration: Configuration,
-    starts: &mut [u64; RANGES],
-    ends: &mut [u64; RANGES],
-    slots: &mut [u32; LEASES],
-    carried_offsets: &mut [u64; CARRIED],
-    carried_counts: &mut [u32; CARRIED],
-    area: &[u8],
-) -> RestartDone
-    requires { Long (columns starts.old ends.old carried_offsets.old carried_counts.old) }
-    ensures { RestartedOn phase configuration (to_restart committed runs len carried_len next_generation redeliveries ceiling number block area_len config settings slots.old (columns starts.old ends.old carried_offsets.old carried_counts.old)) area.now
-        result.numbers result.phase (restarted_by result slots.new (columns starts.new ends.new carried_offsets.new carried_counts.new)) }
-{
-    let done = starts::in_place::restart_in_place(
-        configuration,
-        area,
-        starts,
-        ends,
-        carried_offsets,
-        carried_counts,
-    );
-    let answer = done.answer;
-    let numbers = answers::of_start(answer);
-    let StartAnswer::Started = answer else {
-        return RestartDone {
-            numbers: numbers,
-            phase: phase,
-            committed: committed,
-            runs: runs,
-            len: len,
-            carried_len: carried_len,
-            next_generation: next_generation,
-            redeliveries: redeliveries,
-            ceiling: ceiling,
-            number: number,
-            block: block,
-            area_len: area_len,
-            config: config,
-            settings: settings,
-        };
-    };
-    starts::in_place::free_slots(slots);
-    let lease = configuration.lease;
-    let given = configuration.settings;
-    RestartDone {
-        numbers: numbers,
-        phase: 0,
-        committed: done.committed,
-        runs: done.runs,
-        len: 0,
-        carried_len: done.carried_len,
-        next_generation: done.ceiling,
-        redeliveries: 0,
-        ceiling: done.ceiling,
-        number: done.number,
-        block: done.block,
-        area_len: area.len(),
-        config: lease,
-        settings: given,
-    }
-}
-
-// The phase that a begin leaves.
-fn phase_begun(answer: BeginAnswer) -> u64
-    ensures { result ≡ phase_begun answer }
-{
-    match answer {
-        BeginAnswer::Begun { writes: _ } => 1,
-        BeginAnswer::UnknownWorker => 0,
-        BeginAnswer::NotPermitted => 0,
-        BeginAnswer::JournalFull => 0,
-    }
+    pub left: StepNumbers,
 }
 
 // Call 16, where a checkpoint can be begun: that is phase 0. The columns are read only; each is lent by itself.
@@ -464,96 +260,84 @@ pub fn begin_in_place(
 {
     if phase != 0 {
         return BeginDone {
-            numbers: Numbers(255, 0, 0, 0, 0, 0, 0),
+            numbers: Numbers::NOT_NOW,
             phase,
             written,
             cursor_len,
             attempt_len,
         };
     }
-    let begun = checkpoint::in_place::begin_in_place(
-        written,
-        cursor_len,
-        attempt_len,
-        committed,
-        runs,
+    let counts = Columns {
         len,
         carried_len,
-        number,
-        block,
-        area_len,
-        worker,
-        rights,
-        starts,
-        ends,
         offsets,
         slots,
         deliveries,
         carried_offsets,
         carried_counts,
-        payload,
+    };
+    let begun = checkpoint::in_place::begin_in_place(
+        committed, runs, counts, number, block, area_len, worker, rights, starts, ends, payload,
     );
-    let answer = begun.answer;
-    BeginDone {
-        numbers: answers::of_begin(answer),
-        phase: phase_begun(answer),
-        written: begun.written,
-        cursor_len: begun.cursor_len,
-        attempt_len: begun.attempt_len,
+    match begun {
+        Ok(begun) => BeginDone {
+            numbers: answers::of_count(Ok(begun.writes)),
+            phase: 1,
+            written: 0,
+            cursor_len: begun.cursor_len,
+            attempt_len: begun.attempt_len,
+        },
+        Err(refusal) => BeginDone {
+            numbers: answers::of_refusal(refusal),
+            phase,
+            written,
+            cursor_len,
+            attempt_len,
+        },
     }
 }
 
 // Call 17, where there is a record to step: that is phase 1.
 pub fn step_in_place(
     phase: u64,
-    written: usize,
+    before: StepNumbers,
     cursor_len: usize,
     attempt_len: usize,
     area_len: usize,
     next_generation: u64,
-    ceiling: u64,
-    number: u64,
-    block: usize,
-    redeliveries: u32,
     payload: &[u8; 3606],
     area: &mut [u8],
 ) -> StepDone
-    requires { Steppable phase (parts written cursor_len attempt_len area_len next_generation ceiling redeliveries number block payload.now) }
-    ensures { SteppedOn phase (parts written cursor_len attempt_len area_len next_generation ceiling redeliveries number block payload.now) area.old
-        result.numbers result.phase (parts result.written cursor_len attempt_len area_len next_generation result.ceiling result.redeliveries result.number result.block payload.now) area.new }
+    requires { Steppable phase (parts before.written cursor_len attempt_len area_len next_generation before.ceiling before.redeliveries before.number before.block payload.now) }
+    ensures { SteppedOn phase (parts before.written cursor_len attempt_len area_len next_generation before.ceiling before.redeliveries before.number before.block payload.now) area.old
+        result.numbers result.phase (parts result.left.written cursor_len attempt_len area_len next_generation result.left.ceiling result.left.redeliveries result.left.number result.left.block payload.now) area.new }
 {
     if phase != 1 {
         return StepDone {
-            numbers: Numbers(255, 0, 0, 0, 0, 0, 0),
+            numbers: Numbers::NOT_NOW,
             phase,
-            written,
-            ceiling,
-            number,
-            block,
-            redeliveries,
+            left: before,
         };
     }
     let stepped = checkpoint::in_place::step_in_place(
-        written,
+        before,
         cursor_len,
         attempt_len,
         area_len,
         next_generation,
-        ceiling,
-        redeliveries,
-        number,
-        block,
         payload,
         area,
     );
-    let answer = stepped.answer;
-    StepDone {
-        numbers: answers::of_step(answer),
-        phase: machine::phase_after(answer),
-        written: stepped.written,
-        ceiling: stepped.ceiling,
-        number: stepped.number,
-        block: stepped.block,
-        redeliveries: stepped.redeliveries,
+    match stepped {
+        Ok(stepped) => StepDone {
+            numbers: answers::of_step(Ok(stepped.wrote)),
+            phase: machine::phase_after(Ok(stepped.wrote)),
+            left: stepped.numbers,
+        },
+        Err(refusal) => StepDone {
+            numbers: answers::of_refusal(refusal),
+            phase,
+            left: before,
+        },
     }
 }

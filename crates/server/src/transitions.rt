@@ -9,7 +9,6 @@ ghost use Rattle.server.specs.Transitions.{MadeIs, StartIs, ImportIs};
 use answers::Numbers;
 use consumer::Configuration;
 use machine::{Machine, Started};
-use starts::StartAnswer;
 use types::Generation;
 
 #[derive(Clone, Copy)]
@@ -23,17 +22,16 @@ fn made(before: Machine, made: Started) -> MachineAnswer
     ensures { (right : Result State) (s : Configuration) (size : ℕ) → machine.MadeIs right s size made → MadeIs right before s result.numbers result.machine }
 {
     let answer = made.answer;
-    let numbers = answers::of_start(answer);
-    let StartAnswer::Started = answer else {
-        return MachineAnswer {
-            numbers: numbers,
+    let numbers = answers::of_done(answer);
+    match answer {
+        Ok(()) => {
+            let machine = made.machine;
+            MachineAnswer { numbers, machine }
+        }
+        Err(_) => MachineAnswer {
+            numbers,
             machine: before,
-        };
-    };
-    let machine = made.machine;
-    MachineAnswer {
-        numbers: numbers,
-        machine: machine,
+        },
     }
 }
 

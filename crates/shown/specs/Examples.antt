@@ -4,7 +4,7 @@ use Rattle.std.specs.Prelude.{ℕ, ◌≡◌, refl, List, [], ◌∷◌, ◌++�
 use Rattle.text.specs.Output as output
 use Rattle.text.specs.Output.{ascii}
 use Rattle.text.specs.Words as words
-use Rattle.text.specs.Templates.{template_at, filled}
+use Rattle.text.specs.Templates.{filled}
 use Rattle.cursor.specs.Ranges.{range}
 use Rattle.shown.specs.Shown.{ranges_text}
 
@@ -13,7 +13,7 @@ joined [] = []
 joined (p ∷ ps) = p ++ joined ps
 
 -- the settled example 14
-pub dead_letter_lem : joined (filled (template_at 1 (ascii "deliver # # #\n|deadletter # # #\n")) (0 ∷ 4098 ∷ 3 ∷ 0 ∷ [])) ≡ ascii "deadletter 0 4098 3\n"
+pub dead_letter_lem : joined (filled (ascii "deadletter # # #\n") (0 ∷ 4098 ∷ 3 ∷ 0 ∷ [])) ≡ ascii "deadletter 0 4098 3\n"
 unfolding output.decimal_in words.length_to words.parts
 dead_letter_lem = refl
 

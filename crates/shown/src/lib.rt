@@ -12,61 +12,48 @@ use consumer::Consumer;
 use consumer::halves::half_in_use;
 use cursor::AckCursor;
 use lease::{Lease, LeaseTable};
-use std::io::Stdout;
-use text::output::{put, put_number};
-use text::templates::fill;
+use text::output::Output;
 use types::Generation;
-use types::limits::LEASES;
-use types::numbers::wide;
+use types::limits::{CARRIED, LEASES};
 
 // A text and a number behind it.
-pub fn with(stdout: Stdout, out: &mut [u8], at: usize, text: &[u8], n: u64) -> usize
-    ensures { Says (text_number text.now n) at out.old result out.new }
+pub fn with(out: &mut Output, text: &[u8], n: u64)
+    ensures { Says (text_number text.now n) out.old out.new }
 {
-    let next = put(stdout, out, at, text);
-    put_number(stdout, out, next, n)
+    out.put(text);
+    out.put_number(n);
 }
 
 // What stands in front of entry i of a list, and what an empty list is.
-pub fn before(stdout: Stdout, out: &mut [u8], at: usize, i: usize) -> usize
-    ensures { Says (mark i ∷ []) at out.old result out.new }
+pub fn before(out: &mut Output, i: usize)
+    ensures { Says (mark i ∷ []) out.old out.new }
 {
-    if i == 0 {
-        return put(stdout, out, at, b" ");
-    }
-    put(stdout, out, at, b",")
+    out.put(if i == 0 { b" " } else { b"," });
 }
 
-pub fn or_none(stdout: Stdout, out: &mut [u8], at: usize, n: usize) -> usize
-    ensures { Says (none_where n) at out.old result out.new }
+pub fn or_none(out: &mut Output, n: usize)
+    ensures { Says (none_where n) out.old out.new }
 {
     if n == 0 {
-        return put(stdout, out, at, b" none");
+        out.put(b" none");
     }
-    at
 }
 
 // The ranges ahead of committed.
-pub fn ranges(stdout: Stdout, out: &mut [u8], at: usize, cursor: AckCursor) -> usize
-    ensures { Says (ranges_text (ahead_of cursor)) at out.old result out.new }
+pub fn ranges(out: &mut Output, cursor: AckCursor)
+    ensures { Says (ranges_text (ahead_of cursor)) out.old out.new }
 {
-    let mut next = put(stdout, out, at, b" ranges");
-    next = or_none(stdout, out, next, cursor.runs);
-    let mut i: usize = 0;
-    while i < 128 {
-        if cursor.runs <= i {
-            break;
-        }
-        next = before(stdout, out, next, i);
-        next = put_number(stdout, out, next, cursor.starts[i]);
-        next = with(stdout, out, next, b"-", cursor.ends[i]);
-        i += 1;
+    out.put(b" ranges");
+    or_none(out, cursor.runs);
+    for i in 0..cursor.runs.min(128) {
+        before(out, i);
+        out.put_number(cursor.starts[i]);
+        with(out, b"-", cursor.ends[i]);
     }
-    next
 }
 
-fn lease(stdout: Stdout, out: &mut [u8], at: usize, offset: u64, lease: Lease) -> usize
-    ensures { Says (lease_text (entry offset lease)) at out.old result out.new }
+fn lease(out: &mut Output, offset: u64, lease: Lease)
+    ensures { Says (lease_text (entry offset lease)) out.old out.new }
 {
     let times = [
         offset,
@@ -74,8 +61,8 @@ fn lease(stdout: Stdout, out: &mut [u8], at: usize, offset: u64, lease: Lease) -
         lease.attempt_start,
         lease.deadline,
     ];
-    let next = fill(stdout, out, at, b"#:#:#:#", 0, times);
-    with(stdout, out, next, b":", lease.deliveries as u64)
+    out.say(b"#:#:#:#", &times);
+    with(out, b":", u64::from(lease.deliveries));
 }
 
 // The lease at a slot. A number that is no slot, which no call leaves, has one of zeros.
@@ -84,18 +71,16 @@ fn stored_at(slot: u32, table: LeaseTable) -> Lease
 {
     let at = slot as usize;
     if LEASES <= at {
-        let none = Generation(0);
         return Lease {
-            generation: none,
+            generation: Generation(0),
             attempt_start: 0,
             deadline: 0,
             deliveries: 0,
             worker: 0,
         };
     }
-    let generation = Generation(table.generations[at]);
     Lease {
-        generation,
+        generation: Generation(table.generations[at]),
         attempt_start: table.attempt_starts[at],
         deadline: table.deadlines[at],
         deliveries: table.deliveries[at],
@@ -103,82 +88,53 @@ fn stored_at(slot: u32, table: LeaseTable) -> Lease
     }
 }
 
-fn leases(stdout: Stdout, out: &mut [u8], at: usize, table: LeaseTable) -> usize
-    ensures { Says (leases_text (leases_of table)) at out.old result out.new }
+fn leases(out: &mut Output, table: LeaseTable)
+    ensures { Says (leases_text (leases_of table)) out.old out.new }
 {
-    let mut next = put(stdout, out, at, b" leases");
-    next = or_none(stdout, out, next, table.len);
-    let mut i: usize = 0;
-    while i < 64 {
-        if table.len <= i {
-            break;
-        }
-        next = before(stdout, out, next, i);
-        let slot = table.slots[i];
-        let held = stored_at(slot, table);
-        next = lease(stdout, out, next, table.offsets[i], held);
-        i += 1;
+    out.put(b" leases");
+    or_none(out, table.len);
+    for i in 0..table.len.min(LEASES) {
+        before(out, i);
+        lease(out, table.offsets[i], stored_at(table.slots[i], table));
     }
-    next
 }
 
-fn carried(stdout: Stdout, out: &mut [u8], at: usize, table: LeaseTable) -> usize
-    ensures { Says (carried_text (carried_of table)) at out.old result out.new }
+fn carried(out: &mut Output, table: LeaseTable)
+    ensures { Says (carried_text (carried_of table)) out.old out.new }
 {
-    let mut next = put(stdout, out, at, b" carried");
-    next = or_none(stdout, out, next, table.carried_len);
-    let mut i: usize = 0;
-    while i < 128 {
-        if table.carried_len <= i {
-            break;
-        }
-        next = before(stdout, out, next, i);
-        next = put_number(stdout, out, next, table.carried_offsets[i]);
-        next = with(stdout, out, next, b":", wide(table.carried_counts[i]));
-        i += 1;
+    out.put(b" carried");
+    or_none(out, table.carried_len);
+    for i in 0..table.carried_len.min(CARRIED) {
+        before(out, i);
+        out.put_number(table.carried_offsets[i]);
+        with(out, b":", u64::from(table.carried_counts[i]));
     }
-    next
 }
 
 // Generations, the redelivery counter, where the next group goes, and the half in use.
-fn numbers(stdout: Stdout, out: &mut [u8], at: usize, consumer: Consumer) -> usize
-    ensures { Says (numbers_text (view consumer)) at out.old result out.new }
+fn numbers(out: &mut Output, consumer: Consumer)
+    ensures { Says (numbers_text (view consumer)) out.old out.new }
 {
     let numbers = [
         consumer.table.next_generation.0,
         consumer.ceiling.0,
-        wide(consumer.table.redeliveries_since_flush),
+        u64::from(consumer.table.redeliveries_since_flush),
         consumer.next.number,
     ];
-    let next = fill(
-        stdout,
-        out,
-        at,
-        b" next # ceiling # counter # group #",
-        0,
-        numbers,
-    );
+    out.say(b" next # ceiling # counter # group #", &numbers);
     let block = consumer.next.block;
     let half = half_in_use(consumer.area_len, block);
-    fill(
-        stdout,
-        out,
-        next,
-        b" block # half #\n",
-        0,
-        [block as u64, half as u64, 0, 0],
-    )
+    out.say(b" block # half #\n", &[block as u64, half as u64]);
 }
 
 // The whole state.
-pub fn state(stdout: Stdout, out: &mut [u8], at: usize, consumer: Consumer) -> usize
-    ensures { Says (state_line (view consumer)) at out.old result out.new }
+pub fn state(out: &mut Output, consumer: Consumer)
+    ensures { Says (state_line (view consumer)) out.old out.new }
 {
-    let cursor = consumer.cursor;
     let table = consumer.table;
-    let mut next = with(stdout, out, at, b"state committed ", cursor.committed);
-    next = ranges(stdout, out, next, cursor);
-    next = leases(stdout, out, next, table);
-    next = carried(stdout, out, next, table);
-    numbers(stdout, out, next, consumer)
+    with(out, b"state committed ", consumer.cursor.committed);
+    ranges(out, consumer.cursor);
+    leases(out, table);
+    carried(out, table);
+    numbers(out, consumer);
 }

@@ -2,10 +2,12 @@
 -- second half begins with a group. Assumes nothing.
 use Prim.Native.Nat.{ℕ, ◌+◌, ◌*◌, ◌≤◌, ◌<◌}
 use native.Mathlib.Omega.{arith}
-use mathlib.Core.Path.{◌≡◌, sym, ap, ◌∙◌}
-use mathlib.Core.Bool.{Bool, true, false, cond, not, ◌&&◌}
+use mathlib.Core.Path.{◌≡◌, refl, sym, ap, ◌∙◌}
+use Rattle.std.specs.Prelude.{Some, None}
+use Rattle.std.specs.Prelude as std
+use mathlib.Core.Bool.{Bool, true, false, cond}
 use mathlib.Core.List.{List}
-use lib.Dec.{ltb, leb}
+use lib.Dec.{ltb}
 use lib.ListN.{length, take, drop, length-take, length-drop}
 use borrow.Author.Tests.{ne_eqb, le-leb, lt-leb}
 use Rattle.types.specs.Limits.{MAX32}
@@ -22,7 +24,6 @@ use Rattle.journal.proofs.Sound.{headless}
 use Rattle.consumer.specs.State.{next_group_at, half_blocks}
 use Rattle.starts.specs.Restart.{opens, first_number, second_wins, origin, limit, unfit_at}
 use Rattle.starts.specs.Starting.{OpeningIs}
-use Rattle.starts.specs.declared.Opening.{Opening}
 
 pub data Origin (a : List ℕ) : Type 0 where
   first : second_wins a ≡ false → (origin a).block ≡ 0 → (origin a).number ≡ cond (opens a 0) (first_number a 0) 1 → Origin a
@@ -86,39 +87,16 @@ unfolding block_at is_kind
 opens-short a i h = opens_not a i (rw (ne_eqb (length (take 512 (drop (512 * i) a))) 512 (λ q. omega (arith, simp (length-take, length-drop) at q))))
 
 -- a block is tested under its own number
-pub opens-found : (a : List ℕ) (i half : ℕ) → half ≡ half_blocks (length a) → (h : Header) → h ≡ header_in (part_at a i)
-    → (t : Bool) → t ≡ sound_but_number (i + half) i (part_at a i) → OpeningIs a i (record { opens = t; number = h.number })
-opens-found a i half e h is t sound =
-    record { opens = sound ∙ rw (e, part-is a i); number = λ u. ap (λ (x : Header). x.number) is ∙ rw (part-is a i) }
+module _ (a : List ℕ) (i half : ℕ) (e : half ≡ half_blocks (length a)) (t : Bool) (sound : t ≡ sound_but_number (i + half) i (part_at a i)) where
+  pub opens-tested : opens a i ≡ t
+  opens-tested = sym (sound ∙ rw (e, part-is a i))
 
--- the openings of both halves
-module _ (a : List ℕ) (f s : Opening) (one : OpeningIs a 0 f) (two : OpeningIs a (half_blocks (length a)) s) where
-  abbrev wins : Bool
-  wins = s.opens && not (f.opens && leb s.number f.number)
-
-  wins-is : wins ≡ second_wins a
-  wins-is =
-      split s.opens
-      (λ t. split f.opens
-      (λ u. rw (two.number t, one.number u, two.opens, one.opens))
-      (λ u. rw (u, sym one.opens ∙ u, two.opens)))
-      (λ t. rw (t, sym two.opens ∙ t))
-
-  pub origin-at-second : wins ≡ true → (m : ℕ) → m ≡ half_blocks (length a) → next_group_at s.number m ≡ origin a
-  unfolding origin
-  origin-at-second t m e = rw (e, two.number (both s.opens _ t).0, sym wins-is ∙ t)
-
-  pub origin-at-first : wins ≡ false → f.opens ≡ true → next_group_at f.number 0 ≡ origin a
-  unfolding origin
-  origin-at-first t u = rw (one.number u, sym wins-is ∙ t, sym one.opens ∙ u)
-
-  pub origin-at_none : wins ≡ false → f.opens ≡ false → next_group_at 1 0 ≡ origin a
-  unfolding origin
-  origin-at_none t u = rw (sym wins-is ∙ t, sym one.opens ∙ u)
+  pub opens-found : t ≡ true → (h : Header) → h ≡ header_in (part_at a i) → OpeningIs a i (Some h.number)
+  opens-found u h is = (opens-tested ∙ u, ap (λ (x : Header). x.number) is ∙ rw (part-is a i))
 
 -- ## The half that opens under the greater number
 pub origin-first : (a : List ℕ) → opens a 0 ≡ true
-    → (opens a (half_blocks (length a)) ≡ true → first_number a (half_blocks (length a)) < first_number a 0)
+    → (opens a (half_blocks (length a)) ≡ true → first_number a (half_blocks (length a)) ≤ first_number a 0)
     → origin a ≡ next_group_at (first_number a 0) 0
 unfolding origin
 origin-first a t r =
@@ -134,3 +112,32 @@ origin-second a t r =
     split (opens a 0)
     (λ u. rw (t, u, lt-leb (first_number a (half_blocks (length a))) (first_number a 0) (r u)))
     (λ u. rw (t, u))
+
+-- ## The openings of both halves, as the code finds them
+module _ (a : List ℕ) (f s : std.Option ℕ) (one : OpeningIs a 0 f) (two : OpeningIs a (half_blocks (length a)) s) where
+  pub at-second : (n m : ℕ) → s ≡ Some n → m ≡ half_blocks (length a) → ((k : ℕ) → f ≡ Some k → k < n) → next_group_at n m ≡ origin a
+  at-second n m p e under =
+      let second = rw p at two in
+      rw (e, second.1) (sym (origin-second a second.0 (go f refl)))
+    where
+      go : (o : std.Option ℕ) → f ≡ o → opens a 0 ≡ true → first_number a 0 < first_number a (half_blocks (length a))
+      go (Some k) q t =
+          let first = rw q at one in
+          let second = rw p at two in
+          omega (arith, first.1, second.1, under k q)
+      go None q t = absurd (let first : opens a 0 ≡ false = rw q at one in cc)
+
+  pub at-first : (k : ℕ) → f ≡ Some k → ((n : ℕ) → s ≡ Some n → n ≤ k) → next_group_at k 0 ≡ origin a
+  at-first k p over =
+      let first = rw p at one in
+      rw first.1 (sym (origin-first a first.0 (go s refl)))
+    where
+      go : (o : std.Option ℕ) → s ≡ o → opens a (half_blocks (length a)) ≡ true → first_number a (half_blocks (length a)) ≤ first_number a 0
+      go (Some n) q t =
+          let first = rw p at one in
+          let second = rw q at two in
+          omega (arith, first.1, second.1, over n q)
+      go None q t = absurd (let second : opens a (half_blocks (length a)) ≡ false = rw q at two in cc)
+
+  pub at_none : f ≡ None → s ≡ None → next_group_at 1 0 ≡ origin a
+  at_none p q = sym (origin_none a (rw p at one) (rw q at two))

@@ -7,16 +7,18 @@ use mathlib.Core.List.{List, ◌++◌}
 use lib.ListN.{length, take, drop, length-append, length-drop}
 use lib.Seq.{take-append-le, drop-append-le}
 use borrow.Author.Tests.{le-ltb}
+use Rattle.std.specs.Prelude as std
 use Rattle.types.specs.Refusal.{Result}
+use Rattle.types.specs.Refused.{as_is}
+use Rattle.types.specs.declared.refusals.Refusal.{Refusal}
 use Rattle.types.specs.Table.{Answer, answer}
 use Rattle.cursor.specs.Snapshot.{decode_cursor}
 use Rattle.attempt.specs.Snapshot.{decode_attempts}
 use Rattle.journal.specs.Area.{block_at}
-use Rattle.journal.specs.Answers.{header_in, payload_read, read_payload}
+use Rattle.journal.specs.Answers.{header_in, read_payload}
 use Rattle.journal.specs.Blocks.{bodies_for, cursor_length, attempt_length, ceiling_of, payload_length}
 use Rattle.journal.specs.Walks.{payload}
 use Rattle.journal.specs.declared.Header.{Header}
-use Rattle.journal.specs.declared.Payload.{Payload}
 use Rattle.journal.proofs.Area.{Inside, inside-says, part_at, part-is}
 use Rattle.journal.proofs.Group.{payload-length}
 use Rattle.consumer.specs.State.{State}
@@ -54,7 +56,7 @@ module _ (a : List ℕ) (i : ℕ) (l : Lies a i) where
     ceiling-said : h.ceiling ≡ ceiling_of (block_at a i)
     ceiling-said = ap (λ (x : Header). x.ceiling) said
 
-    module _ (out after : List ℕ) (p : Payload) (room : length out ≡ 3606) (e : answer (payload_read p) after ≡ read_payload i a out) where
+    module _ (out after : List ℕ) (p : std.Result ℕ Refusal) (room : length out ≡ 3606) (e : answer (as_is p) after ≡ read_payload i a out) where
       lent : after ≡ payload a i ++ drop (payload_length (block_at a i)) out
       unfolding read_payload
       lent =
@@ -89,5 +91,5 @@ module _ (a : List ℕ) (i : ℕ) (l : Lies a i) where
         same : (k : state.Configuration) → taken k ≡ read_group k a i (next_group_of next)
         same k = rw (first_part, second-part, ceiling-said)
 
-        pub group-read : (r : RestartedAt) (p p' : Columns) → ReadIs taken (length a) r p p' → ReadIs (λ k. read_group k a i (next_group_of next)) (length a) r p p'
+        pub group-read : (r : std.Result RestartedAt Refusal) (p p' : Columns) → ReadIs taken (length a) r p p' → ReadIs (λ k. read_group k a i (next_group_of next)) (length a) r p p'
         group-read = read_as taken (length a) (λ k. read_group k a i (next_group_of next)) same

@@ -9,9 +9,12 @@ use lib.ListN.{length, length-append, length-take, length-replicate}
 use lib.Dec.{ltb}
 use borrow.Author.Tests.{lt-ltb, le-ltb, eq-eqb, ne_eqb}
 use Rattle.types.specs.Limits.{STEPS}
-use Rattle.types.specs.Refusal.{Refusal, done, UnlimitedDeliverNotAllowed, TooManySteps, ZeroThreshold, BadArea}
+use Rattle.std.specs.Prelude.{Ok, Err}
+use Rattle.std.specs.Prelude as std
+use Rattle.types.specs.declared.refusals.Refusal as code
+use Rattle.types.specs.Refusal.{Refusal, Result, refused, done, UnlimitedDeliverNotAllowed, TooManySteps, ZeroThreshold, BadArea}
 use Rattle.types.specs.Table.{Row, ◌⇒◌, first, Passed, checked}
-use Rattle.types.proofs.Table.{first_none, first-met-before, first_none_before}
+use Rattle.types.proofs.Table.{first_none, passed_none, checked-done, first-met-before, first_none_before}
 use Rattle.delivery.specs.Policy.{unlimited}
 use Rattle.delivery.specs.declared.DeliveryConfig.{DeliveryConfig}
 use Rattle.hours.specs.Hours.{Week, hours_rows}
@@ -24,7 +27,6 @@ use Rattle.consumer.specs.declared.Configuration.{Configuration}
 use Rattle.consumer.specs.declared.Consumer.{Consumer}
 use Rattle.starts.specs.Restart.{start_table, fresh, start}
 use Rattle.starts.specs.Starting.{backoffs_of, handed_of, configuration_of, kept_of, start_fault, FreshIs, StartedIs}
-use Rattle.starts.specs.declared.StartAnswer.{StartAnswer}
 use Rattle.starts.proofs.Open.{StartOpen, start_open}
 use Rattle.starts.proofs.Valid.{fresh-valid}
 
@@ -49,16 +51,26 @@ module _ (c : state.Configuration) (size : ℕ) where
         pub goes_on : first (hours_rows c.settings.hours ++ (bad_area size ⇒ BadArea ∷ [])) ≡ first (start_table c size)
         goes_on = rw (limited, few-test, ne_eqb c.settings.policy.flush_redeliveries 0 flushes)
 
+first-refused : (ws : List Row) (r : Refusal) → refused r ≡ checked ws (done (tt {0})) → first ws ≡ some r
+first-refused ws r e = go (first ws) refl
+  where
+    go : (o : Option Refusal) → first ws ≡ o → first ws ≡ some r
+    go none q = absurd (let d : ◌≡◌ {A = Result (Unit {0})} (refused r) (done tt) = rw q at e in cc)
+    go (some s) q =
+        let d : ◌≡◌ {A = Result (Unit {0})} (refused r) (refused s) = rw q at e in
+        let t : s ≡ r = cc in
+        q ∙ ap some t
+
 module _ (h : Option Week) (size : ℕ) where
   abbrev rows : List Row
   rows = hours_rows h ++ (bad_area size ⇒ BadArea ∷ [])
 
-  pub hours-refused : (r : Refusal) → some r ≡ first (hours_rows h) → some r ≡ first rows
-  hours-refused r e = sym (first-met-before (hours_rows h) (bad_area size ⇒ BadArea ∷ []) r (sym e))
+  pub hours-refused : (r : Refusal) → refused r ≡ checked (hours_rows h) (done (tt {0})) → some r ≡ first rows
+  hours-refused r e = sym (first-met-before (hours_rows h) (bad_area size ⇒ BadArea ∷ []) r (first-refused (hours_rows h) r e))
 
-  module _ (e : none ≡ first (hours_rows h)) where
+  module _ (e : done (tt {0}) ≡ checked (hours_rows h) (done (tt {0}))) where
     area-tested : first rows ≡ first (bad_area size ⇒ BadArea ∷ [])
-    area-tested = first_none_before (hours_rows h) (bad_area size ⇒ BadArea ∷ []) (sym e)
+    area-tested = first_none_before (hours_rows h) (bad_area size ⇒ BadArea ∷ []) (passed_none (hours_rows h) (checked-done (hours_rows h) tt tt (sym e)).0)
 
     pub area-refused : bad_area size ≡ true → some BadArea ≡ first rows
     area-refused t = sym (area-tested ∙ rw t)
@@ -94,20 +106,20 @@ module _ (s : Configuration) (size : ℕ) (full : length s.settings.delivery.bac
     pub settings-sound : (d : Settings) → d ≡ s.settings → SoundSettings d
     settings-sound d e = record { delivery = record { few = rw e few-steps } }
 
-  pub started-fresh : (a : StartAnswer) (c : Consumer) → start_fault a ≡ first (start_table (configuration_of s) size) → FreshIs s size c
+  pub started-fresh : (a : std.Result (Unit {0}) code.Refusal) (c : Consumer) → start_fault a ≡ first (start_table (configuration_of s) size) → FreshIs s size c
       → StartedIs s size (start (configuration_of s) size) (record { answer = a; consumer = c })
   unfolding start
-  started-fresh a c e i = go (first (start_table (configuration_of s) size)) refl
+  started-fresh a c e i = go a e
     where
-      go : (o : Option Refusal) → first (start_table (configuration_of s) size) ≡ o
-          → StartedIs s size (checked (start_table (configuration_of s) size) (done (fresh (configuration_of s) size))) (record { answer = a; consumer = c })
-      go (some r) q = record { is = rw (e, q); beside = rw q i.is }
-      go none q =
-          let p = first_none (start_table (configuration_of s) size) q in
+      go : (d : std.Result (Unit {0}) code.Refusal) → start_fault d ≡ first (start_table (configuration_of s) size)
+          → StartedIs s size (checked (start_table (configuration_of s) size) (done (fresh (configuration_of s) size))) (record { answer = d; consumer = c })
+      go (Err r) q = record { is = rw (← q); beside = rw (← q) i.is }
+      go (Ok x) q =
+          let p = first_none (start_table (configuration_of s) size) (sym q) in
           record {
-            is = rw (e, q) (ap done (i.is ∙ ap (λ (k : state.Configuration). fresh k size) (sym (same-configuration p))));
+            is = rw (← q) (ap done (i.is ∙ ap (λ (k : state.Configuration). fresh k size) (sym (same-configuration p))));
             beside =
-                rw q
+                rw (← q)
                 (record {
                   cursor = i.cursor;
                   table = i.table;

@@ -1,9 +1,12 @@
 -- The parts of a consumer as a restart and an import in place are lent and leave them, and the state and the consumers that have them.
 -- SPEC.md, "Restart".
-use Rattle.std.specs.Prelude.{ℕ, ◌≤◌, ◌≡◌, List, length, take}
+use Rattle.std.specs.Prelude.{ℕ, ◌≤◌, ◌≡◌, List, length, take, Ok, Err}
+use Rattle.std.specs.Prelude as std
 use Rattle.types.specs.Limits.{LEASES, CARRIED}
-use Rattle.types.specs.Refusal.{Result, done}
-use Rattle.types.specs.Table.{Kept, unless}
+use Rattle.types.specs.Refusal.{Result}
+use Rattle.types.specs.Refused.{result_of, as_is}
+use Rattle.types.specs.Table.{Kept}
+use Rattle.types.specs.declared.refusals.Refusal.{Refusal}
 use Rattle.types.specs.Keyed.{Entry, entries}
 use Rattle.tables.specs.Slots.{Permutes}
 use Rattle.cursor.specs.View.{ack_cursor}
@@ -19,14 +22,12 @@ use Rattle.consumer.specs.declared.Configuration.{Configuration}
 use Rattle.consumer.specs.declared.Consumer.{Consumer}
 use Rattle.starts.specs.Restart.{resumed, restart}
 use Rattle.starts.specs.Import.{import}
-use Rattle.starts.specs.Starting.{configuration_of, start_fault, start_of}
-use Rattle.starts.specs.declared.StartAnswer.{StartAnswer}
-use Rattle.starts.specs.declared.StartAnswer.TheVariants as answers
+use Rattle.starts.specs.Starting.{configuration_of}
 use Rattle.starts.specs.declared.in_place.RestartedAt.{RestartedAt}
 
--- an answer with the numbers of a fresh consumer
-abbrev pub fresh_by : StartAnswer → RestartedAt
-fresh_by a = record { answer = a; committed = 0; runs = 0; carried_len = 0; ceiling = 0; number = 1; block = 0 }
+-- the numbers of a fresh consumer
+abbrev pub fresh_numbers : RestartedAt
+fresh_numbers = record { committed = 0; runs = 0; carried_len = 0; ceiling = 0; number = 1; block = 0 }
 
 -- the columns that are lent: of the ranges, and of the carried counts
 pub record Columns : Type 0 where
@@ -56,16 +57,25 @@ abbrev pub state_by : state.Configuration → ℕ → RestartedAt → Columns �
 state_by k size r c =
     resumed k size (cursor.view (cursor_by r c)) (counts_by r c) r.ceiling (next_group_at r.number r.block)
 
--- where nothing is refused it goes on with these; a refusal keeps the columns
-abbrev pub KeptColumns : StartAnswer → Columns → Columns → Type 0
-KeptColumns a before after = Kept (unless (start_fault a) (done (tt {0}))) before after
+-- a refusal keeps the columns
+abbrev pub KeptColumns : std.Result RestartedAt Refusal → Columns → Columns → Type 0
+KeptColumns r before after = Kept (as_is r) before after
+
+-- what holds of the numbers where nothing is refused
+abbrev pub OnNumbers : (RestartedAt → Type 0) → std.Result RestartedAt Refusal → Type 0
+OnNumbers f (Ok n) = f n
+OnNumbers f (Err r) = Unit {0}
+
+-- the numbers and columns are within their measures
+pub record Measured (c : Columns) (n : RestartedAt) : Type 0 where
+  pub cursor : cursor.Sound (cursor_by n c)
+  pub few : n.carried_len ≤ CARRIED
 
 -- what was read, of an area of so many bytes, under whatever configuration
-pub record ReadIs (right : state.Configuration → Result State) (size : ℕ) (r : RestartedAt) (before after : Columns) : Type 0 where
-  pub is : (k : state.Configuration) → start_of r.answer (state_by k size r after) ≡ right k
-  pub cursor : cursor.Sound (cursor_by r after)
-  pub few : r.carried_len ≤ CARRIED
-  pub kept : KeptColumns r.answer before after
+pub record ReadIs (right : state.Configuration → Result State) (size : ℕ) (r : std.Result RestartedAt Refusal) (before after : Columns) : Type 0 where
+  pub is : (k : state.Configuration) → result_of (λ n. state_by k size n after) r ≡ right k
+  pub measured : OnNumbers (Measured after) r
+  pub kept : KeptColumns r before after
 
 -- a table that carries these counts, whose generations begin at the ceiling: no lease is out, whatever the columns of the leases hold
 abbrev pub carrying_on : LeaseConfig → (ceiling : ℕ) (offsets counts : List ℕ) (len : ℕ) → LeaseTable → LeaseTable
@@ -85,14 +95,14 @@ going_on s size r p c =
     }
 
 -- a consumer that goes on, or a refusal: every such consumer is the definition's, and sound where nothing is refused and its slots are slots
-pub record ResumedIn (right : Result State) (s : Configuration) (size : ℕ) (r : RestartedAt) (before after : Columns) : Type 0 where
-  pub is : (c : Consumer) → start_of r.answer (view (going_on s size r after c)) ≡ right
-  pub sound : (c : Consumer) → Permutes LEASES c.table.slots → r.answer ≡ answers.Started → Sound (going_on s size r after c)
-  pub kept : KeptColumns r.answer before after
+pub record ResumedIn (right : Result State) (s : Configuration) (size : ℕ) (r : std.Result RestartedAt Refusal) (before after : Columns) : Type 0 where
+  pub is : (c : Consumer) → result_of (λ n. view (going_on s size n after c)) r ≡ right
+  pub sound : (c : Consumer) → Permutes LEASES c.table.slots → OnNumbers (λ n. Sound (going_on s size n after c)) r
+  pub kept : KeptColumns r before after
 
 -- a restart, and an import
-abbrev pub RestartedIn : Configuration → (area : List ℕ) → RestartedAt → (before after : Columns) → Type 0
+abbrev pub RestartedIn : Configuration → (area : List ℕ) → std.Result RestartedAt Refusal → (before after : Columns) → Type 0
 RestartedIn s a r before after = ResumedIn (restart (configuration_of s) a) s (length a) r before after
 
-abbrev pub ImportedIn : Configuration → (size first : ℕ) (cursor attempts : List ℕ) → RestartedAt → (before after : Columns) → Type 0
+abbrev pub ImportedIn : Configuration → (size first : ℕ) (cursor attempts : List ℕ) → std.Result RestartedAt Refusal → (before after : Columns) → Type 0
 ImportedIn s size first cb ab r before after = ResumedIn (import (configuration_of s) size first cb ab) s size r before after

@@ -1,20 +1,17 @@
 -- What a start and a restart are handed and answer in the code: the configuration that the struct stands for, the refusals for the
 -- cases of the answer, and the parts of the contracts.
 -- SPEC.md, "Restart".
-use Rattle.std.specs.Prelude.{ℕ, ◌+◌, ◌-◌, ◌≤◌, ◌≡◌, List, ◌++◌, true, false, length, take, replicate}
+use Rattle.std.specs.Prelude.{ℕ, ◌+◌, ◌-◌, ◌≤◌, ◌≡◌, List, ◌++◌, true, false, length, take, replicate, Some, None, Ok, Err}
+use Rattle.std.specs.Prelude as std
 use Rattle.std.proofs.Math.Option.{Option, none, some}
 use Rattle.journal.specs.Area.{bad_length, outside, block_at}
-use Rattle.journal.specs.Answers.{walked_of}
-use Rattle.journal.specs.declared.LastGroup.{LastGroup}
-use Rattle.journal.specs.declared.LastGroup.TheVariants.{At, None}
-use Rattle.journal.specs.declared.Walked.{Walked}
+use Rattle.journal.specs.Answers.{stop_of}
+use Rattle.journal.specs.declared.Stop.{Stop}
 use Rattle.journal.specs.Blocks.{bodies_for, cursor_length, attempt_length, payload_length}
 use Rattle.types.specs.Refusal.{Refusal, Result, refused, done}
-use Rattle.types.specs.Refusal as refusal
-use Rattle.types.specs.Table.{unless}
-use Rattle.cursor.specs.Answers.{snapshot_error}
+use Rattle.types.specs.Refused.{refusal_of, result_of}
+use Rattle.types.specs.declared.refusals.Refusal as code
 use Rattle.cursor.specs.View as cursor
-use Rattle.attempt.specs.Codec.{attempt_error}
 use Rattle.delivery.specs.declared.DeliveryConfig.{DeliveryConfig}
 use Rattle.delivery.specs.Policy.{policy}
 use Rattle.hours.specs.View as hours
@@ -27,10 +24,7 @@ use Rattle.consumer.specs.declared.Configuration.{Configuration}
 use Rattle.consumer.specs.declared.NextGroup.{NextGroup}
 use Rattle.consumer.specs.declared.Consumer.{Consumer}
 use Rattle.starts.specs.Restart.{fresh, opens, first_number, walk_of}
-use Rattle.starts.specs.declared.Opening.{Opening}
 use Rattle.starts.specs.declared.Started.{Started}
-use Rattle.starts.specs.declared.StartAnswer.{StartAnswer}
-use Rattle.starts.specs.declared.StartAnswer.TheVariants as answers
 
 -- the backoffs of a config, as many as it counts: any past its array are 0
 abbrev pub backoffs_of : DeliveryConfig → List ℕ
@@ -55,21 +49,13 @@ abbrev pub kept_of : Configuration → state.Configuration
 kept_of c = record { settings = settings_of c.settings; lease = c.lease }
 
 -- the refusal that an answer is, if it is one
-abbrev pub start_fault : StartAnswer → Option Refusal
-start_fault answers.Started = none
-start_fault answers.UnlimitedDeliverNotAllowed = some refusal.UnlimitedDeliverNotAllowed
-start_fault answers.TooManySteps = some refusal.TooManySteps
-start_fault answers.ZeroThreshold = some refusal.ZeroThreshold
-start_fault answers.BadHours = some refusal.BadHours
-start_fault answers.NeverOpen = some refusal.NeverOpen
-start_fault answers.BadArea = some refusal.BadArea
-start_fault (answers.Damaged block) = some (refusal.Damaged block)
-start_fault (answers.Cursor error) = some (snapshot_error error)
-start_fault (answers.Attempts error) = some (attempt_error error)
+abbrev pub start_fault : std.Result (Unit {0}) code.Refusal → Option Refusal
+start_fault (Ok _) = none
+start_fault (Err r) = some (refusal_of r)
 
 -- the answer, with the state that stands beside it
-abbrev pub start_of : StartAnswer → State → Result State
-start_of a s = unless (start_fault a) (done s)
+abbrev pub start_of : std.Result (Unit {0}) code.Refusal → State → Result State
+start_of a s = result_of (λ x. s) a
 
 -- a fresh consumer
 pub record FreshIs (s : Configuration) (size : ℕ) (c : Consumer) : Type 0 where
@@ -88,10 +74,10 @@ pub record StartedIs (s : Configuration) (size : ℕ) (right : Result State) (r 
   pub beside : Beside right s size r.consumer
 
 -- ## a restart's parts
--- the first block of a half, as its opening; the number is of use where it opens
-pub record OpeningIs (a : List ℕ) (i : ℕ) (r : Opening) : Type 0 where
-  pub opens : r.opens ≡ opens a i
-  pub number : r.opens ≡ true → r.number ≡ first_number a i
+-- the number under which the first block of a half opens it, if it does
+abbrev pub OpeningIs : (a : List ℕ) (i : ℕ) → std.Option ℕ → Type 0
+OpeningIs a i (Some n) = (opens a i ≡ true) × (n ≡ first_number a i)
+OpeningIs a i None = opens a i ≡ false
 
 abbrev pub next_group_of : NextGroup → state.NextGroup
 next_group_of next = state.next_group_at next.number next.block
@@ -102,12 +88,7 @@ pub record Lies (a : List ℕ) (i : ℕ) : Type 0 where
   pub cursor : cursor_length (block_at a i) ≤ 2061
   pub attempts : attempt_length (block_at a i) ≤ 1545
 
--- what a walk over the whole area answered, from where it begins; the area has a length that an area may have
-pub record WalkedIs (a : List ℕ) (r : Walked) : Type 0 where
+-- where a walk over the whole area ended, from where it begins; the area has a length that an area may have
+pub record StopIs (a : List ℕ) (s : Stop) : Type 0 where
   pub area : bad_length (length a) ≡ false
-  pub is : walked_of r ≡ walk_of a
-
--- the last group of a walk, if there was one, lies in the area
-abbrev pub LastLies : List ℕ → LastGroup → Type 0
-LastLies a (At i) = Lies a i
-LastLies a None = Unit {0}
+  pub is : done (stop_of s) ≡ walk_of a

@@ -1,6 +1,6 @@
 // A restart and an import on the parts of a consumer: its columns are lent, and filled only where nothing is refused; its numbers are
 // answered. So a consumer by value and one that lies in another's memory are served by the same function.
-ghost use Rattle.std.specs.Prelude.{◌≡◌, not, ℕ, ◌-◌, ◌≤◌, length, take, drop};
+ghost use Rattle.std.specs.Prelude.{◌≡◌, not, ℕ, ◌≤◌, length, take};
 ghost use Rattle.types.specs.Limits.{LEASES};
 ghost use Rattle.types.specs.Keyed.{entries};
 ghost use Rattle.types.specs.Lists.{entry_of, entries_of};
@@ -9,25 +9,26 @@ ghost use Rattle.cursor.specs.View as cursors;
 ghost use Rattle.cursor.specs.View.{ack_cursor};
 ghost use Rattle.cursor.specs.Snapshot.{decode_cursor};
 ghost use Rattle.attempt.specs.Snapshot.{decode_attempts};
-ghost use Rattle.journal.specs.Answers.{last_of, walked_of};
+ghost use Rattle.types.specs.Refusal.{done};
+ghost use Rattle.types.specs.Refused.{as_is};
+ghost use Rattle.types.specs.Table.{checked};
+ghost use Rattle.journal.specs.Answers.{stop_of};
 ghost use Rattle.consumer.specs.State as state;
-ghost use Rattle.starts.specs.Restart.{is_dropped, unsettled_counts, from_snapshots, read_group, limit, unfit_at, last_group, from_walk};
-ghost use Rattle.starts.specs.Starting.{next_group_of, Lies, LastLies, WalkedIs};
-ghost use Rattle.starts.specs.Parts.{fresh_by, columns, Long, ReadIs, RestartedIn, ImportedIn};
+ghost use Rattle.starts.specs.Restart.{is_dropped, unsettled_counts, from_snapshots, read_group, limit, unfit_at, end_table};
+ghost use Rattle.starts.specs.Starting.{next_group_of, Lies};
+ghost use Rattle.starts.specs.Parts.{fresh_numbers, columns, Long, ReadIs, RestartedIn, ImportedIn};
 
-use crate::{StartAnswer, check_start, origin};
-use attempt::Decode;
+use crate::{FIRST_GROUP, check_start, origin};
 use consumer::{Configuration, NextGroup, halves};
-use cursor::Decode as Snapshot;
 use cursor::columns::{check_snapshot, read_column};
-use journal::{LastGroup, Walked};
+use journal::Stop;
 use types::limits::{CARRIED, LEASES, PAIRS, RANGES};
+use types::refusals::Refusal;
 use types::{Generation, Pair};
 
-// What a restart or an import answers, and the numbers of the consumer that goes on. Beside a refusal they are a fresh consumer's.
+// The numbers of the consumer that goes on after a restart or an import.
 #[derive(Clone, Copy)]
 pub struct RestartedAt {
-    pub answer: StartAnswer,
     pub committed: u64,
     pub runs: usize,
     pub carried_len: usize,
@@ -44,21 +45,26 @@ pub fn restart_in_place(
     ends: &mut [u64; RANGES],
     carried_offsets: &mut [u64; CARRIED],
     carried_counts: &mut [u32; CARRIED],
-) -> RestartedAt
+) -> Result<RestartedAt, Refusal>
     requires { Long (columns starts.old ends.old carried_offsets.old carried_counts.old) }
     ensures { RestartedIn configuration area.now result (columns starts.old ends.old carried_offsets.old carried_counts.old) (columns starts.new ends.new carried_offsets.new carried_counts.new) }
 {
-    let answer = check_start(configuration, area.len());
-    let StartAnswer::Started = answer else {
-        return fresh_numbers(answer);
-    };
+    check_start(configuration, area.len())?;
     let from = origin(area);
     let hi = from.block + halves::half_blocks(area.len());
-    let walked = journal::walk(area, hi, from.number, from.block);
-    resume_from(
+    let stop = journal::walk(area, hi, from.number, from.block)?;
+    check_end(area, hi, stop)?;
+    let Some(at) = stop.last else {
+        return Ok(fresh_numbers());
+    };
+    let next = NextGroup {
+        number: stop.number,
+        block: stop.block,
+    };
+    read_group(
         area,
-        hi,
-        walked,
+        at,
+        next,
         starts,
         ends,
         carried_offsets,
@@ -77,18 +83,12 @@ pub fn import_in_place<'a>(
     ends: &mut [u64; RANGES],
     carried_offsets: &mut [u64; CARRIED],
     carried_counts: &mut [u32; CARRIED],
-) -> RestartedAt
+) -> Result<RestartedAt, Refusal>
     requires { Long (columns starts.old ends.old carried_offsets.old carried_counts.old) }
     ensures { ImportedIn configuration area_len first.0 cursor.now attempts.now result (columns starts.old ends.old carried_offsets.old carried_counts.old) (columns starts.new ends.new carried_offsets.new carried_counts.new) }
 {
-    let answer = check_start(configuration, area_len);
-    let StartAnswer::Started = answer else {
-        return fresh_numbers(answer);
-    };
-    let next = NextGroup {
-        number: 1,
-        block: 0,
-    };
+    check_start(configuration, area_len)?;
+    let next = FIRST_GROUP;
     read_snapshots(
         cursor,
         attempts,
@@ -105,15 +105,14 @@ pub fn import_in_place<'a>(
 pub fn free_slots(slots: &mut [u32; LEASES])
     ensures { Permutes LEASES slots.new }
 {
-    *slots = tables::slots_64();
+    *slots = tables::all_slots();
 }
 
-// An answer with the numbers of a fresh consumer.
-fn fresh_numbers(answer: StartAnswer) -> RestartedAt
-    ensures { result ≡ fresh_by answer }
+// The numbers of a fresh consumer.
+fn fresh_numbers() -> RestartedAt
+    ensures { result ≡ fresh_numbers }
 {
     RestartedAt {
-        answer: answer,
         committed: 0,
         runs: 0,
         carried_len: 0,
@@ -136,85 +135,20 @@ fn unfit_at(area: &[u8], hi: usize, number: u64, block: usize) -> bool
     journal::is_sound_but_fit(&area[from..to], number)
 }
 
-// The last group that a walk over the half in use met, or a fresh consumer where there is none: 5 to 19. A header that doesn't fit
-// there, where the walk ended, is 5, and so is a block of kind 1 with a right check behind that place. The walk answers no 4, since
-// the area's length was tested before.
-fn resume_from(
-    area: &[u8],
-    hi: usize,
-    walked: Walked,
-    starts: &mut [u64; RANGES],
-    ends: &mut [u64; RANGES],
-    carried_offsets: &mut [u64; CARRIED],
-    carried_counts: &mut [u32; CARRIED],
-) -> RestartedAt
-    requires { WalkedIs area.now walked × (hi ≡ limit area.now) × Long (columns starts.old ends.old carried_offsets.old carried_counts.old) }
-    ensures { ReadIs (λ (k : state.Configuration). from_walk k area.now (walked_of walked)) (length area.now) result (columns starts.old ends.old carried_offsets.old carried_counts.old) (columns starts.new ends.new carried_offsets.new carried_counts.new) }
+// Refusal 5 of what stands where a walk over the half in use ended: a header that doesn't fit there, or a block of kind 1 with a right
+// check behind that place.
+fn check_end(area: &[u8], hi: usize, stop: Stop) -> Result<(), Refusal>
+    requires { hi ≡ limit area.now }
+    ensures { as_is result ≡ checked (end_table area.now (stop_of stop)) (done (tt {0})) }
 {
-    match walked {
-        Walked::Stopped {
-            last,
-            number,
-            block,
-        } => {
-            if unfit_at(area, hi, number, block) {
-                return fresh_numbers(StartAnswer::Damaged { block: block });
-            }
-            if journal::header_behind(area, hi, block) {
-                return fresh_numbers(StartAnswer::Damaged { block: block });
-            }
-            let next = NextGroup {
-                number: number,
-                block: block,
-            };
-            return read_last(
-                area,
-                last,
-                next,
-                starts,
-                ends,
-                carried_offsets,
-                carried_counts,
-            );
-        }
-        Walked::BadArea => {
-            return fresh_numbers(StartAnswer::BadArea);
-        }
-        Walked::Damaged(body) => {
-            return fresh_numbers(StartAnswer::Damaged { block: body });
-        }
+    let block = stop.block;
+    if unfit_at(area, hi, stop.number, block) {
+        return Err(Refusal::Damaged { block });
     }
-}
-
-// The last group of a walk, or a fresh consumer where there is none: 6 to 19.
-fn read_last(
-    area: &[u8],
-    last: LastGroup,
-    next: NextGroup,
-    starts: &mut [u64; RANGES],
-    ends: &mut [u64; RANGES],
-    carried_offsets: &mut [u64; CARRIED],
-    carried_counts: &mut [u32; CARRIED],
-) -> RestartedAt
-    requires { LastLies area.now last × Long (columns starts.old ends.old carried_offsets.old carried_counts.old) }
-    ensures { ReadIs (λ (k : state.Configuration). last_group k area.now (last_of last) (next_group_of next)) (length area.now) result (columns starts.old ends.old carried_offsets.old carried_counts.old) (columns starts.new ends.new carried_offsets.new carried_counts.new) }
-{
-    match last {
-        LastGroup::At(at) => {
-            return read_group(
-                area,
-                at,
-                next,
-                starts,
-                ends,
-                carried_offsets,
-                carried_counts,
-            );
-        }
-        LastGroup::None => {
-            return fresh_numbers(StartAnswer::Started);
-        }
+    if journal::header_behind(area, hi, block) {
+        return Err(Refusal::Damaged { block });
     }
+    Ok(())
 }
 
 // The group whose header stands at a block.
@@ -226,7 +160,7 @@ fn read_group(
     ends: &mut [u64; RANGES],
     carried_offsets: &mut [u64; CARRIED],
     carried_counts: &mut [u32; CARRIED],
-) -> RestartedAt
+) -> Result<RestartedAt, Refusal>
     requires { Lies area.now at × Long (columns starts.old ends.old carried_offsets.old carried_counts.old) }
     ensures { ReadIs (λ (k : state.Configuration). read_group k area.now at (next_group_of next)) (length area.now) result (columns starts.old ends.old carried_offsets.old carried_counts.old) (columns starts.new ends.new carried_offsets.new carried_counts.new) }
 {
@@ -234,42 +168,14 @@ fn read_group(
     let to = from + 512;
     let header = journal::read_header(&area[from..to]);
     let mut payload = [0u8; 3606];
-    journal::read_payload(area, at, &mut payload);
+    let _ = journal::read_payload(area, at, &mut payload);
     let middle = header.cursor_len as usize;
     let end = middle + header.attempt_len as usize;
-    let ceiling = header.ceiling;
-    read_both(
-        &payload,
-        middle,
-        end,
-        ceiling,
-        next,
-        starts,
-        ends,
-        carried_offsets,
-        carried_counts,
-    )
-}
-
-// Two snapshots that stand one behind the other, up to a place each.
-fn read_both(
-    bytes: &[u8],
-    middle: usize,
-    end: usize,
-    ceiling: u64,
-    next: NextGroup,
-    starts: &mut [u64; RANGES],
-    ends: &mut [u64; RANGES],
-    carried_offsets: &mut [u64; CARRIED],
-    carried_counts: &mut [u32; CARRIED],
-) -> RestartedAt
-    requires { (middle ≤ end) × (end ≤ length bytes.now) × Long (columns starts.old ends.old carried_offsets.old carried_counts.old) }
-    ensures { (size : ℕ) → ReadIs (λ (k : state.Configuration). from_snapshots k size (decode_cursor (take middle bytes.now)) (decode_attempts (take (end - middle) (drop middle bytes.now))) ceiling (next_group_of next)) size result (columns starts.old ends.old carried_offsets.old carried_counts.old) (columns starts.new ends.new carried_offsets.new carried_counts.new) }
-{
+    let bytes: &[u8] = &payload;
     read_snapshots(
         &bytes[..middle],
         &bytes[middle..end],
-        ceiling,
+        header.ceiling,
         next,
         starts,
         ends,
@@ -288,43 +194,35 @@ fn read_snapshots<'a>(
     ends: &mut [u64; RANGES],
     carried_offsets: &mut [u64; CARRIED],
     carried_counts: &mut [u32; CARRIED],
-) -> RestartedAt
+) -> Result<RestartedAt, Refusal>
     requires { Long (columns starts.old ends.old carried_offsets.old carried_counts.old) }
     ensures { (size : ℕ) → ReadIs (λ (k : state.Configuration). from_snapshots k size (decode_cursor cursor_bytes.now) (decode_attempts attempt_bytes.now) ceiling (next_group_of next)) size result (columns starts.old ends.old carried_offsets.old carried_counts.old) (columns starts.new ends.new carried_offsets.new carried_counts.new) }
 {
-    let checked = check_snapshot(cursor_bytes);
-    let outcome = checked.outcome;
-    if let Snapshot::Refused(error) = outcome {
-        return fresh_numbers(StartAnswer::Cursor(error));
-    }
-    let decoded = attempt::decode_pairs(attempt_bytes);
-    let pairs = decoded.outcome;
-    if let Decode::Refused(error) = pairs {
-        return fresh_numbers(StartAnswer::Attempts(error));
-    }
-    let list = decoded.pairs;
-    let committed = checked.committed;
-    let runs = checked.runs;
+    let figures = check_snapshot(cursor_bytes)?;
+    let decoded = attempt::decode_pairs(attempt_bytes)?;
+    let committed = figures.committed;
+    let runs = figures.runs;
     read_column(cursor_bytes, 9, runs, starts);
     read_column(cursor_bytes, 17, runs, ends);
-    RestartedAt {
-        answer: StartAnswer::Started,
+    let list = decoded.pairs;
+    let carried_len = carry(
+        committed,
+        starts,
+        ends,
+        runs,
+        list,
+        decoded.count,
+        carried_offsets,
+        carried_counts,
+    );
+    Ok(RestartedAt {
         committed,
         runs,
-        carried_len: carry(
-            committed,
-            starts,
-            ends,
-            runs,
-            list,
-            decoded.count,
-            carried_offsets,
-            carried_counts,
-        ),
-        ceiling: ceiling,
+        carried_len,
+        ceiling,
         number: next.number,
         block: next.block,
-    }
+    })
 }
 
 // Whether a count is carried: it isn't zero, and its offset isn't settled.
@@ -359,15 +257,13 @@ fn carry<'a>(
     ensures { (result ≤ 128) × (entries (take result offsets.new) (take result counts.new) ≡ unsettled_counts (cursors.view (ack_cursor committed starts.now ends.now runs)) (entries_of (take count pairs))) }
 {
     let mut len: usize = 0;
-    let mut i: usize = 0;
-    while i < count {
+    for i in 0..count {
         let pair = pairs[i];
         if is_carried(committed, starts, ends, runs, pair) {
             offsets[len] = pair.offset;
             counts[len] = pair.attempt;
             len += 1;
         }
-        i += 1;
     }
     len
 }

@@ -1,7 +1,7 @@
 // How a consumer starts: fresh, from what its journal has, or from the snapshots of another server.
 #![tactic(auto)]
 
-ghost use Rattle.std.specs.Prelude.{◌≡◌, ◌≤◌, not, ◌&&◌, [], ◌∷◌, ◌++◌, leb, length};
+ghost use Rattle.std.specs.Prelude.{◌≡◌, ◌≤◌, [], ◌∷◌, ◌++◌, length};
 ghost use Rattle.types.specs.Limits.{LEASES};
 ghost use Rattle.types.specs.Refusal.{Result, BadArea};
 ghost use Rattle.types.specs.Table.{◌⇒◌, first};
@@ -15,36 +15,28 @@ ghost use Rattle.starts.specs.Starting.{configuration_of, start_fault, FreshIs, 
 ghost use Rattle.starts.specs.Parts.{Columns, columns, carrying_on, going_on, ResumedIn};
 
 use crate::in_place::RestartedAt;
-use attempt::AttemptSnapshotError;
 use consumer::{Configuration, Consumer, NextGroup, halves};
-use cursor::{AckCursor, SnapshotError};
-use hours::{Hours, HoursTest};
+use cursor::AckCursor;
+use hours::Hours;
 use lease::{LeaseConfig, LeaseTable};
 use types::Generation;
 use types::limits::{CARRIED, LEASES, RANGES};
+use types::refusals::Refusal;
 
 pub mod in_place;
 
-// What a start, a restart or an import answers: a consumer, or a refusal: 1 to 3, those of the hours (33 and 34), 4, 5, the cursor snapshot's (6
-// to 12), or the attempt snapshot's (13 to 19).
-#[derive(Clone, Copy)]
-pub enum StartAnswer {
-    Started,
-    UnlimitedDeliverNotAllowed,
-    TooManySteps,
-    ZeroThreshold,
-    BadHours,
-    NeverOpen,
-    BadArea,
-    Damaged { block: usize },
-    Cursor(SnapshotError),
-    Attempts(AttemptSnapshotError),
-}
+// The first group of a journal without any: number 1, at block 0.
+const FIRST_GROUP: NextGroup = NextGroup {
+    number: 1,
+    block: 0,
+};
 
-// Beside a refusal stands the fresh consumer of this configuration, which is not to be called.
+// What a start, a restart or an import answers: a consumer, or a refusal: 1 to 3, those of the hours (33 and 34), 4, 5, the cursor
+// snapshot's (6 to 12), or the attempt snapshot's (13 to 19). Beside a refusal stands the fresh consumer of this configuration, which
+// is not to be called.
 #[derive(Clone, Copy)]
 pub struct Started {
-    pub answer: StartAnswer,
+    pub answer: Result<(), Refusal>,
     pub consumer: Consumer,
 }
 
@@ -63,35 +55,29 @@ fn bad_area(area_len: usize) -> bool
 }
 
 // Refusals 33, 34 and 4.
-fn check_hours(hours: Hours, area_len: usize) -> StartAnswer
+fn check_hours(hours: Hours, area_len: usize) -> Result<(), Refusal>
     ensures { start_fault result ≡ first (hours_rows (opening.view hours) ++ (bad_area area_len ⇒ BadArea ∷ [])) }
 {
-    let test = hours.test();
-    match test {
-        HoursTest::BadHours => StartAnswer::BadHours,
-        HoursTest::NeverOpen => StartAnswer::NeverOpen,
-        HoursTest::Accepted => {
-            if bad_area(area_len) {
-                return StartAnswer::BadArea;
-            }
-            StartAnswer::Started
-        }
+    hours.test()?;
+    if bad_area(area_len) {
+        return Err(Refusal::BadArea);
     }
+    Ok(())
 }
 
 // Refusals 1 to 3, 33, 34 and 4.
-fn check_start(configuration: Configuration, area_len: usize) -> StartAnswer
+fn check_start(configuration: Configuration, area_len: usize) -> Result<(), Refusal>
     ensures { start_fault result ≡ first (start_table (configuration_of configuration) area_len) }
 {
     let config = configuration.settings.delivery;
     if delivery::lacks_opt_in(config.max_deliver, config.allow_unlimited) {
-        return StartAnswer::UnlimitedDeliverNotAllowed;
+        return Err(Refusal::UnlimitedDeliverNotAllowed);
     }
     if 16 < config.backoff_len {
-        return StartAnswer::TooManySteps;
+        return Err(Refusal::TooManySteps);
     }
     if config.attempts_flush_redeliveries == 0 {
-        return StartAnswer::ZeroThreshold;
+        return Err(Refusal::ZeroThreshold);
     }
     let hours = configuration.settings.hours;
     check_hours(hours, area_len)
@@ -107,10 +93,7 @@ fn fresh(configuration: Configuration, area_len: usize) -> Consumer
         cursor: AckCursor::new(),
         table: LeaseTable::starting_at(lease, Generation(0)),
         ceiling: Generation(0),
-        next: NextGroup {
-            number: 1,
-            block: 0,
-        },
+        next: FIRST_GROUP,
         area_len: area_len,
         settings: settings,
     }
@@ -129,7 +112,7 @@ fn resumed_table(
     LeaseTable {
         config: config,
         offsets: [0; LEASES],
-        slots: tables::slots_64(),
+        slots: tables::all_slots(),
         generations: [0; LEASES],
         attempt_starts: [0; LEASES],
         deadlines: [0; LEASES],
@@ -187,74 +170,50 @@ fn resumed(
 fn started_with(
     configuration: Configuration,
     area_len: usize,
-    numbers: RestartedAt,
+    done: Result<RestartedAt, Refusal>,
     starts: [u64; RANGES],
     ends: [u64; RANGES],
     carried_offsets: [u64; CARRIED],
     carried_counts: [u32; CARRIED],
 ) -> Started
-    ensures { (right : Result State) (before : Columns) → ResumedIn right configuration area_len numbers before (columns starts ends carried_offsets carried_counts) → StartedIs configuration area_len right result }
+    ensures { (right : Result State) (before : Columns) → ResumedIn right configuration area_len done before (columns starts ends carried_offsets carried_counts) → StartedIs configuration area_len right result }
 {
-    let answer = numbers.answer;
-    let StartAnswer::Started = answer else {
-        return Started {
-            answer: answer,
+    match done {
+        Ok(numbers) => Started {
+            answer: Ok(()),
+            consumer: resumed(
+                configuration,
+                area_len,
+                numbers,
+                starts,
+                ends,
+                carried_offsets,
+                carried_counts,
+            ),
+        },
+        Err(refusal) => Started {
+            answer: Err(refusal),
             consumer: fresh(configuration, area_len),
-        };
-    };
-    Started {
-        answer: answer,
-        consumer: resumed(
-            configuration,
-            area_len,
-            numbers,
-            starts,
-            ends,
-            carried_offsets,
-            carried_counts,
-        ),
+        },
     }
 }
 
-// The first block of a half as its opening: a header sound in all but the expected number, or none.
-#[derive(Clone, Copy)]
-struct Opening {
-    opens: bool,
-    number: u64,
-}
-
-// What the first block of a half, `at`, opens it with.
-fn opened_by(area: &[u8], at: usize) -> Opening
+// The number under which the first block of a half, `at`, opens it: where the block is a header sound in all but the expected number.
+fn opened_by(area: &[u8], at: usize) -> Option<u64>
     requires { at ≤ half_blocks (length area.now) }
     ensures { OpeningIs area.now at result }
 {
     let from = 512 * at;
     let to = from + 512;
     if area.len() < to {
-        return Opening {
-            opens: false,
-            number: 0,
-        };
+        return None;
     }
     let block = &area[from..to];
+    if !journal::is_sound_but_number(block, at + halves::half_blocks(area.len()), at) {
+        return None;
+    }
     let header = journal::read_header(block);
-    Opening {
-        opens: journal::is_sound_but_number(block, at + halves::half_blocks(area.len()), at),
-        number: header.number as u64,
-    }
-}
-
-// Whether the second half is read.
-fn second_wins(first: Opening, second: Opening) -> bool
-    ensures { result ≡ (second.opens && not (first.opens && leb second.number first.number)) }
-{
-    if !second.opens {
-        return false;
-    }
-    if !first.opens {
-        return true;
-    }
-    first.number < second.number
+    Some(header.number as u64)
 }
 
 // Where the walk over an area begins, and the group number that is expected there: at the half that is opened under the greater
@@ -265,21 +224,26 @@ pub fn origin(area: &[u8]) -> NextGroup
     let middle = halves::half_blocks(area.len());
     let first = opened_by(area, 0);
     let second = opened_by(area, middle);
-    if second_wins(first, second) {
-        return NextGroup {
-            number: second.number,
+    match (first, second) {
+        (None, None) => FIRST_GROUP,
+        (Some(number), None) => NextGroup { number, block: 0 },
+        (None, Some(number)) => NextGroup {
+            number,
             block: middle,
-        };
-    }
-    if first.opens {
-        return NextGroup {
-            number: first.number,
-            block: 0,
-        };
-    }
-    NextGroup {
-        number: 1,
-        block: 0,
+        },
+        (Some(a), Some(b)) => {
+            if a < b {
+                NextGroup {
+                    number: b,
+                    block: middle,
+                }
+            } else {
+                NextGroup {
+                    number: a,
+                    block: 0,
+                }
+            }
+        }
     }
 }
 
@@ -296,10 +260,7 @@ pub fn start(configuration: Configuration, area_len: usize) -> Started
 {
     let answer = check_start(configuration, area_len);
     let consumer = fresh(configuration, area_len);
-    Started {
-        answer: answer,
-        consumer: consumer,
-    }
+    Started { answer, consumer }
 }
 
 // A consumer that goes on from what its journal has: 1 to 3, 33, 34, 4 to 19. The area is read and nothing is written.

@@ -1,11 +1,12 @@
 -- Two sorted lists of counts in one, the larger count where a key stands in both.
 -- SPEC.md, "Leases".
 use Rattle.std.specs.Prelude.{ℕ, max, cond, List, [], ◌∷◌, ltb, eqb}
+use Rattle.std.specs.Prelude as std
 use Rattle.std.proofs.Math.Option.{Option, none, some}
 use Rattle.types.specs.Keyed.{Entry, entry}
 use Rattle.types.specs.Lists.{entry_of}
-use Rattle.tables.specs.declared.counts.Head.{Head}
-use Rattle.tables.specs.declared.counts.Head.TheVariants as head
+use Rattle.types.specs.Refused.{option_of}
+use Rattle.types.specs.declared.Pair.{Pair}
 use Rattle.tables.specs.declared.counts.Pick.{Pick}
 
 -- an entry before the rest of its own list, merged with another list
@@ -25,9 +26,8 @@ abbrev pub first : List (Entry ℕ) → Option (Entry ℕ)
 first [] = none
 first (e ∷ l) = some e
 
-abbrev pub head_of : Head → Option (Entry ℕ)
-head_of (head.Some p) = some (entry_of p)
-head_of head.None = none
+abbrev pub head_of : std.Option Pair → Option (Entry ℕ)
+head_of = option_of entry_of
 
 -- an entry, and how many it takes of each list
 abbrev pub taken : Entry ℕ → ℕ → ℕ → Pick

@@ -4,13 +4,12 @@ ghost use Rattle.types.specs.Keyed.{entries};
 ghost use Rattle.types.specs.Lists.{entry_of, counts_in, ListsCounts};
 ghost use Rattle.tables.specs.Search.{Spans};
 ghost use Rattle.tables.specs.Carried.{Tidy, CarriesPair};
-ghost use Rattle.tables.specs.Merge.{merge, first, head_of, lower, picked};
+ghost use Rattle.tables.specs.Merge.{merge, first, head_of, taken, lower, picked};
 
 use crate::Place;
 use types::Pair;
 use types::lent::AttemptCounts;
 use types::limits::{CARRIED, COUNTS};
-use types::numbers::larger_count;
 
 // The places of a key, one or none, and the count there, 0 where there is none.
 #[derive(Clone, Copy)]
@@ -18,13 +17,6 @@ pub struct Span {
     pub from: usize,
     pub to: usize,
     pub count: u32,
-}
-
-// What stands at a place of two columns, if they go so far.
-#[derive(Clone, Copy)]
-pub(crate) enum Head {
-    Some(Pair),
-    None,
 }
 
 // The first pair of two lists, and how many of each it takes; of both empty, zeros.
@@ -57,7 +49,7 @@ pub fn count_of<'a>(keys: &'a [u64], counts: &'a [u32], len: usize, x: u64) -> S
 fn count_at(counts: &[u32], at: usize) -> u32
     ensures { result ≡ get_or counts.now at 0 }
 {
-    if at < counts.len() { counts[at] } else { 0 }
+    counts.get(at).copied().unwrap_or(0)
 }
 
 // The carried counts while pairs are taken in one by one, in the first `len` places of two columns; or there would be more than
@@ -94,8 +86,8 @@ pub fn carry_pair(mut carried: Carried, pair: Pair) -> Carried
         carried.full = true;
         return carried;
     }
-    crate::insert_128(&mut carried.offsets, len, at, pair.offset);
-    crate::insert_count_128(&mut carried.counts, len, at, pair.attempt);
+    crate::insert(&mut carried.offsets, len, at, pair.offset);
+    crate::insert(&mut carried.counts, len, at, pair.attempt);
     carried.len = len + 1;
     carried
 }
@@ -137,51 +129,34 @@ pub fn merged<'a>(
     }
 }
 
-fn pair_at<'a>(keys: &'a [u64], counts: &'a [u32], len: usize, i: usize) -> Head
+// What stands at a place of two columns, if they go so far.
+fn pair_at<'a>(keys: &'a [u64], counts: &'a [u32], len: usize, i: usize) -> Option<Pair>
     ensures { head_of result ≡ first (drop i (entries (take len keys.now) (take len counts.now))) }
 {
-    if len <= i {
-        return Head::None;
+    if i < len && i < keys.len() && i < counts.len() {
+        return Some(Pair {
+            offset: keys[i],
+            attempt: counts[i],
+        });
     }
-    if keys.len() <= i {
-        return Head::None;
-    }
-    if counts.len() <= i {
-        return Head::None;
-    }
-    Head::Some(Pair {
-        offset: keys[i],
-        attempt: counts[i],
-    })
+    None
 }
 
-fn next_of(left: Head, right: Head) -> Pick
+fn next_of(left: Option<Pair>, right: Option<Pair>) -> Pick
     ensures { result ≡ picked (head_of left) (head_of right) }
 {
-    match left {
-        Head::Some(a) => match right {
-            Head::Some(b) => pick_lower(a, b),
-            Head::None => Pick {
-                offset: a.offset,
-                attempt: a.attempt,
-                left: 1,
-                right: 0,
-            },
-        },
-        Head::None => match right {
-            Head::Some(b) => Pick {
-                offset: b.offset,
-                attempt: b.attempt,
-                left: 0,
-                right: 1,
-            },
-            Head::None => Pick {
+    match (left, right) {
+        (Some(a), Some(b)) => pick_lower(a, b),
+        (Some(a), None) => taking(a, 1, 0),
+        (None, Some(b)) => taking(b, 0, 1),
+        (None, None) => taking(
+            Pair {
                 offset: 0,
                 attempt: 0,
-                left: 0,
-                right: 0,
             },
-        },
+            0,
+            0,
+        ),
     }
 }
 
@@ -189,25 +164,22 @@ fn pick_lower(a: Pair, b: Pair) -> Pick
     ensures { result ≡ lower (entry_of a) (entry_of b) }
 {
     if a.offset < b.offset {
-        return Pick {
-            offset: a.offset,
-            attempt: a.attempt,
-            left: 1,
-            right: 0,
-        };
+        return taking(a, 1, 0);
     }
     if b.offset < a.offset {
-        return Pick {
-            offset: b.offset,
-            attempt: b.attempt,
-            left: 0,
-            right: 1,
-        };
+        return taking(b, 0, 1);
     }
+    let attempt = b.attempt.max(a.attempt);
+    taking(Pair { attempt, ..a }, 1, 1)
+}
+
+fn taking(pair: Pair, left: usize, right: usize) -> Pick
+    ensures { result ≡ taken (entry_of pair) left right }
+{
     Pick {
-        offset: a.offset,
-        attempt: larger_count(b.attempt, a.attempt),
-        left: 1,
-        right: 1,
+        offset: pair.offset,
+        attempt: pair.attempt,
+        left,
+        right,
     }
 }

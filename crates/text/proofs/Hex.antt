@@ -13,7 +13,7 @@ use lib.Seq.{sets}
 use borrow.Author.Tests.{le-leb, lt-leb, leb-true}
 use Rattle.types.proofs.Cases.{split, both}
 use Rattle.text.specs.Words.{same_bytes, isDigit, is_empty, is_hex, hex_value, hex_digit, hex_byte, all_hex, hex_bytes, is_bytes, Decoded}
-use Rattle.text.specs.declared.words.Numbers.TheVariants.{Count, Bad}
+use Rattle.std.specs.Prelude as std
 use Rattle.text.proofs.Parsing.{drop-next}
 
 -- ## a digit
@@ -112,19 +112,19 @@ module _ (w before : List ℕ) where
             rest = rw add-one (rw (left, t.0, t.1) at g.rest);
           }
 
-      pub decoded-bad : is_bytes w ≡ all_hex w → hex_byte (get_or w at 0) (get_or w (at + 1) 0) ≡ none → Decoded w before Bad out
+      pub decoded-bad : is_bytes w ≡ all_hex w → hex_byte (get_or w at 0) (get_or w (at + 1) 0) ≡ none → Decoded w before std.None out
       unfolding all_hex hex_bytes
       decoded-bad p e =
           let f = no_byte (get_or w at 0) (get_or w (at + 1) 0) e in
           record { count = rw (p, ← g.good, left, f); filled = rw (left, f) at g.rest }
 
-    pub decoded_odd : is_bytes w ≡ all_hex w → at + 1 ≡ length w → Decoded w before Bad out
+    pub decoded_odd : is_bytes w ≡ all_hex w → at + 1 ≡ length w → Decoded w before std.None out
     unfolding all_hex hex_bytes
     decoded_odd p e =
         let one : drop at w ≡ get_or w at 0 ∷ [] = rw (drop-next w at (omega arith), drop_of_length-le w {i = at + 1} (omega arith)) in
         record { count = rw (p, ← g.good, one); filled = rw one at g.rest }
 
-    pub decoded-all : is_bytes w ≡ all_hex w → at ≡ length w → Decoded w before (Count count) out
+    pub decoded-all : is_bytes w ≡ all_hex w → at ≡ length w → Decoded w before (std.Some count) out
     unfolding all_hex hex_bytes
     decoded-all p e =
         let none_left : drop at w ≡ [] = drop_of_length-le w {i = at} (omega arith) in
@@ -132,13 +132,13 @@ module _ (w before : List ℕ) where
         record { count = rw (p, ← g.good, none_left, n); filled = rw none_left at g.rest }
 
 -- the word -
-pub decoded_dash : (w before : List ℕ) → same_bytes w (45 ∷ []) ≡ true → Decoded w before (Count 0) before
+pub decoded_dash : (w before : List ℕ) → same_bytes w (45 ∷ []) ≡ true → Decoded w before (std.Some 0) before
 unfolding hex_bytes
 decoded_dash [] before s = absurd (true≢false (sym s))
 decoded_dash (c ∷ []) before s = record { count = rw s; filled = refl }
 decoded_dash (c ∷ d ∷ cs) before s = absurd (true≢false (split (eqb c 45) (λ t. sym (rw t at s)) (λ f. sym (rw f at s))))
 
-pub decoded-empty : (w before : List ℕ) → length w ≡ 0 → Decoded w before Bad before
+pub decoded-empty : (w before : List ℕ) → length w ≡ 0 → Decoded w before std.None before
 unfolding hex_bytes
 decoded-empty [] before e = record { count = refl; filled = refl }
 decoded-empty (c ∷ cs) before e = absurd (omega arith)

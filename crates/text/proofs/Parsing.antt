@@ -14,7 +14,7 @@ use borrow.Author.Tests.{eq-eqb, ne_eqb, le-leb, lt-leb, leb-true, leb-false}
 use Rattle.types.specs.Limits.{MAX}
 use Rattle.types.proofs.Cases.{split}
 use Rattle.text.specs.Words.{same_bytes, parts, behind_first, later_parts, length_to, first_part, isDigit, all_digits, value_from, value, is_number, number, with_digit, all_numbers, leading, Gathered}
-use Rattle.text.specs.declared.words.Numbers.TheVariants.{Count, Bad}
+use Rattle.std.specs.Prelude as std
 
 -- ## one place on
 module _ (bs : List ℕ) (i : ℕ) (inside : i < length bs) where
@@ -200,14 +200,14 @@ module _ (all : List (List ℕ)) (before : List ℕ) where
           rest = rw add-one (rw (t, v) at g.rest);
         }
 
-    pub gathered-bad : number w ≡ none → Gathered all before Bad out
+    pub gathered-bad : number w ≡ none → Gathered all before std.None out
     unfolding all_numbers leading
     gathered-bad e =
         let f : is_number w ≡ false = is_none w e in
         record { count = rw (← g.good, f); filled = rw f at g.rest }
 
   pub gathered-all : (out : List ℕ) (count : ℕ) (left : List (List ℕ)) → left ≡ [] → Gathering all before out count left
-      → Gathered all before (Count count) out
+      → Gathered all before (std.Some count) out
   unfolding all_numbers leading
   gathered-all out count left e g =
       let n : count ≡ length all = omega (arith, rw e at g.counted) in

@@ -4,14 +4,15 @@ use Prim.Native.Nat.{ℕ, ◌+◌, ◌-◌, ◌<◌, ◌≤◌}
 use native.Mathlib.Omega.{arith}
 use mathlib.Core.Path.{◌≡◌, refl, ap, ◌∙◌}
 use mathlib.Core.Bool.{Bool, true, false, cond, ◌||◌}
-use mathlib.Core.List.{List, ◌++◌}
+use mathlib.Core.List.{List}
+use Rattle.std.specs.Prelude.{Some, None}
 use lib.Dec.{ltb}
 use lib.ListN.{length, take, drop, get_or, length-take, length-drop}
 use lib.Seq.{take-add, take-take, drop_at}
 use borrow.Author.Tests.{lt-ltb, le-ltb}
 use Rattle.types.proofs.Cases.{split}
 use Rattle.text.specs.Words.{length_to}
-use Rattle.text.specs.Lines.{NEWLINE, Within, unread, line_at, after, take_away, last_line, passing, for_more, Lies, Took, with_more, Refilled}
+use Rattle.text.specs.Lines.{NEWLINE, Within, unread, line_in, line_at, after, take_away, is_long, with_more_to, last_line, passing, for_more, Lies, Took, with_more, Refilled}
 use Rattle.text.specs.declared.lines.Input.{Input}
 use Rattle.text.specs.declared.lines.Found.TheVariants.{More}
 
@@ -22,7 +23,7 @@ module _ (n : ℕ) where
 
   module _ (i : Input) (w : Within n i) where
     line_lies : (to : ℕ) → i.from ≤ to → to ≤ n → Lies n (line_at i to)
-    line_lies to h l = split i.long (λ t. rw t tt) (λ f. rw f (h, l))
+    line_lies to h l = elim i.long as (λ o. Lies n (line_in o i.from to)) [ Some first ↦ tt | None ↦ (h, l) ]
 
     after-within : (from : ℕ) → from ≤ i.to → Within n (after i from)
     after-within from h = record { ordered = h; inside = w.inside }
@@ -32,8 +33,10 @@ module _ (n : ℕ) where
 
     more_within : (len first : ℕ) → Within n (for_more i len first)
     more_within len first =
-        either i.long _ _ (passing-within i.first)
-        (either (ltb (i.to - i.from) len) _ _ w (passing-within first))
+        elim i.long as (λ o. Within n (with_more_to o i len first)) [
+          | Some begun ↦ passing-within begun
+          | None ↦ either (ltb (i.to - i.from) len) _ _ w (passing-within first)
+        ]
 
 module _ (buf : List ℕ) (i : Input) (w : Within (length buf) i) where
   pub took_line : (k : ℕ) → k ≡ length_to NEWLINE (unread buf i) → k < i.to - i.from
@@ -50,8 +53,8 @@ module _ (buf : List ℕ) (i : Input) (w : Within (length buf) i) where
     took_last t =
         record {
           is = rw (← e, le-ltb k (i.to - i.from) h, t);
-          lies = split (ltb i.from i.to || i.long) (λ b. rw b (line_lies (length buf) i w i.to w.ordered w.inside)) (λ b. rw b tt);
-          left = split (ltb i.from i.to || i.long) (λ b. rw b (after-within (length buf) i w i.to (omega arith))) (λ b. rw b w);
+          lies = split (ltb i.from i.to || is_long i.long) (λ b. rw b (line_lies (length buf) i w i.to w.ordered w.inside)) (λ b. rw b tt);
+          left = split (ltb i.from i.to || is_long i.long) (λ b. rw b (after-within (length buf) i w i.to (omega arith))) (λ b. rw b w);
         }
 
     pub took_more : i.ended ≡ false → Took buf i (take_away More (for_more i (length buf) (get_or buf i.from 0)))

@@ -1,6 +1,6 @@
 -- Lines in a buffer of which a part is still to be taken.
 -- SPEC.md, "Programs".
-use Rattle.std.specs.Prelude.{ℕ, ◌+◌, ◌-◌, ◌≤◌, ◌≡◌, true, false, cond, ◌||◌, List, eqb, ltb, length, take, drop, get_or}
+use Rattle.std.specs.Prelude.{ℕ, ◌+◌, ◌-◌, ◌≤◌, ◌≡◌, Bool, true, false, cond, ◌||◌, Option, Some, None, List, eqb, ltb, length, take, drop, get_or}
 use Rattle.text.specs.Words.{length_to}
 use Rattle.text.specs.declared.lines.Input.{Input}
 use Rattle.text.specs.declared.lines.Found.{Found}
@@ -19,34 +19,47 @@ pub record Within (n : ℕ) (i : Input) : Type 0 where
   pub inside : i.to ≤ n
 
 abbrev pub nothing : Input
-nothing = record { from = 0; to = 0; long = false; first = 0; ended = false }
+nothing = record { from = 0; to = 0; long = None; ended = false }
 
 abbrev pub unread : List ℕ → Input → List ℕ
 unread buf i = take (i.to - i.from) (drop i.from buf)
 
--- the line that ends at a place
+-- the line that ends at a place; one that was too long is told by its first byte
+abbrev pub line_in : Option ℕ → ℕ → ℕ → Found
+line_in (Some first) from to = TooLong first
+line_in None from to = Line from to
+
 abbrev pub line_at : Input → ℕ → Found
-line_at i to = cond i.long (TooLong i.first) (Line i.from to)
+line_at i to = line_in i.long i.from to
 
 -- what is left from a place on
 abbrev pub after : Input → ℕ → Input
-after i from = record { from = from; to = i.to; long = false; first = 0; ended = i.ended }
+after i from = record { from = from; to = i.to; long = None; ended = i.ended }
 
 abbrev pub take_away : Found → Input → Taken
 take_away f i = record { found = f; input = i }
 
+-- the line so far is too long
+abbrev pub is_long : Option ℕ → Bool
+is_long (Some first) = true
+is_long None = false
+
 -- what no line end closes is a line, where nothing comes behind it
 abbrev pub last_line : Input → Taken
 last_line i =
-    cond (ltb i.from i.to || i.long) (take_away (line_at i i.to) (after i i.to)) (take_away End i)
+    cond (ltb i.from i.to || is_long i.long) (take_away (line_at i i.to) (after i i.to)) (take_away End i)
 
 -- nothing of a line that is too long
 abbrev pub passing : Input → ℕ → Input
-passing i first = record { from = 0; to = 0; long = true; first = first; ended = i.ended }
+passing i first = record { from = 0; to = 0; long = Some first; ended = i.ended }
 
 -- what more is read behind, in a buffer of so many bytes; `first` is the line's first byte
+abbrev pub with_more_to : Option ℕ → Input → ℕ → ℕ → Input
+with_more_to (Some begun) i len first = passing i begun
+with_more_to None i len first = cond (ltb (i.to - i.from) len) i (passing i first)
+
 abbrev pub for_more : Input → ℕ → ℕ → Input
-for_more i len first = cond i.long (passing i i.first) (cond (ltb (i.to - i.from) len) i (passing i first))
+for_more i len first = with_more_to i.long i len first
 
 -- the next line
 abbrev pub taken : List ℕ → Input → Taken
@@ -80,7 +93,7 @@ pub record Shortened (line : List ℕ) (r : ℕ) : Type 0 where
 
 -- what is still to be taken with bytes behind it that came; where none came, nothing comes any more
 abbrev pub with_more : Input → ℕ → Input
-with_more i came = record { from = 0; to = (i.to - i.from) + came; long = i.long; first = i.first; ended = eqb came 0 }
+with_more i came = record { from = 0; to = (i.to - i.from) + came; long = i.long; ended = eqb came 0 }
 
 -- what reading more answers, and the buffer then: what was still to be taken comes first, and what came follows
 pub record Refilled (before : List ℕ) (i : Input) (r : Input) (buf : List ℕ) : Type 0 where

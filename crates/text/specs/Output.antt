@@ -8,6 +8,7 @@ use Rattle.io.specs.Digits.{hex_digit_ascii}
 use Rattle.types.specs.Refusal.{Result, refused, done}
 use Rattle.types.specs.Table.{Answer}
 use Rattle.raw.specs.Bytes.{write}
+use Rattle.text.specs.declared.output.Output.{Output}
 
 -- ## pieces of text
 -- the bytes of a text
@@ -58,6 +59,10 @@ unfoldable pub puts : List (List ℕ) → Buffered → Buffered
 puts [] b = b
 puts (p ∷ ps) b = puts ps (put b.next p b.bytes)
 
--- what is put behind the first `at` bytes of a buffer, which leaves it filled up to r
-pub record Says (pieces : List (List ℕ)) (at : ℕ) (before : List ℕ) (r : ℕ) (out : List ℕ) : Type 0 where
-  pub is : buffered r out ≡ puts pieces (buffered at before)
+-- what is gathered for output
+abbrev pub gathered : Output → Buffered
+gathered o = buffered o.at o.bytes
+
+-- what is put behind what was gathered before
+pub record Says (pieces : List (List ℕ)) (before after : Output) : Type 0 where
+  pub is : gathered after ≡ puts pieces (gathered before)

@@ -2,15 +2,11 @@
 -- two spaces have an empty word between them.
 -- SPEC.md, "Programs".
 use Rattle.std.specs.Prelude.{ℕ, suc, ◌+◌, ◌-◌, ◌*◌, ◌/◌, ◌≤◌, max, ◌≡◌, Bool, true, false, not, cond, ◌&&◌, ◌||◌, List, [], ◌∷◌, leb, eqb, length, take, drop}
+use Rattle.std.specs.Prelude as std
 use Rattle.std.proofs.Math.Option.{Option, none, some}
 use Rattle.std.proofs.lemmas.List.Edits.{sets}
 use Rattle.types.specs.Limits.{MAX}
-use Rattle.text.specs.declared.words.Number.{Number}
-use Rattle.text.specs.declared.words.Number.TheVariants.{Value, None}
-use Rattle.text.specs.declared.words.Byte.{Byte}
-use Rattle.text.specs.declared.words.Byte.TheVariants.{Is, No}
-use Rattle.text.specs.declared.words.Numbers.{Numbers}
-use Rattle.text.specs.declared.words.Numbers.TheVariants.{Count, Bad}
+use Rattle.types.specs.Refused.{option_of}
 
 abbrev pub SPACE : ℕ
 SPACE = 32
@@ -89,10 +85,6 @@ number w = cond (is_number w) (some (value w)) none
 abbrev pub with_digit : ℕ → ℕ → Option ℕ
 with_digit n c = cond (isDigit c && leb (n * 10 + (c - 48)) MAX) (some (n * 10 + (c - 48))) none
 
-abbrev pub number_of : Number → Option ℕ
-number_of (Value n) = some n
-number_of None = none
-
 -- ## the numbers of words
 unfoldable pub all_numbers : List (List ℕ) → Bool
 all_numbers [] = true
@@ -103,13 +95,9 @@ unfoldable pub leading : List (List ℕ) → List ℕ
 leading [] = []
 leading (w ∷ ws) = cond (is_number w) (value w ∷ leading ws) []
 
-abbrev pub count_of : Numbers → Option ℕ
-count_of (Count n) = some n
-count_of Bad = none
-
 -- what `numbers` answers of words, and what a lent list has then
-pub record Gathered (ws : List (List ℕ)) (before : List ℕ) (r : Numbers) (out : List ℕ) : Type 0 where
-  pub count : count_of r ≡ cond (all_numbers ws) (some (length ws)) none
+pub record Gathered (ws : List (List ℕ)) (before : List ℕ) (r : std.Option ℕ) (out : List ℕ) : Type 0 where
+  pub count : option_of (λ n. n) r ≡ cond (all_numbers ws) (some (length ws)) none
   pub filled : out ≡ sets before 0 (leading ws)
 
 -- ## bytes: two lower-case hexadecimal digits for each, or - for none at all
@@ -141,11 +129,7 @@ hex_bytes (a ∷ b ∷ cs) = cond (is_hex a && is_hex b) ((hex_value a * 16 + he
 abbrev pub is_bytes : List ℕ → Bool
 is_bytes w = same_bytes w (45 ∷ []) || (not (is_empty w) && all_hex w)
 
-abbrev pub byte_of : Byte → Option ℕ
-byte_of (Is n) = some n
-byte_of No = none
-
 -- what `parse_bytes` answers of a word, and what a lent list has then
-pub record Decoded (w : List ℕ) (before : List ℕ) (r : Numbers) (out : List ℕ) : Type 0 where
-  pub count : count_of r ≡ cond (is_bytes w) (some (length w / 2)) none
+pub record Decoded (w : List ℕ) (before : List ℕ) (r : std.Option ℕ) (out : List ℕ) : Type 0 where
+  pub count : option_of (λ n. n) r ≡ cond (is_bytes w) (some (length w / 2)) none
   pub filled : out ≡ sets before 0 (hex_bytes w)

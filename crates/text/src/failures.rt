@@ -2,17 +2,12 @@
 use std::alloc::Global;
 use std::io::{Error, Result, Stderr};
 
-// The system's words for an error, without its number.
-fn words(told: &str) -> &str {
-    match told.split_once(" (os error ") {
-        Some((words, _)) => words,
-        None => told,
-    }
-}
-
-// What failed, as the caller names it, a colon and the system's words for why.
+// What failed, as the caller names it, a colon and the system's words for why, without their number.
 pub fn fail(stderr: Stderr, alloc: Global, what: &str, error: Error) -> Result<()> {
     let told = format!(in alloc; "{error}")?;
-    let words = words(told.as_str());
+    let words = told
+        .as_str()
+        .split_once(" (os error ")
+        .map_or(told.as_str(), |(words, _)| words);
     eprintln!(stderr; "{what}: {words}")
 }

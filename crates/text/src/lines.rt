@@ -7,13 +7,12 @@ use crate::words::find;
 use std::io::Read;
 
 // The bytes of the buffer that are still to be taken: from a place up to another. `long`: they go on with a line that was too
-// long, which began with `first`. `ended`: nothing comes behind them.
+// long, which began with this byte. `ended`: nothing comes behind them.
 #[derive(Clone, Copy)]
 pub struct Input {
     pub from: usize,
     pub to: usize,
-    pub long: bool,
-    pub first: u8,
+    pub long: Option<u8>,
     pub ended: bool,
 }
 
@@ -40,8 +39,7 @@ pub fn nothing_read() -> Input
     Input {
         from: 0,
         to: 0,
-        long: false,
-        first: 0,
+        long: None,
         ended: false,
     }
 }
@@ -50,12 +48,12 @@ pub fn nothing_read() -> Input
 fn line_at(input: Input, to: usize) -> Found
     ensures { result ≡ line_at input to }
 {
-    if input.long {
-        return Found::TooLong { first: input.first };
-    }
-    Found::Line {
-        from: input.from,
-        to: to,
+    match input.long {
+        Some(first) => Found::TooLong { first },
+        None => Found::Line {
+            from: input.from,
+            to,
+        },
     }
 }
 
@@ -64,11 +62,9 @@ fn behind(input: Input, from: usize) -> Input
     ensures { result ≡ after input from }
 {
     Input {
-        from: from,
-        to: input.to,
-        long: false,
-        first: 0,
-        ended: input.ended,
+        from,
+        long: None,
+        ..input
     }
 }
 
@@ -76,13 +72,7 @@ fn behind(input: Input, from: usize) -> Input
 fn last_line(input: Input) -> Taken
     ensures { result ≡ last_line input }
 {
-    if input.from < input.to {
-        return Taken {
-            found: line_at(input, input.to),
-            input: behind(input, input.to),
-        };
-    }
-    if input.long {
+    if input.from < input.to || input.long.is_some() {
         return Taken {
             found: line_at(input, input.to),
             input: behind(input, input.to),
@@ -90,7 +80,7 @@ fn last_line(input: Input) -> Taken
     }
     Taken {
         found: Found::End,
-        input: input,
+        input,
     }
 }
 
@@ -99,24 +89,14 @@ fn for_more(input: Input, len: usize, first: u8) -> Input
     requires { input.from ≤ input.to }
     ensures { result ≡ for_more input len first }
 {
-    if input.long {
-        return Input {
-            from: 0,
-            to: 0,
-            long: true,
-            first: input.first,
-            ended: input.ended,
-        };
-    }
-    if input.to - input.from < len {
+    if input.long.is_none() && input.to - input.from < len {
         return input;
     }
     Input {
         from: 0,
         to: 0,
-        long: true,
-        first: first,
-        ended: input.ended,
+        long: Some(input.long.unwrap_or(first)),
+        ..input
     }
 }
 
@@ -124,10 +104,7 @@ fn for_more(input: Input, len: usize, first: u8) -> Input
 fn byte_at(buf: &[u8], i: usize) -> u8
     ensures { result ≡ get_or buf.now i 0 }
 {
-    if i < buf.len() {
-        return buf[i];
-    }
-    0
+    buf.get(i).copied().unwrap_or(0)
 }
 
 // The next line, and what is left behind it.
@@ -137,7 +114,7 @@ pub fn take_line(buf: &[u8], input: Input) -> Taken
 {
     let from = input.from;
     let to = input.to;
-    let n = find(&buf[from..to], 0, 10);
+    let n = find(&buf[from..to], 0, b'\n');
     if n < to - from {
         return Taken {
             found: line_at(input, from + n),
@@ -157,28 +134,9 @@ pub fn take_line(buf: &[u8], input: Input) -> Taken
 pub fn without_return(line: &[u8]) -> usize
     ensures { Shortened line.now result }
 {
-    let len = line.len();
-    if len == 0 {
-        return 0;
-    }
-    let last = len - 1;
-    if line[last] == 13 {
-        return last;
-    }
-    len
-}
-
-// Copies the bytes from a place up to another to the front.
-fn to_front(buf: &mut [u8], from: usize, to: usize)
-    requires { (from ≤ to) × (to ≤ length buf.old) }
-    ensures { take (to - from) buf.new ≡ drop from (take to buf.old) }
-{
-    let mut i: usize = 0;
-    let mut j = from;
-    while j < to {
-        buf[i] = buf[j];
-        i += 1;
-        j += 1;
+    match line {
+        [rest @ .., b'\r'] => rest.len(),
+        _ => line.len(),
     }
 }
 
@@ -186,10 +144,7 @@ fn to_front(buf: &mut [u8], from: usize, to: usize)
 fn read_some<R: Read>(source: &mut R, buf: &mut [u8]) -> usize
     ensures { result ≤ length buf.old }
 {
-    match source.read(buf) {
-        Ok(got) => got,
-        Err(_) => 0,
-    }
+    source.read(buf).unwrap_or(0)
 }
 
 // Reads once, behind the bytes that are still to be taken, which go to the front first. Where nothing comes, the input has ended.
@@ -197,16 +152,13 @@ pub fn refill<R: Read>(source: &mut R, buf: &mut [u8], input: Input) -> Input
     requires { Within (length buf.old) input }
     ensures { Refilled buf.old input result buf.new }
 {
-    let from = input.from;
-    let to = input.to;
-    to_front(buf, from, to);
-    let kept = to - from;
+    buf.copy_within(input.from..input.to, 0);
+    let kept = input.to - input.from;
     let more = read_some(source, &mut buf[kept..]);
     Input {
         from: 0,
         to: kept + more,
-        long: input.long,
-        first: input.first,
         ended: more == 0,
+        ..input
     }
 }

@@ -1,57 +1,79 @@
-// Answers, gathered in a lent buffer and written to standard output when it is full and when it is flushed. Nothing is lost: what
+// Text for standard output, gathered in a buffer that is written out when it is full and when it is flushed. Nothing is lost: what
 // doesn't fit an empty buffer is written at once. A write that fails is left at that.
-ghost use Rattle.std.specs.Prelude.{[], ◌∷◌};
+ghost use Rattle.std.specs.Prelude.{◌≡◌, [], ◌∷◌};
 ghost use Rattle.text.specs.Output.{decimal, hexadecimal, Says};
 
 use io::{decimal, hex};
-use raw::Write;
+use std::cmp::min;
 use std::io::Stdout;
 
-// Writes bytes out, as far as that can be done.
-fn write_out(stdout: Stdout, bytes: &[u8]) {
-    let _ = stdout.write_all(bytes);
+// How many bytes are gathered at most.
+pub const ROOM: usize = 65536;
+
+// Bytes that are to be written out: the first `at` of a buffer.
+#[derive(Drop)]
+pub struct Output {
+    pub stdout: Stdout,
+    pub bytes: [u8; ROOM],
+    pub at: usize,
 }
 
-// Writes the first `at` bytes of the buffer out.
-pub fn flush(stdout: Stdout, out: &[u8], at: usize) {
-    if at < out.len() {
-        write_out(stdout, &out[..at]);
-    } else {
-        write_out(stdout, out);
+impl Output {
+    // Nothing gathered yet.
+    pub fn new(stdout: Stdout) -> Output
+        ensures { result.at ≡ 0 }
+    {
+        Output {
+            stdout,
+            bytes: [0; ROOM],
+            at: 0,
+        }
     }
-}
 
-// Bytes behind the first `at` of the buffer, or at its start once those are written out. Answers the place behind them.
-pub fn put(stdout: Stdout, out: &mut [u8], at: usize, bytes: &[u8]) -> usize
-    ensures { Says (bytes.now ∷ []) at out.old result out.new }
-{
-    let written = raw::write_bytes(out, at, bytes);
-    if let Write::Next(next) = written {
-        return next;
+    // Writes bytes out, as far as that can be done.
+    fn write_out(&self, bytes: &[u8]) {
+        let _ = self.stdout.write_all(bytes);
     }
-    flush(stdout, out, at);
-    let again = raw::write_bytes(out, 0, bytes);
-    if let Write::Next(next) = again {
-        return next;
+
+    // Writes out what is gathered, which then begins anew.
+    pub fn flush(&mut self)
+        ensures empty { self.new.at ≡ 0 }
+        ensures kept { self.new.bytes ≡ self.old.bytes }
+    {
+        self.write_out(&self.bytes[..min(self.at, ROOM)]);
+        self.at = 0;
     }
-    write_out(stdout, bytes);
-    0
-}
 
-// The decimal digits of a number, as few as hold it.
-pub fn put_number(stdout: Stdout, out: &mut [u8], at: usize, n: u64) -> usize
-    ensures { Says (decimal n ∷ []) at out.old result out.new }
-{
-    let mut text = [0u8; 20];
-    let k = decimal(n, &mut text);
-    put(stdout, out, at, &text[..k])
-}
+    // Bytes behind those that are gathered, or at the buffer's start once these are written out.
+    pub fn put(&mut self, text: &[u8])
+        ensures { Says (text.now ∷ []) self.old self.new }
+    {
+        if let Ok(next) = raw::write_bytes(&mut self.bytes, self.at, text) {
+            self.at = next;
+            return;
+        }
+        self.flush();
+        match raw::write_bytes(&mut self.bytes, 0, text) {
+            Ok(next) => self.at = next,
+            Err(_) => self.write_out(text),
+        }
+    }
 
-// The two hexadecimal digits of a byte.
-pub fn put_hex(stdout: Stdout, out: &mut [u8], at: usize, byte: u8) -> usize
-    ensures { Says (hexadecimal byte ∷ []) at out.old result out.new }
-{
-    let mut text = [0u8; 16];
-    let k = hex(byte as u64, 2, &mut text);
-    put(stdout, out, at, &text[..k])
+    // The decimal digits of a number, as few as hold it.
+    pub fn put_number(&mut self, n: u64)
+        ensures { Says (decimal n ∷ []) self.old self.new }
+    {
+        let mut text = [0u8; 20];
+        let k = decimal(n, &mut text);
+        self.put(&text[..k]);
+    }
+
+    // The two hexadecimal digits of a byte.
+    pub fn put_hex(&mut self, byte: u8)
+        ensures { Says (hexadecimal byte ∷ []) self.old self.new }
+    {
+        let mut text = [0u8; 16];
+        let k = hex(byte as u64, 2, &mut text);
+        self.put(&text[..k]);
+    }
 }

@@ -4,13 +4,13 @@ use Prim.Native.Nat.{ℕ, zero, suc, ◌+◌, ◌≤◌, ◌<◌, min}
 use native.Mathlib.Omega.{arith}
 use native.Mathlib.Nat.{le_of_suc-le-suc}
 use native.Mathlib.Numerals.{add-one}
-use mathlib.Core.Path.{◌≡◌, refl, ap, ◌∙◌}
+use mathlib.Core.Path.{◌≡◌, refl, ◌∙◌}
 use mathlib.Core.List.{List, [], ◌∷◌}
 use lib.Dec.{ltb}
 use lib.ListN.{length, take, drop, get_or, set, length-set, length-take}
 use Rattle.std.specs.Prelude.{map}
 use Rattle.std.proofs.lemmas.List.{map-set}
-use lib.Seq.{get_or-take, take-take, take-suc, take-suc-set, drop-set-lt, take-length}
+use lib.Seq.{get_or-take, take-suc, take-suc-set, drop-set-lt, take-length}
 use borrow.Author.Tests.{ltb-true, ltb-false}
 use Rattle.types.specs.Refusal.{Result}
 use Rattle.types.specs.Table.{answer}
@@ -33,11 +33,6 @@ module _ {A : Type 0} (list out : List A) where
       split (ltb (length out) (length list))
       (λ p. let z : n ≡ 0 = e ∙ rw p in (omega arith, omega arith))
       (λ p. let z : n ≡ length list = e ∙ rw p in (omega arith, omega (arith, ltb-false (length out) (length list) p)))
-
-  -- the first so many of an array of m
-  pub first-fit : (n : ℕ) (array : List A) (m : ℕ) (outcome : Result ℕ) → length array ≡ m → list ≡ take n array → outcome ≡ roomFor (min n m) (length out)
-      → outcome ≡ roomFor (length list) (length out)
-  first-fit n array m outcome h e o = o ∙ rw (e, length-take n array, h)
 
   pub none_written : (n : ℕ) → Written n 0 out
   none_written n = record { within = omega arith; long = refl; front = refl; rest = refl }
@@ -69,20 +64,6 @@ module _ {A : Type 0} (list out : List A) where
       let front : take (length list) after ≡ list = rw z at w.front ∙ take-length list in
       let rest : drop (length list) after ≡ drop (length list) out = rw z at w.rest in
       rw (o, p) (rw p at (listed-filled list out (length list) after refl (ltb-false (length out) (length list) p) front rest)))
-
--- ## the first so many of an array of m
-module _ (len m : ℕ) (array out : List ℕ) (size : length array ≡ m) (outcome : Result ℕ) (o : outcome ≡ roomFor (min len m) (length out)) where
-  fits : (n : ℕ) → n ≡ counted outcome → (n ≤ length (take len array)) × (n ≤ length out)
-  fits n c = counted-fits (take len array) out n (c ∙ ap counted (first-fit (take len array) out len array m outcome size refl o))
-
-  pub numbers_fit : (n : ℕ) → n ≡ counted outcome → (n ≤ length array) × (n ≤ length out)
-  numbers_fit n c = let f = fits n c in (omega (arith, length-take len array, f.0), f.1)
-
-  pub numbers-written : (n : ℕ) (after : List ℕ) → n ≡ counted outcome → Written array out n n after → answer outcome after ≡ listed (take len array) out
-  numbers-written n after c w =
-      let few : n ≤ len = omega (arith, length-take len array, (fits n c).0) in
-      all-written (take len array) out n after outcome (first-fit (take len array) out len array m outcome size refl o) c
-      (record { within = w.within; long = w.long; front = w.front ∙ rw (take-take n len array few); rest = w.rest })
 
 -- ## entries in the first n places of two arrays of m
 entry_at : (i : ℕ) (ks vs : List ℕ) → i < length ks → i < length vs → get_or (entries ks vs) i (entry 0 0) ≡ entry (get_or ks i 0) (get_or vs i 0)

@@ -1,6 +1,7 @@
 pub mod Limits
 pub mod Identifiers
 pub mod Refusal
+pub mod Refused
 pub mod Table
 pub mod Keyed
 pub mod Zipped

@@ -7,8 +7,6 @@ use Rattle.types.specs.Table.{◌⇒◌, Answer, answer, checked, guarded}
 use Rattle.types.specs.Keyed.{Entry, entry, entries}
 use Rattle.types.specs.declared.Offset.{Offset}
 use Rattle.types.specs.declared.Pair.{Pair}
-use Rattle.types.specs.declared.lent.Listed.{Listed}
-use Rattle.types.specs.declared.lent.Listed.TheVariants as lent
 use Rattle.types.specs.declared.lent.OffsetList.{OffsetList}
 use Rattle.types.specs.declared.lent.AttemptCounts.{AttemptCounts}
 
@@ -31,11 +29,6 @@ counted (done n) = n
 abbrev pub times : ℕ → List ℕ → ℕ
 times x [] = 0
 times x (y ∷ l) = cond (eqb x y) 1 0 + times x l
-
--- the answers for the cases of the enum
-abbrev pub listed_of : Listed → Result ℕ
-listed_of (lent.Filled n) = done n
-listed_of lent.OutTooShort = refused OutTooShort
 
 -- ## records
 -- the numbers of offsets

@@ -1,20 +1,14 @@
-// Lists of records into lent memory, filled from the first place on: the number filled is in the answer, later places stay,
+// Lists of records into lent memory, filled from the first place on: the answer is how many places were filled, later places stay,
 // and a list that doesn't fit is refused with nothing changed (20). The members come by value, as numbers in arrays.
 ghost use Rattle.std.specs.Prelude.{◌≡◌, ◌<◌, min, length, get_or};
 ghost use Rattle.types.specs.Table.{answer};
-ghost use Rattle.types.specs.Lists.{listed, roomFor, counted, listed_of, numbers_of, offsets_in, entry_of, entries_of, counts_in};
+ghost use Rattle.types.specs.Refused.{as_is};
+ghost use Rattle.types.specs.Lists.{listed, roomFor, counted, numbers_of, offsets_in, entry_of, entries_of, counts_in};
 ghost use Rattle.types.specs.Keyed.{entry};
 
 use crate::limits::{CARRIED, COUNTS};
-use crate::numbers::shorter;
+use crate::refusals::Refusal;
 use crate::{Offset, Pair};
-
-// What a list into lent memory answers: how many places were filled, or refusal 20.
-#[derive(Clone, Copy)]
-pub enum Listed {
-    Filled(usize),
-    OutTooShort,
-}
 
 // Offsets, in the first `len` places.
 #[repr(C)]
@@ -35,43 +29,37 @@ pub struct AttemptCounts {
 }
 
 // Whether the first `len` places of an array, or all of its places where they are fewer, fit into a list of some length.
-pub fn room_for(len: usize, places: usize, room: usize) -> Listed
-    ensures { listed_of result ≡ roomFor (min len places) room }
+pub fn room_for(len: usize, places: usize, room: usize) -> Result<usize, Refusal>
+    ensures { as_is result ≡ roomFor (min len places) room }
 {
-    let n = shorter(len, places);
+    let n = len.min(places);
     if room < n {
-        return Listed::OutTooShort;
+        return Err(Refusal::OutTooShort);
     }
-    Listed::Filled(n)
+    Ok(n)
 }
 
 // How many places an answer fills.
-pub fn count_of(outcome: Listed) -> usize
-    ensures { result ≡ counted (listed_of outcome) }
+pub fn count_of(outcome: Result<usize, Refusal>) -> usize
+    ensures { result ≡ counted (as_is outcome) }
 {
-    match outcome {
-        Listed::Filled(n) => n,
-        Listed::OutTooShort => 0,
-    }
+    outcome.unwrap_or(0)
 }
 
 // Lists offsets.
-pub fn list_offsets(list: OffsetList, out: &mut [Offset]) -> Listed
-    ensures { answer (listed_of result) (numbers_of out.new) ≡ listed (offsets_in list) (numbers_of out.old) }
+pub fn list_offsets(list: OffsetList, out: &mut [Offset]) -> Result<usize, Refusal>
+    ensures { answer (as_is result) (numbers_of out.new) ≡ listed (offsets_in list) (numbers_of out.old) }
 {
-    let outcome = offsets_fit(list, out.len());
-    let n = count_of(outcome);
-    let mut i: usize = 0;
-    while i < n {
+    let n = offsets_fit(list, out.len())?;
+    for i in 0..n {
         out[i] = offset_at(list, i);
-        i += 1;
     }
-    outcome
+    Ok(n)
 }
 
 // Whether offsets fit into a list of some length, and the one at a place.
-fn offsets_fit(list: OffsetList, room: usize) -> Listed
-    ensures { listed_of result ≡ roomFor (length (offsets_in list)) room }
+fn offsets_fit(list: OffsetList, room: usize) -> Result<usize, Refusal>
+    ensures { as_is result ≡ roomFor (length (offsets_in list)) room }
 {
     room_for(list.len, CARRIED, room)
 }
@@ -84,37 +72,28 @@ fn offset_at(list: OffsetList, at: usize) -> Offset
 }
 
 // Lists offsets as numbers, for callers whose lists are of numbers.
-pub fn list_numbers(list: OffsetList, out: &mut [u64]) -> Listed
-    ensures { answer (listed_of result) out.new ≡ listed (offsets_in list) out.old }
+pub fn list_numbers(list: OffsetList, out: &mut [u64]) -> Result<usize, Refusal>
+    ensures { answer (as_is result) out.new ≡ listed (offsets_in list) out.old }
 {
-    let outcome = room_for(list.len, CARRIED, out.len());
-    let n = count_of(outcome);
-    let numbers = list.offsets;
-    let mut i: usize = 0;
-    while i < n {
-        out[i] = numbers[i];
-        i += 1;
-    }
-    outcome
+    let n = room_for(list.len, CARRIED, out.len())?;
+    out[..n].copy_from_slice(&list.offsets[..n]);
+    Ok(n)
 }
 
 // Lists attempt counts as pairs.
-pub fn list_pairs(counts: AttemptCounts, out: &mut [Pair]) -> Listed
-    ensures { answer (listed_of result) (entries_of out.new) ≡ listed (counts_in counts) (entries_of out.old) }
+pub fn list_pairs(counts: AttemptCounts, out: &mut [Pair]) -> Result<usize, Refusal>
+    ensures { answer (as_is result) (entries_of out.new) ≡ listed (counts_in counts) (entries_of out.old) }
 {
-    let outcome = counts_fit(counts, out.len());
-    let n = count_of(outcome);
-    let mut i: usize = 0;
-    while i < n {
+    let n = counts_fit(counts, out.len())?;
+    for i in 0..n {
         out[i] = pair_at(counts, i);
-        i += 1;
     }
-    outcome
+    Ok(n)
 }
 
 // Whether attempt counts fit into a list of some length, and the one at a place.
-fn counts_fit(counts: AttemptCounts, room: usize) -> Listed
-    ensures { listed_of result ≡ roomFor (length (counts_in counts)) room }
+fn counts_fit(counts: AttemptCounts, room: usize) -> Result<usize, Refusal>
+    ensures { as_is result ≡ roomFor (length (counts_in counts)) room }
 {
     room_for(counts.len, COUNTS, room)
 }

@@ -3,36 +3,30 @@
 #![tactic(auto)]
 
 ghost use Rattle.std.specs.Prelude.{◌≡◌};
-ghost use Rattle.types.specs.Refusal.{done, optional};
-ghost use Rattle.types.specs.Identifiers.{offset, checked_next, next_of};
+ghost use Rattle.types.specs.Refused.{option_of};
+ghost use Rattle.types.specs.Identifiers.{offset, number, checked_next};
 
 pub mod lent;
 pub mod limits;
 pub mod numbers;
+pub mod refusals;
 
 // A position in the log: it names a message.
 #[repr(C)]
-#[derive(Clone, Copy)]
+#[derive(Clone, Copy, Debug, PartialEq, Eq)]
 pub struct Offset(pub u64);
 
 // Names one hand-out of a message.
 #[repr(C)]
-#[derive(Clone, Copy)]
+#[derive(Clone, Copy, Debug, PartialEq, Eq)]
 pub struct Generation(pub u64);
 
 // An offset with its attempt count.
 #[repr(C)]
-#[derive(Clone, Copy)]
+#[derive(Clone, Copy, Debug, PartialEq, Eq)]
 pub struct Pair {
     pub offset: u64,
     pub attempt: u32,
-}
-
-// The offset behind another one, if there is one.
-#[derive(Clone, Copy)]
-pub enum NextOffset {
-    Some(Offset),
-    None,
 }
 
 impl Offset {
@@ -61,13 +55,9 @@ impl Offset {
     }
 
     // The next offset, or None behind the last: offsets are never used again, so there is no way round.
-    pub fn checked_next(self) -> NextOffset
-        ensures { next_of result ≡ done (optional (checked_next self.0)) }
+    pub fn checked_next(self) -> Option<Offset>
+        ensures { option_of number result ≡ checked_next self.0 }
     {
-        let value = self.0;
-        if value == limits::MAX {
-            return NextOffset::None;
-        }
-        NextOffset::Some(Offset(value + 1))
+        self.0.checked_add(1).map(Offset)
     }
 }

@@ -2,20 +2,18 @@
 ghost use Rattle.std.specs.Prelude.{◌≡◌, min, max, cond};
 ghost use Rattle.types.specs.Limits.{sat64, sat32};
 
-use crate::limits::{MAX, MAX32};
-
 // The sum, at most the largest number.
 pub fn saturating_add(a: u64, b: u64) -> u64
     ensures { result ≡ sat64 a b }
 {
-    if a <= MAX - b { a + b } else { MAX }
+    a.saturating_add(b)
 }
 
 // One more, at most the largest number.
 pub fn saturating_next(n: u32) -> u32
     ensures { result ≡ sat32 n 1 }
 {
-    if n == MAX32 { n } else { n + 1 }
+    n.saturating_add(1)
 }
 
 // One of two numbers.
@@ -29,26 +27,19 @@ pub fn chosen(first: bool, a: u64, b: u64) -> u64
 pub fn shorter(a: usize, b: usize) -> usize
     ensures { result ≡ min a b }
 {
-    if a < b { a } else { b }
+    a.min(b)
 }
 
 // The larger of two numbers.
 pub fn larger(a: u64, b: u64) -> u64
     ensures { result ≡ max a b }
 {
-    if a < b { b } else { a }
-}
-
-// The same of two counts.
-pub fn larger_count(a: u32, b: u32) -> u32
-    ensures { result ≡ max a b }
-{
-    if b < a { a } else { b }
+    a.max(b)
 }
 
 // A u32 as a u64.
 pub fn wide(x: u32) -> u64
     ensures { result ≡ x }
 {
-    x as u64
+    u64::from(x)
 }

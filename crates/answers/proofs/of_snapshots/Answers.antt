@@ -33,7 +33,7 @@ returns c =
     let a = c.args in
     let n = c.shorter-n.ensures in
     let m = c.shorter-k.ensures in
-    same_numbers (count a.cursor.now a.attempts.now a.cursor_len a.attempt_len _ _ n m) refl refl
-    (same_byte a.cursor.now a.attempts.now a.cursor_len a.attempt_len _ _ n m 0 _ c.byte_in.ensures)
-    (same_byte a.cursor.now a.attempts.now a.cursor_len a.attempt_len _ _ n m 1 _ c.byte_in-2.ensures)
-    (same_byte a.cursor.now a.attempts.now a.cursor_len a.attempt_len _ _ n m 2 _ c.byte_in-3.ensures)
+    same_numbers (count a.cursor.now a.attempts.now a.lengths.cursor_len a.lengths.attempt_len _ _ n m) refl refl
+    (same_byte a.cursor.now a.attempts.now a.lengths.cursor_len a.lengths.attempt_len _ _ n m 0 _ c.byte_in.ensures)
+    (same_byte a.cursor.now a.attempts.now a.lengths.cursor_len a.lengths.attempt_len _ _ n m 1 _ c.byte_in-2.ensures)
+    (same_byte a.cursor.now a.attempts.now a.lengths.cursor_len a.lengths.attempt_len _ _ n m 2 _ c.byte_in-3.ensures)

@@ -1,23 +1,27 @@
 -- `decode_pairs` meets its contract: what `check` answered is a refusal, or the number of pairs to be read. Assumes nothing.
-use Prim.Native.Nat.{ℕ}
-use mathlib.Core.Path.{◌≡◌, sym, ap, ◌∙◌}
-use mathlib.Core.List.{List}
-use borrow.Author.Rules.{rules}
-use Rattle.types.specs.Refusal.{refused, done}
-use Rattle.types.specs.Table.{checked}
-use Rattle.attempt.specs.Snapshot.{pair_count, decode_table}
-use Rattle.attempt.specs.Codec.{decode_of, attempt_error}
-use Rattle.attempt.proofs.Reading.{refuses, fits, decodes}
+use Prim.Native.Nat.{◌≤◌}
+use native.Mathlib.Omega.{arith}
+use lib.ListN.{length, length-map}
+use Rattle.std.proofs.lemmas.Result.{err_from_is_err_and}
+use Rattle.types.specs.Lists.{entry_of, entries_of}
+use Rattle.attempt.specs.Codec.{blank}
+use Rattle.attempt.proofs.Reading.{fits, into, refused-into, length-blank}
 use Rattle.attempt.proofs.decode_pairs.Goals as goal
 
-pub get_pairs-requires : goal.get_pairs-requires
-get_pairs-requires c =
-    fits c.args.input.now c.in-Pairs.count (sym (ap decode_of c.in-Pairs.is) ∙ c.check.ensures)
+pub returns-in_err-count : goal.returns-in_err-count
+returns-in_err-count c =
+    let p = err_from_is_err_and c.from_residual.result c.from_residual.ensures.1 in
+    rw (p.1, p.2) (refused-into c.args.input.now _ c.in_err-count.ensures (entries_of blank))
 
-pub returns-in-Pairs : goal.returns-in-Pairs
-returns-in-Pairs c =
-    decodes c.args.input.now c.in-Pairs.count c.get_pairs.result (sym (ap decode_of c.in-Pairs.is) ∙ c.check.ensures) c.get_pairs.ensures
+pub fill_pairs-requires : goal.fill_pairs-requires
+fill_pairs-requires c =
+    let f = fits c.args.input.now c.in_ok-count.count c.in_ok-count.ensures in
+    (omega (arith, f.1), rw (c.no_pairs-pairs.ensures, length-blank) f.0)
 
-pub returns-in-Refused : goal.returns-in-Refused
-returns-in-Refused c =
-    refuses c.args.input.now c.in-Refused.error c.refused.result (sym (ap decode_of c.in-Refused.is) ∙ c.check.ensures) c.refused.ensures
+pub returns : goal.returns
+returns c =
+    let b = c.args.input.now in
+    let n = c.in_ok-count.count in
+    let filled = rw c.no_pairs-pairs.ensures at c.fill_pairs.ensures in
+    let room : n ≤ length (entries_of blank) = omega (arith, (fits b n c.in_ok-count.ensures).0, length-map blank entry_of, length-blank) in
+    rw filled (into b n c.in_ok-count.ensures (entries_of blank) room)

@@ -1,7 +1,6 @@
 -- `fill_pairs` meets its contract. Assumes nothing.
 use native.Mathlib.Omega.{arith}
-use native.Mathlib.Nat.{sub-zero}
-use mathlib.Core.Path.{sym, ◌∙◌}
+use mathlib.Core.Path.{◌∙◌}
 use lib.ListN.{get_or, length-set}
 use Rattle.attempt.specs.Snapshot.{apart}
 use Rattle.attempt.proofs.Reading.{get-more}

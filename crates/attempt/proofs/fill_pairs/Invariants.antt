@@ -14,6 +14,3 @@ invariant-loop-i l =
     × (length l.pairs ≡ length l.initial.pairs)
     × (take l.i (entries_of l.pairs) ++ (read_pairs (apart (get_or l.input 0 0)) l.n (l.n - l.i) l.i l.input ++ drop l.n (entries_of l.pairs))
     ≡ pairs_of l.n l.input ++ drop l.n (entries_of l.initial.pairs))
-
-abbrev pub decreases-loop-i : goal.decreases-loop-i
-decreases-loop-i l = l.n - l.i

@@ -1,36 +1,25 @@
 -- `read_offsets` meets its contract. The loop's invariant: the first i places are filled, the others as they were.
 -- Assumes nothing.
-use Prim.Native.Nat.{ℕ, ◌-◌}
+use Prim.Native.Nat.{ℕ}
 use native.Mathlib.Omega.{arith}
-use mathlib.Core.Path.{◌≡◌, refl, ap, ◌∙◌}
+use mathlib.Core.Path.{refl, ap, ◌∙◌}
+use mathlib.Core.Bool.{Bool}
 use lib.ListN.{get_or}
-use borrow.Author.Rules.{rules}
-use Rattle.types.proofs.Loops.{Filling, filling}
 use Rattle.raw.specs.Bytes.{number_at}
-use Rattle.attempt.specs.Snapshot.{apart, offset_at, pairs_of}
-use Rattle.attempt.specs.Codec.{offsets_of}
+use Rattle.attempt.specs.Snapshot.{apart, offset_at}
 use Rattle.attempt.proofs.ReadColumns.{read_more, read_all}
 use Rattle.attempt.proofs.read_offsets.Goals as goal
-
-pub loop-i-init : goal.loop-i-init
-loop-i-init c = (c.version_of-version.ensures, filling _ _ _ (omega arith))
-
-pub bounds-offsets-i : goal.bounds-offsets-i
-bounds-offsets-i c = omega (arith, c.loop-i.invariant.1.full)
 
 pub loop-i-preserved : goal.loop-i-preserved
 loop-i-preserved c =
     let l = c.loop-i in
     let a = c.args in
     let b = a.input.now in
-    let at = c.offset_at.ensures ∙ ap (λ (v : ℕ). offset_at (apart v) l.i) l.invariant.0 in
+    let at = c.offset_at.ensures ∙ ap (λ (split : Bool). offset_at split l.i) c.version_of-version.ensures in
     let read = c.read_u64.ensures ∙ ap (λ (p : ℕ). number_at 8 p b) at in
-    (l.invariant.0, read_more (apart (get_or b 0 0)) a.n b (λ e. e.key) refl _ read (omega arith) l.invariant.1)
-
-pub shape_of-offsets : goal.shape_of-offsets
-shape_of-offsets c = c.loop-i.invariant.1.full
+    read_more (apart (get_or b 0 0)) a.n b (λ e. e.key) refl _ read (omega arith) l.invariant
 
 pub returns : goal.returns
 returns c =
     let a = c.args in
-    read_all (apart (get_or a.input.now 0 0)) a.n a.input.now (λ e. e.key) refl (omega arith) c.loop-i.invariant.1
+    read_all (apart (get_or a.input.now 0 0)) a.n a.input.now (λ e. e.key) refl (omega arith) c.loop-i.invariant

@@ -1,9 +1,7 @@
 -- `ack_batch` meets its contract. The loop's invariant: the acks that are left lead from the cursor to the end. Assumes nothing.
-use Prim.Native.Nat.{◌-◌, ◌≤◌}
 use native.Mathlib.Omega.{arith}
 use mathlib.Core.Path.{◌≡◌, refl, sym, ◌∙◌}
-use Rattle.cursor.specs.View.{view, Sound}
-use Rattle.bench.specs.Drivers.{falling, acks}
+use Rattle.cursor.specs.View.{view}
 use Rattle.bench.proofs.Drivers.{left_by, acks_down}
 use Rattle.bench.proofs.ack_batch.Goals as goal
 
@@ -13,12 +11,12 @@ loop-left-init c = (omega arith, c.requires.0, refl)
 pub overflow_add-base : goal.overflow_add-base
 overflow_add-base c = omega (arith, c.requires.1)
 
-pub ack-acked-requires : goal.ack-acked-requires
-ack-acked-requires c = c.loop-left.invariant.1
+pub ack-requires : goal.ack-requires
+ack-requires c = c.loop-left.invariant.1
 
 pub loop-left-preserved : goal.loop-left-preserved
 loop-left-preserved c =
-    let u = c.ack-acked.ensures in
+    let u = c.ack.ensures in
     (omega arith, u.sound, rw (left_by u.is) (sym (acks_down (view c.loop-left.cursor) c.args.base c.loop-left.left c.loop-left-test.true)) ∙ c.loop-left.invariant.2)
 
 pub returns : goal.returns

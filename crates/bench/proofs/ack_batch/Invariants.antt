@@ -1,10 +1,8 @@
 -- `ack_batch` meets its contract. The loop's invariant: the acks that are left lead from the cursor to the end. Assumes nothing.
-use Prim.Native.Nat.{◌-◌, ◌≤◌}
-use native.Mathlib.Omega.{arith}
-use mathlib.Core.Path.{◌≡◌, refl, sym, ◌∙◌}
+use Prim.Native.Nat.{◌≤◌}
+use mathlib.Core.Path.{◌≡◌}
 use Rattle.cursor.specs.View.{view, Sound}
 use Rattle.bench.specs.Drivers.{falling, acks}
-use Rattle.bench.proofs.Drivers.{left_by, acks_down}
 use Rattle.bench.proofs.ack_batch.Given as goal
 
 abbrev pub invariant-loop-left : goal.invariant-loop-left

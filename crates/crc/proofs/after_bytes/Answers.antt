@@ -1,14 +1,13 @@
 -- `crc::after_bytes` meets its contract. The loop's invariant: the table is its rule taken at 0 to 255, and feeding the
 -- bytes that are left to the register as it is gives what feeding all of them to the first register gives. The first
 -- `refl` of `loop-i-init` is the table's test, which computes all its entries. Assumes nothing.
-use Prim.Native.Nat.{◌≤◌, ◌-◌}
 use native.Mathlib.Omega.{arith}
-use mathlib.Core.Path.{◌≡◌, refl, ◌∙◌}
+use mathlib.Core.Path.{refl, ◌∙◌}
 use mathlib.Core.Bool.{xor}
-use lib.ListN.{length, drop, drop_of_length-le}
-use Rattle.crc.specs.Crc32c.{bits, unbits, polynomial, feed}
+use lib.ListN.{drop_of_length-le}
+use Rattle.crc.specs.Crc32c.{bits, unbits, polynomial}
 use Rattle.crc.specs.Table.{remainder}
-use Rattle.crc.proofs.Table.{tabulate, tabulated}
+use Rattle.crc.proofs.Table.{tabulated}
 use Rattle.crc.proofs.Loop.{byte-passed}
 use Rattle.crc.proofs.after_bytes.Goals as goal
 

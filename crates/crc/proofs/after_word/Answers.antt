@@ -1,11 +1,10 @@
 -- `crc::after_word` meets its contract. The loop's invariant: the sum is what the top z nibbles come to. Assumes nothing.
-use Prim.Native.Nat.{◌≤◌, ◌-◌, ◌+◌, ◌*◌, ◌/◌, ◌%◌, ◌^◌}
+use Prim.Native.Nat.{◌-◌, ◌+◌, ◌*◌, ◌/◌, ◌%◌, ◌^◌}
 use native.Mathlib.Omega.{arith}
 use native.Mathlib.Nat.{div-one}
 use mathlib.Core.Path.{◌≡◌, refl, sym, ◌∙◌}
 use lib.Bits.{bit_xor}
-use borrow.Author.Rules.{rules}
-use Rattle.crc.specs.Crc32c.{bits, feed_bits}
+use Rattle.crc.specs.Crc32c.{bits}
 use Rattle.crc.proofs.Register.{zeros, word-step}
 use Rattle.crc.proofs.Table.{nibble-passed}
 use Rattle.crc.proofs.after_word.Goals as goal

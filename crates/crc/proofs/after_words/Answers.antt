@@ -1,15 +1,13 @@
 -- `crc::after_words` meets its contract. The loop's invariant is that of `after_bytes`, with eight bytes to a turn. The
 -- first `refl` of `loop-i-init` is the nibble tables' test, which computes all entries. Assumes nothing.
-use Prim.Native.Nat.{◌≤◌, ◌-◌, ◌%◌}
 use native.Mathlib.Omega.{arith}
 use mathlib.Core.Path.{◌≡◌, refl, ◌∙◌}
 use mathlib.Core.Bool.{xor}
-use lib.ListN.{drop}
 use Rattle.raw.proofs.Bytes.{bytes-known}
 use Rattle.raw.proofs.Word.{word_number}
-use Rattle.crc.specs.Crc32c.{bits, unbits, polynomial, feed}
+use Rattle.crc.specs.Crc32c.{bits, unbits, polynomial}
 use Rattle.crc.specs.Table.{nibble}
-use Rattle.crc.proofs.Table.{tabulate, tabulated}
+use Rattle.crc.proofs.Table.{tabulated}
 use Rattle.crc.proofs.Loop.{number_passed}
 use Rattle.crc.proofs.after_words.Goals as goal
 

@@ -3,7 +3,6 @@ use native.Mathlib.Omega.{arith}
 use mathlib.Core.Path.{ap, sym, ◌∙◌}
 use lib.ListN.{length}
 use lib.Seq.{length-take-le, take_all}
-use borrow.Author.Rules.{rules}
 use Rattle.crc.specs.Crc32c.{crc}
 use Rattle.crc.proofs.Crc.{crc-from-zero}
 use Rattle.crc.proofs.crc32c.Goals as goal

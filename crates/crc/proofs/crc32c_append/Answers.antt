@@ -3,7 +3,6 @@ use Prim.Native.Nat.{◌-◌, ◌%◌}
 use native.Mathlib.Omega.{arith}
 use mathlib.Core.Path.{◌∙◌}
 use lib.ListN.{length, drop_of_length-le}
-use borrow.Author.Rules.{rules}
 use Rattle.crc.proofs.Loop.{ended-check}
 use Rattle.crc.proofs.crc32c_append.Goals as goal
 use Rattle.crc.proofs.crc32c_append.Goals.{then-from-n, else-from-n}

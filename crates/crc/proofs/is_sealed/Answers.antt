@@ -5,7 +5,6 @@ use mathlib.Core.Path.{sym, ap₂, ◌∙◌}
 use lib.Dec.{eqb}
 use lib.ListN.{length}
 use lib.Seq.{length-take-le}
-use borrow.Author.Rules.{rules}
 use Rattle.crc.proofs.Seal.{unsealed_short, sealed-test}
 use Rattle.crc.proofs.is_sealed.Goals as goal
 

@@ -1,10 +1,7 @@
 -- `ninotskev_encode_attempts` meets its contract: what the encoder answers, in numbers. Assumes nothing.
-use borrow.Author.Rules.{rules}
-use Rattle.types.specs.Keyed.{entries}
-use Rattle.exports.proofs.Snapshots.{pairs-written}
+use Rattle.answers.specs.Numbers.{one_value}
+use Rattle.exports.proofs.Snapshots.{crossed_as}
 use Rattle.exports.proofs.ninotskev_encode_attempts.Goals as goal
 
 pub returns : goal.returns
-returns c =
-    let a = c.args in
-    pairs-written 1 (entries a.offsets.now a.attempts.now) a.at a.out.now c.encode_columns.result _ _ c.encode_columns.ensures c.of_encode.ensures
+returns c = crossed_as one_value c.encode_columns.ensures c.of_count.ensures

@@ -3,7 +3,6 @@
 use Prim.Native.Nat.{◌+◌, ◌%◌, ◌<◌}
 use native.Mathlib.Omega.{arith}
 use mathlib.Core.Path.{sym, ◌∙◌}
-use Rattle.hours.proofs.Bits.{no_ones, some_ones}
 use Rattle.hours.proofs.Search.{first_none, rest-within, day_closed, day_found}
 use Rattle.hours.proofs.first_open.Goals as goal
 
@@ -15,7 +14,8 @@ overflow_add-result c =
     let l = c.loop-at in
     let days = c.args.days.now in
     let m = c.remaining-rest in
-    let few : l.at % 48 + c.wide.result < 48 = rw (c.wide.ensures, m.ensures) (rest-within days l.at (rw m.ensures at (some_ones m.result c.if-rest-ne0.true))) in
+    let rest : 0 < m.result = omega (arith, c.if-rest-ne0.true) in
+    let few : l.at % 48 + c.from.result < 48 = rw (c.from.ensures, m.ensures) (rest-within days l.at (rw m.ensures at rest)) in
     omega arith
 
 pub returns-then-rest-ne0 : goal.returns-then-rest-ne0
@@ -23,16 +23,17 @@ returns-then-rest-ne0 c =
     let l = c.loop-at in
     let a = c.args in
     let m = c.remaining-rest in
-    rw (c.wide.ensures, m.ensures)
+    let rest : 0 < m.result = omega (arith, c.if-rest-ne0.true) in
+    rw (c.from.ensures, m.ensures)
     (sym (day_found a.days.now l.at a.from (omega arith) l.invariant.0 l.invariant.2 (omega arith)
-    (rw m.ensures at (some_ones m.result c.if-rest-ne0.true))))
+    (rw m.ensures at rest)))
 
 pub loop-at-preserved : goal.loop-at-preserved
 loop-at-preserved c =
     let l = c.loop-at in
     let a = c.args in
     let m = c.remaining-rest in
-    (omega arith, omega arith, day_closed a.days.now l.at a.from (omega arith) l.invariant.0 l.invariant.2 (sym m.ensures ∙ no_ones m.result c.if-rest-ne0.false))
+    (omega arith, omega arith, day_closed a.days.now l.at a.from (omega arith) l.invariant.0 l.invariant.2 (sym m.ensures ∙ c.if-rest-ne0.false))
 
 pub returns : goal.returns
 returns c =

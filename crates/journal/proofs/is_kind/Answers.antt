@@ -1,6 +1,5 @@
 -- `journal::is_kind` meets its contract: length, kind and check are what it tests. Assumes nothing.
 use mathlib.Core.Path.{◌∙◌}
-use borrow.Author.Rules.{rules}
 use Rattle.journal.proofs.Sound.{kind-test, no_kind}
 use Rattle.journal.proofs.is_kind.Goals as goal
 

@@ -2,7 +2,6 @@
 use native.Mathlib.Omega.{arith}
 use mathlib.Core.Path.{◌≡◌, sym, ◌∙◌}
 use mathlib.Core.Bool.{true}
-use borrow.Author.Rules.{rules}
 use Rattle.journal.specs.Sound.{is_kind}
 use Rattle.journal.proofs.Sound.{kind-says, body-test, no_body, differ}
 use Rattle.journal.proofs.is_sound_body.Goals as goal
@@ -33,7 +32,7 @@ slice_bounds-all_zero-end c =
 pub returns : goal.returns
 returns c =
     c.all_zero.ensures
-    ∙ body-test _ _ _ _ _ c.shorter-from.ensures (kind (goal.at.returns c).Else-not-is_kind)
+    ∙ body-test _ _ _ _ _ c.min-from.ensures (kind (goal.at.returns c).Else-not-is_kind)
     (sym c.read_u32-owner.ensures ∙ c.if-owner-number.false)
     c.if-block-index.false
     (sym c.read_u16-bytes.ensures ∙ c.if-bytes-used.false)

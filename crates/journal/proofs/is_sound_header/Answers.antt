@@ -1,7 +1,6 @@
 -- `journal::is_sound_header` meets its contract: the form, the number and the fit are what it tests. Assumes nothing.
 use native.Mathlib.Omega.{arith}
 use mathlib.Core.Path.{◌≡◌, sym, ◌∙◌}
-use borrow.Author.Rules.{rules}
 use Rattle.journal.specs.Blocks.{group_of}
 use Rattle.journal.specs.Sound.{sound_header}
 use Rattle.journal.proofs.Sound.{WellFormed, kind-says, but_fit-says, says-header, no_header}
@@ -21,9 +20,6 @@ returns-then-hi-at c = no_header _ _ _ _ (λ h. omega (arith, h.fits))
 
 pub bounds-block-1 : goal.bounds-block-1
 bounds-block-1 c = omega (arith, (kind-says 1 _ (sound (goal.at.bounds-block-1 c).Else-not-is_sound_but_fit).0.head).whole)
-
-pub overflow_cast-block : goal.overflow_cast-block
-overflow_cast-block c = omega (arith, c.type_inv.block 1)
 
 pub returns-then-hi-at-2 : goal.returns-then-hi-at-2
 returns-then-hi-at-2 c = no_header _ _ _ _ (λ h. omega (arith, h.fits))

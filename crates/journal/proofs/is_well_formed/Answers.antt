@@ -2,7 +2,6 @@
 use native.Mathlib.Omega.{arith}
 use mathlib.Core.Path.{◌≡◌, sym, ◌∙◌}
 use mathlib.Core.Bool.{true}
-use borrow.Author.Rules.{rules}
 use lib.ListN.{length}
 use Rattle.journal.specs.Blocks.{bodies_for, payload_length}
 use Rattle.journal.specs.Sound.{has_header_kind}
@@ -51,12 +50,6 @@ counted c =
     c.bodies_for-bodies.ensures
     c.read_u16-cursor_len.ensures
     c.read_u16-attempt_len.ensures
-
-pub bounds-block-1 : goal.bounds-block-1
-bounds-block-1 c = omega (arith, whole (goal.at.bounds-block-1 c).Else-not-is_head)
-
-pub overflow_cast-block : goal.overflow_cast-block
-overflow_cast-block c = omega (arith, c.type_inv.block 1)
 
 pub returns-then-block-bodies : goal.returns-then-block-bodies
 returns-then-block-bodies c = no-form _ (λ f. c.if-block-bodies.true (f.count ∙ sym (counted (goal.at.returns-then-block-bodies c).After-bodies_for-bodies)))

@@ -1,6 +1,5 @@
 -- `journal::put_body` meets its contract: the first eight bytes, the payload bytes over the zeros, and the check.
 -- Assumes nothing.
-use borrow.Author.Rules.{rules}
 use Rattle.journal.proofs.Writer.{body-made}
 use Rattle.journal.proofs.put_body.Goals as goal
 

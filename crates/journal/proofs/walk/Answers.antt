@@ -1,18 +1,18 @@
 -- `journal::walk` meets its contract. The invariant: the walk from where the loop stands, behind the last group
 -- found, answers what the whole walk answers. Assumes nothing.
-use Prim.Native.Nat.{ℕ, ◌-◌}
 use native.Mathlib.Omega.{arith}
-use mathlib.Core.Path.{◌≡◌, refl, sym, ap, ◌∙◌}
+use mathlib.Core.Path.{◌≡◌, sym, ◌∙◌}
 use mathlib.Core.Bool.{false}
-use mathlib.Core.List.{List}
-use borrow.Author.Rules.{rules}
 use lib.ListN.{length}
+use Rattle.std.proofs.lemmas.Result.{err_from_is_err_and}
 use Rattle.types.specs.Refusal.{Result}
 use Rattle.raw.proofs.Bytes.{bytes-known}
 use Rattle.journal.specs.Area.{bad_length}
-use Rattle.journal.specs.Walks.{group, group_at, Stop, walk_from, walk}
-use Rattle.journal.specs.Answers.{walk_in, last_of, found_of}
+use Rattle.journal.specs.Walks.{group, group_at, Stop, walk}
+use Rattle.journal.specs.Answers.{walk_in}
 use Rattle.journal.proofs.Walker.{
+  found-nothing,
+  found-group,
   walk_ends,
   walk-past,
   walk_breaks,
@@ -23,7 +23,7 @@ use Rattle.journal.proofs.Walker.{
   walk-answered,
 }
 use Rattle.journal.proofs.walk.Goals as goal
-use Rattle.journal.proofs.walk.Goals.{At-loop-at, In-Group}
+use Rattle.journal.proofs.walk.Goals.{At-loop-at, In-Some}
 
 pub returns-then-bad_length : goal.returns-then-bad_length
 returns-then-bad_length c = walk_refused _ _ _ _ (sym c.bad_length.ensures ∙ c.if-bad_length.true)
@@ -34,40 +34,38 @@ good c = sym c.bad_length.ensures ∙ c.if-bad_length.false
 
 -- what the walk from where the loop stands answers is the call's answer
 answers : (c : At-loop-at) (w : Result Stop)
-    → w ≡ walk c.args.area.now c.shorter-end.result c.args.first_number c.args.first_block
+    → w ≡ walk c.args.area.now c.min-end.result c.args.first_number c.args.first_block
     → w ≡ walk_in c.args.hi c.args.first_number c.args.first_block c.args.area.now
-answers c w = walk-answered _ _ _ _ _ w (good c) c.shorter-end.ensures
+answers c w = walk-answered _ _ _ _ _ w (good c) c.min-end.ensures
 
-pub group_at-requires : goal.group_at-requires
-group_at-requires c = (c.loop-at-test.true, omega (arith, c.shorter-end.ensures))
-
-pub returns-in-Nothing : goal.returns-in-Nothing
-returns-in-Nothing c =
-    answers (goal.at.returns-in-Nothing c).At-loop-at _
-    (walk_ends _ _ _ _ _ _ c.loop-at.invariant
-    (sym c.group_at.ensures ∙ ap found_of c.in-Nothing.is))
-
-pub returns-in-Unsound : goal.returns-in-Unsound
-returns-in-Unsound c =
-    answers (goal.at.returns-in-Unsound c).At-loop-at _
-    (walk_breaks _ _ _ _ _ _ c.loop-at.invariant _
-    (sym c.group_at.ensures ∙ ap found_of c.in-Unsound.is))
+pub returns-in_err-behind : goal.returns-in_err-behind
+returns-in_err-behind c =
+    let p = err_from_is_err_and c.from_residual.result c.from_residual.ensures.1 in
+    rw (p.1, p.2)
+    (answers (goal.at.returns-in_err-behind c).At-loop-at _
+    (walk_breaks _ _ _ _ _ _ c.loop-at.invariant _ c.in_err-behind.ensures))
 
 -- the group that the turn found
-passed : (c : In-Group)
-    → group_at c.args.area.now c.shorter-end.result c.loop-at.number c.loop-at.at ≡ group c.in-Group.behind
-passed c = sym c.group_at.ensures ∙ ap found_of c.in-Group.is
+passed : (c : In-Some)
+    → group_at c.args.area.now c.min-end.result c.loop-at.number c.loop-at.at ≡ group c.in-Some.behind
+passed c = found-group _ _ (rw c.in-Some.is at c.in_ok-behind.ensures)
 
 pub overflow_add-number : goal.overflow_add-number
 overflow_add-number c =
     let b = bytes-known c.args.area.now c.type_inv.area in
-    omega (arith, group-number _ _ _ _ _ (passed (goal.at.overflow_add-number c).In-Group) b)
+    omega (arith, group-number _ _ _ _ _ (passed (goal.at.overflow_add-number c).In-Some) b)
 
 pub loop-at-smaller : goal.loop-at-smaller
-loop-at-smaller c = omega (arith, group_advances _ _ _ _ _ (passed (goal.at.loop-at-smaller c).In-Group))
+loop-at-smaller c = omega (arith, group_advances _ _ _ _ _ (passed (goal.at.loop-at-smaller c).In-Some))
 
 pub loop-at-preserved : goal.loop-at-preserved
-loop-at-preserved c = walk-goes _ _ _ _ _ _ c.loop-at.invariant _ (passed (goal.at.loop-at-preserved c).In-Group)
+loop-at-preserved c = walk-goes _ _ _ _ _ _ c.loop-at.invariant _ (passed (goal.at.loop-at-preserved c).In-Some)
 
-pub returns : goal.returns
-returns c = answers (goal.at.returns c).At-loop-at _ (walk-past _ _ _ _ _ _ c.loop-at.invariant c.loop-at-test.false)
+pub returns-after-loop-at : goal.returns-after-loop-at
+returns-after-loop-at c =
+    answers (goal.at.returns-after-loop-at c).At-loop-at _ (walk-past _ _ _ _ _ _ c.loop-at.invariant c.loop-at-test.false)
+
+pub returns-in_default : goal.returns-in_default
+returns-in_default c =
+    answers (goal.at.returns-in_default c).At-loop-at _
+    (walk_ends _ _ _ _ _ _ c.loop-at.invariant (found-nothing _ (rw c.in_default.is at c.in_ok-behind.ensures)))

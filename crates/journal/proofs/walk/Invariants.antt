@@ -1,22 +1,14 @@
 -- `journal::walk` meets its contract. The invariant: the walk from where the loop stands, behind the last group
 -- found, answers what the whole walk answers. Assumes nothing.
-use Prim.Native.Nat.{ℕ, ◌-◌}
-use native.Mathlib.Omega.{arith}
-use mathlib.Core.Path.{◌≡◌, refl, sym, ap, ◌∙◌}
-use mathlib.Core.Bool.{false}
-use mathlib.Core.List.{List}
-use borrow.Author.Rules.{rules}
-use lib.ListN.{length}
-use Rattle.types.specs.Refusal.{Result}
-use Rattle.raw.proofs.Bytes.{bytes-known}
-use Rattle.journal.specs.Area.{bad_length}
-use Rattle.journal.specs.Walks.{group, group_at, Stop, walk_from, walk}
-use Rattle.journal.specs.Answers.{walk_in, last_of, found_of}
+use Prim.Native.Nat.{◌-◌}
+use mathlib.Core.Path.{◌≡◌}
+use Rattle.journal.specs.Walks.{walk_from, walk}
+use Rattle.types.specs.Refused.{option_of}
 use Rattle.journal.proofs.walk.Given as goal
 
 abbrev pub invariant-loop-at : goal.invariant-loop-at
 invariant-loop-at l =
-    walk_from l.area l.end (last_of l.last) l.number l.at ≡ walk l.area l.end l.first_number l.first_block
+    walk_from l.area l.end (option_of (λ n. n) l.last) l.number l.at ≡ walk l.area l.end l.first_number l.first_block
 
 abbrev pub decreases-loop-at : goal.decreases-loop-at
 decreases-loop-at l = l.end - l.at

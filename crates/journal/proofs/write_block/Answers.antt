@@ -1,12 +1,9 @@
 -- `journal::write_block` meets its contract: the part that it hands on is the block, and it comes back filled.
 -- Assumes nothing.
-use native.Mathlib.Omega.{arith}
 use mathlib.Core.Path.{◌≡◌, sym, ◌∙◌}
 use mathlib.Core.Bool.{false}
-use borrow.Author.Rules.{rules}
 use lib.ListN.{length}
 use Rattle.journal.specs.Area.{outside}
-use Rattle.journal.proofs.Area.{Inside, inside-says}
 use Rattle.journal.proofs.Writer.{outside-refused, part_filled}
 use Rattle.journal.proofs.write_block.Goals as goal
 use Rattle.journal.proofs.write_block.Goals.{Else-outside}
@@ -17,15 +14,6 @@ returns-then-outside c = outside-refused _ _ _ (sym c.outside.ensures ∙ c.if-o
 -- the block lies in the area
 there : (c : Else-outside) → outside (length c.args.area.now) c.args.at ≡ false
 there c = sym c.outside.ensures ∙ c.if-outside.false
-
-inside : (c : Else-outside) → Inside (length c.args.area.now) c.args.at
-inside c = inside-says _ _ (sym c.outside.ensures ∙ c.if-outside.false)
-
-pub overflow_mul-start : goal.overflow_mul-start
-overflow_mul-start c = omega (arith, (inside (goal.at.overflow_mul-start c).Else-outside).fits)
-
-pub overflow_add-end : goal.overflow_add-end
-overflow_add-end c = omega (arith, (inside (goal.at.overflow_add-end c).Else-outside).fits)
 
 pub returns-in-Header : goal.returns-in-Header
 returns-in-Header c =

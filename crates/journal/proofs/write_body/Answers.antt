@@ -1,7 +1,6 @@
 -- `journal::write_body` meets its contract: the part of the payload that it hands on is the chunk of the body.
 -- Assumes nothing.
 use mathlib.Core.Path.{◌∙◌, ap}
-use borrow.Author.Rules.{rules}
 use Rattle.journal.specs.Blocks.{body_block}
 use Rattle.journal.proofs.Writer.{chunk_part, fill-whole, fill-refused}
 use Rattle.journal.proofs.write_body.Goals as goal
@@ -17,4 +16,4 @@ returns c =
     ∙ ap (body_block a.number a.index)
     (chunk_part a.index _ _ a.payload.now
     c.chunk_start-from.ensures
-    c.shorter-to.ensures))
+    c.min-to.ensures))

@@ -2,7 +2,6 @@
 -- nothing.
 use Prim.Native.Nat.{◌%◌}
 use mathlib.Core.Path.{ap}
-use borrow.Author.Rules.{rules}
 use Rattle.journal.proofs.Writer.{header_made, fill-whole, fill-refused}
 use Rattle.journal.proofs.write_header.Goals as goal
 

@@ -1,7 +1,6 @@
 -- `journal::write_zeros` meets its contract. Assumes nothing.
 use mathlib.Core.Path.{ap, ◌∙◌}
 use lib.ListN.{replicate}
-use borrow.Author.Rules.{rules}
 use Rattle.journal.proofs.Writer.{fill-whole, fill-refused}
 use Rattle.journal.proofs.write_zeros.Goals as goal
 

@@ -1,5 +1,4 @@
 -- `next_line` keeps what is read within the list. Assumes nothing.
-use borrow.Author.Rules.{rules}
 use Rattle.modules.proofs.next_line.Goals as goal
 
 pub slice_bounds-take-count : goal.slice_bounds-take-count

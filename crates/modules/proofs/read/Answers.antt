@@ -1,13 +1,11 @@
 -- `read` is safe and ends. Assumes nothing.
 use native.Mathlib.Omega.{arith}
-use mathlib.Core.Path.{◌≡◌, refl}
-use lib.ListN.{length}
-use Rattle.modules.specs.Reading.{Going}
+use mathlib.Core.Path.{refl}
 use borrow.Author.Rules.{rules}
 use Rattle.modules.proofs.read.Goals as goal
 
-pub loop-turns-init : goal.loop-turns-init
-loop-turns-init c = (
+pub loop-init : goal.loop-init
+loop-init c = (
   refl,
   refl,
   record {
@@ -16,5 +14,5 @@ loop-turns-init c = (
   },
 )
 
-pub loop-turns-preserved : goal.loop-turns-preserved
-loop-turns-preserved c = (search rules, search rules, search rules)
+pub loop-preserved : goal.loop-preserved
+loop-preserved c = (search rules, search rules, search rules)

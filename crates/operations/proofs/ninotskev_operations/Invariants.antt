@@ -1,14 +1,8 @@
 -- The list is run, and the run ends. Assumes nothing.
--- six stores leave what lies behind them
 use Prim.Native.Nat.{ℕ, ◌-◌, ◌+◌, ◌*◌, ◌/◌, ◌≤◌}
-use native.Mathlib.Omega.{arith}
-use mathlib.Core.Path.{◌≡◌, refl, ap, ◌∙◌}
-use mathlib.Core.List.{List}
-use lib.ListN.{length, set, drop}
-use lib.Seq.{drop-set-lt}
+use mathlib.Core.Path.{◌≡◌}
+use lib.ListN.{length, drop}
 use Rattle.operations.specs.State.{Ready}
-use Rattle.operations.specs.Runs.{six_at}
-use borrow.Author.Rules.{rules}
 use Rattle.operations.proofs.ninotskev_operations.Given as goal
 
 abbrev pub invariant-loop-from : goal.invariant-loop-from

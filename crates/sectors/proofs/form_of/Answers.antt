@@ -1,11 +1,9 @@
 -- `form_of` meets its contract: each test is a row of the table. Assumes nothing.
 use Prim.Native.Nat.{ℕ}
-use mathlib.Core.Path.{◌≡◌, sym, ap, ◌∙◌}
+use mathlib.Core.Path.{◌≡◌, sym, ◌∙◌}
 use mathlib.Core.Bool.{true, false}
 use mathlib.Core.List.{List}
-use borrow.Author.Rules.{rules}
 use lib.ListN.{take}
-use lib.Seq.{length-take-le}
 use Rattle.raw.specs.Bytes.{unle, number_at}
 use Rattle.crc.specs.Seal.{is_sealed}
 use Rattle.sectors.specs.File.{SECTOR, magic, version_of, size_of, blocks_of, journals_of, wrong_blocks, wrong_journals, file_bytes}
@@ -19,7 +17,7 @@ use Rattle.sectors.proofs.Forms.{
   other_length,
   all_right,
   same_bytes,
-  same-sound,
+  same-layout,
 }
 use Rattle.sectors.proofs.form_of.Goals as goal
 use Rattle.sectors.proofs.form_of.Goals.{After-file_bytes-whole, Else-not-is_sealed, Else-read_u64-ne-MAGIC, Else-size-ne4096, Else-version-ne1, Else-wrong_blocks, Else-wrong_journals, Start}
@@ -73,20 +71,12 @@ returns-then-wrong_journals c =
     (rw c.read_u32-blocks.ensures at (blocks-right (goal.at.returns-then-wrong_journals c).Else-wrong_blocks))
     (rw is at (sym c.wrong_journals.ensures ∙ c.if-wrong_journals.true)))
 
-pub slice_bounds-is_sealed-end : goal.slice_bounds-is_sealed-end
-slice_bounds-is_sealed-end c =
-    sym (length-take-le 512 (sector (goal.at.slice_bounds-is_sealed-end c).Start) c.requires)
-
 pub returns-then-not-is_sealed : goal.returns-then-not-is_sealed
 returns-then-not-is_sealed c =
     other-check (sector (goal.at.returns-then-not-is_sealed c).Start) c.args.bytes (magic-is (goal.at.returns-then-not-is_sealed c).Else-read_u64-ne-MAGIC) (version-is (goal.at.returns-then-not-is_sealed c).Else-version-ne1) (size_is (goal.at.returns-then-not-is_sealed c).Else-size-ne4096)
     (rw c.read_u32-blocks.ensures at (blocks-right (goal.at.returns-then-not-is_sealed c).Else-wrong_blocks))
     (rw c.read_u32-journals.ensures at (journals-right (goal.at.returns-then-not-is_sealed c).Else-wrong_journals))
     (sym c.is_sealed.ensures ∙ c.if-not-is_sealed.true)
-
-pub file_bytes-whole-requires : goal.file_bytes-whole-requires
-file_bytes-whole-requires c =
-    (blocks-right (goal.at.file_bytes-whole-requires c).Else-wrong_blocks, journals-right (goal.at.file_bytes-whole-requires c).Else-wrong_journals)
 
 blocks_are : (c : After-file_bytes-whole) → c.read_u32-blocks.result ≡ blocks_of c.args.sector.now
 blocks_are c = c.read_u32-blocks.ensures
@@ -108,7 +98,7 @@ returns-then-bytes-whole c =
 
 pub returns : goal.returns
 returns c =
-    same-sound (blocks_are (goal.at.returns c).After-file_bytes-whole) (journals_are (goal.at.returns c).After-file_bytes-whole)
+    same-layout (blocks_are (goal.at.returns c).After-file_bytes-whole) (journals_are (goal.at.returns c).After-file_bytes-whole)
     ∙ all_right c.args.sector.now c.args.bytes (magic-is (goal.at.returns c).Else-read_u64-ne-MAGIC) (version-is (goal.at.returns c).Else-version-ne1) (size_is (goal.at.returns c).Else-size-ne4096)
     (rw (blocks_are (goal.at.returns c).After-file_bytes-whole) at (blocks-right (goal.at.returns c).Else-wrong_blocks))
     (rw (journals_are (goal.at.returns c).After-file_bytes-whole) at (journals-right (goal.at.returns c).Else-wrong_journals))

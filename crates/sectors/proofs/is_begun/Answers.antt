@@ -7,7 +7,6 @@ use lib.Seq.{length-take-le}
 use Rattle.journal.specs.Sound.{is_kind}
 use Rattle.journal.proofs.Area.{part-is}
 use Rattle.sectors.proofs.Marks.{front-block}
-use borrow.Author.Rules.{rules}
 use Rattle.sectors.proofs.is_begun.Goals as goal
 
 pub slice_bounds-is_head-end : goal.slice_bounds-is_head-end

@@ -1,17 +1,12 @@
 -- `put_front` meets its contract: the front of the sector stands in the place of the block. Assumes nothing.
-use Prim.Native.Nat.{◌+◌, ◌*◌}
+use Prim.Native.Nat.{◌*◌}
 use native.Mathlib.Omega.{arith}
-use mathlib.Core.Path.{◌≡◌, sym, ◌∙◌}
-use borrow.Author.Rules.{rules}
+use mathlib.Core.Path.{◌≡◌, ◌∙◌}
 use lib.ListN.{length, take}
 use lib.Seq.{length-take-le}
 use Rattle.raw.proofs.Bytes.{wrote}
 use Rattle.sectors.proofs.Area.{block-over}
 use Rattle.sectors.proofs.put_front.Goals as goal
-
-pub slice_bounds-write_bytes-end : goal.slice_bounds-write_bytes-end
-slice_bounds-write_bytes-end c =
-    sym (length-take-le 512 c.args.sector.now c.requires.1)
 
 pub returns : goal.returns
 returns c =

@@ -1,7 +1,6 @@
 -- `put_unread` meets its contract: the place of the block is filled. Assumes nothing.
 use Prim.Native.Nat.{◌*◌}
 use mathlib.Core.Path.{refl, ◌∙◌}
-use borrow.Author.Rules.{rules}
 use Rattle.raw.proofs.Bytes.{wrote}
 use Rattle.sectors.specs.File.{unread}
 use Rattle.sectors.proofs.Area.{block-over}

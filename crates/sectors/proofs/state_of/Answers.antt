@@ -1,7 +1,6 @@
 -- `state_of` meets its contract: the mark is asked first, then the blocks. Assumes nothing.
 use mathlib.Core.Path.{sym, ◌∙◌}
 use Rattle.sectors.proofs.Marks.{marked_in_use, marked-unfinished, free, begun, not_begun}
-use borrow.Author.Rules.{rules}
 use Rattle.sectors.proofs.state_of.Goals as goal
 
 pub returns-then-number-eq2 : goal.returns-then-number-eq2

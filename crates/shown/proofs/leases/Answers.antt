@@ -1,14 +1,14 @@
 -- `leases` meets its contract. The loop's invariant: the entries from i on are left to put. Assumes nothing.
-use Prim.Native.Nat.{◌+◌, ◌-◌}
+use Prim.Native.Nat.{◌+◌}
 use native.Mathlib.Omega.{arith}
-use mathlib.Core.Path.{◌≡◌, refl}
+use mathlib.Core.Path.{◌≡◌}
 use mathlib.Core.List.{◌∷◌}
-use lib.ListN.{length, drop, get_or}
+use lib.ListN.{drop, get_or}
 use Rattle.types.specs.Keyed.{entry}
 use Rattle.tables.proofs.Slots.{through-length, through-at}
 use Rattle.lease.specs.State.{nil, stored_in, leases_in, leases_of}
 use Rattle.lease.specs.Parts.{Full}
-use Rattle.text.proofs.Putting.{says_then, Left, left-all, left-next, left_none}
+use Rattle.text.proofs.Putting.{says_then, left-next, left_none}
 use Rattle.shown.specs.Shown.{lease_text, marked}
 use Rattle.shown.proofs.Lists.{entries_next, entries-end, entries-nothing}
 use borrow.Author.Rules.{rules}
@@ -26,35 +26,22 @@ full s =
       carried-counts = search rules;
     }
 
-pub loop-i-init : goal.loop-i-init
-loop-i-init c = (refl, left-all _ _)
-
 pub loop-i-preserved : goal.loop-i-preserved
 loop-i-preserved c =
     let l = c.loop-i in
     let a = c.args.table in
     let f = full (goal.at.loop-i-preserved c).Start in
-    let e : drop l.i (leases_of a) ≡ (entry (get_or a.offsets l.i 0) c.stored_at-held.result ∷ drop (l.i + 1) (leases_of a))
-    = rw (c.stored_at-held.ensures, ← through-at nil a.slots (stored_in a) l.i (omega (arith, f.slots)))
+    let e : drop l.i (leases_of a) ≡ (entry (get_or a.offsets l.i 0) c.stored_at.result ∷ drop (l.i + 1) (leases_of a))
+    = rw (c.stored_at.ensures, ← through-at nil a.slots (stored_in a) l.i (omega (arith, f.slots)))
     (entries_next a.len a.offsets (leases_in a) nil l.i (omega arith) (omega (arith, f.offsets)) (omega (arith, through-length nil a.slots (stored_in a), f.slots))) in
-    (search rules, left-next (marked lease_text) (leases_of a) l.i _ e l.invariant.1 (says_then c.before-next.ensures c.lease-next.ensures))
+    left-next (marked lease_text) (leases_of a) l.i _ e l.invariant (says_then c.before-in-loop-i.ensures c.lease.ensures)
 
-pub returns-after-loop-i : goal.returns-after-loop-i
-returns-after-loop-i c =
+pub returns : goal.returns
+returns c =
     let a = c.args.table in
     let l = c.loop-i in
-    let h = full (goal.at.returns-after-loop-i c).Start in
+    let h = full (goal.at.returns c).Start in
     let e = entries-end a.len a.offsets (leases_in a) l.i (omega (arith, h.offsets)) in
     let nothing = entries-nothing a.len a.offsets (leases_in a) (omega (arith, h.offsets)) (omega (arith, through-length nil a.slots (stored_in a), h.slots)) in
-    says_then c.put-next.ensures
-    (says_then (rw (← nothing) at c.or_none-next.ensures) (left_none (marked lease_text) (leases_of a) l.i e l.invariant.1))
-
-pub returns-then-table-i : goal.returns-then-table-i
-returns-then-table-i c =
-    let a = c.args.table in
-    let l = c.loop-i in
-    let h = full (goal.at.returns-then-table-i c).Start in
-    let e = entries-end a.len a.offsets (leases_in a) l.i (omega (arith, h.offsets)) in
-    let nothing = entries-nothing a.len a.offsets (leases_in a) (omega (arith, h.offsets)) (omega (arith, through-length nil a.slots (stored_in a), h.slots)) in
-    says_then c.put-next.ensures
-    (says_then (rw (← nothing) at c.or_none-next.ensures) (left_none (marked lease_text) (leases_of a) l.i e l.invariant.1))
+    says_then c.put.ensures
+    (says_then (rw (← nothing) at c.or_none.ensures) (left_none (marked lease_text) (leases_of a) l.i e l.invariant))

@@ -1,6 +1,5 @@
 -- `bad_area` meets its contract: what the journal says of the length, and the tests of the two halves. Assumes nothing.
 use mathlib.Core.Path.{sym, ◌∙◌}
-use borrow.Author.Rules.{rules}
 use borrow.Author.Tests.{ne_eqb, eq-eqb}
 use Rattle.consumer.specs.State.{bad_area}
 use Rattle.starts.proofs.bad_area.Goals as goal

@@ -1,7 +1,7 @@
 -- `check_start` meets its contract: the tests of a start, in their order. Assumes nothing.
 use native.Mathlib.Omega.{arith}
 use borrow.Author.Rules.{rules}
-use mathlib.Core.Path.{◌≡◌, sym, ◌∙◌}
+use mathlib.Core.Path.{sym, ◌∙◌}
 use Rattle.starts.specs.Starting.{configuration_of}
 use Rattle.starts.proofs.Starting.{unlimited-refused, steps-refused, threshold-refused, goes_on, backoffs-count}
 use Rattle.starts.proofs.check_start.Goals as goal

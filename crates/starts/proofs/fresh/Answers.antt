@@ -1,6 +1,5 @@
 -- `fresh` meets its contract: a cursor and a table without anything in them. Assumes nothing.
 use mathlib.Core.Path.{refl, ap₂}
-use borrow.Author.Rules.{rules}
 use Rattle.cursor.specs.Cursor.{Cursor}
 use Rattle.lease.specs.State.{Table}
 use Rattle.consumer.specs.State.{state_of, next_group_at}

@@ -1,5 +1,4 @@
 -- `import` meets its contract: what it answers is made of the parts that were read. Assumes nothing.
-use borrow.Author.Rules.{rules}
 use Rattle.starts.proofs.import.Goals as goal
 
 pub returns : goal.returns

@@ -1,7 +1,6 @@
 -- `limit` meets its contract. Assumes nothing.
 use native.Mathlib.Omega.{arith}
 use mathlib.Core.Path.{◌≡◌, ap}
-use borrow.Author.Rules.{rules}
 use Rattle.consumer.specs.State.{NextGroup}
 use Rattle.starts.specs.Restart.{origin}
 use Rattle.starts.proofs.Halves.{limit-within}

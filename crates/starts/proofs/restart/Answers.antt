@@ -1,5 +1,4 @@
 -- `restart` meets its contract: what it answers is made of the parts that were read. Assumes nothing.
-use borrow.Author.Rules.{rules}
 use Rattle.starts.proofs.restart.Goals as goal
 
 pub returns : goal.returns

@@ -1,7 +1,6 @@
 -- `resumed` meets its contract: each part of the consumer is the definition's, and its table is the one that was made. Assumes nothing.
 use Prim.Native.Nat.{ℕ}
 use mathlib.Core.Path.{ap}
-use borrow.Author.Rules.{rules}
 use Rattle.lease.specs.declared.LeaseTable.{LeaseTable}
 use Rattle.consumer.specs.declared.Configuration.{Configuration}
 use Rattle.consumer.specs.declared.Consumer.{Consumer}

@@ -3,4 +3,4 @@ use mathlib.Core.Path.{refl}
 use Rattle.starts.proofs.resumed_table.Goals as goal
 
 pub returns : goal.returns
-returns c = (refl, c.slots_64.ensures)
+returns c = (refl, c.all_slots.ensures)

@@ -6,7 +6,7 @@ use Rattle.tables.proofs.Search.{halving, halving_up, halving_down, halved}
 use Rattle.tables.proofs.position.Goals as goal
 
 pub loop-low-init : goal.loop-low-init
-loop-low-init c = let s = c.before.before in halving s.args.x s.args.len s.args.keys.now c.shorter-high.ensures
+loop-low-init c = let s = c.before.before in halving s.args.x s.args.len s.args.keys.now c.min-high.ensures
 
 pub offset_bounds-keys-mid : goal.offset_bounds-keys-mid
 offset_bounds-keys-mid c = omega (arith, c.loop-low.invariant.there)

@@ -1,5 +1,4 @@
 -- `place_of` meets its contract: the group fits behind the last one, or goes to the other half. Assumes nothing.
-use borrow.Author.Rules.{rules}
 use Rattle.checkpoint.proofs.Placing.{place-moves, place-stays}
 use Rattle.checkpoint.proofs.in_place.place_of.Goals as goal
 

@@ -1,7 +1,6 @@
 -- `put_block` meets its contract: the block lies in the area. Assumes nothing.
 use mathlib.Core.Path.{sym}
 use lib.Seq.{length-take-le}
-use borrow.Author.Rules.{rules}
 use Rattle.checkpoint.proofs.Steps.{block_written}
 use Rattle.checkpoint.proofs.in_place.put_block.Goals as goal
 

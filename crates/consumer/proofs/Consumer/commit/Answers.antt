@@ -1,10 +1,6 @@
 -- `Consumer::commit` meets its contract: the parts of a consumer, lent to `commit_in_place`, are that consumer. Assumes nothing.
-use mathlib.Core.Path.{sym, subst}
 use borrow.Author.Rules.{rules}
-use Rattle.consumer.specs.Calls.{commit}
 use Rattle.consumer.specs.Parts.{Whole}
-use Rattle.consumer.specs.View.{view, Commits, commit_of}
-use Rattle.consumer.specs.declared.Consumer.{Consumer}
 use Rattle.consumer.proofs.Arrays.{table-full, cursor-whole}
 use Rattle.consumer.proofs.Consumer.commit.Goals as goal
 use Rattle.consumer.proofs.Consumer.commit.Goals.{Start}
@@ -12,11 +8,9 @@ use Rattle.consumer.proofs.Consumer.commit.Goals.{Start}
 whole : (s : Start) → Whole s.args.self
 whole s = record { full = table-full s.args.self.table _ s.well_formed.0.1.1.1.0; sound = s.requires }
 
-pub commit_in_place-left-requires : goal.commit_in_place-left-requires
-commit_in_place-left-requires c =
+pub commit_in_place-committed-requires : goal.commit_in_place-committed-requires
+commit_in_place-committed-requires c =
     (cursor-whole c.args.self.cursor _ c.well_formed.0.1.1.0 c.requires.cursor, c.requires.table.len, c.requires.table.carried-len)
 
 pub returns : goal.returns
-returns c =
-    let x = c.args.self in
-    subst (λ (y : Consumer). Commits (commit_of c.commit_in_place-left.result.answer) x y (commit (view x) c.args.worker c.args.bound.0)) (sym c.with_both.ensures) (c.commit_in_place-left.ensures x (whole (goal.at.returns c).Start))
+returns c = c.commit_in_place-committed.ensures c.args.self (whole (goal.at.returns c).Start)

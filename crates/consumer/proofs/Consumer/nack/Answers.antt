@@ -1,11 +1,6 @@
 -- `Consumer::nack` meets its contract: the parts of a consumer, lent to `nack_in_place`, are that consumer. Assumes nothing.
-use mathlib.Core.Path.{sym, subst}
 use borrow.Author.Rules.{rules}
-use Rattle.delivery.specs.Config.{delay_of}
-use Rattle.consumer.specs.Calls.{nack}
 use Rattle.consumer.specs.Parts.{Whole}
-use Rattle.consumer.specs.View.{view, Answers, nack_of}
-use Rattle.consumer.specs.declared.Consumer.{Consumer}
 use Rattle.consumer.proofs.Arrays.{table-full, backoffs-full}
 use Rattle.consumer.proofs.Consumer.nack.Goals as goal
 use Rattle.consumer.proofs.Consumer.nack.Goals.{Start}
@@ -13,11 +8,9 @@ use Rattle.consumer.proofs.Consumer.nack.Goals.{Start}
 whole : (s : Start) → Whole s.args.self
 whole s = record { full = table-full s.args.self.table _ s.well_formed.0.1.1.1.0; sound = s.requires }
 
-pub nack_in_place-done-requires : goal.nack_in_place-done-requires
-nack_in_place-done-requires c =
+pub nack_in_place-nacked-requires : goal.nack_in_place-nacked-requires
+nack_in_place-nacked-requires c =
     (record { full = backoffs-full c.args.self.settings _ c.well_formed.0.1.1.1.1.1.1.1.0; few = c.requires.settings.delivery.few }, c.requires.table.len)
 
 pub returns : goal.returns
-returns c =
-    let x = c.args.self in
-    subst (λ (y : Consumer). Answers (nack_of c.nack_in_place-done.result.answer) x y (nack (view x) c.args.worker c.args.token.offset.0 c.args.token.generation.0 c.args.now (delay_of c.args.delay))) (sym c.with_table.ensures) (c.nack_in_place-done.ensures x (whole (goal.at.returns c).Start))
+returns c = c.nack_in_place-nacked.ensures c.args.self (whole (goal.at.returns c).Start)

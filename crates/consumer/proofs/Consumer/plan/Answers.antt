@@ -1,30 +1,38 @@
--- `Consumer::plan` meets its contract: a turn asks `plan_turn`, and stores its byte where offsets are answered. Assumes nothing.
-use Prim.Native.Nat.{ℕ}
-use native.Mathlib.Omega.{arith}
-use mathlib.Core.Path.{refl, subst}
-use mathlib.Core.List.{List}
+-- `Consumer::plan` meets its contract: who may not look is refused, then lists of unequal length, then one that falls. Assumes nothing.
+use mathlib.Core.Path.{sym, ap, ◌∙◌}
+use borrow.Author.Rules.{rules}
+use Rattle.std.specs.Prelude.{Ok, Err}
+use Rattle.std.proofs.lemmas.Result.{err_from_is_err_and}
 use Rattle.types.specs.Lists.{numbers_of}
+use Rattle.types.specs.Refusal as refusal
+use Rattle.types.specs.Refused.{option_of}
+use Rattle.types.specs.declared.refusals.Refusal.TheVariants.{UnequalLengths, Falling}
+use Rattle.cursor.proofs.Plan.{plan_unequal, plan-falling, plan-answered}
 use Rattle.consumer.specs.View.{view}
-use Rattle.consumer.specs.Walks.{Walks}
-use Rattle.consumer.proofs.Walks.{numbers-long, number-at, byte-written, no-byte-written}
+use Rattle.consumer.proofs.Planned.{plan-refused, plan-permitted, numbers-long}
 use Rattle.consumer.proofs.Consumer.plan.Goals as goal
 
-pub loop-walk-init : goal.loop-walk-init
-loop-walk-init c = c.plan_begun-walk.ensures (numbers_of c.args.offsets.now) c.args.out.now (numbers-long c.args.offsets.now) refl
+pub returns-in_err-permission_of : goal.returns-in_err-permission_of
+returns-in_err-permission_of c =
+    let p = err_from_is_err_and c.from_residual.result c.from_residual.ensures.1 in
+    rw (p.1, p.2) (plan-refused (view c.args.self) c.args.worker (numbers_of c.args.offsets.now) c.args.out.now c.in_err-permission_of.field-0.0 c.in_err-permission_of.ensures)
 
-pub plan_turn-next-requires : goal.plan_turn-next-requires
-plan_turn-next-requires c =
-    let g = c.loop-walk.invariant.going c.loop-walk-test.true in
-    (c.requires, record { left = c.loop-walk-test.true; countable = omega (arith, g.few, numbers-long c.args.offsets.now, c.requires.cursor.valid.few) })
+pub returns-then-offsets-out : goal.returns-then-offsets-out
+returns-then-offsets-out c =
+    let os = numbers_of c.args.offsets.now in
+    plan-permitted (view c.args.self) c.args.worker os c.args.out.now c.in_ok-permission_of.ensures _ (Err UnequalLengths)
+    (plan_unequal (view c.args.self).cursor os c.args.out.now (λ e. c.if-offsets-out.true (sym (numbers-long c.args.offsets.now) ∙ e)))
 
-pub loop-walk-preserved-then-walk : goal.loop-walk-preserved-then-walk
-loop-walk-preserved-then-walk c =
-    subst (λ (l : List ℕ). Walks (view c.args.self) c.args.worker (numbers_of c.args.offsets.now) c.args.out.now l c.plan_turn-next.result)
-    (byte-written c.loop-walk.walk c.plan_turn-next.result c.loop-walk.out c.if-walk.true)
-    (c.plan_turn-next.ensures.walks c.args.worker (numbers_of c.args.offsets.now) c.args.out.now c.loop-walk.out c.loop-walk.invariant (number-at c.args.offsets.now c.loop-walk.walk.place (record { 0 = 0 })))
+pub returns-in-Some : goal.returns-in-Some
+returns-in-Some c =
+    let os = numbers_of c.args.offsets.now in
+    plan-permitted (view c.args.self) c.args.worker os c.args.out.now c.in_ok-permission_of.ensures _ (Err (Falling c.in-Some.place))
+    (plan-falling (view c.args.self).cursor os c.args.out.now (numbers-long c.args.offsets.now ∙ c.if-offsets-out.false) _
+    (sym (ap (option_of refusal.Falling) c.in-Some.is) ∙ c.first_fall.ensures))
 
-pub loop-walk-preserved : goal.loop-walk-preserved
-loop-walk-preserved c =
-    subst (λ (l : List ℕ). Walks (view c.args.self) c.args.worker (numbers_of c.args.offsets.now) c.args.out.now l c.plan_turn-next.result)
-    (no-byte-written c.loop-walk.walk c.plan_turn-next.result c.loop-walk.out c.if-walk.false)
-    (c.plan_turn-next.ensures.walks c.args.worker (numbers_of c.args.offsets.now) c.args.out.now c.loop-walk.out c.loop-walk.invariant (number-at c.args.offsets.now c.loop-walk.walk.place (record { 0 = 0 })))
+pub returns : goal.returns
+returns c =
+    let os = numbers_of c.args.offsets.now in
+    plan-permitted (view c.args.self) c.args.worker os c.args.out.now c.in_ok-permission_of.ensures _ (Ok c.answer_all.result)
+    (plan-answered (view c.args.self).cursor os c.args.out.now (numbers-long c.args.offsets.now ∙ c.if-offsets-out.false) c.requires.cursor.valid
+    (sym (ap (option_of refusal.Falling) c.in_default.is) ∙ c.first_fall.ensures) _ _ c.answer_all.ensures.looks c.answer_all.ensures.bytes)

@@ -1,19 +1,21 @@
--- `Consumer::waiting` meets its contract: the list in an array is listed, and the answer is made of what was listed. Assumes nothing.
+-- `Consumer::waiting` meets its contract: the worker's rows, and then the list in an array is listed. Assumes nothing.
 use Prim.Native.Nat.{ℕ}
-use mathlib.Core.Path.{ap, ◌∙◌}
+use mathlib.Core.Path.{sym, ap, ◌∙◌}
 use mathlib.Core.List.{List}
-use Rattle.types.specs.Lists.{listed, listed_of, numbers_of}
-use Rattle.consumer.specs.Rights.{looking}
-use Rattle.consumer.specs.Calls.{call_rows}
-use Rattle.consumer.specs.Questions.{waiting_at}
-use Rattle.consumer.specs.View.{view, waiting_of}
-use Rattle.consumer.proofs.WaitingHanded.{listed-permitted}
+use borrow.Author.Rules.{rules}
+use Rattle.std.proofs.lemmas.Result.{err_from_is_err_and}
+use Rattle.types.specs.Lists.{listed, numbers_of}
+use Rattle.consumer.proofs.Arrays.{table-full}
 use Rattle.consumer.proofs.Consumer.waiting.Goals as goal
+
+pub returns-in_err-permission_of : goal.returns-in_err-permission_of
+returns-in_err-permission_of c =
+    let p = err_from_is_err_and c.from_residual.result c.from_residual.ensures.1 in
+    rw (p.1, p.2, sym c.in_err-permission_of.ensures)
 
 pub returns : goal.returns
 returns c =
-    let s = view c.args.self in
-    listed-permitted (call_rows s c.args.worker looking) (waiting_at s c.args.now) (numbers_of c.args.out.now) (numbers_of c.list_offsets-listed.new.out)
-    (listed_of c.list_offsets-listed.result) (waiting_of c.waiting_answer.result)
-    (c.list_offsets-listed.ensures ∙ ap (λ (y : List ℕ). listed y (numbers_of c.args.out.now)) c.waiting_list.ensures)
-    c.waiting_answer.ensures
+    rw (sym c.in_ok-permission_of.ensures)
+    (c.list_offsets.ensures
+    ∙ ap (λ (y : List ℕ). listed y (numbers_of c.args.out.now))
+    (c.waiting_list-list.ensures c.args.self (record { full = table-full c.args.self.table _ c.well_formed.0.1.1.1.0; sound = c.requires })))

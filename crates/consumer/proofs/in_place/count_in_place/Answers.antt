@@ -1,18 +1,16 @@
 -- `count_in_place` meets its contract: an offset with a lease has no carried count. Assumes nothing.
 -- a consumer with the parts that the arguments are
 use Prim.Native.Nat.{ℕ}
-use mathlib.Core.Path.{◌≡◌, sym, ap}
+use mathlib.Core.Path.{◌≡◌, sym, ap, ◌∙◌}
 use mathlib.Core.List.{List, [], ◌∷◌}
-use borrow.Author.Rules.{rules}
 use Rattle.types.specs.Refusal.{Result, done}
-use Rattle.lease.proofs.Found as found
-use Rattle.lease.proofs.Found.{found-count}
+use Rattle.lease.proofs.Found.{found-count, no-count}
+use Rattle.consumer.specs.State.{count_or0}
 use Rattle.consumer.specs.Parts.{counting}
 use Rattle.consumer.specs.View.{view}
 use Rattle.consumer.specs.declared.Consumer.{Consumer}
 use Rattle.consumer.proofs.CallsReturns.{table-whole}
-use Rattle.consumer.proofs.Counts.{carried-count}
-use Rattle.consumer.proofs.Asked.{lease-counted, no-count}
+use Rattle.consumer.proofs.Asked.{lease-counted, unleased-count, unwrapped}
 use Rattle.consumer.proofs.in_place.count_in_place.Goals as goal
 use Rattle.consumer.proofs.in_place.count_in_place.Goals.{Start}
 
@@ -29,14 +27,9 @@ returns-in-Some c x w _ =
     (sym (lease-counted (view (made (goal.at.returns-in-Some c).Start x)) w.sound.valid c.args.offset c.in-Some.count
     (found-count _ (c.count_in_place-leased.ensures (made (goal.at.returns-in-Some c).Start x).table (table-whole w)) c.in-Some.is)))
 
-pub returns-in_default-carried : goal.returns-in_default-carried
-returns-in_default-carried c x w _ =
-    answers
-    (no-count (view (made (goal.at.returns-in_default-carried c).Start x)) w.sound.valid c.args.offset (found.no-count _ (c.count_in_place-leased.ensures (made (goal.at.returns-in_default-carried c).Start x).table (table-whole w)) c.in_default.is)
-    (found.no-count _ (c.carried_in_place-carried.ensures (made (goal.at.returns-in_default-carried c).Start x).table (table-whole w)) c.in_default-carried.is))
-
 pub returns : goal.returns
 returns c x w _ =
+    let k = made (goal.at.returns c).Start x in
     answers
-    (sym (carried-count (view (made (goal.at.returns c).Start x)) w.sound.valid c.args.offset c.in-Some-carried.count
-    (found-count _ (c.carried_in_place-carried.ensures (made (goal.at.returns c).Start x).table (table-whole w)) c.in-Some-carried.is)))
+    (c.unwrap_or.ensures ∙ unwrapped c.carried_in_place-carried.result ∙ ap count_or0 (c.carried_in_place-carried.ensures k.table (table-whole w))
+    ∙ unleased-count (view k) w.sound.valid c.args.offset (no-count _ (c.count_in_place-leased.ensures k.table (table-whole w)) c.in_default.is))

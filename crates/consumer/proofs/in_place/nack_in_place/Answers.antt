@@ -1,77 +1,67 @@
 -- `nack_in_place` meets its contract: the token's test, each test of the table in its order, then the effect, on every consumer that has
 -- the parts that it is lent. Assumes nothing.
--- a consumer with the parts that the arguments are
-use Prim.Native.Nat.{ℕ, ◌<◌}
-use mathlib.Core.Path.{◌≡◌, refl, sym, ap, subst, ◌∙◌}
-use lib.ListN.{take}
+use Prim.Native.Nat.{ℕ}
+use mathlib.Core.Path.{◌≡◌, refl}
+use Rattle.types.specs.Refusal.{done}
 use native.Mathlib.Omega.{arith}
-use borrow.Author.Rules.{rules}
-use Rattle.types.specs.Refusal.{Result}
-use Rattle.types.specs.Table.{Passed}
+use Rattle.types.specs.Refused.{refusal_of}
+use Rattle.types.specs.Table.{Passed, checked}
 use Rattle.delivery.specs.Config.{delay_of}
 use Rattle.lease.specs.Answers as answers
 use Rattle.consumer.specs.Rights as rights
-use Rattle.consumer.specs.Calls.{token_rows, attempt_of, nack}
-use Rattle.consumer.specs.Parts.{Whole, nacking, token_of, token_refusal_of, TokenAt}
-use Rattle.consumer.specs.View.{view, Answers, nack_of}
+use Rattle.consumer.specs.Calls.{token_rows, attempt_of}
+use Rattle.consumer.specs.Parts.{nacking}
+use Rattle.consumer.specs.View.{view}
 use Rattle.consumer.specs.declared.Consumer.{Consumer}
 use Rattle.consumer.proofs.CallsReturns.{table-whole}
 use Rattle.consumer.proofs.CallsToken.{first-refused, test-passed, nack-refused, nack_exhausted, nack-due, nack-passed, nack_requeued}
-use Rattle.lease.specs.Parts.{OwnedAt}
 use Rattle.lease.proofs.Tokens.{owned-used}
 use Rattle.consumer.proofs.in_place.nack_in_place.Goals as goal
-use Rattle.consumer.proofs.in_place.nack_in_place.Goals.{In-Held, Start}
+use Rattle.consumer.proofs.in_place.nack_in_place.Goals.{Start}
 
+-- a consumer with the parts that the arguments are
 abbrev made : Start → Consumer → Consumer
 made s =
     nacking s.args.rights.now s.args.hours s.args.ceiling s.args.backoff_nanos.now s.args.backoff_len s.args.config s.args.len s.args.next_generation s.args.offsets.now
     s.args.slots.now s.args.generations.now s.args.deadlines.now s.args.deliveries.now s.args.workers.now
 
-abbrev start : In-Held → Start
-start k = k.before.before
-
 -- the token's rows are passed, and this is the count of its lease
-owned : (k : In-Held) (x : Consumer) → let s = start k in Whole (made s x)
-    → Passed (token_rows (view (made s x)) s.args.worker rights.nacking s.args.offset s.args.generation) × (k.in-Held.held.deliveries ≡ attempt_of (view (made s x)) s.args.offset)
-owned k x w =
-    let s = start k in
-    test-passed (token_rows (view (made s x)) s.args.worker rights.nacking s.args.offset s.args.generation) k.in-Held.held.deliveries
-    (attempt_of (view (made s x)) s.args.offset)
-    (sym (ap token_of k.in-Held.is) ∙ k.token_test-test.ensures.0 (made s x) w rights.nacking refl)
+owned : (s : Start) (x : Consumer) (n : ℕ) → let k = view (made s x) in
+    done n ≡ checked (token_rows k s.args.worker rights.nacking s.args.offset s.args.generation) (done (attempt_of k s.args.offset))
+    → Passed (token_rows k s.args.worker rights.nacking s.args.offset s.args.generation) × (n ≡ attempt_of k s.args.offset)
+owned s x n e =
+    let k = view (made s x) in
+    test-passed (token_rows k s.args.worker rights.nacking s.args.offset s.args.generation) n (attempt_of k s.args.offset) e
 
--- where its lease stands
-own : (k : In-Held) → let s = start k in OwnedAt s.args.offset s.args.generation (take s.args.len s.args.offsets.now) s.args.slots.now s.args.generations.now k.in-Held.held.at
-own k = let s = start k in subst (TokenAt s.args.offset s.args.generation (take s.args.len s.args.offsets.now) s.args.slots.now s.args.generations.now) k.in-Held.is k.token_test-test.ensures.1
-
-used : (k : In-Held) → k.in-Held.held.at < (start k).args.len
-used k = let s = start k in owned-used s.args.offset s.args.generation s.args.len s.args.offsets.now s.args.slots.now s.args.generations.now (own k)
-
-pub returns-in-Refused : goal.returns-in-Refused
-returns-in-Refused c x w =
-    let r = token_refusal_of c.in-Refused.refusal in
-    subst (λ (y : Result ℕ). Answers y (made (goal.at.returns-in-Refused c).Start x) (made (goal.at.returns-in-Refused c).Start x) (nack (view (made (goal.at.returns-in-Refused c).Start x)) c.args.worker c.args.offset c.args.generation c.args.now (delay_of c.args.delay)))
-    (sym c.not_nacked.ensures)
-    (nack-refused (made (goal.at.returns-in-Refused c).Start x) w.sound c.args.worker c.args.offset c.args.generation c.args.now (delay_of c.args.delay) r
-    (first-refused (token_rows (view (made (goal.at.returns-in-Refused c).Start x)) c.args.worker rights.nacking c.args.offset c.args.generation) (attempt_of (view (made (goal.at.returns-in-Refused c).Start x)) c.args.offset) r
-    (sym (ap token_of c.in-Refused.is) ∙ c.token_test-test.ensures.0 (made (goal.at.returns-in-Refused c).Start x) w rights.nacking refl)))
+pub returns-in-Err : goal.returns-in-Err
+returns-in-Err c x w =
+    let k = made (goal.at.returns-in-Err c).Start x in
+    let r = refusal_of c.in-Err.refusal in
+    nack-refused k w.sound c.args.worker c.args.offset c.args.generation c.args.now (delay_of c.args.delay) r
+    (first-refused (token_rows (view k) c.args.worker rights.nacking c.args.offset c.args.generation) (attempt_of (view k) c.args.offset) r (c.in-Err.ensures.0 k w rights.nacking refl))
 
 pub returns-then-next_generation-eq-MAX : goal.returns-then-next_generation-eq-MAX
 returns-then-next_generation-eq-MAX c x w =
-    nack_exhausted (made (goal.at.returns-then-next_generation-eq-MAX c).Start x) w.sound c.args.worker c.args.offset c.args.generation c.args.now (delay_of c.args.delay)
-    (owned (goal.at.returns-then-next_generation-eq-MAX c).In-Held x w).0 c.if-next_generation-eq-MAX.true
+    let s = (goal.at.returns-then-next_generation-eq-MAX c).Start in
+    nack_exhausted (made s x) w.sound c.args.worker c.args.offset c.args.generation c.args.now (delay_of c.args.delay)
+    (owned s x _ (c.in-Ok.ensures.0 (made s x) w rights.nacking refl)).0 c.if-next_generation-eq-MAX.true
 
 pub returns-then-ceiling-next_generation : goal.returns-then-ceiling-next_generation
 returns-then-ceiling-next_generation c x w =
-    nack-due (made (goal.at.returns-then-ceiling-next_generation c).Start x) w.sound c.args.worker c.args.offset c.args.generation c.args.now (delay_of c.args.delay)
-    (owned (goal.at.returns-then-ceiling-next_generation c).In-Held x w).0 c.if-next_generation-eq-MAX.false c.if-ceiling-next_generation.true
+    let s = (goal.at.returns-then-ceiling-next_generation c).Start in
+    nack-due (made s x) w.sound c.args.worker c.args.offset c.args.generation c.args.now (delay_of c.args.delay)
+    (owned s x _ (c.in-Ok.ensures.0 (made s x) w rights.nacking refl)).0 c.if-next_generation-eq-MAX.false c.if-ceiling-next_generation.true
 
 pub nack_at-nacked-requires : goal.nack_at-nacked-requires
-nack_at-nacked-requires c = omega (arith, used (goal.at.nack_at-nacked-requires c).In-Held, c.requires.1)
+nack_at-nacked-requires c =
+    omega (arith, owned-used c.args.offset c.args.generation c.args.len c.args.offsets.now c.args.slots.now c.args.generations.now c.in-Ok.ensures.1, c.requires.1)
 
 pub returns : goal.returns
 returns c x w =
-    nack_requeued (made (goal.at.returns c).Start x) w.sound c.args.worker c.args.offset c.args.generation c.args.now c.in-Held.held.deliveries (delay_of c.args.delay)
-    (nack-passed (made (goal.at.returns c).Start x) w.sound c.args.worker c.args.offset c.args.generation c.args.now (delay_of c.args.delay) (owned (goal.at.returns c).In-Held x w).0 c.if-next_generation-eq-MAX.false c.if-ceiling-next_generation.false)
-    (owned (goal.at.returns c).In-Held x w).1
-    c.nack_delay_in_place-capped_nanos.result c.nack_delay_in_place-capped_nanos.ensures c.delay_in_hours-delay_nanos.result c.delay_in_hours-delay_nanos.ensures (answers.nack_of c.nack_at-nacked.result.outcome) _
-    (c.nack_at-nacked.ensures (made (goal.at.returns c).Start x).table (table-whole w) c.args.offset c.args.generation (own (goal.at.returns c).In-Held)) (nack_of c.requeued.result) c.requeued.ensures
+    let s = (goal.at.returns c).Start in
+    let k = made s x in
+    let o = owned s x _ (c.in-Ok.ensures.0 k w rights.nacking refl) in
+    nack_requeued k w.sound c.args.worker c.args.offset c.args.generation c.args.now c.in-Ok.held.deliveries (delay_of c.args.delay)
+    (nack-passed k w.sound c.args.worker c.args.offset c.args.generation c.args.now (delay_of c.args.delay) o.0 c.if-next_generation-eq-MAX.false c.if-ceiling-next_generation.false) o.1
+    c.nack_delay-capped_nanos.result c.nack_delay-capped_nanos.ensures c.delay_in_hours-delay_nanos.result c.delay_in_hours-delay_nanos.ensures (answers.nack_of c.nack_at-nacked.result.outcome) _
+    (c.nack_at-nacked.ensures k.table (table-whole w) c.args.offset c.args.generation c.in-Ok.ensures.1)

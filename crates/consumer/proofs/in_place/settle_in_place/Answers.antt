@@ -1,68 +1,57 @@
 -- `settle_in_place` meets its contract: the token's test, the cursor's, then the effect, on every consumer that has the parts that it is
 -- lent. Assumes nothing.
--- a consumer with the parts that the arguments are
-use mathlib.Core.Path.{refl, sym, ap, subst, ◌∙◌}
-use lib.ListN.{take}
-use Prim.Native.Nat.{◌<◌}
-use borrow.Author.Rules.{rules}
-use Rattle.types.specs.Refusal.{Result, done}
-use Rattle.types.specs.Table.{Passed}
+use mathlib.Core.Path.{◌≡◌, refl, sym, ◌∙◌}
+use Prim.Native.Nat.{ℕ}
+use Rattle.types.specs.Refusal.{done}
+use Rattle.types.specs.Refused.{refusal_of}
+use Rattle.types.specs.Table.{Passed, checked}
 use Rattle.cursor.specs.Answers as cursor
 use Rattle.cursor.specs.View.{ack_cursor}
-use Rattle.lease.specs.Answers.{ack_of}
 use Rattle.consumer.specs.Rights as rights
-use Rattle.consumer.specs.Calls.{token_rows, attempt_of, ack}
-use Rattle.consumer.specs.Parts.{Whole, settling, token_of, token_refusal_of, TokenAt}
-use Rattle.consumer.specs.View.{view, Answers}
+use Rattle.consumer.specs.Calls.{token_rows, attempt_of}
+use Rattle.consumer.specs.Parts.{settling}
+use Rattle.consumer.specs.View.{view}
 use Rattle.consumer.specs.declared.Consumer.{Consumer}
 use Rattle.consumer.proofs.CallsReturns.{table-whole}
 use Rattle.consumer.proofs.CallsToken.{first-refused, test-passed, ack-refused, ack-shed, ack-settled}
-use Rattle.lease.specs.Parts.{OwnedAt}
 use Rattle.lease.proofs.Tokens.{owned-used}
 use Rattle.consumer.proofs.in_place.settle_in_place.Goals as goal
-use Rattle.consumer.proofs.in_place.settle_in_place.Goals.{In-Held, Start}
+use Rattle.consumer.proofs.in_place.settle_in_place.Goals.{Start}
 
+-- a consumer with the parts that the arguments are
 abbrev made : Start → Consumer → Consumer
 made s =
     settling s.args.rights.now (ack_cursor s.args.committed s.args.starts.now s.args.ends.now s.args.runs) s.args.len s.args.offsets.now
     s.args.slots.now s.args.generations.now s.args.deliveries.now s.args.workers.now
 
-abbrev start : In-Held → Start
-start k = k.before.before
-
--- where its lease stands
-own : (k : In-Held) → let s = start k in OwnedAt s.args.offset s.args.generation (take s.args.len s.args.offsets.now) s.args.slots.now s.args.generations.now k.in-Held.held.at
-own k = let s = start k in subst (TokenAt s.args.offset s.args.generation (take s.args.len s.args.offsets.now) s.args.slots.now s.args.generations.now) k.in-Held.is k.token_test-test.ensures.1
-
-used : (k : In-Held) → k.in-Held.held.at < (start k).args.len
-used k = let s = start k in owned-used s.args.offset s.args.generation s.args.len s.args.offsets.now s.args.slots.now s.args.generations.now (own k)
-
-pub returns-in-Refused : goal.returns-in-Refused
-returns-in-Refused c x w =
-    let r = token_refusal_of c.in-Refused.refusal in
-    subst (λ (y : Result (Unit {0})). Answers y (made (goal.at.returns-in-Refused c).Start x) (made (goal.at.returns-in-Refused c).Start x) (ack (view (made (goal.at.returns-in-Refused c).Start x)) c.args.worker c.args.offset c.args.generation)) (sym c.not_settled.ensures)
-    (ack-refused (made (goal.at.returns-in-Refused c).Start x) w.sound c.args.worker c.args.offset c.args.generation r
-    (first-refused (token_rows (view (made (goal.at.returns-in-Refused c).Start x)) c.args.worker rights.settling c.args.offset c.args.generation) (attempt_of (view (made (goal.at.returns-in-Refused c).Start x)) c.args.offset) r
-    (sym (ap token_of c.in-Refused.is) ∙ c.token_test-test.ensures.0 (made (goal.at.returns-in-Refused c).Start x) w rights.settling refl)))
-
 -- the token's rows are passed
-owned : (k : In-Held) (x : Consumer) → let s = start k in Whole (made s x)
-    → Passed (token_rows (view (made s x)) s.args.worker rights.settling s.args.offset s.args.generation)
-owned k x w =
-    let s = start k in
-    (test-passed (token_rows (view (made s x)) s.args.worker rights.settling s.args.offset s.args.generation) _ (attempt_of (view (made s x)) s.args.offset)
-    (sym (ap token_of k.in-Held.is) ∙ k.token_test-test.ensures.0 (made s x) w rights.settling refl)).0
+owned : (s : Start) (x : Consumer) (n : ℕ) → let k = view (made s x) in
+    done n ≡ checked (token_rows k s.args.worker rights.settling s.args.offset s.args.generation) (done (attempt_of k s.args.offset))
+    → Passed (token_rows k s.args.worker rights.settling s.args.offset s.args.generation)
+owned s x n e =
+    let k = view (made s x) in
+    (test-passed (token_rows k s.args.worker rights.settling s.args.offset s.args.generation) n (attempt_of k s.args.offset) e).0
+
+pub returns-in-Err : goal.returns-in-Err
+returns-in-Err c x w =
+    let k = made (goal.at.returns-in-Err c).Start x in
+    let r = refusal_of c.in-Err.refusal in
+    ack-refused k w.sound c.args.worker c.args.offset c.args.generation r
+    (first-refused (token_rows (view k) c.args.worker rights.settling c.args.offset c.args.generation) (attempt_of (view k) c.args.offset) r (c.in-Err.ensures.0 k w rights.settling refl))
 
 pub returns-then-is_shed : goal.returns-then-is_shed
 returns-then-is_shed c x w =
-    ack-shed (made (goal.at.returns-then-is_shed c).Start x) w.sound c.args.worker c.args.offset c.args.generation (owned (goal.at.returns-then-is_shed c).In-Held x w)
+    let s = (goal.at.returns-then-is_shed c).Start in
+    ack-shed (made s x) w.sound c.args.worker c.args.offset c.args.generation (owned s x _ (c.in-Ok.ensures.0 (made s x) w rights.settling refl))
     (cursor.ack_of c.ack_in_place-noted.result.outcome) _ c.ack_in_place-noted.ensures (sym c.is_shed.ensures ∙ c.if-is_shed.true)
 
 pub ack_at-left-requires : goal.ack_at-left-requires
-ack_at-left-requires c = (used (goal.at.ack_at-left-requires c).In-Held, c.requires.1)
+ack_at-left-requires c =
+    (owned-used c.args.offset c.args.generation c.args.len c.args.offsets.now c.args.slots.now c.args.generations.now c.in-Ok.ensures.1, c.requires.1)
 
 pub returns : goal.returns
 returns c x w =
-    ack-settled (made (goal.at.returns c).Start x) w.sound c.args.worker c.args.offset c.args.generation (owned (goal.at.returns c).In-Held x w)
+    let s = (goal.at.returns c).Start in
+    ack-settled (made s x) w.sound c.args.worker c.args.offset c.args.generation (owned s x _ (c.in-Ok.ensures.0 (made s x) w rights.settling refl))
     (cursor.ack_of c.ack_in_place-noted.result.outcome) _ c.ack_in_place-noted.ensures (sym c.is_shed.ensures ∙ c.if-is_shed.false)
-    (done tt) _ (c.ack_at-left.ensures (made (goal.at.returns c).Start x).table (table-whole w) c.args.offset c.args.generation (own (goal.at.returns c).In-Held))
+    (done tt) _ (c.ack_at-left.ensures (made s x).table (table-whole w) c.args.offset c.args.generation c.in-Ok.ensures.1)

@@ -2,7 +2,6 @@
 use Prim.Native.Nat.{ℕ}
 use mathlib.Core.Path.{◌∙◌, ap}
 use mathlib.Core.List.{List}
-use borrow.Author.Rules.{rules}
 use Rattle.types.specs.Lists.{listed}
 use Rattle.consumer.proofs.in_place.waiting_in_place.Goals as goal
 

@@ -1,5 +1,4 @@
 -- `permission_of` meets its contract: 38, then 39. Assumes nothing.
-use borrow.Author.Rules.{rules}
 use Rattle.consumer.proofs.Permission.{unknown, no-bit, granted, not_granted}
 use Rattle.consumer.proofs.rights.permission_of.Goals as goal
 

@@ -2,7 +2,6 @@
 use Prim.Native.Nat.{◌-◌, ◌≤◌}
 use native.Mathlib.Omega.{arith}
 use mathlib.Core.Path.{◌≡◌, ap, ◌∙◌}
-use borrow.Author.Rules.{rules}
 use Rattle.types.specs.Limits.{sat64}
 use Rattle.hours.specs.Hours.{next_opening}
 use Rattle.hours.specs.View.{view}

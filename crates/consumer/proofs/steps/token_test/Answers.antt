@@ -1,23 +1,23 @@
 -- `token_test` meets its contract: the worker's rows, then 24 and 40, and the count of the lease. Assumes nothing.
--- a consumer with the parts that the arguments are
 use mathlib.Core.Path.{◌≡◌, sym, ap, ◌∙◌, subst}
-use mathlib.Core.Option.{Option, none}
+use mathlib.Core.Option.{Option}
 use lib.ListN.{take}
-use borrow.Author.Rules.{rules}
-use Rattle.types.specs.Refusal.{Refusal, UnknownWorker, NotPermitted}
+use Rattle.std.proofs.lemmas.Result.{err_from_is_err_and}
+use Rattle.types.specs.Refusal.{Refusal}
+use Rattle.types.specs.Refused.{refusal_of}
 use Rattle.types.specs.Table.{first}
 use Rattle.lease.specs.Lookup.{hold_in, HeldAt}
-use Rattle.lease.specs.Rest.{hold}
 use Rattle.consumer.specs.Rights.{Operation, bit_of, worker_rows}
 use Rattle.consumer.specs.Calls.{call_rows}
-use Rattle.consumer.specs.Parts.{Whole, owning}
-use Rattle.consumer.specs.View.{view, permission_of}
+use Rattle.consumer.specs.Parts.{owning}
+use Rattle.consumer.specs.View.{view}
 use Rattle.consumer.specs.declared.Consumer.{Consumer}
 use Rattle.consumer.proofs.CallsReturns.{table-whole}
 use Rattle.consumer.proofs.CallsToken.{is_unpermitted, is-fenced, is-foreign, is_held}
 use Rattle.consumer.proofs.steps.token_test.Goals as goal
-use Rattle.consumer.proofs.steps.token_test.Goals.{After-hold_in_place-hold, Start}
+use Rattle.consumer.proofs.steps.token_test.Goals.{Start}
 
+-- a consumer with the parts that the arguments are
 abbrev made : Start → Consumer → Consumer
 made s = owning s.args.rights.now s.args.len s.args.offsets.now s.args.slots.now s.args.generations.now s.args.deliveries.now s.args.workers.now
 
@@ -26,53 +26,40 @@ rows : (s : Start) (x : Consumer) (op : Operation) → bit_of op ≡ s.args.bit 
     → r ≡ first (call_rows (view (made s x)) s.args.worker op)
 rows s x op e q = rw e q
 
-abbrev start : After-hold_in_place-hold → Start
-start h = h.before.before.before
-
-permits : (h : After-hold_in_place-hold) (x : Consumer) (op : Operation) → bit_of op ≡ (start h).args.bit → none ≡ first (call_rows (view (made (start h) x)) (start h).args.worker op)
-permits h x op e =
-    rows (start h) x op e (sym (ap permission_of h.in-Granted.is) ∙ h.permission_of-permission.ensures)
-
-holds : (h : After-hold_in_place-hold) (x : Consumer) → Whole (made (start h) x)
-    → hold_in h.hold_in_place-hold.result ≡ hold (view (made (start h) x)).table (start h).args.offset (start h).args.generation
-holds h x w = h.hold_in_place-hold.ensures.0 (made (start h) x).table (table-whole w)
+pub returns-in_err-permission_of : goal.returns-in_err-permission_of
+returns-in_err-permission_of c =
+    let p = err_from_is_err_and c.from_residual.result c.from_residual.ensures.1 in
+    let s = (goal.at.returns-in_err-permission_of c).Start in
+    rw (p.1, p.2) (
+      λ x w op e.
+          is_unpermitted (view (made s x)) c.args.worker op c.args.offset c.args.generation (refusal_of c.in_err-permission_of.field-0.0)
+          (rows s x op e c.in_err-permission_of.ensures),
+      tt,
+    )
 
 pub returns-in_default : goal.returns-in_default
 returns-in_default c = (
   λ x w op e.
-      is-fenced (view (made (goal.at.returns-in_default c).Start x)) c.args.worker op c.args.offset c.args.generation (permits (goal.at.returns-in_default c).After-hold_in_place-hold x op e)
-      (sym (ap hold_in c.in_default.is) ∙ holds (goal.at.returns-in_default c).After-hold_in_place-hold x w),
+      let s = (goal.at.returns-in_default c).Start in
+      is-fenced (view (made s x)) c.args.worker op c.args.offset c.args.generation (rows s x op e c.in_ok-permission_of.ensures)
+      (sym (ap hold_in c.in_default.is) ∙ c.hold_in_place-hold.ensures.0 (made s x).table (table-whole w)),
   tt,
 )
 
-pub returns-then-holder-worker : goal.returns-then-holder-worker
-returns-then-holder-worker c = (
+pub returns-then-held-worker : goal.returns-then-held-worker
+returns-then-held-worker c = (
   λ x w op e.
-      is-foreign (view (made (goal.at.returns-then-holder-worker c).Start x)) c.args.worker op c.args.offset c.args.generation (permits (goal.at.returns-then-holder-worker c).After-hold_in_place-hold x op e) _ _
-      (sym (ap hold_in c.in-Held.is) ∙ holds (goal.at.returns-then-holder-worker c).After-hold_in_place-hold x w) c.if-holder-worker.true,
+      let s = (goal.at.returns-then-held-worker c).Start in
+      is-foreign (view (made s x)) c.args.worker op c.args.offset c.args.generation (rows s x op e c.in_ok-permission_of.ensures) _ _
+      (sym (ap hold_in c.in-Some.is) ∙ c.hold_in_place-hold.ensures.0 (made s x).table (table-whole w)) c.if-held-worker.true,
   tt,
 )
 
-pub returns-in-UnknownWorker : goal.returns-in-UnknownWorker
-returns-in-UnknownWorker c = (
+pub returns : goal.returns
+returns c = (
   λ x w op e.
-      is_unpermitted (view (made (goal.at.returns-in-UnknownWorker c).Start x)) c.args.worker op c.args.offset c.args.generation UnknownWorker
-      (rows (goal.at.returns-in-UnknownWorker c).Start x op e (sym (ap permission_of c.in-UnknownWorker.is) ∙ c.permission_of-permission.ensures)),
-  tt,
-)
-
-pub returns-in-NotPermitted : goal.returns-in-NotPermitted
-returns-in-NotPermitted c = (
-  λ x w op e.
-      is_unpermitted (view (made (goal.at.returns-in-NotPermitted c).Start x)) c.args.worker op c.args.offset c.args.generation NotPermitted
-      (rows (goal.at.returns-in-NotPermitted c).Start x op e (sym (ap permission_of c.in-NotPermitted.is) ∙ c.permission_of-permission.ensures)),
-  tt,
-)
-
-pub returns-else-holder-worker : goal.returns-else-holder-worker
-returns-else-holder-worker c = (
-  λ x w op e.
-      is_held (view (made (goal.at.returns-else-holder-worker c).Start x)) c.args.worker op c.args.offset c.args.generation (permits (goal.at.returns-else-holder-worker c).After-hold_in_place-hold x op e) _ _
-      (sym (ap hold_in c.in-Held.is) ∙ holds (goal.at.returns-else-holder-worker c).After-hold_in_place-hold x w) c.if-holder-worker.false,
-  subst (HeldAt c.args.offset c.args.generation (take c.args.len c.args.offsets.now) c.args.slots.now c.args.generations.now) c.in-Held.is c.hold_in_place-hold.ensures.1,
+      let s = (goal.at.returns c).Start in
+      is_held (view (made s x)) c.args.worker op c.args.offset c.args.generation (rows s x op e c.in_ok-permission_of.ensures) _ _
+      (sym (ap hold_in c.in-Some.is) ∙ c.hold_in_place-hold.ensures.0 (made s x).table (table-whole w)) c.if-held-worker.false,
+  subst (HeldAt c.args.offset c.args.generation (take c.args.len c.args.offsets.now) c.args.slots.now c.args.generations.now) c.in-Some.is c.hold_in_place-hold.ensures.1,
 )

@@ -1,16 +1,14 @@
 -- `waiting_list` meets its contract. The loop's invariant: the expired leases before place i stand in order behind the carried offsets.
 -- Assumes nothing.
-use Prim.Native.Nat.{ℕ, ◌+◌, ◌-◌, ◌≤◌, ◌<◌}
+use Prim.Native.Nat.{ℕ, ◌+◌, ◌≤◌, ◌<◌}
 use native.Mathlib.Omega.{arith}
 use mathlib.Core.Path.{refl, sym, ap, subst, ◌∙◌}
-use mathlib.Core.Logic.{⊎_elim}
 use lib.ListN.{take, get_or}
-use borrow.Author.Rules.{rules}
 use Rattle.types.specs.Limits.{LEASES}
 use Rattle.tables.specs.Columns.{put_in}
 use Rattle.tables.specs.Search.{Boundary}
 use Rattle.tables.proofs.Search.{boundary_inside}
-use Rattle.consumer.proofs.Asked.{Waits, waits_none, waits-running, waits-expired, all_wait}
+use Rattle.consumer.proofs.Asked.{waits_none, waits-running, waits-expired, all_wait}
 use Rattle.consumer.proofs.steps.waiting_list.Goals as goal
 use Rattle.consumer.proofs.steps.waiting_list.Goals.{In-loop-i, then-deadline-now, else-deadline-now}
 
@@ -50,12 +48,6 @@ bounds-offsets-i c = (fits (goal.at.bounds-offsets-i c).In-loop-i).1
 pub overflow_add-n : goal.overflow_add-n
 overflow_add-n c = omega (arith, fits (goal.at.overflow_add-n c).In-loop-i)
 
-pub overflow_add-i : goal.overflow_add-i
-overflow_add-i c = omega (arith, fits (goal.at.overflow_add-i c).In-loop-i)
-
-pub loop-i-smaller : goal.loop-i-smaller
-loop-i-smaller c = omega (arith, c.loop-i-test.true)
-
 pub loop-i-preserved : goal.loop-i-preserved
 loop-i-preserved c =
     let l = c.loop-i in
@@ -66,7 +58,7 @@ loop-i-preserved c =
           (waits-expired c.args.len c.args.carried_len c.args.now c.args.offsets.now c.args.slots.now c.args.deadlines.now c.args.carried_offsets.now
           l.invariant c.requires.0 more w.position_after-at.result (subst (λ (d : ℕ). d ≤ c.args.now) due w.if-deadline-now.true)
           (subst (λ (d : ℕ). Boundary (d + 1) (take l.n l.by_deadline) w.position_after-at.result) due w.position_after-at.ensures)
-          (w.insert_64.ensures ∙ ap (λ (d : ℕ). put_in l.n w.position_after-at.result d l.by_deadline) due) w.insert_128.ensures)
+          (w.insert.ensures ∙ ap (λ (d : ℕ). put_in l.n w.position_after-at.result d l.by_deadline) due) w.insert-then-deadline-now.ensures)
       | else-deadline-now w ↦ rw (w.listed-is, w.by_deadline-is, w.n-is)
           (waits-running c.args.len c.args.carried_len c.args.now c.args.offsets.now c.args.slots.now c.args.deadlines.now c.args.carried_offsets.now
           l.invariant c.requires.0 more (subst (λ (d : ℕ). c.args.now < d) due w.if-deadline-now.false))

@@ -4,7 +4,6 @@ use mathlib.Core.Path.{sym}
 use Rattle.words.proofs.Columns.{column-at}
 use Rattle.cursor.specs.Layout as cursor
 use Rattle.consumer_words.specs.Layout.{CURSOR}
-use borrow.Author.Rules.{rules}
 use Rattle.consumer_words.proofs.reads.committed.Goals as goal
 
 pub returns : goal.returns

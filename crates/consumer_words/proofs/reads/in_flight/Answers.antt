@@ -5,7 +5,6 @@ use mathlib.Core.List.{List}
 use Rattle.lease.specs.Rest.{in_flight}
 use Rattle.lease.specs.Layout as lease
 use Rattle.consumer_words.proofs.State.{table-part, lent-table}
-use borrow.Author.Rules.{rules}
 use Rattle.consumer_words.proofs.reads.in_flight.Goals as goal
 
 pub in_flight-requires : goal.in_flight-requires

@@ -7,7 +7,6 @@ use Rattle.words.specs.Columns.{word}
 use Rattle.lease.specs.Layout as lease
 use Rattle.consumer_words.specs.Layout.{CEILING}
 use Rattle.consumer_words.proofs.State.{table-part, lent-table}
-use borrow.Author.Rules.{rules}
 use Rattle.consumer_words.proofs.reads.is_at_ceiling.Goals as goal
 
 pub next_generation-next-requires : goal.next_generation-next-requires

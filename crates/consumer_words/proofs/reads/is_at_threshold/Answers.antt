@@ -7,7 +7,6 @@ use Rattle.words.specs.Columns.{word}
 use Rattle.lease.specs.Layout as lease
 use Rattle.consumer_words.specs.Layout.{THRESHOLD}
 use Rattle.consumer_words.proofs.State.{table-part, lent-table}
-use borrow.Author.Rules.{rules}
 use Rattle.consumer_words.proofs.reads.is_at_threshold.Goals as goal
 
 pub redeliveries_since_flush-count-requires : goal.redeliveries_since_flush-count-requires
@@ -16,4 +15,4 @@ redeliveries_since_flush-count-requires c = lent-table c.requires
 pub returns : goal.returns
 returns c =
     ap (leb (word THRESHOLD c.args.words.now))
-    (c.wide.ensures ∙ c.redeliveries_since_flush-count.ensures ∙ ap (λ (x : List ℕ). (lease.view x).redeliveries) (table-part c.args.words.now))
+    (c.from.ensures ∙ c.redeliveries_since_flush-count.ensures ∙ ap (λ (x : List ℕ). (lease.view x).redeliveries) (table-part c.args.words.now))

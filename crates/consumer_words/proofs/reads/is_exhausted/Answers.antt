@@ -6,7 +6,6 @@ use lib.Dec.{eqb}
 use Rattle.types.specs.Limits.{MAX}
 use Rattle.lease.specs.Layout as lease
 use Rattle.consumer_words.proofs.State.{table-part, lent-table}
-use borrow.Author.Rules.{rules}
 use Rattle.consumer_words.proofs.reads.is_exhausted.Goals as goal
 
 pub is_exhausted-requires : goal.is_exhausted-requires

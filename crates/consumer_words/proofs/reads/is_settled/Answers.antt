@@ -5,7 +5,6 @@ use mathlib.Core.List.{List}
 use Rattle.cursor.specs.Cursor.{settled}
 use Rattle.cursor.specs.Layout as cursor
 use Rattle.consumer_words.proofs.State.{cursor-part, lent-cursor}
-use borrow.Author.Rules.{rules}
 use Rattle.consumer_words.proofs.reads.is_settled.Goals as goal
 
 pub is_acked-requires : goal.is_acked-requires

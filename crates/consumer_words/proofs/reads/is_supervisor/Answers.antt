@@ -1,21 +1,19 @@
--- `is_supervisor` meets its contract. Assumes nothing.
-use mathlib.Core.Path.{sym, ap, ◌∙◌}
+-- `is_supervisor` meets its contract: a supervisor is permitted what the mark would permit. Assumes nothing.
+use mathlib.Core.Path.{◌≡◌, refl, sym, ◌∙◌}
+use Rattle.std.specs.Prelude.{Ok, Err, is_ok}
+use Rattle.std.specs.Prelude as std
 use Rattle.types.specs.Limits.{WORKERS}
+use Rattle.types.specs.declared.refusals.Refusal.{Refusal}
 use Rattle.words.specs.Columns.{column}
+use Rattle.lease.specs.Operations.{is_none}
 use Rattle.consumer.specs.View.{permission_of}
 use Rattle.consumer.proofs.Standing.{supervises-by}
 use Rattle.consumer_words.specs.Layout.{RIGHTS}
-use borrow.Author.Rules.{rules}
 use Rattle.consumer_words.proofs.reads.is_supervisor.Goals as goal
 
-pub returns-in-Granted : goal.returns-in-Granted
-returns-in-Granted c =
-    sym (supervises-by (column RIGHTS WORKERS c.args.words.now) c.args.worker (sym (ap permission_of c.in-Granted.is) ∙ c.permission_of-permission.ensures))
+permitted : (r : std.Result (Unit {0}) Refusal) → is_ok r ≡ is_none (permission_of r)
+permitted (Ok x) = refl
+permitted (Err r) = refl
 
-pub returns-in-UnknownWorker : goal.returns-in-UnknownWorker
-returns-in-UnknownWorker c =
-    sym (supervises-by (column RIGHTS WORKERS c.args.words.now) c.args.worker (sym (ap permission_of c.in-UnknownWorker.is) ∙ c.permission_of-permission.ensures))
-
-pub returns-in-NotPermitted : goal.returns-in-NotPermitted
-returns-in-NotPermitted c =
-    sym (supervises-by (column RIGHTS WORKERS c.args.words.now) c.args.worker (sym (ap permission_of c.in-NotPermitted.is) ∙ c.permission_of-permission.ensures))
+pub returns : goal.returns
+returns c = c.is_ok.ensures.value ∙ permitted c.permission_of.result ∙ sym (supervises-by (column RIGHTS WORKERS c.args.words.now) c.args.worker c.permission_of.ensures)

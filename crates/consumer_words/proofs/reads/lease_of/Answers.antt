@@ -5,7 +5,6 @@ use mathlib.Core.List.{List}
 use Rattle.lease.specs.Operations.{lease_of}
 use Rattle.lease.specs.Layout as lease
 use Rattle.consumer_words.proofs.State.{table-part, lent-table}
-use borrow.Author.Rules.{rules}
 use Rattle.consumer_words.proofs.reads.lease_of.Goals as goal
 
 pub lease_of-requires : goal.lease_of-requires

@@ -1,16 +1,11 @@
 -- `view_of` meets its contract. Assumes nothing.
-use Prim.Native.Nat.{ℕ}
-use mathlib.Core.Path.{◌≡◌, sym, ap, ◌∙◌}
-use mathlib.Core.Bool.{false}
+use mathlib.Core.Path.{sym, ap, ◌∙◌}
 use mathlib.Core.Option.{Option}
 use Rattle.types.specs.Keyed.{lookup}
-use Rattle.cursor.specs.Cursor.{settled}
 use Rattle.lease.specs.declared.Lease.{Lease}
-use Rattle.consumer.specs.State.{State}
 use Rattle.consumer.specs.Standing.{bare, unsettled_as, in_full}
 use Rattle.consumer.proofs.Standing.{is-settled, is_plain, is-full}
 use Rattle.consumer_words.specs.Layout.{view}
-use borrow.Author.Rules.{rules}
 use Rattle.consumer_words.proofs.reads.view_of.Goals as goal
 
 pub returns-then-is_settled : goal.returns-then-is_settled

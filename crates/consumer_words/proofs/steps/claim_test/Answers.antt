@@ -1,23 +1,20 @@
--- `claim_test` meets its contract. Assumes nothing.
-use mathlib.Core.Path.{sym, ap, ◌∙◌}
-use Rattle.types.specs.Refusal.{UnknownWorker, NotPermitted}
-use Rattle.consumer.specs.View.{permission_of, as_result}
+-- `claim_test` meets its contract: the worker's rows, then the offset's. Assumes nothing.
+use mathlib.Core.Path.{◌∙◌}
+use Rattle.cursor.proofs.Refusals.{err_is}
+use Rattle.types.specs.Refused.{refusal_of}
 use Rattle.consumer.proofs.CallsClaim.{claim_unpermitted, claim-permitted}
 use Rattle.consumer_words.specs.Layout.{view}
-use borrow.Author.Rules.{rules}
 use Rattle.consumer_words.proofs.steps.claim_test.Goals as goal
 
-pub returns-in-UnknownWorker : goal.returns-in-UnknownWorker
-returns-in-UnknownWorker c =
-    record { is = claim_unpermitted (view c.args.words.now) c.args.worker c.args.offset.0 c.args.now UnknownWorker (sym (ap permission_of c.in-UnknownWorker.is) ∙ c.permission_of-permission.ensures); place = tt }
+pub returns-in_err-permission_of : goal.returns-in_err-permission_of
+returns-in_err-permission_of c =
+    let h = c.in_err-permission_of in
+    rw (err_is c.from_residual.result h.field-0.0 c.from_residual.ensures.1)
+    (record { is = claim_unpermitted (view c.args.words.now) c.args.worker c.args.offset.0 c.args.now (refusal_of h.field-0.0) h.ensures; place = tt })
 
-pub returns-in-NotPermitted : goal.returns-in-NotPermitted
-returns-in-NotPermitted c =
-    record { is = claim_unpermitted (view c.args.words.now) c.args.worker c.args.offset.0 c.args.now NotPermitted (sym (ap permission_of c.in-NotPermitted.is) ∙ c.permission_of-permission.ensures); place = tt }
-
-pub returns-in-Granted : goal.returns-in-Granted
-returns-in-Granted c =
+pub returns : goal.returns
+returns c =
     record {
-      is = c.offset_test.ensures.is ∙ ap as_result (claim-permitted (view c.args.words.now) c.args.worker c.args.offset.0 c.args.now (sym (ap permission_of c.in-Granted.is) ∙ c.permission_of-permission.ensures));
+      is = c.offset_test.ensures.is ∙ claim-permitted (view c.args.words.now) c.args.worker c.args.offset.0 c.args.now c.in_ok-permission_of.ensures;
       place = c.offset_test.ensures.place;
     }

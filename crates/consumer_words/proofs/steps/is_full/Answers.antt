@@ -1,23 +1,37 @@
--- `is_full` meets its contract. Assumes nothing.
-use Prim.Native.Nat.{ℕ, ◌+◌, ◌<◌, ◌≤◌}
-use mathlib.Core.Path.{◌≡◌, sym, subst, ◌∙◌}
+-- `is_full` meets its contract: refusal 27, test by test. Assumes nothing.
+use Prim.Native.Nat.{ℕ, ◌≤◌, ◌<◌}
+use native.Mathlib.Omega.{arith}
+use mathlib.Core.Path.{◌≡◌, sym, ap, ◌∙◌}
+use mathlib.Core.Bool.{Bool, true, false}
+use mathlib.Core.List.{List}
 use mathlib.Core.Option.{none}
-use lib.Dec.{leb}
 use lib.ListN.{length}
 use borrow.Author.Tests.{leb-true, leb-false}
-use Rattle.types.specs.Limits.{LEASES, CARRIED}
-use Rattle.types.specs.Keyed.{lookup}
-use Rattle.lease.specs.State.{Table}
-use Rattle.lease.specs.Operations.{lease_of}
-use Rattle.lease.specs.Layout.{table_in}
+use Rattle.types.specs.Limits.{LEASES}
+use Rattle.tables.specs.declared.Place.{Place}
+use Rattle.lease.specs.Operations.{lease_of, is_none}
+use Rattle.lease.specs.InWords.{PlacedIn, FullAt}
+use Rattle.lease.specs.Layout.{table_in, Sound}
 use Rattle.lease.specs.Layout as lease
 use Rattle.lease.proofs.Slots.{free, lease-at}
-use Rattle.lease.proofs.Found.{found-count, no-count}
 use Rattle.lease.proofs.InWords.{whole}
-use Rattle.consumer.proofs.CallsClaim.{full-leased, full-leases, full-room, full-counted, full-counts}
+use Rattle.consumer.proofs.CallsClaim.{full-leased, full-leases, full-room, full-by-count, uncounted}
 use Rattle.consumer_words.proofs.State.{no-lease-room}
-use borrow.Author.Rules.{rules}
 use Rattle.consumer_words.proofs.steps.is_full.Goals as goal
+use Rattle.consumer_words.proofs.steps.is_full.Goals.{In-Missing}
+
+-- ## an offset that is missing
+module _ (c : In-Missing) where
+  -- it has no lease
+  lacked : lease_of (lease.view c.args.table.now) c.args.offset.0 ≡ none
+  lacked = (free (table_in c.args.table.now) (whole c.requires.0).full c.requires.0.table c.requires.1 c.in-Missing.is).is
+
+module _ (w : List ℕ) (o : ℕ) (place : Place) (free : lease_of (lease.view w) o ≡ none) (here : PlacedIn o w place) (b : Bool) (e : FullAt w place b) where
+  many : b ≡ true → LEASES ≤ length (lease.view w).leases
+  many t = leb-true LEASES _ (sym (no-lease-room (lease.view w) o b free (e o here)) ∙ t)
+
+  few : b ≡ false → length (lease.view w).leases < LEASES
+  few t = leb-false LEASES _ (sym (no-lease-room (lease.view w) o b free (e o here)) ∙ t)
 
 pub returns-in_default : goal.returns-in_default
 returns-in_default c =
@@ -25,21 +39,22 @@ returns-in_default c =
 
 pub returns-then-is_full_at : goal.returns-then-is_full_at
 returns-then-is_full_at c =
-    full-leases (lease.view c.args.table.now) c.args.offset.0 ((free (table_in c.args.table.now) (whole c.requires.0).full c.requires.0.table c.requires.1 c.in-Missing.is).is) (leb-true LEASES _ (sym (no-lease-room (lease.view c.args.table.now) c.args.offset.0 c.is_full_at.result ((free (table_in c.args.table.now) (whole c.requires.0).full c.requires.0.table c.requires.1 c.in-Missing.is).is) (c.is_full_at.ensures c.args.offset.0 c.requires.1)) ∙ c.if-is_full_at.true))
+    let none_there = lacked (goal.at.returns-then-is_full_at c).In-Missing in
+    full-leases (lease.view c.args.table.now) c.args.offset.0 none_there
+    (many c.args.table.now c.args.offset.0 c.args.place none_there c.requires.1 c.is_full_at.result c.is_full_at.ensures c.if-is_full_at.true)
 
 pub returns-then-in_flight-carried-lt-CARRIED : goal.returns-then-in_flight-carried-lt-CARRIED
 returns-then-in_flight-carried-lt-CARRIED c =
-    let t = (lease.view c.args.table.now) in
-    full-room t c.args.offset.0 ((free (table_in c.args.table.now) (whole c.requires.0).full c.requires.0.table c.requires.1 c.in-Missing.is).is) (leb-false LEASES _ (sym (no-lease-room (lease.view c.args.table.now) c.args.offset.0 c.is_full_at.result ((free (table_in c.args.table.now) (whole c.requires.0).full c.requires.0.table c.requires.1 c.in-Missing.is).is) (c.is_full_at.ensures c.args.offset.0 c.requires.1)) ∙ c.if-is_full_at.false))
-    (subst (λ (x : ℕ). x + length t.carried < CARRIED) c.in_flight.ensures (subst (λ (y : ℕ). c.in_flight.result + y < CARRIED) c.carried.ensures c.if-in_flight-carried-lt-CARRIED.true))
+    let none_there = lacked (goal.at.returns-then-in_flight-carried-lt-CARRIED c).In-Missing in
+    full-room (lease.view c.args.table.now) c.args.offset.0 none_there
+    (few c.args.table.now c.args.offset.0 c.args.place none_there c.requires.1 c.is_full_at.result c.is_full_at.ensures c.if-is_full_at.false)
+    (omega (arith, c.in_flight.ensures, c.carried.ensures, c.if-in_flight-carried-lt-CARRIED.true))
 
-pub returns-in-Some : goal.returns-in-Some
-returns-in-Some c =
-    full-counted (lease.view c.args.table.now) c.args.offset.0 ((free (table_in c.args.table.now) (whole c.requires.0).full c.requires.0.table c.requires.1 c.in-Missing.is).is) (leb-false LEASES _ (sym (no-lease-room (lease.view c.args.table.now) c.args.offset.0 c.is_full_at.result ((free (table_in c.args.table.now) (whole c.requires.0).full c.requires.0.table c.requires.1 c.in-Missing.is).is) (c.is_full_at.ensures c.args.offset.0 c.requires.1)) ∙ c.if-is_full_at.false)) _ (found-count (lookup c.args.offset.0 (lease.view c.args.table.now).carried) c.carried_count-count.ensures c.in-Some.is)
-
-pub returns-in-None : goal.returns-in-None
-returns-in-None c =
-    let t = (lease.view c.args.table.now) in
-    full-counts t c.args.offset.0 ((free (table_in c.args.table.now) (whole c.requires.0).full c.requires.0.table c.requires.1 c.in-Missing.is).is) (leb-false LEASES _ (sym (no-lease-room (lease.view c.args.table.now) c.args.offset.0 c.is_full_at.result ((free (table_in c.args.table.now) (whole c.requires.0).full c.requires.0.table c.requires.1 c.in-Missing.is).is) (c.is_full_at.ensures c.args.offset.0 c.requires.1)) ∙ c.if-is_full_at.false))
-    (subst (λ (x : ℕ). CARRIED ≤ x + length t.carried) c.in_flight.ensures (subst (λ (y : ℕ). CARRIED ≤ c.in_flight.result + y) c.carried.ensures c.if-in_flight-carried-lt-CARRIED.false))
-    (no-count (lookup c.args.offset.0 t.carried) c.carried_count-count.ensures c.in-None.is)
+pub returns : goal.returns
+returns c =
+    let none_there = lacked (goal.at.returns c).In-Missing in
+    sym (uncounted c.carried_count.result c.is_none.result c.is_none.ensures)
+    ∙ ap is_none c.carried_count.ensures
+    ∙ full-by-count (lease.view c.args.table.now) c.args.offset.0 none_there
+    (few c.args.table.now c.args.offset.0 c.args.place none_there c.requires.1 c.is_full_at.result c.is_full_at.ensures c.if-is_full_at.false)
+    (omega (arith, c.in_flight.ensures, c.carried.ensures, c.if-in_flight-carried-lt-CARRIED.false))

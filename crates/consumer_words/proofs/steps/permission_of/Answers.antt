@@ -4,7 +4,6 @@ use Rattle.words.specs.Columns.{column}
 use Rattle.words.proofs.Columns.{column-at}
 use Rattle.consumer.proofs.Permission.{unknown, no-bit, granted, not_granted}
 use Rattle.consumer_words.specs.Layout.{RIGHTS}
-use borrow.Author.Rules.{rules}
 use Rattle.consumer_words.proofs.steps.permission_of.Goals as goal
 
 pub returns-then-worker : goal.returns-then-worker

@@ -1,11 +1,7 @@
 -- `crc::short::after_few` meets its contract. The loop's invariant: feeding the bytes
 -- that are left to the register as it is gives what feeding all of them to the first register gives. Assumes nothing.
-use Prim.Native.Nat.{◌≤◌, ◌-◌}
 use native.Mathlib.Omega.{arith}
 use mathlib.Core.Path.{◌≡◌, refl, ◌∙◌}
-use lib.ListN.{drop}
-use borrow.Author.Rules.{rules}
-use Rattle.crc.specs.Crc32c.{bits, feed}
 use Rattle.crc.proofs.Loop.{byte-passed}
 use Rattle.crc.proofs.short.after_few.Goals as goal
 

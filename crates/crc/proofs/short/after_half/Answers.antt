@@ -1,12 +1,10 @@
 -- `crc::short::after_half` meets its contract. The loop's invariant is that of `after_word`, with half as many nibbles. Assumes
 -- nothing.
-use Prim.Native.Nat.{◌≤◌, ◌-◌, ◌*◌, ◌/◌, ◌^◌}
 use native.Mathlib.Omega.{arith}
 use native.Mathlib.Nat.{div-one}
 use mathlib.Core.Path.{◌≡◌, refl, sym, ◌∙◌}
 use lib.Bits.{bit_xor}
-use borrow.Author.Rules.{rules}
-use Rattle.crc.specs.Crc32c.{bits, feed_bits}
+use Rattle.crc.specs.Crc32c.{bits}
 use Rattle.crc.proofs.Register.{zeros, word-step}
 use Rattle.crc.proofs.Table.{nibble-passed}
 use Rattle.crc.proofs.short.after_half.Goals as goal

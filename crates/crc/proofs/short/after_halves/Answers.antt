@@ -1,13 +1,10 @@
 -- `crc::short::after_halves` meets its contract. The loop's invariant is that of `after_bytes`, with four bytes to a turn and no
 -- table. Assumes nothing.
-use Prim.Native.Nat.{◌≤◌, ◌-◌, ◌%◌}
 use native.Mathlib.Omega.{arith}
-use mathlib.Core.Path.{◌≡◌, refl, ◌∙◌}
-use lib.ListN.{length, drop, drop_of_length-le}
-use borrow.Author.Rules.{rules}
+use mathlib.Core.Path.{refl, ◌∙◌}
+use lib.ListN.{drop_of_length-le}
 use Rattle.raw.proofs.Bytes.{bytes-known}
 use Rattle.raw.proofs.Word.{half-number}
-use Rattle.crc.specs.Crc32c.{bits, feed}
 use Rattle.crc.proofs.Loop.{number_passed}
 use Rattle.crc.proofs.short.after_halves.Goals as goal
 

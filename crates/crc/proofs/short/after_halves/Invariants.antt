@@ -1,14 +1,9 @@
 -- `crc::short::after_halves` meets its contract. The loop's invariant is that of `after_bytes`, with four bytes to a turn and no
 -- table. Assumes nothing.
 use Prim.Native.Nat.{◌≤◌, ◌-◌, ◌%◌}
-use native.Mathlib.Omega.{arith}
-use mathlib.Core.Path.{◌≡◌, refl, ◌∙◌}
-use lib.ListN.{length, drop, drop_of_length-le}
-use borrow.Author.Rules.{rules}
-use Rattle.raw.proofs.Bytes.{bytes-known}
-use Rattle.raw.proofs.Word.{half-number}
+use mathlib.Core.Path.{◌≡◌}
+use lib.ListN.{length, drop}
 use Rattle.crc.specs.Crc32c.{bits, feed}
-use Rattle.crc.proofs.Loop.{number_passed}
 use Rattle.crc.proofs.short.after_halves.Given as goal
 
 abbrev pub invariant-loop-i : goal.invariant-loop-i

@@ -1,5 +1,4 @@
 -- `ack_bounded` meets its contract. Assumes nothing.
-use borrow.Author.Rules.{rules}
 use Rattle.cursor.proofs.Edits.{ack-made}
 use Rattle.cursor.proofs.AckCursor.ack_bounded.Goals as goal
 

@@ -1,12 +1,8 @@
 -- `AckCursor::ahead_len` meets its contract. The loop's invariant: the sum with the offsets of the ranges that are left is
--- the whole. The measure is how many ranges are left. Assumes nothing.
-use Prim.Native.Nat.{◌+◌, ◌-◌, ◌≤◌}
+-- the whole. Assumes nothing.
 use native.Mathlib.Omega.{arith}
-use mathlib.Core.Path.{◌≡◌}
-use lib.ListN.{drop}
 use borrow.Author.Rules.{rules}
-use Rattle.cursor.specs.Ranges.{offsets}
-use Rattle.cursor.specs.View.{view, Whole}
+use Rattle.cursor.specs.View.{Whole}
 use Rattle.cursor.proofs.Search.{range_nonempty, sum-next, sum_over, sum_fits}
 use Rattle.cursor.proofs.AckCursor.ahead_len.Goals as goal
 use Rattle.cursor.proofs.AckCursor.ahead_len.Goals.{Start}

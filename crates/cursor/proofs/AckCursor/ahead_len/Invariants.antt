@@ -1,17 +1,11 @@
 -- `AckCursor::ahead_len` meets its contract. The loop's invariant: the sum with the offsets of the ranges that are left is
--- the whole. The measure is how many ranges are left. Assumes nothing.
-use Prim.Native.Nat.{◌+◌, ◌-◌, ◌≤◌}
-use native.Mathlib.Omega.{arith}
+-- the whole. Assumes nothing.
+use Prim.Native.Nat.{◌+◌, ◌≤◌}
 use mathlib.Core.Path.{◌≡◌}
 use lib.ListN.{drop}
-use borrow.Author.Rules.{rules}
 use Rattle.cursor.specs.Ranges.{offsets}
-use Rattle.cursor.specs.View.{view, Whole}
-use Rattle.cursor.proofs.Search.{range_nonempty, sum-next, sum_over, sum_fits}
+use Rattle.cursor.specs.View.{view}
 use Rattle.cursor.proofs.AckCursor.ahead_len.Given as goal
 
 abbrev pub invariant-loop-i : goal.invariant-loop-i
 invariant-loop-i l = (l.i ≤ l.runs) × (l.sum + offsets (drop l.i (view l.self).ahead) ≡ offsets (view l.self).ahead)
-
-abbrev pub decreases-loop-i : goal.decreases-loop-i
-decreases-loop-i l = l.runs - l.i

@@ -1,5 +1,4 @@
 -- `commit_up_to` meets its contract. Assumes nothing.
-use borrow.Author.Rules.{rules}
 use Rattle.cursor.proofs.Edits.{commit-made}
 use Rattle.cursor.proofs.AckCursor.commit_up_to.Goals as goal
 

@@ -1,6 +1,5 @@
 -- `AckCursor::nearest_open` meets its contract. Assumes nothing.
 use mathlib.Core.Path.{ap}
-use borrow.Author.Rules.{rules}
 use Rattle.types.specs.Identifiers.{offset}
 use Rattle.cursor.proofs.AckCursor.nearest_open.Goals as goal
 

@@ -1,50 +1,40 @@
--- `AckCursor::resume_with_columns` meets its contract. The loop's invariant: the ranges before i are taken. Assumes nothing.
-use Prim.Native.Nat.{ℕ, ◌-◌, ◌≤◌, min}
+-- `AckCursor::resume_with_columns` meets its contract. Assumes nothing.
+use Prim.Native.Nat.{◌≤◌}
 use native.Mathlib.Omega.{arith}
-use native.Mathlib.Numerals.{add-one}
-use mathlib.Core.Path.{◌≡◌, subst}
-use mathlib.Core.List.{[]}
-use lib.ListN.{length, take}
-use borrow.Author.Rules.{rules}
+use mathlib.Core.Path.{ap, sym, ◌∙◌}
+use Rattle.cursor.proofs.Refusals.{err_is}
 use Rattle.types.specs.Zipped.{zipped}
 use Rattle.cursor.specs.Ranges.{range}
-use Rattle.cursor.specs.Answers.{ResumedIs}
-use Rattle.cursor.specs.Taking.{Taken}
-use Rattle.cursor.proofs.Taking.{columns-more, columns-all}
+use Rattle.cursor.specs.declared.AckCursor.{AckCursor}
+use Rattle.cursor.proofs.Made.{columns-fit, columns-few, columns-put, resume_refused, resumed}
+use Rattle.cursor.proofs.Walking.{columns-size}
 use Rattle.cursor.proofs.AckCursor.resume_with_columns.Goals as goal
-use Rattle.cursor.proofs.AckCursor.resume_with_columns.Goals.{At-loop-i}
+use Rattle.cursor.proofs.AckCursor.resume_with_columns.Goals.{After-min-runs}
 
-pub loop-i-init : goal.loop-i-init
-loop-i-init c = (omega arith, λ m t. t)
+pub returns-in_err-check_columns : goal.returns-in_err-check_columns
+returns-in_err-check_columns c =
+    rw (err_is c.from_residual.result c.in_err-check_columns.field-0.0 c.from_residual.ensures.1)
+    (resume_refused c.args.committed.0 (zipped range c.args.starts.now c.args.ends.now) _ c.in_err-check_columns.ensures)
 
--- the number of ranges
-short : (c : At-loop-i) → c.shorter-n.result ≡ min (length c.args.starts.now) (length c.args.ends.now)
-short c = c.shorter-n.ensures
+-- the ranges of both columns are few enough
+few : (c : After-min-runs) → c.min-runs.result ≤ 128
+few c = let n = c.args.committed.0 in columns-few n c.args.starts.now c.args.ends.now c.in_ok-check_columns.ensures c.min-runs.result c.min-runs.ensures
 
-pub offset_bounds-starts-i : goal.offset_bounds-starts-i
-offset_bounds-starts-i c = omega (arith, short (goal.at.offset_bounds-starts-i c).At-loop-i)
+pub copy-requires : goal.copy-requires
+copy-requires c = let r = c.min-runs.ensures in (omega (arith, few (goal.at.copy-requires c).After-min-runs), omega (arith, r))
 
-pub bounds-starts-i : goal.bounds-starts-i
-bounds-starts-i c = omega (arith, short (goal.at.bounds-starts-i c).At-loop-i)
-
-pub offset_bounds-ends-i : goal.offset_bounds-ends-i
-offset_bounds-ends-i c = omega (arith, short (goal.at.offset_bounds-ends-i c).At-loop-i)
-
-pub bounds-ends-i : goal.bounds-ends-i
-bounds-ends-i c = omega (arith, short (goal.at.bounds-ends-i c).At-loop-i)
-
-pub overflow_add-i : goal.overflow_add-i
-overflow_add-i c = omega (arith, short (goal.at.overflow_add-i c).At-loop-i)
-
-pub loop-i-preserved : goal.loop-i-preserved
-loop-i-preserved c =
-    let n = short (goal.at.loop-i-preserved c).At-loop-i in
-    let more = columns-more c.loop-i.i c.args.starts.now c.args.ends.now (omega (arith, n)) (omega (arith, n)) in (
-      omega arith,
-      λ m t. rw add-one (subst (λ ranges. Taken m ranges c.take_range-under_way.result) more (c.take_range-under_way.ensures m _ (c.loop-i.invariant.1 m t))),
-    )
+pub copy-requires-2 : goal.copy-requires-2
+copy-requires-2 c = let r = c.min-runs.ensures in (omega (arith, few (goal.at.copy-requires-2 c).After-min-runs), omega (arith, r))
 
 pub returns : goal.returns
 returns c =
-    let all = columns-all c.loop-i.i c.args.starts.now c.args.ends.now (omega (arith, short (goal.at.returns c).At-loop-i, c.loop-i-test.false)) in
-    subst (λ ranges. ResumedIs c.args.committed.0 ranges c.finish.result) all (c.finish.ensures _ _ (c.loop-i.invariant.1 _ c.begin-under_way.ensures))
+    let a = c.args in
+    let xs = a.starts.now in
+    let ys = a.ends.now in
+    let t = c.in_ok-check_columns.ensures in
+    let r = c.min-runs in
+    let k = ap (λ (g : AckCursor). g.committed) c.resume-cursor.ensures.literal in
+    rw k
+    (resumed a.committed.0 (zipped range xs ys) _ (omega arith) (columns-fit xs ys (λ i. omega (arith, c.type_inv.ends i))) t
+    (r.ensures ∙ sym (columns-size xs ys))
+    (columns-put a.committed.0 xs ys t r.result r.ensures _ _ _ _ c.copy.ensures c.copy-2.ensures))

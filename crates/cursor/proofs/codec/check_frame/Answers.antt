@@ -1,9 +1,5 @@
 -- `check_frame` meets its contract: each return is the row of its test. Assumes nothing.
 use mathlib.Core.Path.{sym, ◌∙◌}
-use mathlib.Core.List.{List}
-use Prim.Native.Nat.{ℕ}
-use borrow.Author.Rules.{rules}
-use borrow.Author.Tests.{not-true, not-false}
 use Rattle.cursor.proofs.Reading.{truncated, bad-length, other-version, bad-crc, framed}
 use Rattle.cursor.proofs.codec.check_frame.Goals as goal
 

@@ -2,7 +2,6 @@
 use native.Mathlib.Omega.{arith}
 use mathlib.Core.Path.{◌≡◌, ◌∙◌}
 use lib.ListN.{length, length-set}
-use borrow.Author.Rules.{rules}
 use Rattle.cursor.specs.View.{ack_cursor, view}
 use Rattle.cursor.proofs.View.{count}
 use Rattle.cursor.proofs.Writing.{body-put}

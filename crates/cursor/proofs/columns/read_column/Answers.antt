@@ -1,10 +1,7 @@
 -- `read_column` meets its contract. The loop's invariant: the first i places are filled, the others as they were.
 -- Assumes nothing.
-use Prim.Native.Nat.{◌-◌}
 use native.Mathlib.Omega.{arith}
-use borrow.Author.Rules.{rules}
-use Rattle.types.proofs.Loops.{Filling, filling}
-use Rattle.cursor.specs.Snapshot.{column_from}
+use Rattle.types.proofs.Loops.{filling}
 use Rattle.cursor.proofs.Walking.{column-more, column-all}
 use Rattle.cursor.proofs.columns.read_column.Goals as goal
 

@@ -1,5 +1,4 @@
 -- `ack_in_place` meets its contract. Assumes nothing.
-use borrow.Author.Rules.{rules}
 use Rattle.cursor.specs.View.{ack_cursor}
 use Rattle.cursor.proofs.Edits.{ack-made}
 use Rattle.cursor.proofs.in_place.ack_in_place.Goals as goal

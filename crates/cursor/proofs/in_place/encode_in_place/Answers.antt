@@ -1,6 +1,5 @@
 -- `encode_in_place` meets its contract. Assumes nothing.
 use native.Mathlib.Omega.{arith}
-use borrow.Author.Rules.{rules}
 use Rattle.cursor.proofs.in_place.encode_in_place.Goals as goal
 
 pub encode_columns-requires : goal.encode_columns-requires

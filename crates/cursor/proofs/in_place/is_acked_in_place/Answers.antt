@@ -1,7 +1,6 @@
 -- `is_acked_in_place` meets its contract. Assumes nothing.
 use native.Mathlib.Omega.{arith}
 use Rattle.cursor.specs.View.{ack_cursor}
-use Rattle.cursor.specs.declared.AckCursor.{AckCursor}
 use Rattle.cursor.proofs.Search.{starts_rise, place-within, found-acked}
 use Rattle.cursor.proofs.in_place.is_acked_in_place.Goals as goal
 use Rattle.cursor.proofs.in_place.is_acked_in_place.Goals.{Start}

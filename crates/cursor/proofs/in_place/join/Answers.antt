@@ -1,6 +1,5 @@
 -- `join` meets its contract. Assumes nothing.
 use mathlib.Core.Path.{◌∙◌}
-use borrow.Author.Rules.{rules}
 use Rattle.cursor.proofs.Edits.{join_first, join_behind}
 use Rattle.cursor.proofs.in_place.join.Goals as goal
 

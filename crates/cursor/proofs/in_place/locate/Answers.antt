@@ -1,8 +1,6 @@
 -- `locate` meets its contract: each answer by one law of the search. Assumes nothing.
 use native.Mathlib.Omega.{arith}
-use borrow.Author.Rules.{rules}
 use Rattle.cursor.specs.View.{ack_cursor, view}
-use Rattle.cursor.specs.declared.AckCursor.{AckCursor}
 use Rattle.cursor.proofs.Place.{spot_max}
 use Rattle.cursor.proofs.Search.{Looked, starts_rise, place-within, found-settled, found-behind, found_between, found_before, found-apart}
 use Rattle.cursor.proofs.in_place.locate.Goals as goal

@@ -5,7 +5,6 @@ use Prim.Native.Nat.{ℕ, ◌+◌}
 use lib.ListN.{take}
 use Rattle.types.specs.Sorted.{below}
 use Rattle.tables.proofs.Search.{boundary_below}
-use borrow.Author.Rules.{rules}
 use Rattle.cursor.proofs.in_place.partition_point.Goals as goal
 
 pub returns : goal.returns

@@ -2,18 +2,16 @@
 use Prim.Native.Nat.{ℕ, ◌≤◌}
 use native.Mathlib.Omega.{arith}
 use mathlib.Core.Path.{◌≡◌, subst}
-use borrow.Author.Rules.{rules}
 use Rattle.types.specs.Limits.{MAX}
 use Rattle.cursor.specs.Cursor.{Cursor}
 use Rattle.cursor.specs.View.{ack_cursor, view}
 use Rattle.cursor.specs.Place.{Spotted}
-use Rattle.cursor.specs.declared.AckCursor.{AckCursor}
 use Rattle.cursor.specs.declared.in_place.Spot.{Spot}
 use Rattle.cursor.proofs.Search.{runs-is}
 use Rattle.cursor.proofs.Answers.{not_last}
 use Rattle.cursor.proofs.Edits.{planned, settled-planned, shed-planned, behind-planned, between-planned, before-planned, apart-planned}
 use Rattle.cursor.proofs.in_place.plan_ack.Goals as goal
-use Rattle.cursor.proofs.in_place.plan_ack.Goals.{Start, then-runs-max_runs+else-runs-lt-RANGES, else-runs-max_runs}
+use Rattle.cursor.proofs.in_place.plan_ack.Goals.{Start}
 
 small : (s : Start) → s.args.offset ≤ MAX
 small s = omega arith
@@ -29,17 +27,17 @@ overflow_add-offset c =
 pub join-requires : goal.join-requires
 join-requires c =
     let g = ack_cursor c.args.committed c.args.starts.now c.args.ends.now c.args.runs in
-    (omega (arith, (found (view g) c.args.offset c.in-Between.is c.locate-spot.ensures).0, runs-is g c.requires), c.requires.sound.few)
+    (omega (arith, (found (view g) c.args.offset c.in-Between.is c.locate-spot.ensures).0, runs-is g c.requires), omega (arith, c.requires.sound.few, c.requires.ends))
 
 pub overflow_add-end : goal.overflow_add-end
 overflow_add-end c =
     omega (arith, not_last (found (view (ack_cursor c.args.committed c.args.starts.now c.args.ends.now c.args.runs)) c.args.offset c.in-Apart.is c.locate-spot.ensures).1 (small (goal.at.overflow_add-end c).Start))
 
-pub returns-then-runs-lt-RANGES : goal.returns-then-runs-lt-RANGES
-returns-then-runs-lt-RANGES c =
+pub returns-then-runs-limit : goal.returns-then-runs-limit
+returns-then-runs-limit c =
     let g = ack_cursor c.args.committed c.args.starts.now c.args.ends.now c.args.runs in
-    planned g c.requires c.args.offset c.args.max_runs c.recorded-then-runs-lt-RANGES.ensures
-    (apart-planned g c.requires c.args.offset c.args.max_runs (small (goal.at.returns-then-runs-lt-RANGES c).Start) c.in-Apart.i (found (view g) c.args.offset c.in-Apart.is c.locate-spot.ensures) (omega arith))
+    planned g c.requires c.args.offset c.args.max_runs c.recorded-then-runs-limit.ensures
+    (apart-planned g c.requires c.args.offset c.args.max_runs (small (goal.at.returns-then-runs-limit c).Start) c.in-Apart.i (found (view g) c.args.offset c.in-Apart.is c.locate-spot.ensures) (omega arith))
 
 pub returns-in-Settled : goal.returns-in-Settled
 returns-in-Settled c =
@@ -65,8 +63,8 @@ returns-in-Before c =
     planned g c.requires c.args.offset c.args.max_runs c.recorded.ensures
     (before-planned g c.requires c.args.offset c.args.max_runs (small (goal.at.returns-in-Before c).Start) c.in-Before.i (found (view g) c.args.offset c.in-Before.is c.locate-spot.ensures))
 
-pub returns-after-runs-max_runs : goal.returns-after-runs-max_runs
-returns-after-runs-max_runs c =
+pub returns-else-runs-limit : goal.returns-else-runs-limit
+returns-else-runs-limit c =
     let g = ack_cursor c.args.committed c.args.starts.now c.args.ends.now c.args.runs in
     planned g c.requires c.args.offset c.args.max_runs c.keeping-in-Apart.ensures
-    (shed-planned g c.requires c.args.offset c.args.max_runs c.in-Apart.i (found (view g) c.args.offset c.in-Apart.is c.locate-spot.ensures) (elim c.if-runs-max_runs.branch [ then-runs-max_runs+else-runs-lt-RANGES w ↦ omega arith | else-runs-max_runs w ↦ omega arith ]))
+    (shed-planned g c.requires c.args.offset c.args.max_runs c.in-Apart.i (found (view g) c.args.offset c.in-Apart.is c.locate-spot.ensures) (omega arith))

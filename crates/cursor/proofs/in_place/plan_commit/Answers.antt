@@ -2,10 +2,8 @@
 use Prim.Native.Nat.{◌≤◌}
 use mathlib.Core.Path.{refl}
 use native.Mathlib.Omega.{arith}
-use borrow.Author.Rules.{rules}
 use Rattle.tables.proofs.Columns.{taken-out-front}
 use Rattle.cursor.specs.View.{ack_cursor}
-use Rattle.cursor.specs.declared.AckCursor.{AckCursor}
 use Rattle.cursor.proofs.Search.{long-starts, long-ends, starts_rise, place-within, found-committed}
 use Rattle.cursor.proofs.Answers.{not_advanced, moved}
 use Rattle.cursor.proofs.in_place.plan_commit.Goals as goal
@@ -32,6 +30,6 @@ returns c =
     let g = ack_cursor c.args.committed c.args.starts.now c.args.ends.now c.args.runs in
     let k = c.partition_point-k.result in
     moved g c.args.bound c.requires.sound (omega arith) c.if-bound-committed.false _ (omega (arith, c.requires.sound.few))
-    (found-committed g c.requires c.args.bound k c.partition_point-k.ensures c.end_before-end.result c.end_before-end.ensures (omega arith) _ _ _ c.larger.ensures
+    (found-committed g c.requires c.args.bound k c.partition_point-k.ensures c.end_before-end.result c.end_before-end.ensures (omega arith) _ _ _ c.max.ensures
     (taken-out-front c.args.runs 0 k c.args.starts.now (omega arith) (within (goal.at.returns c).After-partition_point-k) (long-starts g c.requires) refl)
     (taken-out-front c.args.runs 0 k c.args.ends.now (omega arith) (within (goal.at.returns c).After-partition_point-k) (long-ends g c.requires) refl))

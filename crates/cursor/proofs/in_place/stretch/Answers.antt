@@ -1,6 +1,5 @@
 -- `stretch` meets its contract. Assumes nothing.
 use mathlib.Core.Path.{◌∙◌}
-use borrow.Author.Rules.{rules}
 use Rattle.cursor.proofs.Edits.{stretch_first, stretch_behind}
 use Rattle.cursor.proofs.in_place.stretch.Goals as goal
 

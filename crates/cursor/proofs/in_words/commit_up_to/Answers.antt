@@ -1,19 +1,21 @@
 -- `commit_up_to` meets its contract. Assumes nothing.
 use Prim.Native.Nat.{ℕ}
 use native.Mathlib.Omega.{arith}
-use mathlib.Core.Path.{◌≡◌, sym, ◌∙◌}
+use mathlib.Core.Path.{sym, ◌∙◌}
 use mathlib.Core.List.{List}
-use lib.ListN.{length, length-set}
+use lib.ListN.{length-set}
 use borrow.Rule.Slice.PartMut.{put_mid}
 use Rattle.types.specs.Limits.{RANGES}
-use Rattle.cursor.specs.Layout.{COMMITTED, STARTS, ENDS, WORDS}
-use Rattle.cursor.proofs.Words.{both_long, stored-long, commit-answers}
-use borrow.Author.Rules.{rules}
+use Rattle.cursor.specs.Layout.{COMMITTED, STARTS, ENDS}
+use Rattle.cursor.proofs.Words.{parts_whole, both_long, stored-long, commit-answers}
 use Rattle.cursor.proofs.in_words.commit_up_to.Goals as goal
 
 -- both columns back in their places
 abbrev both : List ℕ → List ℕ → List ℕ → List ℕ
 both words starts ends = put_mid ENDS RANGES (put_mid STARTS RANGES words starts) ends
+
+pub plan_commit-plan-requires : goal.plan_commit-plan-requires
+plan_commit-plan-requires c = parts_whole c.requires
 
 pub bounds-cursor-1-2 : goal.bounds-cursor-1-2
 bounds-cursor-1-2 c =

@@ -1,10 +1,13 @@
 -- `is_acked` meets its contract. Assumes nothing.
-use Rattle.cursor.proofs.Search.{found-acked}
-use Rattle.cursor.specs.Layout.{cursor_in}
-use Rattle.cursor.proofs.Words.{whole}
-use borrow.Author.Rules.{rules}
+use mathlib.Core.Path.{ap, ◌∙◌}
+use Rattle.cursor.specs.Cursor.{settled}
+use Rattle.cursor.specs.View.{view}
+use Rattle.cursor.specs.declared.AckCursor.{AckCursor}
+use Rattle.cursor.proofs.Words.{parts_are, parts_whole}
 use Rattle.cursor.proofs.in_words.is_acked.Goals as goal
 
+pub is_acked_in_place-requires : goal.is_acked_in_place-requires
+is_acked_in_place-requires c = parts_whole c.requires
+
 pub returns : goal.returns
-returns c =
-    found-acked (cursor_in c.args.cursor.now) (whole c.requires) c.args.offset.0 c.place_of-at.result c.place_of-at.ensures.0 c.end_before.result c.end_before.ensures
+returns c = c.is_acked_in_place.ensures ∙ ap (λ (g : AckCursor). settled (view g) c.args.offset.0) (parts_are c.args.cursor.now)

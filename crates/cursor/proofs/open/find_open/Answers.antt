@@ -4,11 +4,9 @@ use native.Mathlib.Omega.{arith}
 use mathlib.Core.Path.{◌≡◌, sym, ap}
 use lib.Dec.{ltb}
 use lib.ListN.{length}
-use borrow.Author.Rules.{rules}
 use borrow.Author.Tests.{lt-ltb, le-ltb}
 use Rattle.cursor.specs.View.{ack_cursor, view}
 use Rattle.cursor.specs.Unsettled.{stretches}
-use Rattle.cursor.specs.declared.AckCursor.{AckCursor}
 use Rattle.cursor.proofs.Search.{starts_rise, place-within}
 use Rattle.cursor.proofs.Unsettled.{more, stretches_none, found-count}
 use Rattle.cursor.proofs.open.find_open.Goals as goal

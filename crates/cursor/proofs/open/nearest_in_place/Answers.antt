@@ -1,9 +1,7 @@
 -- `nearest_in_place` meets its contract. Assumes nothing.
 use native.Mathlib.Omega.{arith}
 use mathlib.Core.Path.{◌∙◌}
-use borrow.Author.Rules.{rules}
 use Rattle.cursor.specs.View.{ack_cursor}
-use Rattle.cursor.specs.declared.AckCursor.{AckCursor}
 use Rattle.cursor.proofs.Search.{starts_rise, place-within}
 use Rattle.cursor.proofs.Unsettled.{found_nearest}
 use Rattle.cursor.proofs.open.nearest_in_place.Goals as goal
@@ -18,4 +16,4 @@ end_before-requires c =
 
 pub returns : goal.returns
 returns c =
-    c.larger.ensures ∙ found_nearest (ack_cursor c.args.committed c.args.starts.now c.args.ends.now c.args.runs) c.requires c.args.offset c.partition_point-i.result c.end_before.result c.partition_point-i.ensures c.end_before.ensures
+    c.max.ensures ∙ found_nearest (ack_cursor c.args.committed c.args.starts.now c.args.ends.now c.args.runs) c.requires c.args.offset c.partition_point-i.result c.end_before.result c.partition_point-i.ensures c.end_before.ensures

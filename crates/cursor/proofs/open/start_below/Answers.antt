@@ -4,7 +4,6 @@ use native.Mathlib.Omega.{arith}
 use mathlib.Core.Path.{◌≡◌, ◌∙◌}
 use lib.ListN.{take, get_or}
 use lib.Seq.{length-take-le, get_or-take}
-use borrow.Author.Rules.{rules}
 use Rattle.cursor.proofs.Unsettled.{get_d_in, get_d_past}
 use Rattle.cursor.proofs.open.start_below.Goals as goal
 use Rattle.cursor.proofs.open.start_below.Goals.{Start}
@@ -15,13 +14,8 @@ start s h =
     get_or-take s.args.n s.args.starts.now s.args.at s.args.b h
     ∙ get_d_in s.args.starts.now s.args.at s.args.b 0 (omega (arith, s.requires))
 
-pub returns-then-start-b : goal.returns-then-start-b
-returns-then-start-b c =
-    omega (arith, start (goal.at.returns-then-start-b c).Start c.if-at-n.true, c.if-start-b.true)
-
-pub returns-else-start-b : goal.returns-else-start-b
-returns-else-start-b c =
-    omega (arith, start (goal.at.returns-else-start-b c).Start c.if-at-n.true, c.if-start-b.false)
+pub returns-then-at-n : goal.returns-then-at-n
+returns-then-at-n c = omega (arith, start (goal.at.returns-then-at-n c).Start c.if-at-n.true, c.min.ensures)
 
 pub returns-else-at-n : goal.returns-else-at-n
 returns-else-at-n c =

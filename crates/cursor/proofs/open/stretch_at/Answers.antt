@@ -1,6 +1,5 @@
 -- `stretch_at` meets its contract. Assumes nothing.
-use borrow.Author.Rules.{rules}
 use Rattle.cursor.proofs.open.stretch_at.Goals as goal
 
 pub returns : goal.returns
-returns c = rw (c.start_below.ensures, c.larger.ensures, c.end_before.ensures)
+returns c = rw (c.start_below.ensures, c.max.ensures, c.end_before.ensures)

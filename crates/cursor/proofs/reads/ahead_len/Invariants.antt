@@ -1,17 +1,11 @@
 -- `ahead_len` meets its contract. The loop's invariant: the sum with the offsets of the ranges that are left is
 -- the whole. Assumes nothing.
-use Prim.Native.Nat.{◌+◌, ◌-◌, ◌≤◌, ◌<◌}
-use native.Mathlib.Omega.{arith}
+use Prim.Native.Nat.{◌+◌, ◌≤◌}
 use mathlib.Core.Path.{◌≡◌}
-use lib.ListN.{length, drop}
+use lib.ListN.{drop}
 use Rattle.cursor.specs.Ranges.{offsets}
-use Rattle.cursor.specs.Layout.{cursor_in, view}
-use Rattle.cursor.proofs.Search.{runs-is, sum_over, sum_fits}
-use Rattle.cursor.proofs.Words.{whole, range-holds, sum-there}
+use Rattle.cursor.specs.Layout.{view}
 use Rattle.cursor.proofs.reads.ahead_len.Given as goal
 
 abbrev pub invariant-loop-i : goal.invariant-loop-i
 invariant-loop-i l = (l.i ≤ l.runs) × (l.sum + offsets (drop l.i (view l.cursor).ahead) ≡ offsets (view l.cursor).ahead)
-
-abbrev pub decreases-loop-i : goal.decreases-loop-i
-decreases-loop-i l = l.runs - l.i

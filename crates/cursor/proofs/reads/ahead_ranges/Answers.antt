@@ -1,11 +1,10 @@
 -- `ahead_ranges` meets its contract. The loop's invariant: the numbers of the first i ranges are written, the places after them are as
 -- they were. Assumes nothing.
-use Prim.Native.Nat.{◌+◌, ◌-◌, ◌*◌, ◌≤◌, ◌<◌}
+use Prim.Native.Nat.{◌+◌, ◌*◌, ◌≤◌, ◌<◌}
 use native.Mathlib.Omega.{arith}
 use mathlib.Core.Path.{◌≡◌}
 use lib.ListN.{length, length-set}
-use Rattle.types.proofs.Loops.{Filling, filling}
-use Rattle.cursor.specs.Unsettled.{bounds}
+use Rattle.types.proofs.Loops.{filling}
 use Rattle.cursor.specs.Layout.{view}
 use Rattle.cursor.proofs.Unsettled.{two-more, ranges-short, ranges-put}
 use Rattle.cursor.proofs.reads.ahead_ranges.Goals as goal
@@ -54,9 +53,6 @@ offset_bounds-out-i-in-loop-i c = omega (arith, few (goal.at.offset_bounds-out-i
 
 pub bounds-out-i-in-loop-i : goal.bounds-out-i-in-loop-i
 bounds-out-i-in-loop-i c = simp length-set (room (goal.at.bounds-out-i-in-loop-i c).In-loop-i)
-
-pub overflow_add-i : goal.overflow_add-i
-overflow_add-i c = omega (arith, few (goal.at.overflow_add-i c).In-loop-i)
 
 pub loop-i-preserved : goal.loop-i-preserved
 loop-i-preserved c =

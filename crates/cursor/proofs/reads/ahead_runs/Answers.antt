@@ -1,5 +1,4 @@
 -- `ahead_runs` meets its contract. Assumes nothing.
-use borrow.Author.Rules.{rules}
 use mathlib.Core.Path.{sym}
 use Rattle.cursor.specs.Layout.{cursor_in}
 use Rattle.cursor.proofs.Search.{runs-is}

@@ -1,5 +1,4 @@
 -- `encode_snapshot` meets its contract. Assumes nothing.
-use borrow.Author.Rules.{rules}
 use mathlib.Core.Path.{ap, ◌∙◌}
 use Rattle.raw.specs.Bytes.{write}
 use Rattle.cursor.specs.Snapshot.{encode_cursor}

@@ -1,5 +1,4 @@
 -- `resume` meets its contract. Assumes nothing.
-use borrow.Author.Rules.{rules}
 use native.Mathlib.Omega.{arith}
 use Rattle.cursor.proofs.Made.{becomes-empty}
 use Rattle.cursor.proofs.snapshots.resume.Goals as goal

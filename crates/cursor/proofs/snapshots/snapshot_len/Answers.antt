@@ -1,5 +1,4 @@
 -- `snapshot_len` meets its contract. Assumes nothing.
-use borrow.Author.Rules.{rules}
 use native.Mathlib.Omega.{arith}
 use Rattle.cursor.specs.Layout.{view}
 use Rattle.cursor.proofs.Snapshot.{cursor-length}

@@ -15,7 +15,7 @@ pub returns-then-bytes-used : goal.returns-then-bytes-used
 returns-then-bytes-used c = other-used _ _ _ c.if-block-index.false (λ e. c.if-bytes-used.true (c.read_u16-bytes.ensures ∙ e))
 
 pub returns-then-not-all_zero : goal.returns-then-not-all_zero
-returns-then-not-all_zero c = no-zeros-after _ _ _ c.if-block-index.false (sym c.read_u16-bytes.ensures ∙ c.if-bytes-used.false) (sym (zeros-from _ _ _ (rw c.if-bytes-used.false at c.shorter-from.ensures)) ∙ sym c.all_zero.ensures ∙ c.if-not-all_zero.true)
+returns-then-not-all_zero c = no-zeros-after _ _ _ c.if-block-index.false (sym c.read_u16-bytes.ensures ∙ c.if-bytes-used.false) (sym (zeros-from _ _ _ (rw c.if-bytes-used.false at c.min-from.ensures)) ∙ sym c.all_zero.ensures ∙ c.if-not-all_zero.true)
 
 pub returns : goal.returns
-returns c = body-sound _ _ _ c.if-block-index.false (sym c.read_u16-bytes.ensures ∙ c.if-bytes-used.false) (sym (zeros-from _ _ _ (rw c.if-bytes-used.false at c.shorter-from.ensures)) ∙ sym c.all_zero.ensures ∙ c.if-not-all_zero.false)
+returns c = body-sound _ _ _ c.if-block-index.false (sym c.read_u16-bytes.ensures ∙ c.if-bytes-used.false) (sym (zeros-from _ _ _ (rw c.if-bytes-used.false at c.min-from.ensures)) ∙ sym c.all_zero.ensures ∙ c.if-not-all_zero.false)

@@ -1,15 +1,17 @@
 -- `body_verdict` meets its contract: the first tests, and the others where these find nothing. Assumes nothing.
-use borrow.Author.Rules.{rules}
 use mathlib.Core.Path.{sym, ◌∙◌}
+use Rattle.std.proofs.lemmas.Result.{err_from_is_err_and}
 use Rattle.inspect.proofs.Verdicts.{opened}
 use Rattle.inspect.proofs.Rows.{body_open, body-shut}
 use Rattle.inspect.proofs.faults.body_verdict.Goals as goal
 
+pub returns-in_err-opening_verdict : goal.returns-in_err-opening_verdict
+returns-in_err-opening_verdict c =
+    let p = err_from_is_err_and c.from_residual.result c.from_residual.ensures.1 in
+    rw (p.1, p.2) (body-shut _ _ _ _ _ (sym c.in_err-opening_verdict.ensures))
+
 pub body_rest-requires : goal.body_rest-requires
-body_rest-requires c = opened _ _ _ (sym c.opening_verdict-opening.ensures ∙ c.in-Sound.is)
+body_rest-requires c = opened _ _ _ (sym c.in_ok-opening_verdict.ensures)
 
-pub returns-in-Sound : goal.returns-in-Sound
-returns-in-Sound c = c.body_rest.ensures ∙ body_open _ _ _ _ (sym c.opening_verdict-opening.ensures ∙ c.in-Sound.is)
-
-pub returns-in-Unsound : goal.returns-in-Unsound
-returns-in-Unsound c = body-shut _ _ _ _ _ (sym c.opening_verdict-opening.ensures ∙ c.in-Unsound.is)
+pub returns : goal.returns
+returns c = c.body_rest.ensures ∙ body_open _ _ _ _ (sym c.in_ok-opening_verdict.ensures)

@@ -9,20 +9,20 @@ use Rattle.inspect.proofs.listing.lines.Goals as goal
 
 pub loop-m-init : goal.loop-m-init
 unfolding place_at
-loop-m-init c = (refl, omega arith, c.first-place.ensures)
+loop-m-init c = (omega arith, c.first-place.ensures)
 
 pub row_at-said-requires : goal.row_at-said-requires
-row_at-said-requires c = (omega arith, c.loop-m.invariant.2)
+row_at-said-requires c = (omega arith, c.loop-m.invariant.1)
 
 pub run_from-reached-requires : goal.run_from-reached-requires
-run_from-reached-requires c = (omega arith, omega arith, c.loop-m.invariant.2)
+run_from-reached-requires c = (omega arith, omega arith, c.loop-m.invariant.1)
 
-pub line-next-requires : goal.line-next-requires
-line-next-requires c = omega (arith, c.run_from-reached.ensures.further)
+pub line-requires : goal.line-requires
+line-requires c = omega (arith, c.run_from-reached.ensures.further)
 
 pub loop-m-smaller : goal.loop-m-smaller
 loop-m-smaller c = omega (arith, c.run_from-reached.ensures.further)
 
 pub loop-m-preserved : goal.loop-m-preserved
 loop-m-preserved c =
-    let reached = c.run_from-reached.ensures in (search rules, reached.inside, reached.place)
+    let reached = c.run_from-reached.ensures in (reached.inside, reached.place)

@@ -8,7 +8,7 @@ use borrow.Author.Rules.{rules}
 use Rattle.inspect.proofs.listing.lines.Given as goal
 
 abbrev pub invariant-loop-m : goal.invariant-loop-m
-invariant-loop-m l = (length l.out ≡ length l.initial.out) × (l.m ≤ l.count) × (l.place ≡ place_at l.area l.half l.m)
+invariant-loop-m l = (l.m ≤ l.count) × (l.place ≡ place_at l.area l.half l.m)
 
 abbrev pub decreases-loop-m : goal.decreases-loop-m
 decreases-loop-m l = l.count - l.m

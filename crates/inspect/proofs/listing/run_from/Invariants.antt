@@ -8,7 +8,4 @@ use borrow.Author.Rules.{rules}
 use Rattle.inspect.proofs.listing.run_from.Given as goal
 
 abbrev pub invariant-loop-end : goal.invariant-loop-end
-invariant-loop-end l = (l.m < l.end) × (l.end ≤ l.count) × (512 * (l.half + l.count) ≤ length l.area) × (l.after ≡ place_at l.area l.half l.end)
-
-abbrev pub decreases-loop-end : goal.decreases-loop-end
-decreases-loop-end l = l.count - l.end
+invariant-loop-end l = l.after ≡ place_at l.area l.half l.end

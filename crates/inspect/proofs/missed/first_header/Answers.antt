@@ -10,21 +10,18 @@ use Rattle.inspect.proofs.Sequence.{part-is-block}
 use Rattle.inspect.proofs.Named.{header-here, header-later, header_none}
 use Rattle.inspect.proofs.missed.first_header.Goals as goal
 
-pub loop-i-init : goal.loop-i-init
-loop-i-init c = (omega (arith, c.shorter-end.ensures), refl)
-
 pub returns-then-is_head : goal.returns-then-is_head
 returns-then-is_head c =
     let l = c.loop-i in
     let h = ap has_header_kind (sym (part-is-block _ l.i)) ∙ sym c.is_head.ensures ∙ c.if-is_head.true in
-    rw (← c.shorter-end.ensures) (sym (header-here _ _ _ c.loop-i-test.true h) ∙ l.invariant.1)
+    rw (← c.min-end.ensures) (sym (header-here _ _ _ c.loop-i-test.true h) ∙ l.invariant)
 
 pub loop-i-preserved : goal.loop-i-preserved
 loop-i-preserved c =
     let l = c.loop-i in
     let h = ap has_header_kind (sym (part-is-block _ l.i)) ∙ sym c.is_head.ensures ∙ c.if-is_head.false in
-    (l.invariant.0, header-later _ _ _ c.loop-i-test.true h ∙ l.invariant.1)
+    header-later _ _ _ c.loop-i-test.true h ∙ l.invariant
 
 pub returns : goal.returns
 returns c =
-    rw (← c.shorter-end.ensures) (sym (header_none _ _ _ c.loop-i-test.false) ∙ c.loop-i.invariant.1)
+    rw (← c.min-end.ensures) (sym (header_none _ _ _ c.loop-i-test.false) ∙ c.loop-i.invariant)

@@ -12,7 +12,4 @@ use Rattle.inspect.proofs.missed.first_header.Given as goal
 
 abbrev pub invariant-loop-i : goal.invariant-loop-i
 invariant-loop-i l =
-    (l.end ≤ length l.area / 512) × (first_header l.area (l.end - l.i) l.i ≡ first_header l.area (l.end - l.from) l.from)
-
-abbrev pub decreases-loop-i : goal.decreases-loop-i
-decreases-loop-i l = l.end - l.i
+    first_header l.area (l.end - l.i) l.i ≡ first_header l.area (l.end - l.from) l.from

@@ -14,10 +14,10 @@ use Rattle.inspect.proofs.missed.headers_behind.Goals as goal
 use Rattle.inspect.proofs.missed.headers_behind.Goals.{then-is_head, else-is_head}
 
 pub loop-i-init : goal.loop-i-init
-loop-i-init c = (omega (arith, c.shorter-end.ensures), tally_none _ _ _)
+loop-i-init c = tally_none _ _ _
 
 pub overflow_add-count : goal.overflow_add-count
-overflow_add-count c = omega (arith, c.loop-i.invariant.1.few)
+overflow_add-count c = omega (arith, c.loop-i.invariant.few)
 
 pub loop-i-preserved : goal.loop-i-preserved
 loop-i-preserved c =
@@ -28,13 +28,13 @@ loop-i-preserved c =
     let b = ap has_header_kind (sym p) ∙ sym c.is_head.ensures in
     elim c.if-is_head.branch [
       | then-is_head w ↦
-          let n = w.number-is ∙ w.larger-number.ensures ∙ ap (max l.number) (w.group_of.ensures ∙ ap group_of p) in
-          rw (w.count-is, n) (l.invariant.0, tally_header _ _ _ _ _ _ l.invariant.1 t (b ∙ w.if-is_head.true))
+          let n = w.number-is ∙ w.max-number.ensures ∙ ap (max l.number) (w.group_of.ensures ∙ ap group_of p) in
+          rw (w.count-is, n) (tally_header _ _ _ _ _ _ l.invariant t (b ∙ w.if-is_head.true))
       | else-is_head w ↦
-          rw (w.count-is, w.number-is) (l.invariant.0, tally_other _ _ _ _ _ _ l.invariant.1 t (b ∙ w.if-is_head.false))
+          rw (w.count-is, w.number-is) (tally_other _ _ _ _ _ _ l.invariant t (b ∙ w.if-is_head.false))
     ]
 
 pub returns : goal.returns
 returns c =
-    let t = tally_end _ _ _ _ _ _ c.loop-i.invariant.1 c.loop-i-test.false in
-    rw (← c.shorter-end.ensures) (record { count = t.0; number = t.1 })
+    let t = tally_end _ _ _ _ _ _ c.loop-i.invariant c.loop-i-test.false in
+    rw (← c.min-end.ensures) (record { count = t.0; number = t.1 })

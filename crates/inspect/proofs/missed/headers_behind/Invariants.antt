@@ -15,7 +15,4 @@ use Rattle.inspect.proofs.missed.headers_behind.Given as goal
 
 abbrev pub invariant-loop-i : goal.invariant-loop-i
 invariant-loop-i l =
-    (l.end ≤ length l.area / 512) × Tally l.area l.end (named l.area (l.end - l.from) l.from) l.i l.count l.number
-
-abbrev pub decreases-loop-i : goal.decreases-loop-i
-decreases-loop-i l = l.end - l.i
+    Tally l.area l.end (named l.area (l.end - l.from) l.from) l.i l.count l.number

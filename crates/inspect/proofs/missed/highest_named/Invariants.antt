@@ -11,7 +11,4 @@ use Rattle.inspect.proofs.Named.{HighestTo, highest_begins, highest_on_lem, high
 use Rattle.inspect.proofs.missed.highest_named.Given as goal
 
 abbrev pub invariant-loop-i : goal.invariant-loop-i
-invariant-loop-i l = (l.end ≡ length l.area / 512) × HighestTo l.area l.end l.number l.i
-
-abbrev pub decreases-loop-i : goal.decreases-loop-i
-decreases-loop-i l = l.end - l.i
+invariant-loop-i l = HighestTo l.area l.end l.number l.i

@@ -1,12 +1,8 @@
 -- `LeaseTable::defer_redelivery` meets its contract.
 -- Assumes nothing.
-use Prim.Native.Nat.{◌<◌}
-use mathlib.Core.Path.{sym}
-use Rattle.types.specs.Limits.{LEASES}
 use Rattle.lease.specs.State.{view}
 use Rattle.lease.specs.Parts.{Full}
-use Rattle.lease.proofs.Bounds.{in_use, time_at}
-use Rattle.lease.proofs.Slots.{leased, free, lease-at}
+use Rattle.lease.proofs.Slots.{free, lease-at}
 use Rattle.lease.proofs.Questions.{none_expired, still-running, not_deferred, deferred}
 use Rattle.lease.proofs.Whole.{filled}
 use Rattle.lease.proofs.LeaseTable.defer_redelivery.Goals as goal
@@ -15,16 +11,9 @@ use Rattle.lease.proofs.LeaseTable.defer_redelivery.Goals.{Start}
 full : (s : Start) → Full s.args.self
 full s = filled s.well_formed.0
 
-pub slice_bounds-find-end : goal.slice_bounds-find-end
-slice_bounds-find-end c = sym (filled {t = c.args.self} c.well_formed.0).offsets
-
 pub returns-in_default : goal.returns-in_default
 returns-in_default c =
     not_deferred c.args.self (full (goal.at.returns-in_default c).Start) c.requires c.args.offset.0 c.args.now c.args.delay_nanos (none_expired (view c.args.self) c.args.offset.0 c.args.now (free c.args.self (full (goal.at.returns-in_default c).Start) c.requires c.find-place.ensures c.in_default.is).is)
-
--- the place that was found is within the columns
-pub slot_at-slot-requires : goal.slot_at-slot-requires
-slot_at-slot-requires c = in_use (leased c.args.self (full (goal.at.slot_at-slot-requires c).Start) c.requires c.find-place.ensures c.in-Found.is).inside c.requires.len
 
 pub returns-then-now-deadlines : goal.returns-then-now-deadlines
 returns-then-now-deadlines c =

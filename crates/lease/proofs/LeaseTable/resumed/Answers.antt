@@ -5,11 +5,8 @@ use lib.ListN.{length}
 use borrow.Author.Rules.{rules}
 use Rattle.types.specs.Limits.{CARRIED}
 use Rattle.types.proofs.Columns.{length-used}
-use Rattle.lease.proofs.Carried.{resume-refused, resumed}
+use Rattle.lease.proofs.Carried.{resumed}
 use Rattle.lease.proofs.LeaseTable.resumed.Goals as goal
-
-pub returns-then-carried : goal.returns-then-carried
-returns-then-carried c = resume-refused c.args.self c.requires.0 c.args.carried c.requires.1 c.if-carried.true
 
 pub returns : goal.returns
 returns c =

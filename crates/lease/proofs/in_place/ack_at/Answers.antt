@@ -8,19 +8,13 @@ use mathlib.Core.List.{List}
 use lib.ListN.{get_or, set}
 use Rattle.tables.proofs.Columns.{taken-out-front}
 use Rattle.lease.specs.Parts.{removing}
-use Rattle.lease.proofs.Bounds.{in_use, next_place, count_in_memory, count_at, last-place, some_left, up_one, up_to, within}
+use Rattle.lease.proofs.Bounds.{up_one, up_to, within}
 use Rattle.lease.proofs.Tokens.{acked}
 use Rattle.lease.proofs.in_place.ack_at.Goals as goal
-
-pub overflow_add-next : goal.overflow_add-next
-overflow_add-next c = next_place c.requires.0 c.requires.1
-
-pub overflow_sub-last : goal.overflow_sub-last
-overflow_sub-last c = some_left c.requires.0
 
 pub returns : goal.returns
 returns c t w o g p =
     let at = c.args.at in
-    acked (removing c.args.len c.args.offsets.now c.args.slots.now t) w.full w.sound o g p c.remove_64.new.column _
-    (taken-out-front c.args.len at (at + 1) c.args.offsets.now (up_one at) (up_to c.requires.0) (within w.full.offsets c.requires.1) c.remove_64.ensures)
-    (ap (λ (l : List ℕ). set l (c.args.len - 1) (get_or c.args.slots.now at 0)) c.remove_counts_64.ensures)
+    acked (removing c.args.len c.args.offsets.now c.args.slots.now t) w.full w.sound o g p c.remove.new.column _
+    (taken-out-front c.args.len at (at + 1) c.args.offsets.now (up_one at) (up_to c.requires.0) (within w.full.offsets c.requires.1) c.remove.ensures)
+    (ap (λ (l : List ℕ). set l (c.args.len - 1) (get_or c.args.slots.now at 0)) c.remove-2.ensures)

@@ -1,7 +1,6 @@
 -- `all_counts_in_place` meets its contract, on every table that has the parts that it is lent.
 -- Assumes nothing.
 use mathlib.Core.Path.{subst}
-use borrow.Author.Rules.{rules}
 use Rattle.types.specs.Lists.{ListsCounts}
 use Rattle.lease.specs.Parts.{listing_all}
 use Rattle.lease.proofs.Merge.{all-counted}

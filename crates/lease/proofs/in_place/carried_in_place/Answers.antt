@@ -1,10 +1,6 @@
 -- `carried_in_place` meets its contract: that of `LeaseTable::carried_count`, on every table that has the parts that it is lent.
 -- Assumes nothing.
 -- a table with the parts that the arguments are
-use Prim.Native.Nat.{◌≤◌, ◌<◌}
-use native.Mathlib.Omega.{arith}
-use Rattle.types.specs.Limits.{CARRIED}
-use Rattle.tables.proofs.Search.{found-used}
 use Rattle.lease.specs.Parts.{carrying}
 use Rattle.lease.specs.declared.LeaseTable.{LeaseTable}
 use Rattle.lease.proofs.Slots.{carried, uncarried}
@@ -13,11 +9,6 @@ use Rattle.lease.proofs.in_place.carried_in_place.Goals.{In-Found, Start}
 
 abbrev table : Start → LeaseTable → LeaseTable
 table s = carrying s.args.carried_len s.args.carried_offsets.now s.args.carried_counts.now
-
--- the place that was found is in use
-inside : (p : In-Found) → (p.in-Found.at < p.args.carried_len) × (p.args.carried_len ≤ CARRIED)
-inside p =
-    (omega (arith, found-used p.args.offset p.args.carried_len p.args.carried_offsets.now p.find-place.ensures p.in-Found.is), p.requires)
 
 pub returns-in_default : goal.returns-in_default
 returns-in_default c t w =

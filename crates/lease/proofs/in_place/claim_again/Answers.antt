@@ -2,7 +2,7 @@
 -- at the place.
 -- Assumes nothing.
 -- a table with the parts that the arguments are
-use Prim.Native.Nat.{ℕ, ◌≤◌, ◌<◌}
+use Prim.Native.Nat.{ℕ, ◌≤◌}
 use native.Mathlib.Omega.{arith}
 use mathlib.Core.Path.{◌≡◌, refl, ap, ◌∙◌}
 use lib.ListN.{get_or, set}
@@ -12,7 +12,6 @@ use Rattle.lease.specs.State.{nil, stored_in, leases_in}
 use Rattle.lease.specs.Operations.{lease}
 use Rattle.lease.specs.Helpers.{regranting}
 use Rattle.lease.specs.declared.LeaseTable.{LeaseTable}
-use Rattle.lease.proofs.Bounds.{time_at, count_at}
 use Rattle.lease.proofs.Leases.{column-at, column-set}
 use Rattle.lease.proofs.Slots.{leased, stored_at, lease-at}
 use Rattle.lease.proofs.Claims.{claim_in_flight, claim_exhausted, claimed, count-again, granted-again}
@@ -27,15 +26,6 @@ table s =
 fits : (s : Start) → s.args.offset ≤ MAX
 fits s = omega arith
 
-generation-fits : (s : Start) → s.args.generation ≤ MAX
-generation-fits s = omega arith
-
-left : (s : Start) → (s.args.generation ≡ MAX → ⊥) → s.args.generation < MAX
-left s h = omega (arith, generation-fits s, h)
-
-pub slot_at-slot-requires : goal.slot_at-slot-requires
-slot_at-slot-requires c = c.requires
-
 pub returns-then-now-deadlines : goal.returns-then-now-deadlines
 returns-then-now-deadlines c t w p =
     claim_in_flight (table (goal.at.returns-then-now-deadlines c).Start t) w.sound c.args.worker c.args.offset c.args.now (rw (lease-at (table (goal.at.returns-then-now-deadlines c).Start t) w.full w.sound c.args.offset p refl, ← c.slot_at-slot.ensures.0) (lt-ltb _ _ c.if-now-deadlines.true))
@@ -44,9 +34,6 @@ pub returns-then-generation-eq-MAX : goal.returns-then-generation-eq-MAX
 returns-then-generation-eq-MAX c t w p =
     claim_exhausted (table (goal.at.returns-then-generation-eq-MAX c).Start t) w.sound c.args.worker c.args.offset c.args.now (rw (lease-at (table (goal.at.returns-then-generation-eq-MAX c).Start t) w.full w.sound c.args.offset p refl, ← c.slot_at-slot.ensures.0) (le-ltb _ _ c.if-now-deadlines.false)) c.if-generation-eq-MAX.true
 
-pub granted-requires : goal.granted-requires
-granted-requires c = left (goal.at.granted-requires c).Start c.if-generation-eq-MAX.false
-
 pub returns : goal.returns
 returns c t w p =
     let u = table (goal.at.returns c).Start t in
@@ -54,8 +41,8 @@ returns c t w p =
     let h = leased u w.full w.sound p refl in
     let one = stored_at u w.full w.sound at c.requires ∙ column-at w.full.leases _ in
     let is-slot = c.slot_at-slot.ensures.0 in
-    let count = c.saturating_next-count.result in
-    let again : count ≡ sat32 (get_or (leases_in u) at nil).deliveries 1 = rw (one, ← is-slot) c.saturating_next-count.ensures in
+    let count = c.saturating_add-count.result in
+    let again : count ≡ sat32 (get_or (leases_in u) at nil).deliveries 1 = rw (one, ← is-slot) c.saturating_add-count.ensures in
     rw c.granted.ensures (claimed u w.sound c.args.worker c.args.offset c.args.now (rw (h.is, one, ← is-slot) (le-ltb _ _ c.if-now-deadlines.false)) c.if-generation-eq-MAX.false
     (rw h.is) (fits (goal.at.returns c).Start) count (count-again u c.args.offset at count h again)
     (granted-again u w c.args.worker c.args.offset at c.args.now count _ (ap (λ (k : ℕ). lease c.args.generation c.args.now k count c.args.worker) c.deadline.ensures) h again _ _ _ _ _

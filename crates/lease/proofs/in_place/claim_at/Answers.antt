@@ -1,11 +1,9 @@
 -- `claim_at` meets its contract: that of `LeaseTable::claim`, on the table of the numbers and columns that it is lent.
 -- Assumes nothing.
 -- the table that the arguments are
-use native.Mathlib.Omega.{arith}
 use mathlib.Core.Path.{subst}
 use lib.ListN.{take}
 use Rattle.tables.specs.Search.{Placed}
-use Rattle.tables.proofs.Search.{found-used}
 use Rattle.lease.specs.Parts.{gathered}
 use Rattle.lease.specs.declared.LeaseTable.{LeaseTable}
 use Rattle.lease.proofs.in_place.claim_at.Goals as goal
@@ -16,17 +14,6 @@ table s =
     gathered s.args.config s.args.len s.args.carried_len s.args.next s.args.redeliveries
     s.args.offsets.now s.args.slots.now s.args.generations.now s.args.attempt_starts.now s.args.deadlines.now s.args.deliveries.now s.args.workers.now s.args.carried_offsets.now s.args.carried_counts.now
 
-pub claim_again-requires : goal.claim_again-requires
-claim_again-requires c =
-    omega (arith, found-used c.args.offset c.args.len c.args.offsets.now c.requires.1 c.in-Found.is, c.requires.0.sound.len)
-
-pub claim_first-requires : goal.claim_first-requires
-claim_first-requires c =
-    (c.requires.0, subst (Placed c.args.offset (take c.args.len c.args.offsets.now)) c.in-Missing.is c.requires.1)
-
 pub returns-in-Found : goal.returns-in-Found
 returns-in-Found c =
     c.claim_again.ensures (table (goal.at.returns-in-Found c).Start) c.requires.0 (subst (Placed c.args.offset (take c.args.len c.args.offsets.now)) c.in-Found.is c.requires.1)
-
-pub returns-in-Missing : goal.returns-in-Missing
-returns-in-Missing c = c.claim_first.ensures

@@ -3,7 +3,7 @@
 -- the table that the arguments are
 use Prim.Native.Nat.{ℕ, ◌≤◌, ◌<◌}
 use native.Mathlib.Omega.{arith}
-use mathlib.Core.Path.{◌≡◌, refl, ap, ◌∙◌}
+use mathlib.Core.Path.{refl, ap, ◌∙◌}
 use lib.ListN.{take, set}
 use Rattle.types.specs.Limits.{MAX, LEASES}
 use Rattle.tables.specs.Search.{Spans}
@@ -14,7 +14,7 @@ use Rattle.lease.specs.State.{stored_in}
 use Rattle.lease.specs.Operations.{lease}
 use Rattle.lease.specs.Parts.{gathered}
 use Rattle.lease.specs.declared.LeaseTable.{LeaseTable}
-use Rattle.lease.proofs.Bounds.{one_more, part-within, within, time_at, count_at}
+use Rattle.lease.proofs.Bounds.{within}
 use Rattle.lease.proofs.Leases.{column-set}
 use Rattle.lease.proofs.Slots.{Free, free, in_flight_lem, carried-span}
 use Rattle.lease.proofs.Claims.{claim_exhausted, claim-full, claimed, room-first, count-first, granted-first}
@@ -33,10 +33,6 @@ fits s = omega arith
 lacked : (s : Start) → Free (table s) s.args.offset s.args.at
 lacked s = free (table s) s.requires.0.full s.requires.0.sound s.requires.1 refl
 
--- there is a generation
-left : (s : Start) → (s.args.next ≡ MAX → ⊥) → s.args.next < MAX
-left s h = omega (arith, s.requires.0.sound.valid.generation-fits, h)
-
 -- the places of its carried count
 prior : (s : Start) (r : Span) → Spans s.args.offset (take s.args.carried_len s.args.carried_offsets.now) s.args.carried_counts.now r
     → Spanned s.args.carried_len s.args.carried_offsets.now s.args.carried_counts.now s.args.offset r
@@ -51,21 +47,6 @@ returns-then-len-ge-LEASES c =
     let ok = c.requires.0.sound in
     claim-full (table (goal.at.returns-then-len-ge-LEASES c).Start) ok c.args.worker c.args.offset c.args.now (rw (lacked (goal.at.returns-then-len-ge-LEASES c).Start).is) c.if-next-eq-MAX.false (lacked (goal.at.returns-then-len-ge-LEASES c).Start).is (rw (in_flight_lem (table (goal.at.returns-then-len-ge-LEASES c).Start) c.requires.0.full ok) c.if-len-ge-LEASES.true)
 
-pub overflow_sub-left : goal.overflow_sub-left
-overflow_sub-left c = (prior (goal.at.overflow_sub-left c).Start c.count_of-prior.result c.count_of-prior.ensures).order
-
-pub overflow_sub-left-2 : goal.overflow_sub-left-2
-overflow_sub-left-2 c = let q = prior (goal.at.overflow_sub-left-2 c).Start c.count_of-prior.result c.count_of-prior.ensures in part-within q.order q.inside
-
-pub slot_at-free-requires : goal.slot_at-free-requires
-slot_at-free-requires c = c.if-len-ge-LEASES.false
-
-pub overflow_add-len : goal.overflow_add-len
-overflow_add-len c = one_more c.if-len-ge-LEASES.false
-
-pub granted-requires : goal.granted-requires
-granted-requires c = left (goal.at.granted-requires c).Start c.if-next-eq-MAX.false
-
 pub returns : goal.returns
 returns c =
     let t = table (goal.at.returns c).Start in
@@ -74,18 +55,18 @@ returns c =
     let f = c.requires.0.full in
     let ok = c.requires.0.sound in
     let q = prior (goal.at.returns c).Start c.count_of-prior.result c.count_of-prior.ensures in
-    let count = c.saturating_next-count.result in
+    let count = c.saturating_add-count.result in
     let deadline = c.deadline-deadline.result in
     let few : t.len < LEASES = c.if-len-ge-LEASES.false in
     rw c.granted.ensures (claimed t ok c.args.worker c.args.offset c.args.now (rw h.is) c.if-next-eq-MAX.false
     (room-first t c.args.offset at h (in_flight_lem t f ok) few) (fits (goal.at.returns c).Start) count
-    (count-first t c.args.offset at count h c.count_of-prior.result q c.saturating_next-count.ensures)
+    (count-first t c.args.offset at count h c.count_of-prior.result q c.saturating_add-count.ensures)
     (granted-first t c.requires.0 c.args.worker c.args.offset at c.args.now count _ (ap (λ (k : ℕ). lease c.args.next c.args.now k count c.args.worker) c.deadline-deadline.ensures)
-    h few c.count_of-prior.result q c.saturating_next-count.ensures
-    c.insert_64.new.column c.insert_count_64.new.counts _ _ _ _ _ c.remove_128.new.column c.remove_counts_128.new.column
-    (put_in_front t.len at c.args.offset t.offsets h.inside (rw f.offsets few) c.insert_64.ensures)
-    c.insert_count_64.ensures
+    h few c.count_of-prior.result q c.saturating_add-count.ensures
+    c.insert.new.column c.insert-2.new.column _ _ _ _ _ c.remove.new.column c.remove-2.new.column
+    (put_in_front t.len at c.args.offset t.offsets h.inside (rw f.offsets few) c.insert.ensures)
+    c.insert-2.ensures
     (column-set t.generations t.attempt_starts t.deadlines t.deliveries t.workers c.slot_at-free.result c.args.next c.args.now deadline count c.args.worker
     ∙ ap (λ (k : ℕ). set (stored_in t) k (lease c.args.next c.args.now deadline count c.args.worker)) c.slot_at-free.ensures.0)
-    (taken-out-front t.carried_len c.count_of-prior.result.from c.count_of-prior.result.to t.carried_offsets q.order q.inside (within f.carried-offsets ok.carried-len) c.remove_128.ensures)
-    (taken-out-front t.carried_len c.count_of-prior.result.from c.count_of-prior.result.to t.carried_counts q.order q.inside (within f.carried-counts ok.carried-len) c.remove_counts_128.ensures)))
+    (taken-out-front t.carried_len c.count_of-prior.result.from c.count_of-prior.result.to t.carried_offsets q.order q.inside (within f.carried-offsets ok.carried-len) c.remove.ensures)
+    (taken-out-front t.carried_len c.count_of-prior.result.from c.count_of-prior.result.to t.carried_counts q.order q.inside (within f.carried-counts ok.carried-len) c.remove-2.ensures)))

@@ -1,42 +1,26 @@
 -- `expired_in_place` meets its contract, on every table that has the parts that it is lent. The loop's invariant: the offsets of expired
 -- leases before i are listed.
 -- Assumes nothing.
-use Prim.Native.Nat.{◌-◌, ◌≤◌}
+use Prim.Native.Nat.{◌≤◌}
 use native.Mathlib.Omega.{arith}
 use Rattle.types.specs.Limits.{LEASES}
-use Rattle.lease.proofs.Bounds.{in_use, next_place, offset_in_memory, time_at}
-use Rattle.lease.proofs.Lists.{Listing, listing_none, listing-expired, listing-running, expired-listed}
+use Rattle.lease.proofs.Lists.{listing-expired, listing-running, expired-listed}
 use Rattle.lease.proofs.in_place.expired_in_place.Goals as goal
-use Rattle.lease.proofs.in_place.expired_in_place.Goals.{At-loop-i}
+use Rattle.lease.proofs.in_place.expired_in_place.Goals.{At-loop-i, then-deadlines-slot, else-deadlines-slot}
 
 few : (c : At-loop-i) → c.args.len ≤ LEASES
 few c = c.requires
 
-pub loop-i-init : goal.loop-i-init
-loop-i-init c = listing_none c.args.len c.args.now c.args.offsets.now c.args.slots.now c.args.deadlines.now
-
-pub overflow_add-i : goal.overflow_add-i
-overflow_add-i c = next_place c.loop-i-test.true (few (goal.at.overflow_add-i c).At-loop-i)
-
-pub slot_at-slot-requires : goal.slot_at-slot-requires
-slot_at-slot-requires c = in_use c.loop-i-test.true (few (goal.at.slot_at-slot-requires c).At-loop-i)
-
-pub overflow_add-n : goal.overflow_add-n
-overflow_add-n c = omega (arith, few (goal.at.overflow_add-n c).At-loop-i, c.loop-i.invariant.few, c.loop-i-test.true)
-
-pub loop-i-smaller-then-deadlines-slot : goal.loop-i-smaller-then-deadlines-slot
-loop-i-smaller-then-deadlines-slot c = omega (arith, c.loop-i-test.true)
-
-pub loop-i-preserved-then-deadlines-slot : goal.loop-i-preserved-then-deadlines-slot
-loop-i-preserved-then-deadlines-slot c =
-    listing-expired c.args.len c.args.now c.args.offsets.now c.args.slots.now c.args.deadlines.now c.loop-i.invariant c.loop-i-test.true c.requires (rw c.slot_at-slot.ensures.0 at c.if-deadlines-slot.true)
-
-pub loop-i-smaller : goal.loop-i-smaller
-loop-i-smaller c = omega (arith, c.loop-i-test.true)
-
 pub loop-i-preserved : goal.loop-i-preserved
 loop-i-preserved c =
-    listing-running c.args.len c.args.now c.args.offsets.now c.args.slots.now c.args.deadlines.now c.loop-i.invariant c.loop-i-test.true (rw c.slot_at-slot.ensures.0 at c.if-deadlines-slot.false)
+    let l = c.loop-i in
+    let a = c.args in
+    elim c.if-deadlines-slot.branch [
+      | then-deadlines-slot w ↦
+          rw (w.listed-is, w.n-is) (listing-expired a.len a.now a.offsets.now a.slots.now a.deadlines.now l.invariant c.loop-i-test.true c.requires (rw c.slot_at-slot.ensures.0 at w.if-deadlines-slot.true))
+      | else-deadlines-slot w ↦
+          rw (w.listed-is, w.n-is) (listing-running a.len a.now a.offsets.now a.slots.now a.deadlines.now l.invariant c.loop-i-test.true (rw c.slot_at-slot.ensures.0 at w.if-deadlines-slot.false))
+    ]
 
 pub returns : goal.returns
 returns c t w =

@@ -8,7 +8,6 @@ use lib.ListN.{get_or}
 use Rattle.lease.specs.Operations.{cap_from, deadline_from}
 use Rattle.lease.specs.Parts.{slot_in, extending}
 use Rattle.lease.specs.declared.LeaseTable.{LeaseTable}
-use Rattle.lease.proofs.Bounds.{time_at}
 use Rattle.lease.proofs.Tokens.{cap_reached, extended-to}
 use Rattle.lease.proofs.in_place.extend_at.Goals as goal
 use Rattle.lease.proofs.in_place.extend_at.Goals.{After-cap, Start}
@@ -19,9 +18,6 @@ table s = extending s.args.config s.args.slots.now s.args.attempt_starts.now s.a
 -- the cap of the attempt
 cap-is : (k : After-cap) → let s = k in k.cap.result ≡ cap_from s.args.config (get_or s.args.attempt_starts.now (slot_in s.args.slots.now s.args.at) 0)
 cap-is k = k.cap.ensures ∙ ap (λ (i : ℕ). cap_from k.args.config (get_or k.args.attempt_starts.now i 0)) k.slot_at-slot.ensures.0
-
-pub slot_at-slot-requires : goal.slot_at-slot-requires
-slot_at-slot-requires c = c.requires
 
 pub returns-then-cap-now : goal.returns-then-cap-now
 returns-then-cap-now c t w o g p =

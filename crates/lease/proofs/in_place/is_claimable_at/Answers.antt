@@ -2,12 +2,9 @@
 -- offset at the place, or where it belongs.
 -- Assumes nothing.
 -- a table with the parts that the arguments are
-use mathlib.Core.Path.{subst}
-use Rattle.types.specs.Limits.{LEASES}
 use Rattle.lease.specs.State.{view}
-use Rattle.lease.specs.Parts.{PlaceWithin, due}
+use Rattle.lease.specs.Parts.{due}
 use Rattle.lease.specs.declared.LeaseTable.{LeaseTable}
-use Rattle.lease.proofs.Bounds.{time_at}
 use Rattle.lease.proofs.Slots.{free, lease-at}
 use Rattle.lease.proofs.Questions.{claimable}
 use Rattle.lease.proofs.in_place.is_claimable_at.Goals as goal
@@ -19,9 +16,6 @@ table s = due s.args.slots.now s.args.deadlines.now
 pub returns-in_default : goal.returns-in_default
 returns-in_default c o t w p =
     rw (free (table (goal.at.returns-in_default c).Start t) w.full w.sound p c.in_default.is).is
-
-pub slot_at-slot-requires : goal.slot_at-slot-requires
-slot_at-slot-requires c = subst (PlaceWithin LEASES) c.in-Found.is c.requires
 
 pub returns : goal.returns
 returns c o t w p =

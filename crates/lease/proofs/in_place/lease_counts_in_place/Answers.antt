@@ -1,42 +1,22 @@
 -- `lease_counts_in_place` meets its contract, on every table that has the parts that it is lent. The loop's invariant: the first i places
 -- hold the first i offsets and counts.
 -- Assumes nothing.
-use Prim.Native.Nat.{ℕ, ◌-◌, ◌≤◌}
+use Prim.Native.Nat.{ℕ, ◌≤◌}
 use native.Mathlib.Omega.{arith}
 use mathlib.Core.Path.{◌≡◌, sym, ap, ◌∙◌}
-use mathlib.Core.List.{List}
-use lib.ListN.{get_or, replicate}
+use lib.ListN.{get_or}
 use Rattle.types.specs.Limits.{LEASES}
-use Rattle.types.proofs.Loops.{Filling, filling, filling-more}
+use Rattle.types.proofs.Loops.{filling-more}
 use Rattle.tables.specs.Slots.{through}
 use Rattle.tables.proofs.Slots.{through-length}
-use Rattle.lease.specs.Parts.{Whole, listing}
-use Rattle.lease.specs.declared.LeaseTable.{LeaseTable}
-use Rattle.lease.proofs.Bounds.{in_use, in_list, next_place, offset_in_memory, count_in_memory, further, within}
-use Rattle.lease.proofs.Bounds as bounds
+use Rattle.lease.specs.Parts.{listing}
+use Rattle.lease.proofs.Bounds.{in_use, within}
 use Rattle.lease.proofs.Lists.{counts-listed, count_at}
 use Rattle.lease.proofs.in_place.lease_counts_in_place.Goals as goal
 use Rattle.lease.proofs.in_place.lease_counts_in_place.Goals.{At-loop-i}
 
-abbrev zeros : List ℕ
-zeros = replicate 192 0
-
 few : (c : At-loop-i) → c.args.len ≤ LEASES
 few c = c.requires
-
-pub loop-i-init : goal.loop-i-init
-loop-i-init c t w =
-    let few = w.sound.len in
-    (filling c.args.offsets.now zeros c.args.len (omega (arith, few)), filling (through 0 c.args.slots.now c.args.deliveries.now) zeros c.args.len (omega (arith, few)))
-
-pub slot_at-slot-requires : goal.slot_at-slot-requires
-slot_at-slot-requires c = in_use c.loop-i-test.true (few (goal.at.slot_at-slot-requires c).At-loop-i)
-
-pub overflow_add-i : goal.overflow_add-i
-overflow_add-i c = next_place c.loop-i-test.true (few (goal.at.overflow_add-i c).At-loop-i)
-
-pub loop-i-smaller : goal.loop-i-smaller
-loop-i-smaller c = further _ _ c.loop-i-test.true
 
 pub loop-i-preserved : goal.loop-i-preserved
 loop-i-preserved c t w =

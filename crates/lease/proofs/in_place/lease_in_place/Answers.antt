@@ -1,10 +1,6 @@
 -- `lease_in_place` meets its contract: that of `LeaseTable::lease_of`, on every table that has the parts that it is lent.
 -- Assumes nothing.
 -- a table with the parts that the arguments are
-use Prim.Native.Nat.{◌<◌}
-use native.Mathlib.Omega.{arith}
-use Rattle.types.specs.Limits.{LEASES}
-use Rattle.tables.proofs.Search.{found-used}
 use Rattle.lease.specs.Parts.{leasing}
 use Rattle.lease.specs.declared.LeaseTable.{LeaseTable}
 use Rattle.lease.proofs.Slots.{free, lease-at}
@@ -14,17 +10,9 @@ use Rattle.lease.proofs.in_place.lease_in_place.Goals.{In-Found, Start}
 abbrev table : Start → LeaseTable → LeaseTable
 table s = leasing s.args.len s.args.offsets.now s.args.slots.now s.args.generations.now s.args.attempt_starts.now s.args.deadlines.now s.args.deliveries.now s.args.workers.now
 
--- the place that was found is within the columns
-inside : (p : In-Found) → p.in-Found.at < LEASES
-inside p =
-    omega (arith, found-used p.args.offset p.args.len p.args.offsets.now p.find-place.ensures p.in-Found.is, p.requires)
-
 pub returns-in_default : goal.returns-in_default
 returns-in_default c t w =
     rw (free (table (goal.at.returns-in_default c).Start t) w.full w.sound c.find-place.ensures c.in_default.is).is
-
-pub lease_at-requires : goal.lease_at-requires
-lease_at-requires c = inside (goal.at.lease_at-requires c).In-Found
 
 pub returns : goal.returns
 returns c t w =

@@ -4,9 +4,7 @@
 -- a table with the parts that the arguments are
 use Rattle.lease.specs.Parts.{requeuing}
 use Rattle.lease.specs.declared.LeaseTable.{LeaseTable}
-use Rattle.lease.proofs.Bounds.{time_at}
 use Rattle.lease.proofs.Tokens.{none_left, requeued_to}
-use borrow.Author.Rules.{rules}
 use Rattle.lease.proofs.in_place.nack_at.Goals as goal
 use Rattle.lease.proofs.in_place.nack_at.Goals.{Start}
 
@@ -16,9 +14,6 @@ table s = requeuing s.args.next_generation s.args.slots.now s.args.generations.n
 pub returns-then-next_generation-eq-MAX : goal.returns-then-next_generation-eq-MAX
 returns-then-next_generation-eq-MAX c t w o g p =
     none_left (table (goal.at.returns-then-next_generation-eq-MAX c).Start t) w.full w.sound o g p c.if-next_generation-eq-MAX.true c.args.now c.args.delay_nanos
-
-pub slot_at-slot-requires : goal.slot_at-slot-requires
-slot_at-slot-requires c = c.requires
 
 pub returns : goal.returns
 returns c t w o g p =

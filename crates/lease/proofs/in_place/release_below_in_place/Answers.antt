@@ -23,24 +23,15 @@ carried-used s n h = boundary_inside s.args.up_to s.args.carried_len s.args.carr
 used : (s : Start) (n : ℕ) → Boundary s.args.up_to (take s.args.len s.args.offsets.now) n → n ≤ s.args.len
 used s n h = boundary_inside s.args.up_to s.args.len s.args.offsets.now h
 
-pub set_aside_64-requires : goal.set_aside_64-requires
-set_aside_64-requires c = (used (goal.at.set_aside_64-requires c).Start c.position-first.result c.position-first.ensures, c.requires)
-
-pub overflow_sub-result : goal.overflow_sub-result
-overflow_sub-result c = used (goal.at.overflow_sub-result c).Start c.position-first.result c.position-first.ensures
-
-pub overflow_sub-result-2 : goal.overflow_sub-result-2
-overflow_sub-result-2 c = carried-used (goal.at.overflow_sub-result-2 c).Start c.position-carried.result c.position-carried.ensures
-
 pub returns : goal.returns
 returns c t w =
     let s = (goal.at.returns c).Start in
     let n = c.position-first.result in
     let carried-few = w.sound.carried-len in
     releases (table (goal.at.returns c).Start t) w.full w.sound s.args.up_to n c.position-carried.result
-    c.remove_64.new.column c.set_aside_64.new.slots c.remove_128.new.column c.remove_counts_128.new.column
+    c.remove-3.new.column c.set_aside.new.slots c.remove.new.column c.remove-2.new.column
     c.position-first.ensures c.position-carried.ensures (used (goal.at.returns c).Start c.position-first.result c.position-first.ensures)
-    (taken-out-front s.args.len 0 n s.args.offsets.now (from_first n) (used (goal.at.returns c).Start c.position-first.result c.position-first.ensures) (within w.full.offsets s.requires) c.remove_64.ensures)
-    (c.set_aside_64.ensures w.full.slots)
-    (taken-out-front s.args.carried_len 0 c.position-carried.result s.args.carried_offsets.now (from_first _) (carried-used (goal.at.returns c).Start c.position-carried.result c.position-carried.ensures) (within w.full.carried-offsets carried-few) c.remove_128.ensures)
-    (taken-out-front s.args.carried_len 0 c.position-carried.result s.args.carried_counts.now (from_first _) (carried-used (goal.at.returns c).Start c.position-carried.result c.position-carried.ensures) (within w.full.carried-counts carried-few) c.remove_counts_128.ensures)
+    (taken-out-front s.args.len 0 n s.args.offsets.now (from_first n) (used (goal.at.returns c).Start c.position-first.result c.position-first.ensures) (within w.full.offsets s.requires) c.remove-3.ensures)
+    c.set_aside.ensures
+    (taken-out-front s.args.carried_len 0 c.position-carried.result s.args.carried_offsets.now (from_first _) (carried-used (goal.at.returns c).Start c.position-carried.result c.position-carried.ensures) (within w.full.carried-offsets carried-few) c.remove.ensures)
+    (taken-out-front s.args.carried_len 0 c.position-carried.result s.args.carried_counts.now (from_first _) (carried-used (goal.at.returns c).Start c.position-carried.result c.position-carried.ensures) (within w.full.carried-counts carried-few) c.remove-2.ensures)

@@ -1,26 +1,16 @@
 -- `ack` meets its contract. Assumes nothing.
-use mathlib.Core.Path.{subst}
+use Rattle.std.proofs.Common.{◌≡◌, subst, arith}
+use Rattle.std.proofs.lemmas.Result.{err_from_is_err_and}
+use Rattle.types.specs.declared.refusals.Refusal.TheVariants as refusal
 use Rattle.lease.specs.InWords.{OwnedIn}
-use Rattle.lease.proofs.InWords.{owned-low, ack-refused}
-use borrow.Author.Rules.{rules}
+use Rattle.lease.proofs.InWords.{ack-refused}
 use Rattle.lease.proofs.in_words.ack.Goals as goal
 
-pub returns-in_default : goal.returns-in_default
-returns-in_default c =
-    let After-owned = c in
-    let s = After-owned in
-    ack-refused s.requires s.args.token.offset.0 s.args.token.generation.0 After-owned.owned-place.ensures c.in_default.is
-
-pub ack_at-requires : goal.ack_at-requires
-ack_at-requires c =
-    let After-owned = c in
-    let s = After-owned in
-    (s.requires, owned-low s.requires s.args.token.offset.0 s.args.token.generation.0 After-owned.owned-place.ensures c.in-Found.is)
+pub returns-in_err-at : goal.returns-in_err-at
+returns-in_err-at c =
+    let p = err_from_is_err_and c.from_residual.result c.from_residual.ensures.1 in
+    let fenced : c.in_err-at.field-0.0 ≡ refusal.Fenced = grind arith in
+    rw (p.1, p.2, fenced) (ack-refused c.requires c.args.token.offset.0 c.args.token.generation.0 (subst (OwnedIn c.args.token.offset.0 c.args.token.generation.0 c.args.table.now) c.in_err-at.ensures.ok_part c.owned.ensures))
 
 pub returns : goal.returns
-returns c =
-    let After-owned = c in
-    let s = After-owned in
-    let o = s.args.token.offset.0 in
-    let g = s.args.token.generation.0 in
-    c.ack_at.ensures o g (subst (OwnedIn o g s.args.table.now) c.in-Found.is After-owned.owned-place.ensures)
+returns c = c.ack_at.ensures c.args.token.offset.0 c.args.token.generation.0 (subst (OwnedIn c.args.token.offset.0 c.args.token.generation.0 c.args.table.now) c.in_ok-at.ensures.ok_part c.owned.ensures)

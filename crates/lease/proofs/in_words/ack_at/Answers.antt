@@ -1,12 +1,7 @@
 -- `ack_at` meets its contract. Assumes nothing.
 use mathlib.Core.Path.{◌∙◌}
 use Rattle.lease.proofs.InWords.{ack-answers}
-use borrow.Author.Rules.{rules}
 use Rattle.lease.proofs.in_words.ack_at.Goals as goal
-
-pub remove_offset-requires : goal.remove_offset-requires
-remove_offset-requires c =
-    (c.requires.0.long, c.requires.1, c.requires.0.table.len)
 
 pub returns : goal.returns
 returns c o g p =

@@ -7,13 +7,8 @@ use Rattle.lease.specs.Stored.{held_at, holding}
 use Rattle.lease.specs.declared.Lease.{Lease}
 use Rattle.lease.proofs.Questions.{none_expired, still-running}
 use Rattle.lease.proofs.Slots.{free, lease-at}
-use Rattle.lease.proofs.InWords.{whole, in_use, not_deferred, deferred}
-use borrow.Author.Rules.{rules}
+use Rattle.lease.proofs.InWords.{whole, not_deferred, deferred}
 use Rattle.lease.proofs.in_words.defer_redelivery.Goals as goal
-
-pub find-place-requires : goal.find-place-requires
-find-place-requires c =
-    c.requires
 
 pub returns-in_default : goal.returns-in_default
 returns-in_default c =
@@ -21,22 +16,12 @@ returns-in_default c =
     not_deferred c.requires c.args.offset.0 c.args.now c.args.delay_nanos
     (none_expired (view w) c.args.offset.0 c.args.now (free (table_in w) (whole c.requires).full c.requires.table c.find-place.ensures c.in_default.is).is)
 
-pub lease_at-lease-requires : goal.lease_at-lease-requires
-lease_at-lease-requires c =
-    let o = c.args.offset.0 in
-    (c.requires, in_use c.requires o c.in-Found.at (subst (PlacedIn o c.args.table.now) c.in-Found.is c.find-place.ensures))
-
 pub returns-then-now-lease : goal.returns-then-now-lease
 returns-then-now-lease c =
     let w = c.args.table.now in
     let due : c.lease_at-lease.result.deadline ≡ (held_at c.in-Found.at (table_in w)).deadline = ap (λ (h : Lease). h.deadline) c.lease_at-lease.ensures in
     not_deferred c.requires c.args.offset.0 c.args.now c.args.delay_nanos
     (still-running (view w) c.args.offset.0 c.args.now _ (lease-at (table_in w) (whole c.requires).full c.requires.table c.args.offset.0 c.find-place.ensures c.in-Found.is) (rw due at c.if-now-lease.true))
-
-pub put_lease-requires : goal.put_lease-requires
-put_lease-requires c =
-    let o = c.args.offset.0 in
-    (c.requires.long, in_use c.requires o c.in-Found.at (subst (PlacedIn o c.args.table.now) c.in-Found.is c.find-place.ensures))
 
 pub returns : goal.returns
 returns c =

@@ -1,26 +1,13 @@
 -- `extend` meets its contract. Assumes nothing.
-use mathlib.Core.Path.{subst}
+use Rattle.std.proofs.Common.{◌≡◌, subst, arith}
+use Rattle.std.proofs.lemmas.Result.{err_from_is_err_and}
+use Rattle.types.specs.declared.refusals.Refusal.TheVariants as refusal
 use Rattle.lease.specs.InWords.{OwnedIn}
-use Rattle.lease.proofs.InWords.{owned-low, extend-refused}
-use borrow.Author.Rules.{rules}
+use Rattle.lease.proofs.InWords.{extend-refused}
 use Rattle.lease.proofs.in_words.extend.Goals as goal
 
-pub returns-in_default : goal.returns-in_default
-returns-in_default c =
-    let After-owned = c in
-    let s = After-owned in
-    extend-refused s.requires s.args.token.offset.0 s.args.token.generation.0 After-owned.owned-place.ensures c.in_default.is s.args.now
-
-pub extend_at-requires : goal.extend_at-requires
-extend_at-requires c =
-    let After-owned = c in
-    let s = After-owned in
-    (s.requires, owned-low s.requires s.args.token.offset.0 s.args.token.generation.0 After-owned.owned-place.ensures c.in-Found.is)
-
-pub returns : goal.returns
-returns c =
-    let After-owned = c in
-    let s = After-owned in
-    let o = s.args.token.offset.0 in
-    let g = s.args.token.generation.0 in
-    c.extend_at.ensures o g (subst (OwnedIn o g s.args.table.now) c.in-Found.is After-owned.owned-place.ensures)
+pub returns-in_err-at : goal.returns-in_err-at
+returns-in_err-at c =
+    let p = err_from_is_err_and c.from_residual.result c.from_residual.ensures.1 in
+    let fenced : c.in_err-at.field-0.0 ≡ refusal.Fenced = grind arith in
+    rw (p.1, p.2, fenced) (extend-refused c.requires c.args.token.offset.0 c.args.token.generation.0 (subst (OwnedIn c.args.token.offset.0 c.args.token.generation.0 c.args.table.now) c.in_err-at.ensures.ok_part c.owned.ensures) c.args.now)

@@ -6,7 +6,6 @@ use Rattle.lease.specs.Stored.{held_at, holding}
 use Rattle.lease.specs.declared.Lease.{Lease}
 use Rattle.lease.specs.declared.LeaseConfig.{LeaseConfig}
 use Rattle.lease.proofs.InWords.{cap_answers, extend-answers}
-use borrow.Author.Rules.{rules}
 use Rattle.lease.proofs.in_words.extend_at.Goals as goal
 
 pub returns-then-cap-now : goal.returns-then-cap-now

@@ -3,11 +3,8 @@ use Prim.Native.Nat.{◌≤◌}
 use native.Mathlib.Omega.{arith}
 use mathlib.Core.Path.{ap, ◌∙◌}
 use Rattle.types.specs.Limits.{MAX, MAX32, sat32}
-use Rattle.lease.specs.Layout.{view}
 use Rattle.lease.specs.declared.Lease.{Lease}
-use Rattle.lease.proofs.Passed.{claim-passed}
-use Rattle.lease.proofs.InWords.{in_use, again-answers}
-use borrow.Author.Rules.{rules}
+use Rattle.lease.proofs.InWords.{again-answers}
 use Rattle.lease.proofs.in_words.grant_again.Goals as goal
 use Rattle.lease.proofs.in_words.grant_again.Goals.{Start}
 
@@ -17,17 +14,8 @@ fits s = omega arith
 small : (s : Start) → s.args.worker ≤ MAX32
 small s = omega arith
 
-pub lease_at-lease-requires : goal.lease_at-lease-requires
-lease_at-lease-requires c =
-    (c.requires.0, in_use c.requires.0 c.args.offset.0 c.args.at c.requires.1)
-
-pub grant-requires : goal.grant-requires
-grant-requires c =
-    let left = (claim-passed (view c.args.table.now) c.args.offset.0 c.args.now c.requires.2).generation-left in
-    (c.requires.0.long, c.requires.0.fits, in_use c.requires.0 c.args.offset.0 c.args.at c.requires.1, omega (arith, left, c.requires.0.table.valid.generation-fits))
-
 pub returns : goal.returns
 returns c =
     again-answers c.requires.0 c.args.worker c.args.offset.0 c.args.at c.args.now (fits (goal.at.returns c).Start) (small (goal.at.returns c).Start) c.requires.2 c.requires.1
-    c.saturating_next-count.result (c.saturating_next-count.ensures ∙ ap (λ (h : Lease). sat32 h.deliveries 1) c.lease_at-lease.ensures)
+    c.saturating_add-count.result (c.saturating_add-count.ensures ∙ ap (λ (h : Lease). sat32 h.deliveries 1) c.lease_at-lease.ensures)
     c.grant.new.table (c.table-1.given ∙ c.requires.0.long) c.grant.ensures.0 c.grant.result c.grant.ensures.1

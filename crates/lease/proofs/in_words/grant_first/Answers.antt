@@ -7,7 +7,6 @@ use Rattle.lease.specs.Layout.{table_in}
 use Rattle.lease.specs.declared.LeaseTable.{LeaseTable}
 use Rattle.lease.proofs.Slots.{free}
 use Rattle.lease.proofs.InWords.{whole, room-left, first_fits, generation-left, first-answers}
-use borrow.Author.Rules.{rules}
 use Rattle.lease.proofs.in_words.grant_first.Goals as goal
 use Rattle.lease.proofs.in_words.grant_first.Goals.{Start}
 
@@ -39,5 +38,5 @@ pub returns : goal.returns
 returns c =
     first-answers c.requires.0 c.args.worker c.args.offset.0 c.args.at c.args.now (fits (goal.at.returns c).Start) (small (goal.at.returns c).Start) c.requires.2
     c.take_carried-prior.new.table c.take_carried-prior.result c.take_carried-prior.ensures c.put_offset.new.table c.put_offset.ensures
-    c.requires.1 c.saturating_next-count.result c.saturating_next-count.ensures
+    c.requires.1 c.saturating_add-count.result c.saturating_add-count.ensures
     c.grant.new.table (c.table-3-1.given ∙ c.table-2-1.given ∙ c.table-1.given ∙ c.requires.0.long) c.grant.ensures.0 c.grant.result c.grant.ensures.1

@@ -1,13 +1,7 @@
 -- `release_below` meets its contract. Assumes nothing.
-use mathlib.Core.Path.{ap, ◌∙◌}
-use Rattle.lease.specs.declared.LeaseTable.{LeaseTable}
+use mathlib.Core.Path.{◌∙◌}
 use Rattle.lease.proofs.InWords.{release_answers}
-use borrow.Author.Rules.{rules}
 use Rattle.lease.proofs.in_words.release_below.Goals as goal
-
-pub release_leases-requires : goal.release_leases-requires
-release_leases-requires c =
-    (c.table-1.given ∙ c.requires.long, rw (ap (λ (t : LeaseTable). t.len) c.release_counts.ensures.is) c.requires.table.len)
 
 pub returns : goal.returns
 returns c =

@@ -1,10 +1,7 @@
 -- `requeue_at` meets its contract. Assumes nothing.
 use Prim.Native.Nat.{◌+◌}
-use native.Mathlib.Omega.{arith}
 use mathlib.Core.Path.{ap, ◌∙◌}
 use lib.ListN.{length-set}
-use borrow.Author.Tests.{eqb-false}
-use Rattle.types.specs.Limits.{MAX}
 use Rattle.words.specs.Columns.{word}
 use Rattle.lease.specs.Operations.{requeued_as}
 use Rattle.lease.specs.Layout.{NEXT, table_in}
@@ -13,12 +10,7 @@ use Rattle.lease.specs.declared.Lease.{Lease}
 use Rattle.lease.specs.declared.LeaseTable.{LeaseTable}
 use Rattle.lease.proofs.Stores.{stored_next}
 use Rattle.lease.proofs.InWords.{nack-answers}
-use borrow.Author.Rules.{rules}
 use Rattle.lease.proofs.in_words.requeue_at.Goals as goal
-
-pub overflow_add-table : goal.overflow_add-table
-overflow_add-table c =
-    record { fits = omega (arith, eqb-false (word NEXT c.args.table.now) MAX c.requires.2, c.requires.0.table.valid.generation-fits) }
 
 pub returns : goal.returns
 returns c o g p =

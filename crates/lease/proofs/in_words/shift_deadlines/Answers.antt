@@ -8,7 +8,6 @@ use Rattle.lease.specs.Helpers.{later_by}
 use Rattle.lease.specs.Layout.{STARTS, DEADLINES}
 use Rattle.lease.proofs.Stores.{deadlines-kept, long-timed, times-put}
 use Rattle.lease.proofs.InWords.{shift-answers}
-use borrow.Author.Rules.{rules}
 use Rattle.lease.proofs.in_words.shift_deadlines.Goals as goal
 
 pub returns : goal.returns

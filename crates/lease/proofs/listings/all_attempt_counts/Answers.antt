@@ -15,14 +15,14 @@ use Rattle.lease.proofs.listings.all_attempt_counts.Goals.{After-all_counts-coun
 long : (c : After-all_counts-counts) → (length c.all_counts-counts.result.offsets ≡ 192) × (length c.all_counts-counts.result.attempts ≡ 192)
 long c = let ok = c.all_counts-counts.type_inv in (search (rules, ok), search (rules, ok))
 
-pub returns-then-shorter-n : goal.returns-then-shorter-n
-returns-then-shorter-n c =
+pub returns-then-min-n : goal.returns-then-min-n
+returns-then-min-n c =
     let r = c.all_counts-counts.result in
-    let a = (long (goal.at.returns-then-shorter-n c).After-all_counts-counts).0 in
-    let b = (long (goal.at.returns-then-shorter-n c).After-all_counts-counts).1 in
+    let a = (long (goal.at.returns-then-min-n c).After-all_counts-counts).0 in
+    let b = (long (goal.at.returns-then-min-n c).After-all_counts-counts).1 in
     let few = c.all_counts-counts.ensures.few in
     into-short r (all_attempt_counts (view c.args.table.now)) c.all_counts-counts.ensures.is (omega (arith, few, a)) (omega (arith, few, b)) c.args.offsets.now c.args.attempts.now
-    (omega (arith, c.shorter.ensures, c.if-shorter-n.true))
+    (omega (arith, c.min.ensures, c.if-min-n.true))
 
 pub returns : goal.returns
 returns c =
@@ -33,5 +33,5 @@ returns c =
     let n = r.len in
     let z : 0 + n ≡ n = omega arith in
     into-both r (all_attempt_counts (view c.args.table.now)) c.all_counts-counts.ensures.is (omega (arith, few, a)) (omega (arith, few, b)) c.args.offsets.now c.args.attempts.now
-    (omega (arith, c.shorter.ensures, c.if-shorter-n.false)) c.copy.new.column c.put_counts.new.column
+    (omega (arith, c.min.ensures, c.if-min-n.false)) c.copy.new.column c.put_counts.new.column
     (c.copy.ensures ∙ ap (λ (k : ℕ). take n r.offsets ++ drop k c.args.offsets.now) z) c.put_counts.ensures

@@ -9,7 +9,6 @@ use Rattle.tables.specs.Merge.{merge}
 use Rattle.lease.specs.Layout.{table_in}
 use Rattle.lease.proofs.Merge.{all-counted}
 use Rattle.lease.proofs.InLists.{held_of}
-use borrow.Author.Rules.{rules}
 use Rattle.lease.proofs.listings.all_counts.Goals as goal
 
 pub returns : goal.returns

@@ -1,12 +1,12 @@
 -- `lease_counts` meets its contract. The loop's invariant: the first i places hold the first i offsets and
 -- counts. Assumes nothing.
-use Prim.Native.Nat.{ℕ, ◌+◌, ◌-◌, ◌<◌}
+use Prim.Native.Nat.{ℕ, ◌+◌, ◌<◌}
 use native.Mathlib.Omega.{arith}
-use mathlib.Core.Path.{◌≡◌, refl, sym, ap, subst, ◌∙◌}
+use mathlib.Core.Path.{◌≡◌, sym, ap, subst, ◌∙◌}
 use mathlib.Core.List.{List}
 use lib.ListN.{get_or, set, replicate}
 use Rattle.types.specs.Limits.{LEASES}
-use Rattle.types.proofs.Loops.{Filling, filling, filling-more}
+use Rattle.types.proofs.Loops.{Filling, filling-more}
 use Rattle.words.specs.Columns.{word}
 use Rattle.words.proofs.Columns.{column-at}
 use Rattle.tables.specs.Slots.{through}
@@ -16,34 +16,10 @@ use Rattle.lease.specs.declared.Lease.{Lease}
 use Rattle.lease.proofs.Bounds.{within}
 use Rattle.lease.proofs.Lists.{counts-listed, count_at}
 use Rattle.lease.proofs.InWords.{whole}
-use borrow.Author.Rules.{rules}
 use Rattle.lease.proofs.listings.lease_counts.Goals as goal
 
 abbrev zeros : List ℕ
 zeros = replicate 192 0
-
-pub loop-i-init : goal.loop-i-init
-loop-i-init c =
-    let w = c.args.table.now in
-    let x = table_in w in
-    let few = c.requires.table.len in
-    (refl, filling x.offsets zeros (word LEN w) (omega (arith, few)), filling (through 0 x.slots x.deliveries) zeros (word LEN w) (omega (arith, few)))
-
-pub lease_at-lease-requires : goal.lease_at-lease-requires
-lease_at-lease-requires c =
-    (c.requires, omega (arith, c.loop-i-test.true, c.requires.table.len))
-
-pub overflow_add-offsets : goal.overflow_add-offsets
-overflow_add-offsets c =
-    omega (arith, c.loop-i-test.true, c.requires.table.len)
-
-pub overflow_add-i : goal.overflow_add-i
-overflow_add-i c =
-    omega (arith, c.loop-i-test.true, c.requires.table.len)
-
-pub loop-i-smaller : goal.loop-i-smaller
-loop-i-smaller c =
-    omega (arith, c.loop-i-test.true)
 
 pub loop-i-preserved : goal.loop-i-preserved
 loop-i-preserved c =
@@ -56,9 +32,8 @@ loop-i-preserved c =
     let low : i < LEASES = omega (arith, c.loop-i-test.true, few) in
     let counts = through 0 x.slots x.deliveries in
     let count : get_or counts i 0 ≡ c.lease_at-lease.result.deliveries = count_at x full c.requires.table i low ∙ sym (ap (λ (h : Lease). h.deliveries) c.lease_at-lease.ensures) in (
-      refl,
-      subst (λ (v : ℕ). Filling x.offsets zeros (set c.loop-i.offsets i v) n (i + 1)) (column-at OFFSETS LEASES w i low) (filling-more 0 (within full.offsets few) c.loop-i-test.true c.loop-i.invariant.1),
-      subst (λ (v : ℕ). Filling counts zeros (set c.loop-i.attempts i v) n (i + 1)) count (filling-more 0 (within (through-length 0 x.slots x.deliveries ∙ full.slots) few) c.loop-i-test.true c.loop-i.invariant.2),
+      subst (λ (v : ℕ). Filling x.offsets zeros (set c.loop-i.offsets i v) n (i + 1)) (column-at OFFSETS LEASES w i low) (filling-more 0 (within full.offsets few) c.loop-i-test.true c.loop-i.invariant.0),
+      subst (λ (v : ℕ). Filling counts zeros (set c.loop-i.attempts i v) n (i + 1)) count (filling-more 0 (within (through-length 0 x.slots x.deliveries ∙ full.slots) few) c.loop-i-test.true c.loop-i.invariant.1),
     )
 
 pub returns : goal.returns
@@ -66,10 +41,10 @@ returns c =
     let w = c.args.table.now in
     let x = table_in w in
     let inv = c.loop-i.invariant in
-    let e : c.loop-i.i ≡ word LEN w = omega (arith, inv.1.inside, c.loop-i-test.false) in
+    let e : c.loop-i.i ≡ word LEN w = omega (arith, inv.0.inside, c.loop-i-test.false) in
     record {
       few = omega (arith, c.requires.table.len);
-      is = counts-listed x (whole c.requires).full c.loop-i.offsets c.loop-i.attempts (rw e at inv.1.done) (rw e at inv.2.done);
-      rest = rw e at inv.1.rest;
-      rest-attempts = rw e at inv.2.rest;
+      is = counts-listed x (whole c.requires).full c.loop-i.offsets c.loop-i.attempts (rw e at inv.0.done) (rw e at inv.1.done);
+      rest = rw e at inv.0.rest;
+      rest-attempts = rw e at inv.1.rest;
     }

@@ -8,17 +8,9 @@ use borrow.Rule.Slice.PartMut.{put_mid}
 use Rattle.types.specs.Limits.{CARRIED}
 use Rattle.lease.specs.Layout.{CARRIED-LEN, CARRIED-OFFSETS, CARRIED-COUNTS}
 use Rattle.lease.proofs.Stores.{same-long, counts-put}
-use Rattle.lease.proofs.InLists.{resume-refused, resume-answers}
+use Rattle.lease.proofs.InLists.{resume-answers}
 use borrow.Author.Rules.{rules}
 use Rattle.lease.proofs.listings.resume_with.Goals as goal
-
-pub returns-then-carried : goal.returns-then-carried
-returns-then-carried c =
-    resume-refused c.requires.0 c.args.carried c.requires.1 c.if-carried.true
-
-pub shape_of-table : goal.shape_of-table
-shape_of-table c =
-    same-long CARRIED-OFFSETS CARRIED CARRIED-COUNTS CARRIED CARRIED-LEN c.args.carried.len c.args.table.now c.copy.new.column c.put_counts.new.column c.table-1.given.0 c.table-2-1.given.0
 
 pub returns : goal.returns
 returns c =

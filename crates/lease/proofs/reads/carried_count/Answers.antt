@@ -9,7 +9,6 @@ use Rattle.lease.proofs.Stores.{carried-used}
 use Rattle.lease.proofs.InWords.{whole, carried_narrow}
 use Prim.Native.Nat.{◌<◌}
 use Rattle.words.specs.Columns.{word}
-use borrow.Author.Rules.{rules}
 use Rattle.lease.proofs.reads.carried_count.Goals as goal
 use Rattle.lease.proofs.reads.carried_count.Goals.{In-Found}
 
@@ -24,10 +23,6 @@ pub returns-in_default : goal.returns-in_default
 returns-in_default c =
     let w = c.args.table.now in
     rw (uncarried (table_in w) (whole c.requires).full c.requires.table (rw (column-is CARRIED-OFFSETS CARRIED w) at c.find-place.ensures) c.in_default.is).is
-
-pub overflow_add-result : goal.overflow_add-result
-overflow_add-result c =
-    record { fits = omega (arith, inside (goal.at.overflow_add-result c).In-Found) }
 
 pub overflow_cast-result : goal.overflow_cast-result
 overflow_cast-result c =

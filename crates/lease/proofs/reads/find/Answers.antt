@@ -1,6 +1,5 @@
 -- `find` meets its contract. Assumes nothing.
 use Rattle.words.specs.Columns.{column}
-use borrow.Author.Rules.{rules}
 use Rattle.lease.proofs.reads.find.Goals as goal
 
 pub returns : goal.returns

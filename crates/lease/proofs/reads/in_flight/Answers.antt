@@ -3,7 +3,6 @@ use mathlib.Core.Path.{sym}
 use Rattle.lease.specs.Layout.{table_in}
 use Rattle.lease.proofs.Slots.{in_flight_lem}
 use Rattle.lease.proofs.InWords.{whole}
-use borrow.Author.Rules.{rules}
 use Rattle.lease.proofs.reads.in_flight.Goals as goal
 
 pub returns : goal.returns

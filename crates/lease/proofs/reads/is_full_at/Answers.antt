@@ -2,7 +2,6 @@
 use Rattle.lease.specs.Layout.{table_in}
 use Rattle.lease.proofs.Slots.{free, lease-at, in_flight_lem}
 use Rattle.lease.proofs.InWords.{whole}
-use borrow.Author.Rules.{rules}
 use Rattle.lease.proofs.reads.is_full_at.Goals as goal
 
 pub returns-in_default : goal.returns-in_default

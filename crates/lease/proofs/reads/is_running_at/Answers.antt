@@ -1,7 +1,5 @@
 -- `is_running_at` meets its contract. Assumes nothing.
-use mathlib.Core.Path.{◌≡◌, ap, subst}
-use Rattle.types.specs.Limits.{LEASES}
-use Rattle.lease.specs.Parts.{PlaceWithin}
+use mathlib.Core.Path.{◌≡◌, ap}
 use Rattle.lease.specs.Layout.{table_in}
 use Rattle.lease.specs.Stored.{held_at}
 use Rattle.lease.specs.declared.Lease.{Lease}
@@ -12,10 +10,6 @@ use Rattle.lease.proofs.reads.is_running_at.Goals as goal
 pub returns-in_default : goal.returns-in_default
 returns-in_default c o p =
     rw (free (table_in c.args.table.now) (whole c.requires.0).full c.requires.0.table p c.in_default.is).is
-
-pub lease_at-lease-requires : goal.lease_at-lease-requires
-lease_at-lease-requires c =
-    (c.requires.0, subst (PlaceWithin LEASES) c.in-Found.is c.requires.1)
 
 pub returns : goal.returns
 returns c o p =

@@ -1,7 +1,6 @@
 -- `lease_at` meets its contract. Assumes nothing.
 use native.Mathlib.Omega.{arith}
 use Rattle.lease.proofs.Stores.{lease-stored, count_narrow, worker_narrow}
-use borrow.Author.Rules.{rules}
 use Rattle.lease.proofs.stored.lease_at.Goals as goal
 
 pub overflow_cast-result : goal.overflow_cast-result

@@ -1,11 +1,8 @@
 -- `put_lease` meets its contract. Assumes nothing.
-use native.Mathlib.Omega.{arith}
-use lib.ListN.{length-set}
 use Rattle.lease.proofs.Stores.{stored-lease}
-use borrow.Author.Rules.{rules}
 use Rattle.lease.proofs.stored.put_lease.Goals as goal
 
 pub returns : goal.returns
 returns c =
     stored-lease c.args.table.now c.args.at c.slot_at-slot.result c.slot_at-slot.ensures.0 c.slot_at-slot.ensures.1 c.args.lease
-    c.wide.result c.wide-2.result c.wide.ensures c.wide-2.ensures
+    c.from.result c.from-2.result c.from.ensures c.from-2.ensures

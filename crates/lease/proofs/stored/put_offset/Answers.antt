@@ -1,16 +1,6 @@
 -- `put_offset` meets its contract. Assumes nothing.
-use Prim.Native.Nat.{◌+◌}
-use Rattle.types.specs.Limits.{LEASES}
-use Rattle.words.specs.Columns.{word}
-use Rattle.lease.specs.Layout.{LEN, OFFSETS, SLOTS}
-use Rattle.lease.proofs.Stores.{offset-put, same-long}
-use borrow.Author.Rules.{rules}
+use Rattle.lease.proofs.Stores.{offset-put}
 use Rattle.lease.proofs.stored.put_offset.Goals as goal
-
-pub shape_of-table : goal.shape_of-table
-shape_of-table c =
-    let w = c.args.table.now in
-    same-long OFFSETS LEASES SLOTS LEASES LEN (word LEN w + 1) w c.insert.new.column c.insert-2.new.column c.table-1.given.0 c.table-2-1.given.0
 
 pub returns : goal.returns
 returns c =

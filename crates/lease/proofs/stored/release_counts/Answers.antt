@@ -2,25 +2,12 @@
 use Prim.Native.Nat.{◌-◌}
 use native.Mathlib.Omega.{arith}
 use mathlib.Core.Path.{◌≡◌}
-use lib.ListN.{take, drop}
 use Rattle.types.specs.Limits.{CARRIED}
 use Rattle.words.specs.Columns.{word}
 use Rattle.words.proofs.Columns.{column-is}
-use Rattle.tables.proofs.Search.{boundary_inside}
-use Rattle.lease.specs.Layout.{CARRIED-LEN, CARRIED-OFFSETS, CARRIED-COUNTS}
-use Rattle.lease.proofs.Stores.{carried-taken, same-long}
-use borrow.Author.Rules.{rules}
+use Rattle.lease.specs.Layout.{CARRIED-LEN, CARRIED-OFFSETS}
+use Rattle.lease.proofs.Stores.{carried-taken}
 use Rattle.lease.proofs.stored.release_counts.Goals as goal
-
-pub overflow_sub-table : goal.overflow_sub-table
-overflow_sub-table c =
-    let w = c.args.table.now in
-    omega (arith, boundary_inside c.args.up_to.0 (word CARRIED-LEN w) (take CARRIED (drop CARRIED-OFFSETS w)) c.position-to.ensures)
-
-pub shape_of-table : goal.shape_of-table
-shape_of-table c =
-    let w = c.args.table.now in
-    same-long CARRIED-OFFSETS CARRIED CARRIED-COUNTS CARRIED CARRIED-LEN (word CARRIED-LEN w - c.position-to.result) w c.remove.new.column c.remove-2.new.column c.table-1.given.0 c.table-2-1.given.0
 
 pub returns : goal.returns
 returns c =

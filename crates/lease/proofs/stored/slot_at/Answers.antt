@@ -5,7 +5,6 @@ use lib.ListN.{get_or}
 use Rattle.types.specs.Limits.{LEASES}
 use Rattle.words.proofs.Columns.{column-at}
 use Rattle.lease.specs.Layout.{SLOTS}
-use borrow.Author.Rules.{rules}
 use Rattle.lease.proofs.stored.slot_at.Goals as goal
 
 pub returns : goal.returns

@@ -7,10 +7,9 @@ use lib.ListN.{take, drop, get_or}
 use Rattle.types.specs.Limits.{CARRIED}
 use Rattle.words.specs.Columns.{word}
 use Rattle.tables.specs.Search.{Placed}
-use Rattle.lease.specs.Layout.{CARRIED-LEN, CARRIED-OFFSETS, CARRIED-COUNTS, table_in}
-use Rattle.lease.proofs.Stores.{carried-taken, carried-used, passed_none, passed-one, same-long}
+use Rattle.lease.specs.Layout.{CARRIED-LEN, CARRIED-OFFSETS, table_in}
+use Rattle.lease.proofs.Stores.{carried-taken, carried-used, passed_none, passed-one}
 use Rattle.lease.proofs.InWords.{carried_narrow}
-use borrow.Author.Rules.{rules}
 use Rattle.lease.proofs.stored.take_carried.Goals as goal
 use Rattle.lease.proofs.stored.take_carried.Goals.{In-Found}
 
@@ -21,36 +20,15 @@ used p =
 inside : (p : In-Found) → p.in-Found.at < CARRIED
 inside p = omega (arith, used p, p.requires.table.carried-len)
 
-pub overflow_add-count : goal.overflow_add-count
-overflow_add-count c =
-    record { fits = omega (arith, inside (goal.at.overflow_add-count c).In-Found) }
-
 pub overflow_cast-count : goal.overflow_cast-count
 overflow_cast-count c =
     omega (arith, carried_narrow c.requires c.in-Found.at (used (goal.at.overflow_cast-count c).In-Found))
-
-pub overflow_add-at : goal.overflow_add-at
-overflow_add-at c =
-    record { fits = omega (arith, inside (goal.at.overflow_add-at c).In-Found) }
-
-pub overflow_add-at-in-Found : goal.overflow_add-at-in-Found
-overflow_add-at-in-Found c =
-    record { fits = omega (arith, inside (goal.at.overflow_add-at-in-Found c).In-Found) }
-
-pub overflow_sub-table : goal.overflow_sub-table
-overflow_sub-table c =
-    omega (arith, used (goal.at.overflow_sub-table c).In-Found)
 
 pub returns-in-Missing : goal.returns-in-Missing
 returns-in-Missing c =
     let w = c.args.table.now in
     passed_none w c.args.offset.0 c.in-Missing.field-0
     (subst (Placed c.args.offset.0 (take (word CARRIED-LEN w) (take CARRIED (drop CARRIED-OFFSETS w)))) c.in-Missing.is c.find-place.ensures)
-
-pub shape_of-table-in-Found : goal.shape_of-table-in-Found
-shape_of-table-in-Found c =
-    let w = c.args.table.now in
-    same-long CARRIED-OFFSETS CARRIED CARRIED-COUNTS CARRIED CARRIED-LEN (word CARRIED-LEN w - 1) w c.remove.new.column c.remove-in-Found.new.column c.table-1.given.0 c.table-in-Found-1.given.0
 
 pub returns-in-Found : goal.returns-in-Found
 returns-in-Found c =

@@ -1,7 +1,7 @@
 -- `ask_in_place` meets its contract: each kind of call goes to its own function. Assumes nothing.
 use lib.ListN.{length}
 use borrow.Author.Rules.{rules}
-use Rattle.machine.proofs.Replies.{lent, looked-asked, asked_as}
+use Rattle.machine.proofs.Replies.{lent, acked-asked, termed-asked, looked-asked, asked_as}
 use Rattle.machine.proofs.in_place.ask_in_place.Goals as goal
 
 pub returns-in-Claim : goal.returns-in-Claim
@@ -10,11 +10,11 @@ returns-in-Claim c x w =
 
 pub returns-in-Ack : goal.returns-in-Ack
 returns-in-Ack c x w =
-    asked_as (length c.args.out.now) c.in-Ack.is (c.ask_ack.ensures (lent w) c.args.out.now w)
+    asked_as (length c.args.out.now) c.in-Ack.is (acked-asked (c.settle-settled.ensures (lent w) w))
 
 pub returns-in-Term : goal.returns-in-Term
 returns-in-Term c x w =
-    asked_as (length c.args.out.now) c.in-Term.is (c.ask_term.ensures (lent w) c.args.out.now w)
+    asked_as (length c.args.out.now) c.in-Term.is (termed-asked (c.settle-settled-in-Term.ensures (lent w) w))
 
 pub returns-in-Nack : goal.returns-in-Nack
 returns-in-Nack c x w =

@@ -13,13 +13,19 @@ use Rattle.consumer.specs.Standing.{View, view_values}
 use Rattle.consumer.specs.declared.queries.Due.{Due}
 use Rattle.consumer.proofs.CallsReturns.{table-whole}
 use Rattle.machine.specs.Answers.{question_of}
-use Rattle.machine.proofs.Replies.{lent, replied, waiting-replied, open_replied}
+use Rattle.std.proofs.lemmas.Result.{err_from_is_err_and}
+use Rattle.machine.proofs.Replies.{lent, replied, waiting-replied, waiting_refused, open_replied, open_refused}
 use Rattle.machine.proofs.in_place.reply.Goals as goal
 
-pub returns-in-Waiting : goal.returns-in-Waiting
-returns-in-Waiting c x w =
-    waiting-replied (lent w) c.args.worker _ c.args.out.now c.waiting_in_place.new.out c.waiting_in_place.result
-    (ap (question_of (length c.args.out.now)) c.in-Waiting.is) (c.waiting_in_place.ensures (lent w) w)
+pub returns-in_ok-count-in-Waiting : goal.returns-in_ok-count-in-Waiting
+returns-in_ok-count-in-Waiting c x w =
+    waiting-replied (lent w) c.args.worker _ c.args.out.now _ (ap (question_of (length c.args.out.now)) c.in-Waiting.is) _ (c.waiting_in_place.ensures (lent w) w) _ c.in_ok-count-in-Waiting.was
+
+pub returns-in_err-count-in-Waiting : goal.returns-in_err-count-in-Waiting
+returns-in_err-count-in-Waiting c x w =
+    let p = err_from_is_err_and c.from_residual.result c.from_residual.ensures.1 in
+    rw (p.1, p.2)
+    (waiting_refused (lent w) c.args.worker _ c.args.out.now _ (ap (question_of (length c.args.out.now)) c.in-Waiting.is) _ (c.waiting_in_place.ensures (lent w) w) _ c.in_err-count-in-Waiting.was)
 
 pub returns-in-Committed : goal.returns-in-Committed
 returns-in-Committed c x w =
@@ -27,7 +33,7 @@ returns-in-Committed c x w =
 
 pub returns-in-IsSettled : goal.returns-in-IsSettled
 returns-in-IsSettled c x w =
-    replied (lent w) c.args.worker c.args.out.now _ (ap (question_of (length c.args.out.now)) c.in-IsSettled.is) refl (ap (λ (b : Bool). done (bit b ∷ [])) c.is_acked_in_place.ensures) refl
+    replied (lent w) c.args.worker c.args.out.now _ (ap (question_of (length c.args.out.now)) c.in-IsSettled.is) refl (ap (λ (b : Bool). done (bit b ∷ [])) c.is_acked_in_place-settled.ensures) refl
 
 pub returns-in-LeaseOf : goal.returns-in-LeaseOf
 returns-in-LeaseOf c x w =
@@ -36,7 +42,7 @@ returns-in-LeaseOf c x w =
 
 pub returns-in-CountOf : goal.returns-in-CountOf
 returns-in-CountOf c x w =
-    replied (lent w) c.args.worker c.args.out.now _ (ap (question_of (length c.args.out.now)) c.in-CountOf.is) refl (c.count_in_place.ensures (lent w) w c.args.worker) refl
+    replied (lent w) c.args.worker c.args.out.now _ (ap (question_of (length c.args.out.now)) c.in-CountOf.is) refl (c.count_in_place-count.ensures (lent w) w c.args.worker) refl
 
 pub returns-in-InFlight : goal.returns-in-InFlight
 returns-in-InFlight c x w =
@@ -48,17 +54,22 @@ returns-in-IsDue c x w =
 
 pub returns-in-BlocksLeft : goal.returns-in-BlocksLeft
 returns-in-BlocksLeft c x w =
-    replied (lent w) c.args.worker c.args.out.now _ (ap (question_of (length c.args.out.now)) c.in-BlocksLeft.is) refl (ap (λ (n : ℕ). done (n ∷ [])) c.blocks_left.ensures) refl
+    replied (lent w) c.args.worker c.args.out.now _ (ap (question_of (length c.args.out.now)) c.in-BlocksLeft.is) refl (ap (λ (n : ℕ). done (n ∷ [])) c.blocks_left-left.ensures) refl
 
 pub returns-in-ViewOf : goal.returns-in-ViewOf
 returns-in-ViewOf c x w =
     replied (lent w) c.args.worker c.args.out.now _ (ap (question_of (length c.args.out.now)) c.in-ViewOf.is) refl
-    (ap (λ (v : View). done (view_values v)) (c.view_in_place.ensures (lent w) w)) refl
+    (ap (λ (v : View). done (view_values v)) (c.view_in_place-view.ensures (lent w) w)) refl
 
-pub returns-in-OpenBetween : goal.returns-in-OpenBetween
-returns-in-OpenBetween c x w =
-    open_replied (lent w) c.args.worker _ _ c.args.out.now _ c.open_between_in_place.result
-    (ap (question_of (length c.args.out.now)) c.in-OpenBetween.is) c.open_between_in_place.ensures
+pub returns-in_ok-count-in-OpenBetween : goal.returns-in_ok-count-in-OpenBetween
+returns-in_ok-count-in-OpenBetween c x w =
+    open_replied (lent w) c.args.worker _ _ c.args.out.now _ (ap (question_of (length c.args.out.now)) c.in-OpenBetween.is) _ c.open_between_in_place.ensures _ c.in_ok-count-in-OpenBetween.was
+
+pub returns-in_err-count-in-OpenBetween : goal.returns-in_err-count-in-OpenBetween
+returns-in_err-count-in-OpenBetween c x w =
+    let p = err_from_is_err_and c.from_residual-in_err-count-in-OpenBetween.result c.from_residual-in_err-count-in-OpenBetween.ensures.1 in
+    rw (p.1, p.2)
+    (open_refused (lent w) c.args.worker _ _ c.args.out.now _ (ap (question_of (length c.args.out.now)) c.in-OpenBetween.is) _ c.open_between_in_place.ensures _ c.in_err-count-in-OpenBetween.was)
 
 pub returns-in-NearestOpen : goal.returns-in-NearestOpen
 returns-in-NearestOpen c x w =

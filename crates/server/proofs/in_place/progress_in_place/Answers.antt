@@ -28,4 +28,4 @@ returns c out x h =
     let e = here (goal.at.returns c).Else-phase-ne0 in
     let g = c.args in
     progress-numbers g.phase _ g.worker g.offset g.generation g.now out _ c.progress_in_place-answer.result _ e
-    (c.progress_in_place-answer.ensures x (whole g.phase _ e h)) c.of_progress.ensures
+    (c.progress_in_place-answer.ensures x (whole g.phase _ e h)) c.of_value.ensures

@@ -20,7 +20,12 @@ step_in_place-stepped-requires c =
     let p = c.requires in
     record { writing = p.writing; sound = writing-sound _ _ (here (goal.at.step_in_place-stepped-requires c).Else-phase-ne1) p.sound }
 
-pub returns : goal.returns
-returns c s w ok out =
-    let e = here (goal.at.returns c).Else-phase-ne1 in
-    stepped-numbers s _ _ ok _ out _ _ e (c.step_in_place-stepped.ensures w (writing-sound _ _ e ok)) _ _ c.of_step.ensures c.phase_after.ensures
+pub returns-in-Ok : goal.returns-in-Ok
+returns-in-Ok c s w ok out =
+    let e = here (goal.at.returns-in-Ok c).Else-phase-ne1 in
+    stepped-numbers s _ _ ok _ out _ _ e (c.in-Ok.ensures w (writing-sound _ _ e ok)) _ _ c.of_step.ensures c.phase_after.ensures
+
+pub returns-in-Err : goal.returns-in-Err
+returns-in-Err c s w ok out =
+    let e = here (goal.at.returns-in-Err c).Else-phase-ne1 in
+    stepped-numbers s _ _ ok _ out _ _ e (c.in-Err.ensures w (writing-sound _ _ e ok)) _ _ c.of_refusal.ensures e

@@ -4,7 +4,7 @@ use native.Mathlib.Omega.{arith}
 use mathlib.Core.Path.{sym, ap, ◌∙◌}
 use mathlib.Core.Option.{Option, map}
 use Rattle.machine.specs.Calls.{Call, ask}
-use Rattle.server.specs.Kinds.{call_at, asking_of}
+use Rattle.server.specs.Kinds.{call_at}
 use Rattle.server.proofs.Found.{on-state}
 use borrow.Author.Rules.{rules}
 use Rattle.server.proofs.kinds.call_of.Goals as goal
@@ -21,14 +21,13 @@ returns-in-17 c room = ap (as_numbers c.args.worker c.args.a c.args.b c.args.c c
 pub returns-in-18 : goal.returns-in-18
 returns-in-18 c room = ap (as_numbers c.args.worker c.args.a c.args.b c.args.c c.args.d room) (sym c.in-18.is)
 
-pub returns-in-Ask : goal.returns-in-Ask
-returns-in-Ask c room =
+pub returns-in_ok-ask-in_default : goal.returns-in_ok-ask-in_default
+returns-in_ok-ask-in_default c room =
     let x = c.args in
-    ap (map (ask x.worker)) (ap (asking_of room) (sym c.in-Ask.is) ∙ c.ask_of-asking.ensures room)
-    ∙ on-state x.worker x.a x.b x.c x.d room x.kind (λ e. omega arith) (λ e. omega arith) (λ e. omega arith)
+    ap (map (ask x.worker)) (c.in_ok-ask-in_default.ensures room) ∙ on-state x.worker x.a x.b x.c x.d room x.kind (λ e. omega arith) (λ e. omega arith) (λ e. omega arith)
 
-pub returns-in-None : goal.returns-in-None
-returns-in-None c room =
+pub returns-in_err-ask-in_default : goal.returns-in_err-ask-in_default
+returns-in_err-ask-in_default c room =
     let x = c.args in
-    ap (map (ask x.worker)) (ap (asking_of room) (sym c.in-None.is) ∙ c.ask_of-asking.ensures room)
-    ∙ on-state x.worker x.a x.b x.c x.d room x.kind (λ e. omega arith) (λ e. omega arith) (λ e. omega arith)
+    rw c.from_residual.ensures
+    (ap (map (ask x.worker)) (c.in_err-ask-in_default.ensures room) ∙ on-state x.worker x.a x.b x.c x.d room x.kind (λ e. omega arith) (λ e. omega arith) (λ e. omega arith))

@@ -1,17 +1,15 @@
 -- `carry` meets its contract. The loop's invariant: the entries in the columns, and the counts among the pairs to come that are
 -- carried, are together those of all pairs. Assumes nothing.
-use Prim.Native.Nat.{ℕ, ◌≤◌, ◌-◌}
+use Prim.Native.Nat.{ℕ, ◌≤◌}
 use native.Mathlib.Omega.{arith}
 use mathlib.Core.Path.{◌≡◌, refl, sym, ap, ◌∙◌}
 use mathlib.Core.List.{List, ◌++◌}
-use lib.ListN.{length, take, drop, length-set}
+use lib.ListN.{length, take, length-set}
 use borrow.Author.Rules.{rules}
 use Rattle.types.specs.Keyed.{Entry, entries}
-use Rattle.types.specs.Lists.{entries_of}
 use Rattle.cursor.specs.View as cursors
 use Rattle.types.proofs.Scan.{length-mapped}
 use Rattle.cursor.specs.View.{ack_cursor}
-use Rattle.starts.specs.Restart.{unsettled_counts}
 use Rattle.starts.proofs.Carrying.{carried-more, dropped_more, carried-end}
 use Rattle.starts.proofs.in_place.carry.Goals as goal
 use Rattle.starts.proofs.in_place.carry.Goals.{then-is_carried, else-is_carried}

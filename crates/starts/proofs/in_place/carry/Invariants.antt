@@ -1,19 +1,14 @@
 -- `carry` meets its contract. The loop's invariant: the entries in the columns, and the counts among the pairs to come that are
 -- carried, are together those of all pairs. Assumes nothing.
-use Prim.Native.Nat.{ℕ, ◌≤◌, ◌-◌}
-use native.Mathlib.Omega.{arith}
-use mathlib.Core.Path.{◌≡◌, refl, sym, ap, ◌∙◌}
-use mathlib.Core.List.{List, ◌++◌}
-use mathlib.Core.Logic.{⊎_elim}
-use lib.ListN.{length, take, drop, length-set}
-use borrow.Author.Rules.{rules}
-use Rattle.types.specs.Keyed.{Entry, entries}
+use Prim.Native.Nat.{◌≤◌}
+use mathlib.Core.Path.{◌≡◌}
+use mathlib.Core.List.{◌++◌}
+use lib.ListN.{length, take, drop}
+use Rattle.types.specs.Keyed.{entries}
 use Rattle.types.specs.Lists.{entries_of}
 use Rattle.cursor.specs.View as cursors
-use Rattle.types.proofs.Scan.{length-mapped}
 use Rattle.cursor.specs.View.{ack_cursor}
 use Rattle.starts.specs.Restart.{unsettled_counts}
-use Rattle.starts.proofs.Carrying.{carried-more, dropped_more, carried-end}
 use Rattle.starts.proofs.in_place.carry.Given as goal
 
 abbrev pub invariant-loop-i : goal.invariant-loop-i
@@ -24,6 +19,3 @@ invariant-loop-i l =
     (length l.offsets ≡ 128) ×
     (length l.counts ≡ 128) ×
     (entries (take l.len l.offsets) (take l.len l.counts) ++ unsettled_counts k (entries_of (drop l.i (take l.count l.pairs))) ≡ unsettled_counts k (entries_of (take l.count l.pairs)))
-
-abbrev pub decreases-loop-i : goal.decreases-loop-i
-decreases-loop-i l = l.count - l.i

@@ -1,5 +1,4 @@
 -- `is_carried` meets its contract. Assumes nothing.
-use borrow.Author.Rules.{rules}
 use borrow.Author.Tests.{eq-eqb, ne_eqb}
 use Rattle.starts.proofs.in_place.is_carried.Goals as goal
 

@@ -1,9 +1,6 @@
 -- `unfit_at` meets its contract: the block is one of the half that is read. Assumes nothing.
-use Prim.Native.Nat.{◌+◌, ◌*◌, ◌≤◌}
 use native.Mathlib.Omega.{arith}
 use mathlib.Core.Path.{◌∙◌}
-use lib.ListN.{length}
-use borrow.Author.Rules.{rules}
 use borrow.Author.Tests.{lt-ltb, le-ltb}
 use Rattle.journal.proofs.Area.{part-is}
 use Rattle.starts.specs.Restart.{limit}

@@ -63,5 +63,5 @@ returns c =
     pair-carried c.args.pair c.args.carried c.requires c.if-carried.false (offset-fits k) (attempt-fits k) (c.args.carried.len + 1) _ _
     (omega (arith, few, c.if-len-eq-CARRIED.false))
     (counted-more c.args.carried.len c.args.carried.offsets c.args.carried.counts (full k) (full-counts k) c.requires.few c.requires.rising c.args.pair.offset c.args.pair.attempt c.if-pair-eq0.false c.find-place.ensures c.in-Missing.is c.if-len-eq-CARRIED.false _ _
-    (put_in_front c.args.carried.len c.in-Missing.at c.args.pair.offset c.args.carried.offsets (omega (arith, inside)) (omega (arith, full k, c.if-len-eq-CARRIED.false)) c.insert_128.ensures)
-    (put_in_front c.args.carried.len c.in-Missing.at c.args.pair.attempt c.args.carried.counts (omega (arith, inside)) (omega (arith, full-counts k, c.if-len-eq-CARRIED.false)) c.insert_count_128.ensures))
+    (put_in_front c.args.carried.len c.in-Missing.at c.args.pair.offset c.args.carried.offsets (omega (arith, inside)) (omega (arith, full k, c.if-len-eq-CARRIED.false)) c.insert.ensures)
+    (put_in_front c.args.carried.len c.in-Missing.at c.args.pair.attempt c.args.carried.counts (omega (arith, inside)) (omega (arith, full-counts k, c.if-len-eq-CARRIED.false)) c.insert-2.ensures))

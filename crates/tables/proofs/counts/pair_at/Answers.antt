@@ -1,20 +1,17 @@
--- `pair_at` meets its contract.
--- Assumes nothing.
+-- `pair_at` meets its contract. Assumes nothing.
 use native.Mathlib.Omega.{arith}
 use Rattle.tables.proofs.Merge.{pair-there, pair_missing}
 use Rattle.tables.proofs.counts.pair_at.Goals as goal
+use Rattle.tables.proofs.counts.pair_at.Goals.{else-i-len-via-then-i-len+then-i-keys+else-i-counts, else-i-len-via-then-i-len+else-i-keys, else-i-len-via-else-i-len}
 
-pub returns-then-len-i : goal.returns-then-len-i
-returns-then-len-i c = let s = c.before in pair_missing s.args.len s.args.i s.args.keys.now s.args.counts.now (omega (arith, c.if-len-i.true))
-
-pub returns-then-keys-i : goal.returns-then-keys-i
-returns-then-keys-i c = let s = c.before.before in pair_missing s.args.len s.args.i s.args.keys.now s.args.counts.now (omega (arith, c.if-keys-i.true))
-
-pub returns-then-counts-i : goal.returns-then-counts-i
-returns-then-counts-i c = let s = c.before.before.before in pair_missing s.args.len s.args.i s.args.keys.now s.args.counts.now (omega (arith, c.if-counts-i.true))
+pub returns-then-i-counts : goal.returns-then-i-counts
+returns-then-i-counts c = pair-there c.args.len c.args.i c.args.keys.now c.args.counts.now c.if-i-len.true c.if-i-keys.true c.if-i-counts.true
 
 pub returns : goal.returns
 returns c =
-    let e = c.before.before in
-    let s = e.before.before.before in
-    pair-there s.args.len s.args.i s.args.keys.now s.args.counts.now e.if-len-i.false e.if-keys-i.false e.if-counts-i.false
+    pair_missing c.args.len c.args.i c.args.keys.now c.args.counts.now
+    (elim c.else-i-len.branch [
+      | else-i-len-via-then-i-len+then-i-keys+else-i-counts w ↦ omega arith
+      | else-i-len-via-then-i-len+else-i-keys w ↦ omega arith
+      | else-i-len-via-else-i-len w ↦ omega arith
+    ])

@@ -1,14 +1,9 @@
 -- `find` meets its contract. The loop's invariant: the place that is looked for is the same from i on. Assumes nothing.
-use Prim.Native.Nat.{◌+◌, ◌-◌, ◌≤◌, max}
-use native.Mathlib.Omega.{arith}
-use mathlib.Core.Path.{◌≡◌, refl}
-use lib.ListN.{length, drop}
+use Prim.Native.Nat.{◌+◌}
+use mathlib.Core.Path.{◌≡◌}
+use lib.ListN.{drop}
 use Rattle.text.specs.Words.{length_to}
-use Rattle.text.proofs.Parsing.{to-here, to-next, to_end}
 use Rattle.text.proofs.words.find.Given as goal
 
 abbrev pub invariant-loop-i : goal.invariant-loop-i
-invariant-loop-i l = (l.from ≤ l.i) × (l.i ≤ max l.from (length l.bytes)) × (l.i + length_to l.c (drop l.i l.bytes) ≡ l.from + length_to l.c (drop l.from l.bytes))
-
-abbrev pub decreases-loop-i : goal.decreases-loop-i
-decreases-loop-i l = length l.bytes - l.i
+invariant-loop-i l = l.i + length_to l.c (drop l.i l.bytes) ≡ l.from + length_to l.c (drop l.from l.bytes)

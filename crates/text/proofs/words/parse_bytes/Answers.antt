@@ -1,12 +1,8 @@
 -- `parse_bytes` meets its contract. The loop's invariant: `count` bytes are in the list, and the digits from `at` on are left. Assumes
 -- nothing.
-use Prim.Native.Nat.{◌-◌, ◌≤◌}
 use native.Mathlib.Omega.{arith}
-use mathlib.Core.Path.{◌≡◌, sym, ap, ◌∙◌}
-use lib.ListN.{length}
-use Rattle.text.specs.Words.{all_hex, is_bytes, byte_of}
-use Rattle.text.proofs.Hex.{Decoding, decoding_none, plainly, decoding_more, decoded-bad, decoded_odd, decoded-all, decoded_dash, decoded-empty}
-use borrow.Author.Rules.{rules}
+use mathlib.Core.Path.{sym, ◌∙◌}
+use Rattle.text.proofs.Hex.{decoding_none, plainly, decoding_more, decoded-bad, decoded_odd, decoded-all, decoded_dash, decoded-empty}
 use Rattle.text.proofs.words.parse_bytes.Goals as goal
 
 pub returns-then-same : goal.returns-then-same
@@ -35,15 +31,11 @@ returns-then-next-len c =
     let a = c.args in
     decoded_odd a.word.now a.out.now _ _ _ l.invariant.1 l.invariant.2 c.if-next-len.true
 
-pub shape_of-out-in_default : goal.shape_of-out-in_default
-shape_of-out-in_default c = c.loop-at.invariant.1.size
-
-pub returns-in_default : goal.returns-in_default
-returns-in_default c =
+pub returns-in_err-byte : goal.returns-in_err-byte
+returns-in_err-byte c =
     let l = c.loop-at in
-    let h = c.before.before in
     let a = c.args in
-    decoded-bad a.word.now a.out.now _ _ _ l.invariant.1 (omega arith) l.invariant.2 (sym h.hex_byte.ensures ∙ ap byte_of c.in_default.is)
+    rw c.from_residual.ensures (decoded-bad a.word.now a.out.now _ _ _ l.invariant.1 (omega arith) l.invariant.2 (sym c.in_err-byte.ensures))
 
 pub overflow_add-count : goal.overflow_add-count
 overflow_add-count c = let l = c.loop-at in omega (arith, l.invariant.0, l.invariant.1.counted)
@@ -51,11 +43,10 @@ overflow_add-count c = let l = c.loop-at in omega (arith, l.invariant.0, l.invar
 pub loop-at-preserved : goal.loop-at-preserved
 loop-at-preserved c =
     let l = c.loop-at in
-    let a = c.args in
-    let b = c in (
+    let a = c.args in (
       omega arith,
-      rw c.store_byte.ensures
-          (decoding_more a.word.now a.out.now _ _ _ l.invariant.1 (omega arith) _ (sym b.hex_byte.ensures ∙ ap byte_of b.in-Is.is)),
+      rw c.store.ensures
+          (decoding_more a.word.now a.out.now _ _ _ l.invariant.1 (omega arith) _ (sym c.in_ok-byte.ensures)),
       l.invariant.2,
     )
 

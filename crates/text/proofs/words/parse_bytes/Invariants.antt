@@ -1,12 +1,10 @@
 -- `parse_bytes` meets its contract. The loop's invariant: `count` bytes are in the list, and the digits from `at` on are left. Assumes
 -- nothing.
 use Prim.Native.Nat.{◌-◌, ◌≤◌}
-use native.Mathlib.Omega.{arith}
-use mathlib.Core.Path.{◌≡◌, sym, ap, ◌∙◌}
+use mathlib.Core.Path.{◌≡◌}
 use lib.ListN.{length}
-use Rattle.text.specs.Words.{all_hex, is_bytes, byte_of}
-use Rattle.text.proofs.Hex.{Decoding, decoding_none, plainly, decoding_more, decoded-bad, decoded_odd, decoded-all, decoded_dash, decoded-empty}
-use borrow.Author.Rules.{rules}
+use Rattle.text.specs.Words.{all_hex, is_bytes}
+use Rattle.text.proofs.Hex.{Decoding}
 use Rattle.text.proofs.words.parse_bytes.Given as goal
 
 abbrev pub invariant-loop-at : goal.invariant-loop-at

@@ -1,39 +1,33 @@
--- `parse_number` meets its contract. The loop's invariant: the word's number is that of the digits from i on behind n. Assumes nothing.
-use Prim.Native.Nat.{◌+◌, ◌-◌, ◌≤◌}
+-- `parse_number` meets its contract. The loop's invariant: the word's number is that of the digits from the next one on behind n. Assumes nothing.
+use Prim.Native.Nat.{◌+◌}
 use native.Mathlib.Omega.{arith}
-use mathlib.Core.Path.{◌≡◌, sym, ap, ◌∙◌}
-use lib.ListN.{length, drop, get_or, drop_of_length-le}
-use borrow.Author.Rules.{rules}
-use Rattle.types.specs.Limits.{MAX}
-use Rattle.text.specs.Words.{number, number_of}
-use Rattle.text.proofs.Parsing.{number_from, drop-next, number_more, number_none, number-all, number-begun, number-empty}
+use mathlib.Core.Path.{sym, ◌∙◌}
+use lib.ListN.{drop, get_or, drop_of_length-le}
+use Rattle.std.proofs.lemmas.Bool.Decides.{nat_tests}
+use Rattle.text.proofs.Parsing.{drop-next, number_more, number_none, number-all, number-begun}
 use Rattle.text.proofs.words.parse_number.Goals as goal
 
-pub returns-then-len-eq0 : goal.returns-then-len-eq0
-returns-then-len-eq0 c = sym (number-empty c.args.word.now c.if-len-eq0.true)
+pub loop-c-init : goal.loop-c-init
+loop-c-init c = (omega arith, number-begun c.args.word.now (grind (arith, nat_tests)))
 
-pub loop-i-init : goal.loop-i-init
-loop-i-init c = (omega arith, omega arith, number-begun c.args.word.now (omega arith))
+pub returns-in_err-n : goal.returns-in_err-n
+returns-in_err-n c =
+    let l = c.loop-c in
+    let w = c.args.word.now in
+    let e = sym c.in_err-n.ensures in
+    rw c.from_residual.ensures
+    (sym (l.invariant.1 ∙ rw (drop-next w l.c-index (omega arith)) (number_none l.n (get_or w l.c-index 0) (drop (l.c-index + 1) w) e)))
 
-pub returns-in_default : goal.returns-in_default
-returns-in_default c =
-    let d = c.before.before in
-    let l = d.loop-i in
-    let w = d.args.word.now in
-    let e = sym d.with_digit-more.ensures ∙ ap number_of c.in_default.is in
-    sym (l.invariant.2 ∙ rw (drop-next w l.i (omega arith)) (number_none l.n (get_or w l.i 0) (drop (l.i + 1) w) e))
-
-pub loop-i-preserved : goal.loop-i-preserved
-loop-i-preserved c =
-    let d = c in
-    let l = d.loop-i in
-    let w = d.args.word.now in
-    let e = sym d.with_digit-more.ensures ∙ ap number_of c.in-Value.is in
-    let m = number_more l.n (get_or w l.i 0) (drop (l.i + 1) w) _ e in
-    (omega arith, m.0, l.invariant.2 ∙ rw (drop-next w l.i (omega arith)) m.1)
+pub loop-c-preserved : goal.loop-c-preserved
+loop-c-preserved c =
+    let l = c.loop-c in
+    let w = c.args.word.now in
+    let e = sym c.in_ok-n.ensures in
+    let m = number_more l.n (get_or w l.c-index 0) (drop (l.c-index + 1) w) _ e in
+    (m.0, l.invariant.1 ∙ rw (drop-next w l.c-index (omega arith)) m.1)
 
 pub returns : goal.returns
 returns c =
-    let l = c.loop-i in
+    let l = c.loop-c in
     let w = c.args.word.now in
-    sym (l.invariant.2 ∙ rw (drop_of_length-le w {i = l.i} (omega arith)) (number-all l.n l.invariant.1))
+    sym (l.invariant.1 ∙ rw (drop_of_length-le w {i = l.c-index} (omega arith)) (number-all l.n l.invariant.0))

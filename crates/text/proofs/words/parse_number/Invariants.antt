@@ -1,16 +1,11 @@
--- `parse_number` meets its contract. The loop's invariant: the word's number is that of the digits from i on behind n. Assumes nothing.
-use Prim.Native.Nat.{◌+◌, ◌-◌, ◌≤◌}
-use native.Mathlib.Omega.{arith}
-use mathlib.Core.Path.{◌≡◌, sym, ap, ◌∙◌}
-use lib.ListN.{length, drop, get_or, drop_of_length-le}
-use borrow.Author.Rules.{rules}
+-- `parse_number` meets its contract. The loop's invariant: the word's number is that of the digits from the next one on behind n. Assumes nothing.
+use Prim.Native.Nat.{◌≤◌}
+use mathlib.Core.Path.{◌≡◌}
+use lib.ListN.{drop}
 use Rattle.types.specs.Limits.{MAX}
-use Rattle.text.specs.Words.{number, number_of}
-use Rattle.text.proofs.Parsing.{number_from, drop-next, number_more, number_none, number-all, number-begun, number-empty}
+use Rattle.text.specs.Words.{number}
+use Rattle.text.proofs.Parsing.{number_from}
 use Rattle.text.proofs.words.parse_number.Given as goal
 
-abbrev pub invariant-loop-i : goal.invariant-loop-i
-invariant-loop-i l = (l.i ≤ length l.word) × (l.n ≤ MAX) × (number l.word ≡ number_from l.n (drop l.i l.word))
-
-abbrev pub decreases-loop-i : goal.decreases-loop-i
-decreases-loop-i l = length l.word - l.i
+abbrev pub invariant-loop-c : goal.invariant-loop-c
+invariant-loop-c l = (l.n ≤ MAX) × (number l.word ≡ number_from l.n (drop l.c-index l.word))

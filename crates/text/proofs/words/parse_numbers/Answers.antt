@@ -1,12 +1,10 @@
 -- `parse_numbers` meets its contract. The loop's invariant: at a word's end, the words behind it are those left to gather.
 -- Assumes nothing.
-use Prim.Native.Nat.{◌+◌, ◌-◌, ◌≤◌}
+use Prim.Native.Nat.{◌+◌}
 use native.Mathlib.Omega.{arith}
-use mathlib.Core.Path.{◌≡◌, sym, ap, ◌∙◌}
-use lib.ListN.{length, drop}
-use Rattle.text.specs.Words.{SPACE, length_to, later_words, number_of}
-use Rattle.text.proofs.Parsing.{Gathering, gathering_none, gathering_more, gathered-bad, gathered-all, to-there-from, later-from, later-next, later-end}
-use borrow.Author.Rules.{rules}
+use mathlib.Core.Path.{sym}
+use Rattle.text.specs.Words.{SPACE}
+use Rattle.text.proofs.Parsing.{gathering_none, gathering_more, gathered-bad, gathered-all, to-there-from, later-from, later-next, later-end}
 use Rattle.text.proofs.words.parse_numbers.Goals as goal
 
 pub loop-at-init : goal.loop-at-init
@@ -21,16 +19,13 @@ loop-at-init c =
 pub slice_bounds-parse_number-count : goal.slice_bounds-parse_number-count
 slice_bounds-parse_number-count c = c.word_end-end.ensures.behind
 
-pub shape_of-out-in_default : goal.shape_of-out-in_default
-shape_of-out-in_default c = c.loop-at.invariant.2.size
-
-pub returns-in_default : goal.returns-in_default
-returns-in_default c =
+pub returns-in_err-n : goal.returns-in_err-n
+returns-in_err-n c =
     let l = c.loop-at in
     let line = c.args.line.now in
     let w = c.word_end-end in
     let e = later-next SPACE line l.at w.result c.loop-at-test.true l.invariant.1 w.ensures.is in
-    gathered-bad _ _ _ _ _ _ (rw e at l.invariant.2) (sym c.parse_number.ensures ∙ ap number_of c.in_default.is)
+    rw c.from_residual.ensures (gathered-bad _ _ _ _ _ _ (rw e at l.invariant.2) (sym c.in_err-n.ensures))
 
 pub overflow_add-count : goal.overflow_add-count
 overflow_add-count c = omega (arith, c.loop-at.invariant.0, c.loop-at-test.true)
@@ -47,7 +42,7 @@ loop-at-preserved c =
       omega (arith, w.ensures.behind, l.invariant.0),
       to-there-from SPACE line (l.at + 1) w.result w.ensures.is,
       rw c.store.ensures
-          (gathering_more _ _ _ _ _ _ (rw e at l.invariant.2) _ (sym c.parse_number.ensures ∙ ap number_of c.in-Value.is)),
+          (gathering_more _ _ _ _ _ _ (rw e at l.invariant.2) _ (sym c.in_ok-n.ensures)),
     )
 
 pub shape_of-out : goal.shape_of-out

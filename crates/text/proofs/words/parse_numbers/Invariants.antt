@@ -1,12 +1,10 @@
 -- `parse_numbers` meets its contract. The loop's invariant: at a word's end, the words behind it are those left to gather.
 -- Assumes nothing.
-use Prim.Native.Nat.{◌+◌, ◌-◌, ◌≤◌}
-use native.Mathlib.Omega.{arith}
-use mathlib.Core.Path.{◌≡◌, sym, ap, ◌∙◌}
+use Prim.Native.Nat.{◌-◌, ◌≤◌}
+use mathlib.Core.Path.{◌≡◌}
 use lib.ListN.{length, drop}
-use Rattle.text.specs.Words.{SPACE, length_to, later_words, number_of}
-use Rattle.text.proofs.Parsing.{Gathering, gathering_none, gathering_more, gathered-bad, gathered-all, to-there-from, later-from, later-next, later-end}
-use borrow.Author.Rules.{rules}
+use Rattle.text.specs.Words.{SPACE, length_to, later_words}
+use Rattle.text.proofs.Parsing.{Gathering}
 use Rattle.text.proofs.words.parse_numbers.Given as goal
 
 abbrev pub invariant-loop-at : goal.invariant-loop-at

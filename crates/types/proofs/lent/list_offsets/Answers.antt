@@ -10,5 +10,5 @@ pub loop-i-preserved : goal.loop-i-preserved
 loop-i-preserved c =
     let l = c.loop-i in
     let long = length-map c.args.out.now (λ o. o.0) in
-    let fits = counted-fits (offsets_in c.args.list) (numbers_of c.args.out.now) c.count_of-n.result (rw (long, ← c.offsets_fit-outcome.ensures) c.count_of-n.ensures) in
+    let fits = counted-fits (offsets_in c.args.list) (numbers_of c.args.out.now) c.in_ok-n.n (rw (long, ← c.offsets_fit.ensures, c.in_ok-n.was)) in
     one_more-of _ _ (λ o. o.0) 0 _ l.i l.out c.offset_at.result (omega arith) fits c.offset_at.ensures l.invariant

@@ -11,5 +11,5 @@ pub loop-i-preserved : goal.loop-i-preserved
 loop-i-preserved c =
     let l = c.loop-i in
     let long = length-map c.args.out.now entry_of in
-    let fits = counted-fits (counts_in c.args.counts) (entries_of c.args.out.now) c.count_of-n.result (rw (long, ← c.counts_fit-outcome.ensures) c.count_of-n.ensures) in
+    let fits = counted-fits (counts_in c.args.counts) (entries_of c.args.out.now) c.in_ok-n.n (rw (long, ← c.counts_fit.ensures, c.in_ok-n.was)) in
     one_more-of _ _ entry_of (entry 0 0) _ l.i l.out c.pair_at.result (omega arith) fits c.pair_at.ensures l.invariant

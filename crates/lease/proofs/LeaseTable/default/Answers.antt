@@ -1,7 +1,0 @@
--- `LeaseTable::default` meets its contract.
--- Assumes nothing.
-use borrow.Author.Rules.{rules}
-use Rattle.lease.proofs.LeaseTable.default.Goals as goal
-
-pub returns : goal.returns
-returns c = rw (← c.default.ensures) c.new.ensures

@@ -1,7 +1,0 @@
--- `granted` meets its contract.
--- Assumes nothing.
-use borrow.Author.Rules.{rules}
-use Rattle.lease.proofs.in_place.granted.Goals as goal
-
-pub returns : goal.returns
-returns c = rw c.after_grant-counted.ensures

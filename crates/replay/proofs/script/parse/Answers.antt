@@ -1,6 +1,0 @@
--- `parse` is safe and ends. Assumes nothing.
-use Rattle.std.proofs.Common.{sym, length-take-le, rules}
-use Rattle.replay.proofs.script.parse.Goals as goal
-
-pub slice_bounds-read-end : goal.slice_bounds-read-end
-slice_bounds-read-end c = sym (length-take-le c.without_return-end.result _ c.without_return-end.ensures.inside)

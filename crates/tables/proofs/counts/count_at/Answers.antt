@@ -1,8 +1,0 @@
--- `count_at` meets its contract.
--- Assumes nothing.
-use mathlib.Core.Path.{sym}
-use lib.ListN.{get_or-eq_default}
-use Rattle.tables.proofs.counts.count_at.Goals as goal
-
-pub returns-else-at-counts : goal.returns-else-at-counts
-returns-else-at-counts c = sym (get_or-eq_default c.args.counts.now 0 c.if-at-counts.false)
