@@ -80,25 +80,29 @@ pub fn begin(consumer: Consumer, worker: u64) -> Begun
         &consumer.cursor.ends,
         &mut payload,
     );
-    let mut writing = Writing {
-        consumer,
-        written: 0,
-        payload,
-        cursor_len: 0,
-        attempt_len: 0,
-    };
-    match begun {
-        Ok(begun) => {
-            writing.cursor_len = begun.cursor_len;
-            writing.attempt_len = begun.attempt_len;
-            Begun {
-                answer: Ok(begun.writes),
-                writing,
-            }
+    let begun = match begun {
+        Ok(begun) => begun,
+        Err(refusal) => {
+            return Begun {
+                answer: Err(refusal),
+                writing: Writing {
+                    consumer,
+                    written: 0,
+                    payload,
+                    cursor_len: 0,
+                    attempt_len: 0,
+                },
+            };
         }
-        Err(refusal) => Begun {
-            answer: Err(refusal),
-            writing,
+    };
+    Begun {
+        answer: Ok(begun.writes),
+        writing: Writing {
+            consumer,
+            written: 0,
+            payload,
+            cursor_len: begun.cursor_len,
+            attempt_len: begun.attempt_len,
         },
     }
 }
@@ -126,23 +130,24 @@ impl Writing {
             &self.payload,
             area,
         );
-        match stepped {
-            Ok(stepped) => {
-                let after = stepped.numbers;
-                self.written = after.written;
-                self.consumer.ceiling.0 = after.ceiling;
-                self.consumer.table.redeliveries_since_flush = after.redeliveries;
-                self.consumer.next.number = after.number;
-                self.consumer.next.block = after.block;
-                Stepped {
-                    answer: Ok(stepped.wrote),
+        let stepped = match stepped {
+            Ok(stepped) => stepped,
+            Err(refusal) => {
+                return Stepped {
+                    answer: Err(refusal),
                     writing: self,
-                }
+                };
             }
-            Err(refusal) => Stepped {
-                answer: Err(refusal),
-                writing: self,
-            },
+        };
+        let after = stepped.numbers;
+        self.written = after.written;
+        self.consumer.ceiling.0 = after.ceiling;
+        self.consumer.table.redeliveries_since_flush = after.redeliveries;
+        self.consumer.next.number = after.number;
+        self.consumer.next.block = after.block;
+        Stepped {
+            answer: Ok(stepped.wrote),
+            writing: self,
         }
     }
 

@@ -1,4 +1,4 @@
--- Bits of a number: what is left of a day from a half hour on, and what the count of trailing zeros says of it.
+-- Bits of a number: what is left of a day from a half hour on, and what the counts of ones and of trailing zeros say of it.
 -- Assumes nothing.
 use Prim.Native.Nat.{ℕ, zero, suc, ◌+◌, ◌-◌, ◌/◌, ◌%◌, ◌^◌, ◌≤◌, ◌<◌}
 use native.Mathlib.Nat.{div-one, mod-lt}
@@ -6,8 +6,9 @@ use native.Mathlib.Omega.{arith}
 use mathlib.Core.Path.{◌≡◌, refl, sym, ap, ◌∙◌}
 use mathlib.Core.Bool.{true, false}
 use lib.Dec.{eqb}
+use lib.Arith.{bin_ind}
 use lib.Pow.{shr-shr, shr_lt, field, mod-mod-pow, pow_pos}
-use lib.Count.{count_trailing_zeros}
+use lib.Count.{ones, ones_step, count_trailing_zeros}
 use borrow.Author.Tests.{eqb-true, eqb-false}
 use Rattle.types.proofs.Cases.{split}
 use Rattle.hours.specs.Hours.{bit}
@@ -63,6 +64,22 @@ at-zeros zero n l = absurd (omega arith)
 at-zeros (suc k) n l =
     split (eqb (n % 2) 1) (λ t. rw (tz_odd k n t) (bit-first n ∙ t))
     (λ t. rw (tz_even k n t) (bit-next n (count_trailing_zeros k (n / 2)) ∙ at-zeros k (n / 2) (omega (arith, tz_even k n t))))
+
+-- ## ones: none just where the number is 0
+pub no_ones : (n : ℕ) → ones n ≡ 0 → n ≡ 0
+no_ones = bin_ind (λ (n : ℕ). ones n ≡ 0 → n ≡ 0) (λ e. refl)
+    (λ n rest e.
+    let low : n % 2 ≡ 0 = omega (arith, ones_step n) in
+    let high : n / 2 ≡ 0 = rest (omega (arith, ones_step n)) in
+    omega arith)
+
+ones_of_zero : ones 0 ≡ 0
+unfolding ones
+ones_of_zero = refl
+
+pub some_ones : (n : ℕ) → (ones n ≡ 0 → ⊥) → 0 < n
+some_ones zero h = absurd (h ones_of_zero)
+some_ones (suc n) h = omega arith
 
 -- ## what is left of a day from half hour b on
 module _ (day b : ℕ) (within : b < 48) where

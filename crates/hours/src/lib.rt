@@ -53,7 +53,7 @@ fn first_open(days: &[u64; 7], from: u64) -> u64
     while at < from + WEEK_HALVES {
         let day = (at / DAY_HALVES % DAYS) as usize;
         let rest = remaining(days[day], at % DAY_HALVES);
-        if rest != 0 {
+        if rest.count_ones() != 0 {
             return at + u64::from(rest.trailing_zeros());
         }
         at = at - at % DAY_HALVES + DAY_HALVES;

@@ -153,7 +153,8 @@ pub fn oversized(out: &mut Output, area: &[u8]) {
 
 // Whether there is something to be known before a restart that isn't refused: something would be said of it, or a part can't be read.
 fn is_odd(out: &Output, area: &[u8], walked: Result<Stop, Refusal>, unread: &[u8; 128]) -> bool {
-    let mut aside = Output::new(out.stdout);
+    let mut gathered = [0u8; 4096];
+    let mut aside = Output::new(out.stdout, &mut gathered);
     reasons(&mut aside, area, walked);
     0 < aside.at || !raw::all_zero(unread)
 }

@@ -136,7 +136,8 @@ fn inspect<R: Files<File = File>>(
         Ok(file) => file,
         Err(error) => return fail(stderr, alloc, told_as(path), error),
     };
-    let mut out = Output::new(stdout);
+    let mut gathered = [0u8; 65536];
+    let mut out = Output::new(stdout, &mut gathered);
     let done = if has_journals(kind, asked, &file) {
         files::show_journal(&mut out, asked, path, &mut file, alloc, stderr)
     } else {

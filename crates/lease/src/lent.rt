@@ -36,7 +36,8 @@ impl LeaseTable {
         requires { Sound self }
         ensures { Answers (resume_of result.outcome) self result.table (resume_attempts (view self) (entry_of pair ∷ [])) }
     {
-        self.resume_attempts(&[pair])
+        let carried = counts::carry_pair(self.carried_so_far(), pair);
+        self.resumed(carried)
     }
 
     // How often each message in flight was handed out, into a lent list. 20 where it doesn't fit.

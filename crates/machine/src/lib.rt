@@ -78,15 +78,15 @@ impl Machine {
     {
         let answer = made.answer;
         let consumer = made.consumer;
-        match answer {
-            Ok(()) => Started {
-                answer,
-                machine: Machine::resting(configuration, 0, consumer),
-            },
-            Err(_) => Started {
+        let Ok(()) = answer else {
+            return Started {
                 answer,
                 machine: Machine::resting(configuration, 2, consumer),
-            },
+            };
+        };
+        Started {
+            answer,
+            machine: Machine::resting(configuration, 0, consumer),
         }
     }
 
@@ -162,20 +162,20 @@ impl Machine {
         }
         let begun = checkpoint::begin(self.writing.consumer, worker);
         let answer = begun.answer;
-        let configuration = self.configuration;
-        let writing = begun.writing;
-        match answer {
-            Ok(_) => Called {
-                answer: CallAnswer::Begun(answer),
-                machine: Machine {
-                    configuration,
-                    phase: 1,
-                    writing,
-                },
-            },
-            Err(_) => Called {
+        let Ok(_) = answer else {
+            return Called {
                 answer: CallAnswer::Begun(answer),
                 machine: self,
+            };
+        };
+        let configuration = self.configuration;
+        let writing = begun.writing;
+        Called {
+            answer: CallAnswer::Begun(answer),
+            machine: Machine {
+                configuration,
+                phase: 1,
+                writing,
             },
         }
     }
@@ -214,15 +214,15 @@ impl Machine {
         let started = starts::restart(configuration, area);
         let answer = started.answer;
         let consumer = started.consumer;
-        match answer {
-            Ok(()) => Called {
-                answer: CallAnswer::Restarted(answer),
-                machine: Machine::resting(configuration, 0, consumer),
-            },
-            Err(_) => Called {
+        let Ok(()) = answer else {
+            return Called {
                 answer: CallAnswer::Restarted(answer),
                 machine: self,
-            },
+            };
+        };
+        Called {
+            answer: CallAnswer::Restarted(answer),
+            machine: Machine::resting(configuration, 0, consumer),
         }
     }
 }

@@ -107,5 +107,5 @@ fn main(rt: HostRuntime) {
     let mut answers = [0u64; 24576];
     let n = read(&mut stdin, &mut buf, &mut ops);
     let m = operations::ninotskev_operations(&ops[0..n], &mut answers);
-    print(&mut Output::new(rt.stdout()), &answers[0..m]);
+    print(&mut Output::new(rt.stdout(), &mut buf), &answers[0..m]);
 }

@@ -3,7 +3,7 @@
 // the compiler makes one load or one store of. And slices of zeros.
 #![tactic(auto)]
 
-ghost use Rattle.std.specs.Prelude.{◌≡◌, ◌+◌, ◌≤◌, [], ◌∷◌, ltb, length, replicate};
+ghost use Rattle.std.specs.Prelude.{◌≡◌, ◌+◌, ◌≤◌, [], ◌∷◌, ltb, length, replicate, get_or};
 ghost use Rattle.types.specs.Refusal.{done, OutTooShort};
 ghost use Rattle.types.specs.Refused.{as_is};
 ghost use Rattle.types.specs.Table.{◌⇒◌, answer, checked};
@@ -37,14 +37,22 @@ pub fn half_at(bytes: &[u8], i: usize) -> u32
     u32::from_le_bytes([bytes[i], bytes[i + 1], bytes[i + 2], bytes[i + 3]])
 }
 
-// The N bytes from pos on; those past the end are zeros.
+// A byte, 0 past the end.
+fn byte_at(bytes: &[u8], i: usize) -> u8
+    ensures { result ≡ get_or bytes.now i 0 }
+{
+    bytes.get(i).copied().unwrap_or(0)
+}
+
+// The N bytes from pos on; those past the end are zeros. One by one: a copy of a length that is known only as it runs would be a call of C's.
 fn bytes_at<const N: usize>(buf: &[u8], pos: usize) -> [u8; N]
     ensures { unle result ≡ number_at N pos buf.now }
 {
     let rest = &buf[pos.min(buf.len())..];
-    let n = rest.len().min(N);
     let mut bytes = [0; N];
-    bytes[..n].copy_from_slice(&rest[..n]);
+    for i in 0..N {
+        bytes[i] = byte_at(rest, i);
+    }
     bytes
 }
 

@@ -16,7 +16,7 @@ pub struct Redeliveries {
 pub fn note_grant(noted: &mut Redeliveries, deliveries: u32)
     ensures { noted.new ≡ counter (after_grant noted.old.since_flush deliveries) }
 {
-    noted.since_flush = after_grant(noted.since_flush, deliveries);
+    noted.since_flush = raised(noted.since_flush, deliveries);
 }
 
 // Notes that the attempt counts are durable.
@@ -30,10 +30,9 @@ pub fn note_flushed(noted: &mut Redeliveries)
 pub fn after_grant(since_flush: u32, deliveries: u32) -> u32
     ensures { result ≡ after_grant since_flush deliveries }
 {
-    if deliveries < 2 {
-        return since_flush;
-    }
-    since_flush.saturating_add(1)
+    let mut noted = Redeliveries { since_flush };
+    note_grant(&mut noted, deliveries);
+    noted.since_flush
 }
 
 // The counter once the attempt counts are durable.
@@ -43,4 +42,14 @@ pub fn after_flush(since_flush: u32) -> u32
     let mut noted = Redeliveries { since_flush };
     note_flushed(&mut noted);
     noted.since_flush
+}
+
+// The number that a grant with this count makes of another.
+fn raised(since_flush: u32, deliveries: u32) -> u32
+    ensures { result ≡ after_grant since_flush deliveries }
+{
+    if deliveries < 2 {
+        return since_flush;
+    }
+    since_flush.saturating_add(1)
 }

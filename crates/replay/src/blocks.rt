@@ -2,8 +2,9 @@
 ghost use Rattle.machine.specs.View.{Sound};
 
 use crate::printing::{Said, Then, not_now, plain, with};
+use answers::Numbers;
 use machine::Machine;
-use machine::calls::{Call, CallAnswer};
+use machine::calls::Call;
 use power_cut::Kind;
 
 // The place of a byte of a journal of so many bytes, where it has such a byte.
@@ -53,8 +54,9 @@ fn trial(machine: Machine, area: &[u8], copied: &mut [u8]) -> Option<usize>
     }
     copied[..n].copy_from_slice(area);
     let mut list = [0u64; 1];
-    match machine::call(machine, Call::Step, &mut copied[..n], &mut list).answer {
-        CallAnswer::Stepped(Ok(wrote)) => Some(wrote.block),
+    let done = machine::call(machine, Call::Step, &mut copied[..n], &mut list);
+    match answers::of_call(done.answer, &list) {
+        Numbers(0, _, block, ..) => Some(block as usize),
         _ => None,
     }
 }

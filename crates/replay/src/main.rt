@@ -110,7 +110,8 @@ fn run<R: Read>(
 
 fn run_all<R: Read>(source: &mut R, told: bool, moving: bool, stdout: Stdout) {
     let mut buf = [0u8; 65536];
-    let mut out = Output::new(stdout);
+    let mut gathered = [0u8; 65536];
+    let mut out = Output::new(stdout, &mut gathered);
     let mut area = [0u8; 65536];
     let mut bytes = [0u8; 65536];
     let mut state = State {

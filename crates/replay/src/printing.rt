@@ -2,12 +2,8 @@
 use crate::script;
 use crate::script::Form;
 use crate::session::Session;
-use consumer::calls::HandOut;
-use consumer::views::{Standing, View};
-use delivery::Disposition;
-use machine::calls::{AskAnswer, CallAnswer, Reply};
+use answers::Numbers;
 use text::output::Output;
-use types::refusals::Refusal;
 
 // The places of a list that the bytes of an export take: the cursor's first, of which there are at most so many, and behind those the counts'.
 pub const CURSOR_PLACES: usize = 2061;
@@ -69,9 +65,11 @@ pub fn bad_line() -> Said {
     plain(b"bad line").then(Then::Expected)
 }
 
-// A refusal: its number and values.
-pub fn refusal(refusal: Refusal) -> Said {
-    let code = answers::of_refusal(refusal);
+// A refusal: its number and values. 255 is no refusal's: the call can't be made where it stands.
+fn refusal(code: Numbers) -> Said {
+    if code.0 == 255 {
+        return not_now();
+    }
     match code.1 {
         0 => with(b"refused #\n", code.0),
         1 => says(b"refused # #\n", [code.0, code.2, 0, 0]),
@@ -79,113 +77,68 @@ pub fn refusal(refusal: Refusal) -> Said {
     }
 }
 
-// What was handed out of this offset.
-fn hand_out_said(offset: u64, out: HandOut) -> Said {
-    let numbers = [offset, out.token.generation.0, u64::from(out.deliveries), 0];
-    match out.disposition {
-        Disposition::Deliver => says(b"deliver # # #\n", numbers),
-        Disposition::DeadLetter => says(b"deadletter # # #\n", numbers),
+// An answer in numbers: a refusal, or what is said where nothing was refused.
+pub fn unless_refused(code: Numbers, said: Said) -> Said {
+    if code.0 != 0 {
+        return refusal(code);
     }
+    said
 }
 
-// How an offset stands, as a worker is told. A supervisor is also told what is absent of a settled offset.
-fn standing_said(standing: Standing, supervisor: bool) -> Said {
-    if supervisor {
-        return plain(b"view settled none none none none\n");
-    }
-    match standing {
-        Standing::Settled => plain(b"view settled\n"),
-        Standing::Held => plain(b"view held\n"),
-        Standing::Waiting => plain(b"view waiting\n"),
+// One of two texts, by a bit.
+fn either(bit: u64, zero: &'static [u8], one: &'static [u8]) -> &'static [u8] {
+    if bit == 0 { zero } else { one }
+}
+
+// The text of a view, by how many numbers it has. A supervisor is also told what is absent of a settled offset.
+fn view_text(count: u64, standing: u64, supervisor: bool) -> &'static [u8] {
+    match (count, standing) {
+        (5, 1) => b"view held # # # #\n",
+        (5, _) => b"view waiting # # # #\n",
+        (2, _) => b"view waiting # none none none\n",
+        _ if supervisor => b"view settled none none none none\n",
+        (_, 0) => b"view settled\n",
+        (_, 1) => b"view held\n",
+        _ => b"view waiting\n",
     }
 }
 
 // What is shown of an offset.
-fn view_said(view: View, supervisor: bool) -> Said {
-    match view {
-        View::Plain(standing) => standing_said(standing, supervisor),
-        View::Unleased { attempts } => with(
-            b"view waiting # none none none\n",
-            u64::from(attempts),
-        ),
-        View::Leased { standing, lease } => {
-            let numbers = [
-                u64::from(lease.attempts),
-                lease.generation.0,
-                lease.deadline,
-                u64::from(lease.holder),
-            ];
-            match standing {
-                Standing::Held => says(b"view held # # # #\n", numbers),
-                _ => says(b"view waiting # # # #\n", numbers),
-            }
-        }
-    }
+fn view_said(code: Numbers, supervisor: bool) -> Said {
+    let text = view_text(code.1, code.2, supervisor);
+    says(text, [code.3, code.4, code.5, code.6])
 }
 
-// What a question is answered.
-fn reply_said(reply: Reply, supervisor: bool) -> Said {
-    match reply {
-        Reply::Waiting(count) => plain(b"waiting").then(Then::Waiting(count)),
-        Reply::OpenBetween(count) => plain(b"open").then(Then::Stretches(count)),
-        Reply::NearestOpen(offset) => with(b"nearest #\n", offset.0),
-        Reply::ViewOf(view) => view_said(view, supervisor),
-        // No line asks another question.
-        _ => bad_line(),
-    }
-}
-
-// What a call on the state is answered; `offset` is the one that was claimed.
-fn ask_said(answer: AskAnswer, offset: u64, supervisor: bool) -> Result<Said, Refusal> {
-    let said = match answer {
-        AskAnswer::Claimed(answer) => hand_out_said(offset, answer?),
-        AskAnswer::Acked(answer) | AskAnswer::Termed(answer) => {
-            answer?;
-            plain(b"settled\n")
+// What a call of a form answered, in numbers; `offset` is the one that was claimed.
+pub fn call_said(form: Form, offset: u64, code: Numbers, supervisor: bool) -> Said {
+    let said = match form {
+        Form::Claim => {
+            let text = either(code.4, b"deliver # # #\n", b"deadletter # # #\n");
+            says(text, [offset, code.2, code.3, 0])
         }
-        AskAnswer::Nacked(answer) => with(b"requeued #\n", answer?),
-        AskAnswer::Progressed(answer) => with(b"extended #\n", answer?),
-        AskAnswer::Committed(answer) => {
-            if answer? {
-                plain(b"committed\n")
-            } else {
-                plain(b"unchanged\n")
-            }
-        }
-        AskAnswer::Looked(answer) => reply_said(answer?, supervisor),
+        Form::Ack | Form::Term => plain(b"settled\n"),
+        Form::Nack | Form::NackAfter => with(b"requeued #\n", code.2),
+        Form::Progress => with(b"extended #\n", code.2),
+        Form::Commit => plain(either(code.2, b"unchanged\n", b"committed\n")),
+        Form::Waiting => plain(b"waiting").then(Then::Waiting(code.1 as usize)),
+        Form::View => view_said(code, supervisor),
+        Form::Open => plain(b"open").then(Then::Stretches(code.1 as usize)),
+        Form::Nearest => with(b"nearest #\n", code.2),
+        Form::Begin => with(b"begun #\n", code.2),
+        Form::Step | Form::StepOn => with(either(code.3, b"wrote #\n", b"done #\n"), code.2),
+        _ => plain(b"restarted\n"),
     };
-    Ok(said)
-}
-
-// What a call is answered.
-pub fn call_said(answer: CallAnswer, offset: u64, supervisor: bool) -> Result<Said, Refusal> {
-    let said = match answer {
-        CallAnswer::Asked(answer) => ask_said(answer, offset, supervisor)?,
-        CallAnswer::Begun(answer) => with(b"begun #\n", answer? as u64),
-        CallAnswer::Stepped(answer) => {
-            let wrote = answer?;
-            let block = wrote.block as u64;
-            if wrote.finished {
-                with(b"done #\n", block)
-            } else {
-                with(b"wrote #\n", block)
-            }
-        }
-        CallAnswer::Restarted(answer) => {
-            answer?;
-            plain(b"restarted\n")
-        }
-        CallAnswer::NotNow => not_now(),
-    };
-    Ok(said)
+    unless_refused(code, said)
 }
 
 // What a plan of n offsets answered: the number of its looks.
-pub fn plan_said(looks: usize, n: usize) -> Said {
-    if n == 0 {
-        return with(b"plan # none\n", looks as u64);
-    }
-    with(b"plan #", looks as u64).then(Then::Plan(n))
+pub fn plan_said(code: Numbers, n: usize) -> Said {
+    let said = if n == 0 {
+        with(b"plan # none\n", code.2)
+    } else {
+        with(b"plan #", code.2).then(Then::Plan(n))
+    };
+    unless_refused(code, said)
 }
 
 // The first n entries of a list, and the line's end.

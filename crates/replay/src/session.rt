@@ -1,21 +1,26 @@
 // What is being run by a script: a machine with its journal in a lent area, its start, its calls, and the answer to each line.
-ghost use Rattle.std.specs.Prelude.{ℕ, ◌≤◌, length, IfSome};
+ghost use Rattle.std.specs.Prelude.{ℕ, ◌≡◌, ◌≤◌, length, IfSome};
 ghost use Rattle.machine.specs.View.{Sound};
+ghost use Rattle.replay.specs.Calls.{kind_at};
 ghost use Rattle.replay.specs.Running.{Ready};
 
-use crate::printing::{ATTEMPT_PLACES, CURSOR_PLACES, Said, Then, bad_line, not_now, plain, with};
+use crate::printing::{
+    ATTEMPT_PLACES, CURSOR_PLACES, Said, Then, bad_line, not_now, plain, unless_refused, with,
+};
 use crate::script::{Form, NUMBERS, Request};
 use crate::{blocks, printing};
+use answers::Numbers;
 use consumer::{Configuration, Settings, rights};
 use delivery::DeliveryConfig;
 use hours::Hours;
-use lease::{LeaseConfig, LeaseToken};
-use machine::calls::{Ask, Call, CallAnswer, Question};
+use lease::LeaseConfig;
+use machine::calls::Call;
 use machine::{Machine, Started};
 use power_cut::Kind;
+use server::kinds;
+use types::Generation;
 use types::limits::WORKERS;
 use types::refusals::Refusal;
-use types::{Generation, Offset};
 
 // The machine, how many bytes of the lent area are its journal, which is none before the first start, and the worker who calls. The rights
 // and the hours in the machine's configuration are those that were said last: a start, an import and a restart hand them in, and nothing
@@ -29,60 +34,36 @@ pub struct Session {
 
 // ## what a line asks
 
-// The call on the state of a line.
-fn ask_of(request: Request) -> Option<Ask> {
-    let v = request.numbers;
-    let offset = Offset(v[0]);
-    let token = LeaseToken {
-        offset,
-        generation: Generation(v[1]),
-    };
-    let now = v[2];
-    let ask = match request.form {
-        Form::Claim => Ask::Claim { offset, now: v[1] },
-        Form::Ack => Ask::Ack(token),
-        Form::Term => Ask::Term(token),
-        Form::Nack => Ask::Nack {
-            token,
-            now,
-            delay: None,
-        },
-        Form::NackAfter => Ask::Nack {
-            token,
-            now,
-            delay: Some(v[3]),
-        },
-        Form::Progress => Ask::Progress { token, now },
-        Form::Commit => Ask::Commit(offset),
-        _ => Ask::Look(question_of(request)?),
-    };
-    Some(ask)
-}
-
-// The question of a line. `open` has room for up to 256 stretches.
-fn question_of(request: Request) -> Option<Question> {
-    let v = request.numbers;
-    let offset = Offset(v[0]);
-    match request.form {
-        Form::Waiting => Some(Question::Waiting { now: v[0] }),
-        Form::View => Some(Question::ViewOf { offset, now: v[1] }),
-        Form::Open if v[2] <= 256 => Some(Question::OpenBetween { a: v[0], b: v[1] }),
-        Form::Nearest => Some(Question::NearestOpen(offset)),
-        _ => None,
+// The number that `server` gives the call of a form; of a form that is none, one that no call has.
+fn kind_of(form: Form) -> u64
+    ensures { result ≡ kind_at form }
+{
+    match form {
+        Form::Claim => 0,
+        Form::Ack => 1,
+        Form::Term => 2,
+        Form::Nack => 3,
+        Form::NackAfter => 4,
+        Form::Progress => 5,
+        Form::Commit => 6,
+        Form::Begin => 16,
+        Form::Step | Form::StepOn => 17,
+        Form::Restart | Form::RestartOn => 18,
+        Form::Waiting => 32,
+        Form::View => 40,
+        Form::Open => 41,
+        Form::Nearest => 42,
+        _ => u64::MAX,
     }
 }
 
-// The call of a line.
+// The call of a line. `open` has room for up to 256 stretches.
 fn call_of(worker: u64, request: Request) -> Option<Call> {
-    match request.form {
-        Form::Begin => Some(Call::Begin { worker }),
-        Form::Step | Form::StepOn => Some(Call::Step),
-        Form::Restart | Form::RestartOn => Some(Call::Restart),
-        _ => {
-            let ask = ask_of(request)?;
-            Some(Call::Ask { worker, ask })
-        }
+    let v = request.numbers;
+    if request.form == Form::Open && 256 < v[2] {
+        return None;
     }
+    kinds::call_of(worker, kind_of(request.form), v[0], v[1], v[2], v[3])
 }
 
 fn cut_of(form: Form) -> Option<Kind> {
@@ -204,10 +185,8 @@ fn start(session: &mut Session, request: Request, area: &mut [u8]) -> Said
         return bad_line();
     };
     let len = v[5] as usize;
-    match made(session, Machine::start(configuration, len), len, area) {
-        Ok(()) => plain(b"started\n"),
-        Err(refusal) => printing::refusal(refusal),
-    }
+    let answer = made(session, Machine::start(configuration, len), len, area);
+    unless_refused(answers::of_done(answer), plain(b"started\n"))
 }
 
 // An import on the journal, which is zeroed, of the bytes that begin a list; refused, it leaves what was there. The configuration is that
@@ -227,21 +206,19 @@ fn import(session: &mut Session, request: Request, bytes: &[u8], area: &mut [u8]
     let configuration = session.machine.configuration;
     let first = Generation(v[0]);
     let imported = Machine::import(configuration, len, first, &bytes[..middle], &rest[..end]);
-    match made(session, imported, len, area) {
-        Ok(()) => plain(b"imported\n"),
-        Err(refusal) => printing::refusal(refusal),
-    }
+    let answer = made(session, imported, len, area);
+    unless_refused(answers::of_done(answer), plain(b"imported\n"))
 }
 
 // ## calls
 
 // How much of the area is the journal after a call that was lent so much: a restart that isn't refused keeps what it was lent.
-fn len_after(answer: CallAnswer, len: usize, lent: usize) -> usize
+fn len_after(form: Form, code: Numbers, len: usize, lent: usize) -> usize
     requires { lent ≤ len }
     ensures { result ≤ len }
 {
-    match answer {
-        CallAnswer::Restarted(Ok(())) => lent,
+    match form {
+        Form::Restart | Form::RestartOn if code.0 == 0 => lent,
         _ => len,
     }
 }
@@ -269,13 +246,11 @@ fn called(
         &mut list[..places],
     );
     session.machine = called.machine;
-    session.len = len_after(called.answer, len, lent);
+    let code = answers::of_call(called.answer, list);
+    session.len = len_after(request.form, code, len, lent);
     let rights = called.machine.writing.consumer.settings.rights;
     let supervisor = rights::is_supervisor(&rights, session.worker);
-    match printing::call_said(called.answer, request.numbers[0], supervisor) {
-        Ok(said) => said,
-        Err(refusal) => printing::refusal(refusal),
-    }
+    printing::call_said(request.form, request.numbers[0], code, supervisor)
 }
 
 // The power fails in the step that is next.
@@ -341,14 +316,11 @@ fn planned(
 ) -> Said
     requires { Sound machine }
 {
-    match machine.plan(worker, offsets, bytes) {
-        Some(Ok(looks)) => {
-            list_bytes(bytes, list);
-            printing::plan_said(looks, offsets.len())
-        }
-        Some(Err(refusal)) => printing::refusal(refusal),
-        None => not_now(),
-    }
+    let Some(answer) = machine.plan(worker, offsets, bytes) else {
+        return not_now();
+    };
+    list_bytes(bytes, list);
+    printing::plan_said(answers::of_plan(answer, bytes), offsets.len())
 }
 
 // A plan, of whose room, its first number, there is at most 256. The numbers behind that are its offsets.
@@ -372,16 +344,17 @@ fn export(machine: Machine, worker: u64, list: &mut [u64]) -> Said
     let mut cursor = [0u8; CURSOR_PLACES];
     let mut attempts = [0u8; ATTEMPT_PLACES];
     match machine.export(worker, &mut cursor, &mut attempts) {
-        Some(Ok(lengths)) if CURSOR_PLACES <= list.len() => {
+        Some(answer) if CURSOR_PLACES <= list.len() => {
             list_bytes(&cursor, list);
             list_bytes(&attempts, &mut list[CURSOR_PLACES..]);
-            plain(b"exported ").then(Then::Snapshots {
-                cursor: lengths.cursor_len as usize,
-                attempts: lengths.attempt_len as usize,
-            })
+            let code = answers::of_export(answer, &cursor, &attempts);
+            let snapshots = Then::Snapshots {
+                cursor: code.2 as usize,
+                attempts: code.3 as usize,
+            };
+            unless_refused(code, plain(b"exported ").then(snapshots))
         }
-        Some(Err(refusal)) => printing::refusal(refusal),
-        Some(Ok(_)) => bad_line(),
+        Some(_) => bad_line(),
         None => not_now(),
     }
 }

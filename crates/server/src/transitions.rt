@@ -23,16 +23,14 @@ fn made(before: Machine, made: Started) -> MachineAnswer
 {
     let answer = made.answer;
     let numbers = answers::of_done(answer);
-    match answer {
-        Ok(()) => {
-            let machine = made.machine;
-            MachineAnswer { numbers, machine }
-        }
-        Err(_) => MachineAnswer {
+    let Ok(()) = answer else {
+        return MachineAnswer {
             numbers,
             machine: before,
-        },
-    }
+        };
+    };
+    let machine = made.machine;
+    MachineAnswer { numbers, machine }
 }
 
 // A fresh machine for so many zeroed bytes; refused, the one that was handed in.

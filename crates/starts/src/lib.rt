@@ -178,23 +178,26 @@ fn started_with(
 ) -> Started
     ensures { (right : Result State) (before : Columns) → ResumedIn right configuration area_len done before (columns starts ends carried_offsets carried_counts) → StartedIs configuration area_len right result }
 {
-    match done {
-        Ok(numbers) => Started {
-            answer: Ok(()),
-            consumer: resumed(
-                configuration,
-                area_len,
-                numbers,
-                starts,
-                ends,
-                carried_offsets,
-                carried_counts,
-            ),
-        },
-        Err(refusal) => Started {
-            answer: Err(refusal),
-            consumer: fresh(configuration, area_len),
-        },
+    let numbers = match done {
+        Ok(numbers) => numbers,
+        Err(refusal) => {
+            return Started {
+                answer: Err(refusal),
+                consumer: fresh(configuration, area_len),
+            };
+        }
+    };
+    Started {
+        answer: Ok(()),
+        consumer: resumed(
+            configuration,
+            area_len,
+            numbers,
+            starts,
+            ends,
+            carried_offsets,
+            carried_counts,
+        ),
     }
 }
 

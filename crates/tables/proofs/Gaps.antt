@@ -6,7 +6,7 @@ use native.Mathlib.Numerals.{add-one}
 use mathlib.Core.Path.{◌≡◌, sym, ap, ◌∙◌}
 use mathlib.Core.List.{List, [], ◌∷◌, ◌++◌, append_assoc}
 use lib.ListN.{length, take, drop, get_or, set}
-use lib.Seq.{paste, take-take, take-suc, set_at, length-take-le}
+use lib.Seq.{paste, paste-zero, take-take, take-suc, set_at, length-take-le}
 use Rattle.std.proofs.lemmas.Slice.{between_is}
 use Rattle.tables.specs.Columns.{put_in, takenOut}
 use Rattle.tables.proofs.Columns.{put_in_lem, taken_out}
@@ -24,6 +24,12 @@ module _ {A : Type 0} (l : List A) where
       let stored : set (p ++ y ∷ (m ++ r)) at x ≡ p ++ x ∷ (m ++ r) = set_at p y (m ++ r) x at (length-take-le at l (omega arith)) in
       let there : put_in n at x l ≡ p ++ x ∷ (m ++ r) = put_in_lem n at x l h k ∙ rw (take-take at n l h, append_assoc p (x ∷ m) r) in
       ap (λ (t : List A). set t at x) moved ∙ stored ∙ sym there
+
+  -- at the end there is nothing to move
+  pub gap_at_end : (n at : ℕ) (x : A) → at ≤ n → n ≤ at → n < length l → set l at x ≡ put_in n at x l
+  gap_at_end n at x h e k =
+      let none : 0 ≡ n - at = omega arith in
+      ap (λ (t : List A). set t at x) (paste-zero l (at + 1) (drop at l) ∙ ap (paste l (at + 1) (drop at l)) none) ∙ gap_opened n at x h k
 
   pub gap_closed : (n from to : ℕ) → from < to → to ≤ n → n ≤ length l → paste l from (drop to l) (n - to) ≡ takenOut n from to l
   gap_closed n from to h k m =

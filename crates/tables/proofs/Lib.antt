@@ -5,3 +5,4 @@ mod Gaps
 pub mod Places
 pub mod Carried
 pub mod Slots
+pub mod Turned

@@ -66,7 +66,9 @@ pub fn insert<T: Copy>(column: &mut [T], len: usize, at: usize, x: T)
     ensures { column.new ≡ put_in len at x column.old }
 {
     if at <= len && len < column.len() {
-        column.copy_within(at..len, at + 1);
+        if at < len {
+            column.copy_within(at..len, at + 1);
+        }
         column[at] = x;
     }
 }
@@ -81,12 +83,14 @@ pub fn remove<T: Copy>(column: &mut [T], len: usize, from: usize, to: usize)
     }
 }
 
-// The first `count` slots of those in use moved behind the others, to the free ones.
+// The first `count` slots of those in use moved behind the others, to the free ones: both parts are turned round, and then the whole.
 pub fn set_aside<T: Copy>(slots: &mut [T], len: usize, count: usize)
     requires { (count ≤ len) × (len ≤ length slots.old) }
     ensures { slots.new ≡ set_aside len 0 count slots.old }
 {
-    slots[..len].rotate_left(count);
+    slots[..count].reverse();
+    slots[count..len].reverse();
+    slots[..len].reverse();
 }
 
 // Stores the first `count` numbers of a column in another, from a place on.

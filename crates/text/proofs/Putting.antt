@@ -15,7 +15,7 @@ use Rattle.types.specs.Refused.{as_is}
 use Rattle.types.specs.declared.refusals.Refusal as code
 use Rattle.raw.specs.Bytes.{write}
 use Rattle.text.specs.declared.output.Output.{Output}
-use Rattle.text.specs.Output.{Buffered, buffered, gathered, or_else, put, puts, Says, each}
+use Rattle.text.specs.Output.{Buffered, buffered, gathered, or_else, put, puts, Same, Says, each}
 
 -- ## pieces
 puts-append : (ps qs : List (List ℕ)) (b : Buffered) → puts (ps ++ qs) b ≡ puts qs (puts ps b)
@@ -23,17 +23,21 @@ unfolding puts
 puts-append [] qs b = refl
 puts-append (p ∷ ps) qs b = puts-append ps qs (put b.next p b.bytes)
 
+same_then : {before mid after : Output} → Same before mid → Same mid after → Same before after
+same_then a b = record { stdout = b.stdout ∙ a.stdout; lent = b.lent ∙ a.lent }
+
 pub says_nothing : {o : Output} → Says [] o o
 unfolding puts
-says_nothing = record { is = refl }
+says_nothing = record { is = refl; same = record { stdout = refl; lent = refl } }
 
-pub says-one : {bs : List ℕ} {before after : Output} → gathered after ≡ put before.at bs before.bytes → Says (bs ∷ []) before after
+pub says-one : {bs : List ℕ} {before after : Output} → gathered after ≡ put before.at bs before.bytes.now → Same before after → Says (bs ∷ []) before after
 unfolding puts
-says-one e = record { is = e }
+says-one e s = record { is = e; same = s }
 
 -- one behind the other
 pub says_then : {ps qs : List (List ℕ)} {before mid after : Output} → Says ps before mid → Says qs mid after → Says (ps ++ qs) before after
-says_then {ps} {qs} {before} a b = record { is = b.is ∙ ap (puts qs) a.is ∙ sym (puts-append ps qs (gathered before)) }
+says_then {ps} {qs} {before} a b =
+    record { is = b.is ∙ ap (puts qs) a.is ∙ sym (puts-append ps qs (gathered before)); same = same_then a.same b.same }
 
 -- what is to be put is what is put already, with the rest behind it
 puts_then : (ps qs : List (List ℕ)) {before after : Output} → Says ps before after → puts (ps ++ qs) (gathered before) ≡ puts qs (gathered after)
@@ -44,9 +48,10 @@ module _ {A : Type 0} (f : ℕ → A → List (List ℕ)) (l : List A) where
   -- those from place i on are left to put
   pub record Left (before : Output) (i : ℕ) (after : Output) : Type 0 where
     pub is : puts (each f 0 l) (gathered before) ≡ puts (each f i (drop i l)) (gathered after)
+    pub same : Same before after
 
   pub left-all : {o : Output} → Left o 0 o
-  left-all = record { is = refl }
+  left-all = record { is = refl; same = record { stdout = refl; lent = refl } }
 
   pub left-next : {before mid after : Output} (i : ℕ) (x : A) → drop i l ≡ x ∷ drop (i + 1) l → Left before i mid → Says (f i x) mid after → Left before (i + 1) after
   left-next {mid = mid} {after = after} i x e left a =
@@ -56,11 +61,13 @@ module _ {A : Type 0} (f : ℕ → A → List (List ℕ)) (l : List A) where
             ∙ ap (λ (m : List A). puts (each f i m) (gathered mid)) e
             ∙ puts_then (f i x) (each f (suc i) (drop (i + 1) l)) a
             ∙ ap (λ (n : ℕ). puts (each f n (drop (i + 1) l)) (gathered after)) (sym (add-one i));
+        same = same_then left.same a.same;
       }
 
   pub left_none : {before after : Output} (i : ℕ) → drop i l ≡ [] → Left before i after → Says (each f 0 l) before after
   unfolding puts
-  left_none {after = after} i e left = record { is = sym (left.is ∙ ap (λ (m : List A). puts (each f i m) (gathered after)) e) }
+  left_none {after = after} i e left =
+      record { is = sym (left.is ∙ ap (λ (m : List A). puts (each f i m) (gathered after)) e); same = left.same }
 
 -- ## one piece
 -- a write, refused or not

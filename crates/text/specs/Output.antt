@@ -61,8 +61,14 @@ puts (p ∷ ps) b = puts ps (put b.next p b.bytes)
 
 -- what is gathered for output
 abbrev pub gathered : Output → Buffered
-gathered o = buffered o.at o.bytes
+gathered o = buffered o.at o.bytes.now
+
+-- what is gathered goes to the same output, and is gathered in the same lent buffer
+pub record Same (before after : Output) : Type 0 where
+  pub stdout : after.stdout ≡ before.stdout
+  pub lent : after.bytes.ghost_name ≡ before.bytes.ghost_name
 
 -- what is put behind what was gathered before
 pub record Says (pieces : List (List ℕ)) (before after : Output) : Type 0 where
   pub is : gathered after ≡ puts pieces (gathered before)
+  pub same : Same before after

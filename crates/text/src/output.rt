@@ -1,46 +1,52 @@
-// Text for standard output, gathered in a buffer that is written out when it is full and when it is flushed. Nothing is lost: what
-// doesn't fit an empty buffer is written at once. A write that fails is left at that.
+// Text for standard output, gathered in a lent buffer that is written out when it is full and when it is flushed. Nothing is lost:
+// what doesn't fit an empty buffer is written at once. A write that fails is left at that.
 ghost use Rattle.std.specs.Prelude.{◌≡◌, [], ◌∷◌};
-ghost use Rattle.text.specs.Output.{decimal, hexadecimal, Says};
+ghost use Rattle.text.specs.Output.{decimal, hexadecimal, Same, Says};
 
 use io::{decimal, hex};
 use std::cmp::min;
 use std::io::Stdout;
 
-// How many bytes are gathered at most.
-pub const ROOM: usize = 65536;
-
-// Bytes that are to be written out: the first `at` of a buffer.
+// Bytes that are to be written out: the first `at` of a lent buffer.
 #[derive(Drop)]
-pub struct Output {
+pub struct Output<'a> {
     pub stdout: Stdout,
-    pub bytes: [u8; ROOM],
+    pub bytes: &'a mut [u8],
     pub at: usize,
 }
 
-impl Output {
+// Writes bytes out, as far as that can be done.
+fn write_out(stdout: Stdout, bytes: &[u8]) {
+    let _ = stdout.write_all(bytes);
+}
+
+impl<'a> Output<'a> {
     // Nothing gathered yet.
-    pub fn new(stdout: Stdout) -> Output
-        ensures { result.at ≡ 0 }
+    pub fn new(stdout: Stdout, bytes: &'a mut [u8]) -> Output<'a>
+        ensures empty { result.at ≡ 0 }
+        ensures stdout { result.stdout ≡ stdout }
+        ensures lent { result.bytes.ghost_name ≡ bytes.entry.ghost_name }
+        ensures kept { result.bytes.now ≡ bytes.old }
     {
         Output {
             stdout,
-            bytes: [0; ROOM],
+            bytes,
             at: 0,
         }
     }
 
-    // Writes bytes out, as far as that can be done.
-    fn write_out(&self, bytes: &[u8]) {
-        let _ = self.stdout.write_all(bytes);
+    // Writes out what is gathered.
+    fn write_gathered(&self) {
+        write_out(self.stdout, &self.bytes[..min(self.at, self.bytes.len())]);
     }
 
     // Writes out what is gathered, which then begins anew.
     pub fn flush(&mut self)
         ensures empty { self.new.at ≡ 0 }
-        ensures kept { self.new.bytes ≡ self.old.bytes }
+        ensures kept { self.new.bytes.now ≡ self.old.bytes.now }
+        ensures same { Same self.old self.new }
     {
-        self.write_out(&self.bytes[..min(self.at, ROOM)]);
+        self.write_gathered();
         self.at = 0;
     }
 
@@ -48,14 +54,15 @@ impl Output {
     pub fn put(&mut self, text: &[u8])
         ensures { Says (text.now ∷ []) self.old self.new }
     {
-        if let Ok(next) = raw::write_bytes(&mut self.bytes, self.at, text) {
+        let at = self.at;
+        if let Ok(next) = raw::write_bytes(self.bytes, at, text) {
             self.at = next;
             return;
         }
         self.flush();
-        match raw::write_bytes(&mut self.bytes, 0, text) {
+        match raw::write_bytes(self.bytes, 0, text) {
             Ok(next) => self.at = next,
-            Err(_) => self.write_out(text),
+            Err(_) => write_out(self.stdout, text),
         }
     }
 

@@ -13,7 +13,7 @@ fn number_at(numbers: &[u64], i: usize) -> u64
     numbers.get(i).copied().unwrap_or(0)
 }
 
-impl Output {
+impl Output<'_> {
     // Puts a template, with the numbers in place of its marks.
     pub fn say(&mut self, template: &[u8], numbers: &[u64])
         ensures { Says (filled template.now numbers.now) self.old self.new }

@@ -76,7 +76,9 @@ pub fn list_numbers(list: OffsetList, out: &mut [u64]) -> Result<usize, Refusal>
     ensures { answer (as_is result) out.new ≡ listed (offsets_in list) out.old }
 {
     let n = room_for(list.len, CARRIED, out.len())?;
-    out[..n].copy_from_slice(&list.offsets[..n]);
+    for i in 0..n {
+        out[i] = list.offsets[i];
+    }
     Ok(n)
 }
 

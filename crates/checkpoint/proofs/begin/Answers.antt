@@ -17,8 +17,8 @@ pub begin_in_place-begun-requires : goal.begin_in_place-begun-requires
 begin_in_place-begun-requires c =
     record { consumer = c.args.consumer; lent = lent (goal.at.begin_in_place-begun-requires c).Start; payload = refl }
 
-pub returns-in-Ok : goal.returns-in-Ok
-returns-in-Ok c = c.in-Ok.ensures c.args.consumer (lent (goal.at.returns-in-Ok c).Start) 0 0 0
+pub returns : goal.returns
+returns c = c.in-Ok.ensures c.args.consumer (lent (goal.at.returns c).Start) 0 0 0
 
 pub returns-in-Err : goal.returns-in-Err
 returns-in-Err c = c.in-Err.ensures c.args.consumer (lent (goal.at.returns-in-Err c).Start) 0 0 0

@@ -3,6 +3,7 @@
 use Prim.Native.Nat.{◌+◌, ◌%◌, ◌<◌}
 use native.Mathlib.Omega.{arith}
 use mathlib.Core.Path.{sym, ◌∙◌}
+use Rattle.hours.proofs.Bits.{no_ones, some_ones}
 use Rattle.hours.proofs.Search.{first_none, rest-within, day_closed, day_found}
 use Rattle.hours.proofs.first_open.Goals as goal
 
@@ -14,7 +15,7 @@ overflow_add-result c =
     let l = c.loop-at in
     let days = c.args.days.now in
     let m = c.remaining-rest in
-    let rest : 0 < m.result = omega (arith, c.if-rest-ne0.true) in
+    let rest : 0 < m.result = some_ones m.result c.if-rest-ne0.true in
     let few : l.at % 48 + c.from.result < 48 = rw (c.from.ensures, m.ensures) (rest-within days l.at (rw m.ensures at rest)) in
     omega arith
 
@@ -23,7 +24,7 @@ returns-then-rest-ne0 c =
     let l = c.loop-at in
     let a = c.args in
     let m = c.remaining-rest in
-    let rest : 0 < m.result = omega (arith, c.if-rest-ne0.true) in
+    let rest : 0 < m.result = some_ones m.result c.if-rest-ne0.true in
     rw (c.from.ensures, m.ensures)
     (sym (day_found a.days.now l.at a.from (omega arith) l.invariant.0 l.invariant.2 (omega arith)
     (rw m.ensures at rest)))
@@ -33,7 +34,7 @@ loop-at-preserved c =
     let l = c.loop-at in
     let a = c.args in
     let m = c.remaining-rest in
-    (omega arith, omega arith, day_closed a.days.now l.at a.from (omega arith) l.invariant.0 l.invariant.2 (sym m.ensures ∙ c.if-rest-ne0.false))
+    (omega arith, omega arith, day_closed a.days.now l.at a.from (omega arith) l.invariant.0 l.invariant.2 (sym m.ensures ∙ no_ones m.result c.if-rest-ne0.false))
 
 pub returns : goal.returns
 returns c =

@@ -2,8 +2,8 @@
 use Rattle.starts.proofs.Restarting.{refused-value, resumed-value}
 use Rattle.starts.proofs.started_with.Goals as goal
 
-pub returns-in-Ok : goal.returns-in-Ok
-returns-in-Ok c =
+pub returns : goal.returns
+returns c =
     λ right before h.
     resumed-value right c.args.configuration c.args.area_len c.args.done before _ h _ c.in-Ok.is c.resumed.result c.resumed.ensures.0 c.resumed.ensures.1
 

@@ -26,10 +26,10 @@ returns-then-self-ne0 c =
 pub begin-begun-requires : goal.begin-begun-requires
 begin-begun-requires c = sound-idle c.args.self c.requires (here (goal.at.begin-begun-requires c).Else-self-ne0)
 
-pub returns-in-Ok : goal.returns-in-Ok
-returns-in-Ok c =
-    λ a out. begin-done c.args.self (here (goal.at.returns-in-Ok c).Else-self-ne0) a out c.requires c.args.worker (fit (goal.at.returns-in-Ok c).Start) c.begin-begun.result c.begin-begun.ensures.begun _ c.in-Ok.is
+pub returns-in_default : goal.returns-in_default
+returns-in_default c =
+    λ a out. begin-refused c.args.self (here (goal.at.returns-in_default c).Else-self-ne0) a out c.requires c.args.worker (fit (goal.at.returns-in_default c).Start) c.begin-begun.result c.begin-begun.ensures.begun _ c.in_default.is
 
-pub returns-in-Err : goal.returns-in-Err
-returns-in-Err c =
-    λ a out. begin-refused c.args.self (here (goal.at.returns-in-Err c).Else-self-ne0) a out c.requires c.args.worker (fit (goal.at.returns-in-Err c).Start) c.begin-begun.result c.begin-begun.ensures.begun _ c.in-Err.is
+pub returns : goal.returns
+returns c =
+    λ a out. begin-done c.args.self (here (goal.at.returns c).Else-self-ne0) a out c.requires c.args.worker (fit (goal.at.returns c).Start) c.begin-begun.result c.begin-begun.ensures.begun _ c.in-Ok.is

@@ -3,10 +3,10 @@ use borrow.Author.Rules.{rules}
 use Rattle.machine.proofs.Transitions.{made-refused, made-done}
 use Rattle.machine.proofs.Machine.holding.Goals as goal
 
-pub returns-in-Ok : goal.returns-in-Ok
-returns-in-Ok c =
-    λ right size h. made-done right c.args.configuration size c.args.made h c.resting.result _ c.in-Ok.is c.resting.ensures
+pub returns-in_default : goal.returns-in_default
+returns-in_default c =
+    λ right size h. made-refused right c.args.configuration size c.args.made h c.resting.result _ c.in_default.is c.resting.ensures
 
-pub returns-in-Err : goal.returns-in-Err
-returns-in-Err c =
-    λ right size h. made-refused right c.args.configuration size c.args.made h c.resting-in-Err.result _ c.in-Err.is c.resting-in-Err.ensures
+pub returns : goal.returns
+returns c =
+    λ right size h. made-done right c.args.configuration size c.args.made h c.resting-2.result _ c.in-Ok.is c.resting-2.ensures
