@@ -32,50 +32,35 @@ fn name_of(refusal: Refusal) -> &'static [u8] {
 }
 
 // The line's end behind the number of a refusal of ranges or pairs that are out of order; of any other, its name.
-fn named(out: &mut Output, refusal: Refusal) {
+fn named(out: &mut Output, refusal: Refusal, values: &[u64]) {
     match refusal {
-        Refusal::EmptyRange { start, end } => {
-            out.say(b"EmptyRange: start #, end #\n", &[start, end])
-        }
-        Refusal::NotSortedDisjointAndAboveCommitted { start, prev_end } => out.say(
+        Refusal::EmptyRange { .. } => out.say(b"EmptyRange: start #, end #\n", values),
+        Refusal::NotSortedDisjointAndAboveCommitted { .. } => out.say(
             b"NotSortedDisjointAndAboveCommitted: start #, previous end #\n",
-            &[start, prev_end],
+            values,
         ),
-        Refusal::CountMismatch { declared, actual } => out.say(
-            b"CountMismatch: declared #, actual #\n",
-            &[u64::from(declared), actual],
-        ),
-        Refusal::NotSorted {
-            offset,
-            prev_offset,
-        } => out.say(
-            b"NotSorted: offset #, previous offset #\n",
-            &[offset, prev_offset],
-        ),
+        Refusal::CountMismatch { .. } => out.say(b"CountMismatch: declared #, actual #\n", values),
+        Refusal::NotSorted { .. } => out.say(b"NotSorted: offset #, previous offset #\n", values),
         _ => out.put(name_of(refusal)),
     }
 }
 
-// The number of a refusal, its name and its values, to the line's end.
+// The number of a refusal, its name and its values, as `answers` has them, to the line's end.
 pub fn refused(out: &mut Output, refusal: Refusal) {
-    out.say(b"# ", &[answers::of_refusal(refusal).0]);
+    let code = answers::of_refusal(refusal);
+    let values = [code.2, code.3];
+    out.say(b"# ", &[code.0]);
     match refusal {
-        Refusal::Damaged { block } => out.say(b"Damaged: block #\n", &[block as u64]),
-        Refusal::CursorBadLength { len } => {
-            out.say(b"Cursor BadLength: length #\n", &[len as u64])
+        Refusal::Damaged { .. } => out.say(b"Damaged: block #\n", &values),
+        Refusal::CursorBadLength { .. } => out.say(b"Cursor BadLength: length #\n", &values),
+        Refusal::CursorUnsupportedVersion { .. } => {
+            out.say(b"Cursor UnsupportedVersion: version #\n", &values)
         }
-        Refusal::CursorUnsupportedVersion { version } => out.say(
-            b"Cursor UnsupportedVersion: version #\n",
-            &[u64::from(version)],
-        ),
-        Refusal::AttemptUnsupportedVersion { version } => out.say(
-            b"Attempt UnsupportedVersion: version #\n",
-            &[u64::from(version)],
-        ),
-        Refusal::AttemptBadLength { len } => {
-            out.say(b"Attempt BadLength: length #\n", &[len as u64])
+        Refusal::AttemptUnsupportedVersion { .. } => {
+            out.say(b"Attempt UnsupportedVersion: version #\n", &values)
         }
-        _ => named(out, refusal),
+        Refusal::AttemptBadLength { .. } => out.say(b"Attempt BadLength: length #\n", &values),
+        _ => named(out, refusal, &values),
     }
 }
 

@@ -21,14 +21,22 @@ pub fn token(offset: u64, generation: u64) -> LeaseToken {
     }
 }
 
-// resume: the list's entries are taken in one by one. A refusal leaves the table.
+// resume: the list's entries are taken in, 16 at a time, and one alone as a pair. A refusal leaves the table.
 fn resume(table: LeaseTable, list: List) -> Done<LeaseTable>
     requires { Sound table }
     ensures { Sound result.left }
 {
+    let n = list.n.min(256);
+    let mut pairs = [on_bytes::pair_of(0, 0); 256];
+    for i in 0..n {
+        pairs[i] = on_bytes::pair_of(list.a[i], list.b[i]);
+    }
     let mut so_far = table;
-    for i in 0..list.n.min(256) {
-        let resumed = so_far.resume_pair(on_bytes::pair_of(list.a[i], list.b[i]));
+    for part in pairs[..n].chunks(16) {
+        let resumed = match part {
+            [pair] => so_far.resume_pair(*pair),
+            _ => so_far.resume_attempts(part),
+        };
         if let Err(refusal) = resumed.outcome {
             return left(table, Some(Err(refusal)));
         }

@@ -1,8 +1,8 @@
 -- Two parts of a list that are turned round one by one, and then together: they have changed places. Assumes nothing.
 use Prim.Native.Nat.{ℕ, ◌+◌, ◌-◌, ◌≤◌}
 use native.Mathlib.Omega.{arith}
-use mathlib.Core.Path.{◌≡◌, refl, sym, ap, ◌∙◌}
-use mathlib.Core.List.{List, ◌++◌, append_assoc, reverse, reverse-append, reverse-reverse}
+use mathlib.Core.Path.{◌≡◌, sym, ap, ◌∙◌}
+use mathlib.Core.List.{List, ◌++◌, reverse, reverse-append, reverse-reverse}
 use lib.ListN.{length, take, drop, length-append, length-drop, length-reverse}
 use lib.Seq.{take_at, drop_at, take-take, drop-drop, length-take-le}
 use borrow.Rule.Slice.PartMut.{put_mid}

@@ -84,10 +84,14 @@ pub fn remove<T: Copy>(column: &mut [T], len: usize, from: usize, to: usize)
 }
 
 // The first `count` slots of those in use moved behind the others, to the free ones: both parts are turned round, and then the whole.
+// Where none or all go, they are where they belong.
 pub fn set_aside<T: Copy>(slots: &mut [T], len: usize, count: usize)
     requires { (count ≤ len) × (len ≤ length slots.old) }
     ensures { slots.new ≡ set_aside len 0 count slots.old }
 {
+    if count == 0 || count == len {
+        return;
+    }
     slots[..count].reverse();
     slots[count..len].reverse();
     slots[..len].reverse();

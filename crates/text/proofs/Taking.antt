@@ -2,13 +2,15 @@
 -- buffer; and reading more keeps what was still to be taken. Assumes nothing.
 use Prim.Native.Nat.{ℕ, ◌+◌, ◌-◌, ◌<◌, ◌≤◌}
 use native.Mathlib.Omega.{arith}
-use mathlib.Core.Path.{◌≡◌, refl, ap, ◌∙◌}
+use mathlib.Core.Path.{◌≡◌, refl, sym, ap, ◌∙◌}
 use mathlib.Core.Bool.{Bool, true, false, cond, ◌||◌}
-use mathlib.Core.List.{List}
+use mathlib.Core.List.{List, ◌++◌, append_assoc}
+use Rattle.std.proofs.lemmas.List.{take-append-le}
+use Rattle.std.proofs.lemmas.List.Edits.{take-paste}
 use Rattle.std.specs.Prelude.{Some, None}
 use lib.Dec.{ltb}
 use lib.ListN.{length, take, drop, get_or, length-take, length-drop}
-use lib.Seq.{take-add, take-take, drop_at}
+use lib.Seq.{paste, take-add, take-take, drop_at}
 use borrow.Author.Tests.{lt-ltb, le-ltb}
 use Rattle.types.proofs.Cases.{split}
 use Rattle.text.specs.Words.{length_to}
@@ -71,6 +73,28 @@ between buf a b h l =
     let e : b ≡ a + (b - a) = omega arith in
     ap (λ (n : ℕ). drop a (take n buf)) e
     ∙ rw (take-add a (b - a)) (drop_at (take a buf) (take (b - a) (drop a buf)) a (simp length-take (omega arith)))
+
+-- bytes that came to the front: others stand behind them, or they were copied there
+module _ (buf : List ℕ) (from to : ℕ) (h : from ≤ to) (l : to ≤ length buf) where
+  enough : to - from ≤ length (drop from buf)
+  enough = simp length-drop (omega arith)
+
+  pub before-others : (ys zs : List ℕ) → take (to - from) (take (to - from) (drop from buf) ++ ys ++ zs) ≡ drop from (take to buf)
+  before-others ys zs =
+      let n = to - from in
+      let xs = take n (drop from buf) in
+      let e : n ≤ length xs = simp length-take (omega (arith, enough)) in
+      rw (append_assoc xs ys zs) (take-append-le n xs (ys ++ zs) e)
+      ∙ take-take n n (drop from buf) (omega arith)
+      ∙ sym (between buf from to h (omega arith))
+
+  pub copied-there : take (to - from) (paste buf 0 (drop from buf) (to - from)) ≡ drop from (take to buf)
+  copied-there =
+      let n = to - from in
+      let e : n ≡ 0 + n = omega arith in
+      ap (λ (m : ℕ). take m (paste buf 0 (drop from buf) n)) e
+      ∙ take-paste buf 0 (drop from buf) n (omega arith) enough
+      ∙ sym (between buf from to h (omega arith))
 
 module _ (buf : List ℕ) (i : Input) (w : Within (length buf) i) where
   length-unread : length (unread buf i) ≡ i.to - i.from

@@ -147,12 +147,27 @@ fn read_some<R: Read>(source: &mut R, buf: &mut [u8]) -> usize
     source.read(buf).unwrap_or(0)
 }
 
+// Copies the bytes from a place up to another to the front, if they aren't there: all at once, where none of them stands where
+// another one goes.
+fn to_front(buf: &mut [u8], from: usize, to: usize)
+    requires { (from ≤ to) × (to ≤ length buf.old) }
+    ensures { take (to - from) buf.new ≡ drop from (take to buf.old) }
+{
+    let count = to - from;
+    if count <= from {
+        let (front, rest) = buf.split_at_mut(from);
+        front[..count].copy_from_slice(&rest[..count]);
+    } else if from > 0 {
+        buf.copy_within(from..to, 0);
+    }
+}
+
 // Reads once, behind the bytes that are still to be taken, which go to the front first. Where nothing comes, the input has ended.
 pub fn refill<R: Read>(source: &mut R, buf: &mut [u8], input: Input) -> Input
     requires { Within (length buf.old) input }
     ensures { Refilled buf.old input result buf.new }
 {
-    buf.copy_within(input.from..input.to, 0);
+    to_front(buf, input.from, input.to);
     let kept = input.to - input.from;
     let more = read_some(source, &mut buf[kept..]);
     Input {

@@ -2,5 +2,5 @@
 use Rattle.lease.specs.State.{Sound}
 use Rattle.operations.proofs.on_table.resume.Given as goal
 
-abbrev pub invariant-loop-i : goal.invariant-loop-i
-invariant-loop-i l = Sound l.so_far × Sound l.table
+abbrev pub invariant-loop-part : goal.invariant-loop-part
+invariant-loop-part l = Sound l.so_far × Sound l.table
